@@ -1,0 +1,6 @@
+pub mod Ids
+pub mod Log
+pub mod PlainMap
+pub mod State
+pub mod Texts
+pub mod Kept

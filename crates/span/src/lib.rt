@@ -1,0 +1,37 @@
+//! Spans, the keys of their slots, and their logs.
+//!
+//! A [`Span`] is 256 slots that one shard opened together. Their values lie on a page, which is not
+//! kept here. A span keeps which of its slots are live, the last generation that each was given,
+//! and a log of all that was done to it.
+//!
+//! ```text
+//!   log   Put 3 gen 1 ── Put 7 gen 1 ── Free 3 gen 1 ── Put 3 gen 2
+//!
+//!   slot          0    1    2    3    4    5    6    7    8  ..  255
+//!   live          .    .    .    x    .    .    .    x    .       .
+//!   generation    0    0    0    2    0    0    0    1    0       0
+//! ```
+//!
+//! After these changes the [`Key`] of slot 3 at generation 2 is live, and the key at generation 1
+//! finds nothing, now and for ever: a put gives its slot the generation after its last one (the
+//! idea is that of the crate `sharded_slab`). A slot that was given its greatest generation is
+//! worn, and takes no put again.
+//!
+//! The public fact of the crate is that a span is its log. Which slots are live and worn, which
+//! generation comes next and what a key finds are functions of the log (`specs/Log.antt`); the log
+//! is legal, and each change stands at its end. So whoever has the log can tell what each key held
+//! at each time, and check what a [`Receipt`] says of a call.
+#![tactic(auto)]
+
+mod change;
+mod generations;
+mod id;
+mod key;
+mod receipt;
+mod span;
+
+pub use change::Change;
+pub use id::SpanId;
+pub use key::Key;
+pub use receipt::{Call, Receipt, Reply};
+pub use span::Span;

@@ -1,0 +1,209 @@
+// One span: which of its slots are live, the generations that they were given, and the log of all
+// that was done.
+ghost use Rattle.std.specs.Prelude.{◌≡◌, ◌+◌, ◌≤◌, ◌↔◌, IsTrue, OnOk, OnErr, IfOk, [], ◌∷◌, ◌++◌, true, false};
+ghost use Rattle.std.specs.Bool.{OnTrue, OnFalse};
+ghost use Rattle.std.specs.FinSet as set;
+
+use crate::change::Change;
+use crate::generations::{generation_of, give_next, reserve_all};
+use crate::id::SpanId;
+use crate::key::Key;
+use bitmap::Bits256;
+use std::alloc::{AllocError, Global};
+use std::marker::Model;
+
+/// 256 slots: which are live, at which generation, and the log of all that was done to them.
+///
+/// A span is moved whenever a list of spans grows, so the generations stand outside of the struct,
+/// and come with the first put. The log has room for the free of each live slot at all times, so a
+/// free takes no memory.
+#[derive(Drop)]
+pub struct Span {
+    id: SpanId,
+    gens: u32,
+    live: Bits256,
+    worn: Bits256,
+    generations: Vec<u32>,
+    log: Vec<Change>,
+}
+
+impl Model for Span {
+    ghost use Rattle.span.specs.State.{SpanState};
+
+    ghost Value = { SpanState };
+
+    ghost view = { λ s. record { id = s.id; gens = s.gens; log = s.log.items } };
+
+    ghost use Rattle.span.specs.Kept.{IsKept};
+
+    ghost invariant = { IsKept };
+}
+
+impl Span {
+    ghost use Rattle.span.specs.Log.{IsLegal, live_slots, worn_slots, puts_of, Holds, was_issued};
+
+    /// A span to which nothing was done yet. A slot is put at most `gens` times. Takes no memory.
+    pub fn new(alloc: Global, id: SpanId, gens: u32) -> Self
+        requires { 1 ≤ gens }
+        ensures { result ≡ record { id = id; gens = gens; log = [] } }
+    {
+        Span {
+            id,
+            gens,
+            live: Bits256::empty(),
+            worn: Bits256::empty(),
+            generations: Vec::new(alloc),
+            log: Vec::new(alloc),
+        }
+    }
+
+    /// Puts a value at a slot that is neither live nor worn, and answers its key, which was never
+    /// given out before. It grows the log for this put and for the frees of all live slots, and, at
+    /// the first put, the list of generations. `Err` comes where memory runs out, and then the span
+    /// is as before.
+    pub fn put_at(&mut self, slot: u8, value: u128) -> Result<Key, AllocError>
+        requires not_live { set.contains (live_slots self.old.log) slot ≡ false }
+        requires not_worn { set.contains (worn_slots self.old.gens self.old.log) slot ≡ false }
+
+        ensures key { IfOk result (λ key. (key.span ≡ self.old.id) × (key.slot ≡ slot)
+            × (key.generation ≡ puts_of slot self.old.log + 1)) }
+        ensures at_most_gens { IfOk result (λ key. key.generation ≤ self.old.gens) }
+        ensures never_issued { IfOk result (λ key.
+            was_issued self.old.log key.slot key.generation ≡ false) }
+
+        ensures ok { OnOk result (self.new ≡ record self.old {
+          log = self.old.log ++ Change.Put slot (puts_of slot self.old.log + 1) value ∷ [];
+        }) }
+        ensures err { OnErr result (self.new ≡ self.old) }
+        ensures legal { IsLegal self.new.gens self.new.log }
+    {
+        self.log.reserve(self.live.count() as usize + 2)?;
+        reserve_all(&mut self.generations)?;
+        let generation = give_next(&mut self.generations, slot);
+        self.log.push_reserved(Change::Put {
+            slot,
+            generation,
+            value,
+        });
+        self.live.insert(slot);
+        if generation == self.gens {
+            self.worn.insert(slot);
+        }
+        Ok(Key {
+            span: self.id,
+            slot,
+            generation,
+        })
+    }
+
+    /// Whether the key is of this span and live.
+    pub fn find(&self, key: &Key) -> bool
+        ensures { IsTrue result ↔ ((key.now.span ≡ self.now.id)
+            × Holds self.now.log key.now.slot key.now.generation) }
+    {
+        let slot = key.slot();
+        key.span() == self.id
+            && self.live.contains(slot)
+            && generation_of(&self.generations, slot) == key.generation()
+    }
+
+    /// Frees the key where it is of this span and live, and says whether it was. Takes no memory.
+    pub fn free(&mut self, key: &Key) -> bool
+        ensures found { IsTrue result ↔ ((key.now.span ≡ self.old.id)
+            × Holds self.old.log key.now.slot key.now.generation) }
+        ensures freed { OnTrue result (self.new ≡ record self.old {
+          log = self.old.log ++ Change.Free key.now.slot key.now.generation ∷ [];
+        }) }
+        ensures unknown { OnFalse result (self.new ≡ self.old) }
+        ensures legal { IsLegal self.new.gens self.new.log }
+    {
+        if !self.find(key) {
+            return false;
+        }
+        let slot = key.slot();
+        self.log.push_reserved(Change::Free {
+            slot,
+            generation: key.generation(),
+        });
+        self.live.remove(slot);
+        true
+    }
+
+    /// The slots that are live.
+    pub fn live(&self) -> Bits256
+        ensures { result ≡ live_slots self.now.log }
+    {
+        self.live
+    }
+
+    /// The slots that were given their greatest generation, and take no put again. A worn slot may
+    /// be live.
+    pub fn worn(&self) -> Bits256
+        ensures { result ≡ worn_slots self.now.gens self.now.log }
+    {
+        self.worn
+    }
+
+    /// The span's name.
+    pub fn id(&self) -> SpanId
+        ensures { result ≡ self.now.id }
+    {
+        self.id
+    }
+
+    /// The greatest generation that a slot may be given.
+    pub fn gens(&self) -> u32
+        ensures value { result ≡ self.now.gens }
+        ensures in_range { 1 ≤ result }
+    {
+        self.gens
+    }
+
+    /// All changes, in order, of which none is ever dropped.
+    pub fn log(&self) -> &[Change]
+        ensures changes { result.now ≡ self.now.log }
+        ensures legal { IsLegal self.now.gens self.now.log }
+    {
+        self.log.as_slice()
+    }
+}
+
+#[cfg(test)]
+mod tests {
+    use super::*;
+    use std::process::Abort;
+    use std::test::Fail;
+
+    // Puts. Where memory was refused, the span is as before, and takes the put the second time.
+    fn put(rt: &impl Abort, span: &mut Span, slot: u8, value: u128) -> Result<Key, AllocError> {
+        let (live, worn) = (span.live().count(), span.worn().count());
+        let changes = span.log().len();
+        assert!(rt; !span.live().contains(slot) && !span.worn().contains(slot));
+        if let Ok(key) = span.put_at(slot, value) {
+            return Ok(key);
+        }
+        assert_eq!(rt; (span.live().count(), span.worn().count()), (live, worn));
+        assert_eq!(rt; span.log().len(), changes);
+        span.put_at(slot, value)
+    }
+
+    #[test]
+    fn gives_each_generation_once(rt: HostRuntime) -> Result<(), Fail> {
+        let Some(id) = SpanId::new(3, 17) else {
+            return Ok(());
+        };
+        let mut span = Span::new(rt.alloc(), id, 2);
+        let first = put(&rt, &mut span, 255, 7)?;
+        assert!(rt; span.find(&first) && span.live().contains(255) && !span.worn().contains(255));
+        assert!(rt; span.free(&first) && !span.find(&first) && !span.free(&first));
+        let second = put(&rt, &mut span, 255, 8)?;
+        assert_eq!(rt; (second.slot(), second.generation()), (255, 2));
+        assert!(rt; span.find(&second) && !span.find(&first) && span.worn().contains(255));
+        for slot in 0..9 {
+            put(&rt, &mut span, slot, 9)?;
+        }
+        assert_eq!(rt; (span.live().count(), span.log().len()), (10, 12));
+        assert_eq!(rt; (span.id(), span.gens()), (id, 2));
+        Ok(())
+    }
+}
