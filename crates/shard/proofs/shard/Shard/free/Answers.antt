@@ -1,0 +1,85 @@
+use Rattle.std.proofs.Common.{◌≡◌, ◌∙◌, Some, length, ap, sym, subst, refl, slice_get}
+use Rattle.shard.specs.Group.{GroupState, spans_of, with_span, with_free}
+use Rattle.shard.specs.Kept.{state_of}
+use Rattle.shard.specs.State.{ShardState, IsElsewhere, IsHere}
+use Rattle.shard.specs.declared.shard.Freed.TheVariants.{No, NotHere, Yes}
+use Rattle.shard.proofs.FreeHere.{IsSound-free_here}
+use Rattle.shard.proofs.Here.{found_in, here_read, read_is}
+use Rattle.shard.proofs.Lists.{get_within, same_some}
+use Rattle.shard.proofs.OwnGroups.{AreOwn-with_span}
+use Rattle.shard.proofs.Places.{clash, on_true}
+use Rattle.shard.proofs.RoomBits.{HasRooms-free}
+use Rattle.shard.proofs.ShownLogs.{IsSound-Frees, shown-Frees, was_freed-Frees}
+use Rattle.shard.proofs.shard.Shard.free.Goals as goal
+
+pub returns-in_default-clause-step : goal.returns-in_default-clause-step
+returns-in_default-clause-step c = (subst (IsElsewhere c.args.self.now.groups) c.span.ensures c.in_default.ensures.place, refl)
+
+pub returns-in_default-clause-found : goal.returns-in_default-clause-found
+returns-in_default-clause-found c = was_freed-Frees c.args.self.now c.args.self.now c.args.key.now NotHere c.find.ensures.sound (subst (IsElsewhere c.args.self.now.groups) c.span.ensures c.in_default.ensures.place, refl)
+
+pub returns-then-not-find-clause-step : goal.returns-then-not-find-clause-step
+returns-then-not-find-clause-step c =
+    let found = found_in c.args.self.now.groups c.self.inside.groups.items _ c.args.key.now.span c.in-Some.index c.in-Some.place (ap (λ (s : ShardState). s.groups) (sym c.self.view_is)) c.span.ensures c.in-Some.ensures.place in
+    let here = here_read _ _ _ _ found.0 found.1 found.2 c.index.result.now c.index.ensures c.span_at-span.result.now c.span_at-span.ensures in (
+      c.in-Some.index,
+      c.in-Some.place,
+      c.index.result.now,
+      c.span_at-span.result.now,
+      subst (λ (s : ShardState). IsHere s.groups c.args.key.now.span c.in-Some.index c.in-Some.place c.index.result.now c.span_at-span.result.now) c.self.view_is here,
+      (λ holds. clash (sym (c.if-not-find.ensures.1 (sym here.id_is, holds)))),
+      ap length c.log-at.ensures.changes,
+      refl,
+    )
+
+pub returns-then-not-find-clause-found : goal.returns-then-not-find-clause-found
+returns-then-not-find-clause-found c = was_freed-Frees c.args.self.now c.args.self.now c.args.key.now (No (length c.log-at.result.now)) c.find.ensures.sound (returns-then-not-find-clause-step c)
+
+here_now : (c : goal.After-insert) → IsHere c.self.inside.groups.items c.args.key.now.span c.in-Some.index c.in-Some.place c.index_mut.result.now c.span_at-span.result.now
+here_now c =
+    let found = found_in c.args.self.now.groups c.self.inside.groups.items _ c.args.key.now.span c.in-Some.index c.in-Some.place (ap (λ (s : ShardState). s.groups) (sym c.self.view_is)) c.span.ensures c.in-Some.ensures.place in
+    let same : c.index.result.now ≡ c.index_mut.result.now = same_some (sym (read_is _ _ _ _ found.0 found.1 found.2 c.index.result.now c.index.ensures) ∙ read_is _ _ _ _ found.0 found.1 found.2 c.index_mut.result.now c.index_mut.ensures.value) in
+    here_read _ _ _ _ found.0 found.1 found.2 c.index_mut.result.now c.index_mut.ensures.value c.span_at-span.result.now
+    (subst (λ (g : GroupState). slice_get (spans_of g) c.in-Some.place ≡ Some c.span_at-span.result.now) same c.span_at-span.ensures)
+
+freed_now : (c : goal.After-insert) → c.free.new.self ≡ with_span c.index_mut.result.now c.in-Some.place (with_free c.span_at-span.result.now c.args.key.now)
+freed_now c =
+    let here = here_now c in
+    on_true c.free.result
+    ((c.free.ensures.found c.span_at-span.result.now here.span_is).1 (sym here.id_is, (c.if-not-find.ensures.0 refl).1))
+    (c.free.ensures.freed c.span_at-span.result.now here.span_is)
+
+pub invariant_of-self : goal.invariant_of-self
+invariant_of-self c =
+    let here = here_now c in
+    let group = c.index_mut.result.now in
+    let span = c.span_at-span.result.now in
+    record {
+      number_fits = c.self.invariant.number_fits;
+      pages_fit = c.self.invariant.pages_fit;
+      gens_fit = c.self.invariant.gens_fit;
+      sound = rw (freed_now c) (IsSound-free_here (state_of c.self.inside) c.self.invariant.sound c.in-Some.index c.in-Some.place group span c.args.key.now (here.group_is, here.span_is) (c.if-not-find.ensures.0 refl).1);
+      own = rw (freed_now c) (AreOwn-with_span c.self.inside.number c.self.inside.opened c.self.inside.groups.items c.self.invariant.own c.in-Some.index c.in-Some.place group span (with_free span c.args.key.now) here.group_is here.span_is refl);
+      rooms = rw c.insert.ensures (HasRooms-free c.self.inside.groups.items c.self.inside.rooms c.self.invariant.rooms c.in-Some.index c.free.new.self (get_within c.self.inside.groups.items c.in-Some.index group here.group_is));
+    }
+
+pub returns-clause-step : goal.returns-clause-step
+returns-clause-step c = (
+  c.in-Some.index,
+  c.in-Some.place,
+  c.index_mut.result.now,
+  c.span_at-span.result.now,
+  subst (λ (s : ShardState). IsHere s.groups c.args.key.now.span c.in-Some.index c.in-Some.place c.index_mut.result.now c.span_at-span.result.now) c.self.view_is (here_now c),
+  (c.if-not-find.ensures.0 refl).1,
+  ap length c.log-at.ensures.changes,
+  rw (← c.self.view_is, freed_now c) refl,
+)
+
+pub returns-clause-found : goal.returns-clause-found
+returns-clause-found c = was_freed-Frees c.args.self.now _ c.args.key.now (Yes (length c.log-at.result.now)) c.find.ensures.sound (returns-clause-step c)
+
+pub returns-clause-plain : goal.returns-clause-plain
+returns-clause-plain c = shown-Frees c.args.self.now _ c.args.key.now (Yes (length c.log-at.result.now)) c.find.ensures.sound (returns-clause-step c)
+
+pub returns-clause-sound : goal.returns-clause-sound
+returns-clause-sound c = IsSound-Frees c.args.self.now _ c.args.key.now (Yes (length c.log-at.result.now)) c.find.ensures.sound (returns-clause-step c)

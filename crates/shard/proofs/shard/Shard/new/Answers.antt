@@ -1,0 +1,17 @@
+use Rattle.std.proofs.Common.{arith}
+use Rattle.shard.proofs.RoomBits.{HasRooms-empty}
+use Rattle.shard.proofs.Start.{AreOwn-new_shard, IsSound-new}
+use Rattle.shard.proofs.shard.Shard.new.Goals as goal
+
+pub invariant_of-result : goal.invariant_of-result
+invariant_of-result c = record {
+  number_fits = omega arith;
+  pages_fit = omega arith;
+  gens_fit = omega arith;
+  sound = rw (c.new.ensures.items, c.new-2.ensures) (IsSound-new c.args.number c.args.page_limit c.args.gens (omega arith));
+  own = rw c.new.ensures.items (AreOwn-new_shard c.args.number);
+  rooms = rw (c.new.ensures.items, c.empty.ensures) HasRooms-empty;
+}
+
+pub returns-clause-sound : goal.returns-clause-sound
+returns-clause-sound c = rw (c.new.ensures.items, c.new-2.ensures) (IsSound-new c.args.number c.args.page_limit c.args.gens (omega arith))

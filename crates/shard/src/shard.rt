@@ -1,0 +1,297 @@
+// A shard and its calls on keys.
+ghost use Rattle.std.specs.Prelude.{◌*◌, ◌≡◌, ◌<◌, ◌≤◌, ℕ, [], map, length, IsTrue, IsOk, IfOk, IfSome, IsOkUnless, ◌↔◌, OnErr, MatchOption, Some, true, false, slice_get, if◌then◌else◌, is_some};
+ghost use Rattle.std.specs.List.Sorted.{IsStrictlyIncreasing};
+ghost use Rattle.span.specs.Ids.{rank};
+ghost use Rattle.span.specs.State.{SpanState};
+ghost use Rattle.span.specs.PlainMap as plain;
+ghost use Rattle.shard.specs.Group.{GroupState, IsLowestUsable};
+ghost use Rattle.shard.specs.Rooms.{HasRooms, IsFirstRoom};
+ghost use Rattle.shard.specs.Shown.{shown};
+ghost use Rattle.shard.specs.Sound.{IsSound};
+ghost use Rattle.shard.specs.State.{IsElsewhere, IsHere, live_keys, no_pages, summary};
+ghost use Rattle.shard.specs.Calls.{Frees, Gets, IsFull, IsLowestRoom, IsSpent, Puts, PutsHere, PutsInNew, value_found, was_freed};
+
+use crate::error::{Config, PutError};
+use crate::group::Group;
+use crate::rooms::Rooms;
+use bitmap::Bits256;
+use page_table::Table;
+use span::{Key, Span, SpanId};
+use std::alloc::{AllocError, Global};
+use std::marker::Model;
+
+#[cfg(test)]
+mod tests;
+
+/// What a look-up finds. A `usize` is the number of changes in the log of the key's span.
+#[derive(Clone, Copy, PartialEq, Eq, Debug)]
+pub enum Found {
+    /// The key is live, and this is the word at its slot of its span's page.
+    Value(u128, usize),
+    /// The span is here, and the key is not live.
+    Gone(usize),
+    /// The shard has no such span.
+    NotHere,
+}
+
+/// What a free did. A `usize` is the number of changes that the log of the key's span had before.
+#[derive(Clone, Copy, PartialEq, Eq, Debug)]
+pub enum Freed {
+    /// The key was live, and is no more.
+    Yes(usize),
+    /// The span is here, and the key was not live.
+    No(usize),
+    /// The shard has no such span.
+    NotHere,
+}
+
+/// The groups of spans that one thread owns, by ascending head, and their pages of 256 words.
+///
+/// It keeps that each group is a span which it opened itself, alone on its page, at the index that
+/// is the span's serial; and that a group whose index is not in `rooms` has no usable slot.
+#[derive(Drop)]
+pub struct Shard {
+    alloc: Global,
+    number: u32,
+    page_limit: usize,
+    gens: u32,
+    opened: u32,
+    ended: bool,
+    groups: Vec<Group>,
+    rooms: Rooms,
+    table: Table,
+}
+
+impl Model for Shard {
+    ghost use Rattle.shard.specs.State.{ShardState};
+    ghost use Rattle.std.specs.Coded.{codes};
+    ghost use Rattle.page_table.specs.State.{table_code};
+
+    ghost Value = { ShardState };
+
+    ghost coded = { Prim.hlevel (codes, table_code) };
+
+    ghost use Rattle.shard.specs.Kept.{state_of, IsKept};
+
+    ghost view = { state_of };
+
+    ghost invariant = { IsKept };
+}
+
+impl Shard {
+    /// A shard with no page, which may have so many pages, and gives a slot the generations 1 to `gens`. It
+    /// is refused exactly where the number is not below 64, the pages are not 1 to 1,024, or `gens` is 0.
+    pub fn new(alloc: Global, number: u32, page_limit: usize, gens: u32) -> Result<Shard, Config>
+        ensures in_range { IsOk result ↔ ((number < 64) × (1 ≤ page_limit) × (page_limit ≤ 1024) × (1 ≤ gens)) }
+        ensures empty { IfOk result (λ shard. shard ≡ record { number = number; page_limit = page_limit; gens = gens; opened = 0; ended = false; groups = []; table = no_pages }) }
+        ensures sound { IfOk result IsSound }
+    {
+        if number >= 64 || page_limit == 0 || page_limit > 1024 || gens == 0 {
+            return Err(Config);
+        }
+        Ok(Shard {
+            alloc,
+            number,
+            page_limit,
+            gens,
+            opened: 0,
+            ended: false,
+            groups: Vec::new(alloc),
+            rooms: Rooms::empty(),
+            table: Table::new(alloc),
+        })
+    }
+
+    /// How many pages it has, one a group.
+    pub fn pages(&self) -> usize
+        ensures { result ≡ length self.now.groups }
+    {
+        self.groups.len()
+    }
+
+    /// Whether it has ended, and so takes no put.
+    pub fn ended(&self) -> bool
+        ensures { result ≡ self.now.ended }
+    {
+        self.ended
+    }
+
+    /// Its number, which is that of the spans that it opens.
+    pub fn number(&self) -> u32
+        ensures { result ≡ self.now.number }
+    {
+        self.number
+    }
+
+    /// Whether it has all the pages that it may have.
+    pub fn is_full(&self) -> bool
+        ensures { IsTrue result ↔ (self.now.page_limit ≡ length self.now.groups) }
+    {
+        self.pages() == self.page_limit
+    }
+
+    /// How many keys are live in it.
+    pub fn live(&self) -> usize
+        ensures live { result ≡ live_keys self.now }
+        ensures at_most { result ≤ 256 * length self.now.groups }
+    {
+        let mut live = 0;
+        for group in &self.groups {
+            live += group.live();
+        }
+        live
+    }
+
+    /// The head of each group and the slots that are live in one of its spans, by ascending head.
+    pub fn groups(&self) -> Result<Vec<(SpanId, Bits256)>, AllocError>
+        ensures items { IfOk result (λ groups. groups.items ≡ map summary self.now.groups) }
+        ensures ascending { IsStrictlyIncreasing (map (λ group. rank group.head.id) self.now.groups) }
+    {
+        self.groups
+            .iter()
+            .map(|group| (group.head_id(), group.occupied()))
+            .collect(self.alloc)
+    }
+
+    /// The word of the key, where it is live here. It is read in the page, which all spans of a group share.
+    pub fn get(&self, key: &Key) -> Found
+        ensures found { Gets self.now key.now result }
+        ensures plain { value_found result ≡ (shown self.now).value_of key.now }
+        ensures sound { IsSound self.now }
+    {
+        let Some((index, place)) = self.find(key.span()) else {
+            return Found::NotHere;
+        };
+        let group = &self.groups[index];
+        let span = group.span_at(place);
+        let at = span.log().len();
+        if span.find(key) {
+            Found::Value(self.table.value_at(group.page(), key.slot()), at)
+        } else {
+            Found::Gone(at)
+        }
+    }
+
+    /// Frees the key, where it is live here. It takes no memory.
+    pub fn free(&mut self, key: &Key) -> Freed
+        ensures step { Frees self.old key.now result self.new }
+        ensures found { was_freed result ≡ is_some ((shown self.old).value_of key.now) }
+        ensures plain { shown self.new ≡ (if was_freed result then plain.without (shown self.old) key.now else shown self.old) }
+        ensures sound { IsSound self.new }
+    {
+        let Some((index, place)) = self.find(key.span()) else {
+            return Freed::NotHere;
+        };
+        let span = self.groups[index].span_at(place);
+        let at = span.log().len();
+        if !span.find(key) {
+            return Freed::No(at);
+        }
+        self.groups[index].free(place, key);
+        self.rooms.insert(index);
+        Freed::Yes(at)
+    }
+
+    /// Keeps the value at the lowest usable slot of the open group of lowest head that has one, and where there
+    /// is none, at slot 0 of a span that it opens on a new page. It gives the key, which the group's head gives
+    /// out, and the number of changes that the head's log had before.
+    ///
+    /// It is refused with `Ended` exactly after the shard's end, and with `PagesSpent` exactly where it has not
+    /// ended, no open group has a usable slot, and it has all its pages or has opened 1,024 spans. With
+    /// `OutOfMemory` a growth was refused; each stands before the first change.
+    pub fn put(&mut self, value: u128) -> Result<(Key, usize), PutError>
+        ensures ok { IfOk result (λ made. Puts self.old value made.0 made.1 self.new) }
+        ensures fresh { IfOk result (λ made. (shown self.old).is_issued made.0 ≡ false) }
+        ensures plain { IfOk result (λ made. shown self.new ≡ plain.with_put (shown self.old) made.0 value) }
+        ensures sound { IsSound self.new }
+        ensures spent { (result ≡ Err PutError.PagesSpent) ↔ ((self.old.ended ≡ false) × IsSpent self.old) }
+        ensures ended { (result ≡ Err PutError.Ended) ↔ (self.old.ended ≡ true) }
+        ensures err { OnErr result (self.new ≡ self.old) }
+    {
+        if self.ended {
+            return Err(PutError::Ended);
+        }
+        if let Some((index, slot)) = first_room(self.groups.as_slice(), &mut self.rooms) {
+            return self.put_in(index, slot, value);
+        }
+        if self.groups.len() >= self.page_limit || self.opened >= 1024 {
+            return Err(PutError::PagesSpent);
+        }
+        self.put_in_new(value)
+    }
+
+    // Puts the value at the lowest usable slot of the lowest group that has one. Its log grows first.
+    fn put_in(&mut self, index: usize, slot: u8, value: u128) -> Result<(Key, usize), PutError>
+        requires room { (group : GroupState) × IsLowestRoom self.old.groups index group slot }
+        requires running { self.old.ended ≡ false }
+        ensures ok { IfOk result (λ made. PutsHere self.old value made.0 made.1 self.new) }
+        ensures only { IsOkUnless result PutError.OutOfMemory }
+        ensures err { OnErr result (self.new ≡ self.old) }
+    {
+        let group = &mut self.groups[index];
+        let at = group.span_at(0).log().len();
+        let key = group.put(slot, value)?;
+        self.table.set_at(group.page(), slot, value);
+        Ok((key, at))
+    }
+
+    // Opens a span on a new page, with the value at its first slot. The new head, the list of groups and the
+    // table grow before the shard changes.
+    fn put_in_new(&mut self, value: u128) -> Result<(Key, usize), PutError>
+        requires full { IsFull self.old.groups }
+        requires pages { length self.old.groups < self.old.page_limit }
+        requires opened { self.old.opened < 1024 }
+        requires running { self.old.ended ≡ false }
+        ensures ok { IfOk result (λ made. PutsInNew self.old value made.0 made.1 self.new) }
+        ensures only { IsOkUnless result PutError.OutOfMemory }
+        ensures err { OnErr result (self.new ≡ self.old) }
+    {
+        let Some(id) = SpanId::new(self.number, self.opened) else {
+            unreachable!();
+        };
+        let mut head = Span::new(self.alloc, id, self.gens);
+        let key = head.put_at(0, value)?;
+        self.groups.reserve(1)?;
+        let page = self.table.open(id)?;
+        self.table.set_at(page, 0, value);
+        self.rooms.insert(self.groups.len());
+        self.groups.push_reserved(Group::of(self.alloc, head, page));
+        self.opened += 1;
+        Ok((key, 0))
+    }
+
+    // Where the span of the id stands: its group, and its place there.
+    fn find(&self, id: SpanId) -> Option<(usize, usize)>
+        ensures sound { IsSound self.now }
+        ensures place { MatchOption result (IsElsewhere self.now.groups id) (λ at. (group : GroupState) × (span : SpanState) × IsHere self.now.groups id at.0 at.1 group span) }
+    {
+        if id.shard() != self.number {
+            return None;
+        }
+        let index = id.serial() as usize;
+        if index >= self.groups.len() {
+            return None;
+        }
+        match self.groups[index].place_of(id) {
+            Some(place) => Some((index, place)),
+            None => None,
+        }
+    }
+}
+
+// The first open group that has a usable slot, and the lowest such slot. Groups that have none leave the set.
+fn first_room(groups: &[Group], rooms: &mut Rooms) -> Option<(usize, u8)>
+    requires rooms { HasRooms groups.now rooms.old }
+    requires many { length groups.now ≤ 1024 }
+    ensures room { MatchOption result (IsFull groups.now) (λ at. (group : GroupState) × IsFirstRoom groups.now at.0 group at.1) }
+    ensures in_range { IfSome result (λ at. at.1 < 256) }
+    ensures rooms { HasRooms groups.now rooms.new }
+{
+    while let Some(index) = rooms.lowest() {
+        if let Some(slot) = groups[index].lowest_usable() {
+            return Some((index, slot));
+        }
+        rooms.remove(index);
+    }
+    None
+}
