@@ -1,0 +1,67 @@
+-- A text that spells a trace has no fault, and spells no other trace.
+use Rattle.std.proofs.Common.{◌≡◌, ℕ, List, [], ◌∷◌, ◌++◌, drop, Some, None, Result, Ok, Err, IfOk, IfErr, refl, sym, ap, ◌∙◌, inl, inr, subst, append_assoc, append-nil}
+use Rattle.trace_runner.specs.declared.text.header.Header.{Header}
+use Rattle.trace_runner.specs.declared.text.line.Line.{Line}
+use Rattle.trace_runner.specs.declared.text.cause.Cause.{Cause}
+use Rattle.trace_runner.specs.declared.text.cause.ParseError.{ParseError}
+use Rattle.trace_runner.specs.declared.text.cause.ParseError.TheVariants.{OutOfMemory, BadTrace}
+use Rattle.trace_runner.specs.declared.text.trace.Trace.{Trace}
+use Rattle.trace_runner.specs.Form.{HasForm}
+use Rattle.trace_runner.specs.Causes.{HasCause, IsNextLine, Reads, first_cause}
+use Rattle.trace_runner.specs.Words.{lines_of}
+use Rattle.trace_runner.specs.Trace.{Spells, IsTrace, IsFault, IsFaultAt, IsReadAs}
+use Rattle.trace_runner.proofs.Lines.{form_again}
+
+-- bytes have the form of one line
+same_line : (bytes : List ℕ) (v w : Line) → HasForm v bytes → HasForm w bytes → v ≡ w
+same_line bytes v w hv hw = let e = form_again v bytes hv in let f = form_again w bytes hw in cc
+
+-- bytes that are the next line are not at fault
+next_or_fault : (h : Header) (before : List Line) (bytes : List ℕ) (l : Line) (c : Cause) → IsNextLine h before bytes l → HasCause h before bytes c → ⊥
+next_or_fault h before bytes l c next (inl none) = none.1 l next.0
+next_or_fault h before bytes l c next (inr (w, form, first)) =
+    let one : w ≡ l = same_line bytes w l form next.0 in
+    let clash : Some c ≡ None = sym first ∙ ap (first_cause h before) one ∙ next.1 in cc
+
+-- lines of which none is at fault, and of which one is at fault
+read_or_fault : (h : Header) (before : List Line) (above : List (List ℕ)) (bytes : List ℕ) (below : List (List ℕ)) (ls ms : List Line) (c : Cause)
+    → Reads h before (above ++ bytes ∷ below) ls → Reads h before above ms → HasCause h (before ++ ms) bytes c → ⊥
+read_or_fault h before [] bytes below [] ms c all fine fault = absurd all
+read_or_fault h before [] bytes below (l ∷ ls) [] c all fine fault = next_or_fault h before bytes l c all.0 (rw append-nil at fault)
+read_or_fault h before [] bytes below (l ∷ ls) (m ∷ ms) c all fine fault = absurd fine
+read_or_fault h before (t ∷ ts) bytes below [] ms c all fine fault = absurd all
+read_or_fault h before (t ∷ ts) bytes below (l ∷ ls) [] c all fine fault = absurd fine
+read_or_fault h before (t ∷ ts) bytes below (l ∷ ls) (m ∷ ms) c all fine fault =
+    let one : l ≡ m = same_line t l m all.0.0 fine.0.0 in
+    let P : Line → Type 0 = λ x. Reads h (before ++ x ∷ []) (ts ++ bytes ∷ below) ls in
+    read_or_fault h (before ++ m ∷ []) ts bytes below ls ms c (subst P one all.1) fine.1 (rw append_assoc fault)
+
+-- a text that spells a trace has no first fault
+pub spelled_has_no_fault : (text : List ℕ) (h : Header) (lines : List Line) (n : ℕ) (c : Cause) → Spells text h lines → IsFaultAt text n c → ⊥
+spelled_has_no_fault text h lines n c spelled (inl fault) = let bad = sym spelled.head ∙ fault in cc
+spelled_has_no_fault text h lines n c spelled (inr (g, header, fault)) =
+    let same : h ≡ g = let e = sym spelled.head ∙ header in cc in
+    let P : Header → Type 0 = λ x. Reads x [] (drop 5 (lines_of text)) lines in
+    let all = subst P same spelled.below in
+    read_or_fault g [] fault.above fault.bytes fault.below lines fault.lines c (rw fault.split at all) fault.fine fault.fault
+
+-- texts are read as one list of lines
+same_lines : (h : Header) (before : List Line) (texts : List (List ℕ)) (ls ms : List Line) → Reads h before texts ls → Reads h before texts ms → ls ≡ ms
+same_lines h before [] [] [] a b = refl
+same_lines h before [] (l ∷ ls) ms a b = absurd a
+same_lines h before [] [] (m ∷ ms) a b = absurd b
+same_lines h before (t ∷ ts) [] ms a b = absurd a
+same_lines h before (t ∷ ts) (l ∷ ls) [] a b = absurd b
+same_lines h before (t ∷ ts) (l ∷ ls) (m ∷ ms) a b =
+    let one : m ≡ l = same_line t m l b.0.0 a.0.0 in
+    let P : Line → Type 0 = λ x. Reads h (before ++ x ∷ []) ts ms in
+    let more = same_lines h (before ++ l ∷ []) ts ls ms a.1 (subst P one b.1) in cc
+
+-- so it is read, as the trace that it spells
+pub spelled_is_read : (text : List ℕ) (h : Header) (lines : List Line) (r : Result Trace ParseError) → Spells text h lines → IfOk r (IsTrace text) → IfErr r (IsFault text) → IsReadAs r h lines
+spelled_is_read text h lines (Ok trace) spelled read fault =
+    let header : trace.header ≡ h = let e = sym read.head ∙ spelled.head in cc in
+    let P : Header → Type 0 = λ x. Reads x [] (drop 5 (lines_of text)) trace.lines.items in
+    (header, same_lines h [] (drop 5 (lines_of text)) trace.lines.items lines (subst P header read.below) spelled.below)
+spelled_is_read text h lines (Err OutOfMemory) spelled read fault = tt
+spelled_is_read text h lines (Err (BadTrace n c)) spelled read fault = spelled_has_no_fault text h lines n c spelled fault

@@ -1,0 +1,51 @@
+-- What a replay writes.
+use Rattle.std.specs.Prelude.{◌≡◌, ◌+◌, ℕ, Bool, List, Option, length}
+use Rattle.std.specs.Io.KnownBytes.{Appends}
+use Rattle.span.specs.PlainMap.{empty_map}
+use Rattle.trace_runner.specs.CoreState.{CoreState, HasKeys, limits_of, live_keys, new_core, pages, shown}
+use Rattle.trace_runner.specs.Report.{report_text}
+use Rattle.trace_runner.specs.Runs.{IsRun}
+use Rattle.trace_runner.specs.Sink.{AppendsFront}
+use Rattle.trace_runner.specs.Trace.{IsFaultAt, IsTrace}
+use Rattle.trace_runner.specs.declared.fault.ReplayError.{ReplayError}
+use Rattle.trace_runner.specs.declared.fault.ReplayError.TheVariants.{OutOfMemory, BadTrace, SinkFailed}
+use Rattle.trace_runner.specs.declared.report.Ending.{Ending}
+use Rattle.trace_runner.specs.declared.report.LineAnswer.{LineAnswer}
+use Rattle.trace_runner.specs.declared.text.header.Header.{Header}
+use Rattle.trace_runner.specs.declared.text.trace.Trace.{Trace}
+
+-- the core that the header asks for, which has no key yet
+abbrev pub start_of : Header → CoreState
+start_of header = new_core (limits_of header.shards header.pages header.ring header.gens)
+
+-- the counts at the end of a run
+abbrev pub ending_of : CoreState → List LineAnswer → Ending
+ending_of core answers = record { pages = pages core; live = live_keys core; calls = length answers }
+
+-- the bytes are the report of a run of the trace: its calls, from the empty plain map on, with their answers, and the counts at its end,
+-- of which that of the live keys is how many keys have a value in the plain map
+pub record IsReportOf (trace : Trace) (replies : Bool) (bytes : List ℕ) : Type 0 where
+  pub last : CoreState
+  pub answers : List LineAnswer
+  pub empty : shown (start_of trace.header) ≡ empty_map
+  pub run : IsRun trace.lines.items (start_of trace.header) last answers
+  pub live : HasKeys (shown last) (live_keys last)
+  pub spelled : bytes ≡ report_text replies answers (ending_of last answers)
+
+-- the text is a trace, and the bytes are the report of a run of it
+abbrev pub IsReport : List ℕ → Bool → List ℕ → Type 0
+IsReport text replies bytes = (trace : Trace) × IsTrace text trace × IsReportOf trace replies bytes
+
+-- what was taken more than before is the report of a run of the text's trace, whole
+abbrev pub WritesReport : List ℕ → Bool → Option (List ℕ) → Option (List ℕ) → Type 0
+WritesReport text replies old new = (report : List ℕ) × IsReport text replies report × Appends old new report
+
+-- a front of such a report was taken
+abbrev pub WritesFront : List ℕ → Bool → Option (List ℕ) → Option (List ℕ) → Type 0
+WritesFront text replies old new = (report : List ℕ) × IsReport text replies report × AppendsFront old new report
+
+-- where a replay stopped: for want of memory or at the first line at fault, with nothing taken; or at a sink that failed, once, with a front of the report taken
+abbrev pub Stops : List ℕ → Bool → (failures_old failures_new : ℕ) → (old new : Option (List ℕ)) → ReplayError → Type 0
+Stops text replies failures_old failures_new old new OutOfMemory = (failures_new ≡ failures_old) × (new ≡ old)
+Stops text replies failures_old failures_new old new (BadTrace line cause) = IsFaultAt text line cause × (failures_new ≡ failures_old) × (new ≡ old)
+Stops text replies failures_old failures_new old new SinkFailed = (failures_new ≡ failures_old + 1) × WritesFront text replies old new

@@ -1,0 +1,80 @@
+-- What the program says of a fault, and its status.
+use Rattle.std.specs.Prelude.{◌≡◌, ℕ, Bool, true, false, List, ◌++◌, Option, codes, if◌then◌else◌, ⊤}
+use Rattle.std.specs.Fmt.{decimal}
+use Rattle.std.specs.Io.KnownBytes.{Appends}
+use Rattle.clap.specs.Words.{kind_of}
+use Rattle.clap.specs.declared.error.kind.ErrorKind.{ErrorKind}
+use Rattle.clap.specs.declared.error.kind.ErrorKind.TheVariants as kind
+use Rattle.trace_runner.specs.Causes.{word_of}
+use Rattle.trace_runner.specs.declared.text.cause.Cause.{Cause}
+use Rattle.trace_runner.specs.declared.text.cause.ParseError.{ParseError}
+use Rattle.trace_runner.specs.declared.text.cause.ParseError.TheVariants as parse_error
+use Rattle.trace_runner.specs.declared.fault.Fault.{Fault}
+use Rattle.trace_runner.specs.declared.fault.Fault.TheVariants as fault
+use Rattle.trace_runner.specs.declared.fault.ReplayError.{ReplayError}
+use Rattle.trace_runner.specs.declared.fault.ReplayError.TheVariants as replay_error
+use Rattle.trace_runner.specs.declared.job.JobError.{JobError}
+use Rattle.trace_runner.specs.declared.job.JobError.TheVariants as job_error
+use Rattle.trace_runner.specs.declared.telling.TellError.{TellError}
+use Rattle.trace_runner.specs.declared.telling.TellError.TheVariants as tell_error
+use Rattle.trace_runner.specs.Sink.{AppendsFront}
+
+-- where a text is no trace, the replay stops
+abbrev pub stop_of_parse : ParseError → ReplayError
+stop_of_parse parse_error.OutOfMemory = replay_error.OutOfMemory
+stop_of_parse (parse_error.BadTrace line c) = replay_error.BadTrace line c
+
+-- the program's fault where a replay stopped
+abbrev pub fault_of_replay : ReplayError → Fault
+fault_of_replay replay_error.OutOfMemory = fault.OutOfMemory
+fault_of_replay (replay_error.BadTrace line c) = fault.BadTrace line c
+fault_of_replay replay_error.SinkFailed = fault.SinkFailed
+
+-- the program's fault where the words name no job
+abbrev pub fault_of_job : JobError → Fault
+fault_of_job job_error.OutOfMemory = fault.OutOfMemory
+fault_of_job (job_error.Words error) = fault.Words error
+
+-- help or the version was asked for
+abbrev pub is_request : ErrorKind → Bool
+is_request kind.DisplayHelp = true
+is_request kind.DisplayVersion = true
+is_request _ = false
+
+-- the fault is that help was asked for, which is none
+abbrev pub asks_for_help : Fault → Bool
+asks_for_help (fault.Words error) = is_request (kind_of error)
+asks_for_help _ = false
+
+-- the status with which the program ends
+abbrev pub status_of : Fault → ℕ
+status_of (fault.BadTrace line c) = 1
+status_of (fault.Words error) = if is_request (kind_of error) then 0 else 2
+status_of fault.OutOfMemory = 3
+status_of fault.SinkFailed = 5
+status_of fault.Io = 5
+
+-- the status with which the program ends where a fault was not told
+abbrev pub status_where_untold : TellError → ℕ
+status_where_untold tell_error.OutOfMemory = 3
+status_where_untold tell_error.SinkFailed = 5
+
+-- `line N: CAUSE`
+abbrev pub line_message : ℕ → Cause → List ℕ
+line_message line c = codes "line " ++ decimal line ++ codes ": " ++ word_of c ++ codes "\n"
+
+-- the text says the fault; what it says of words is the parser's own
+abbrev pub Says : Fault → List ℕ → Type 0
+Says (fault.BadTrace line c) text = text ≡ line_message line c
+Says (fault.Words error) text = ⊤
+Says fault.OutOfMemory text = text ≡ codes "memory\n"
+Says fault.SinkFailed text = text ≡ codes "io\n"
+Says fault.Io text = text ≡ codes "io\n"
+
+-- a text that says the fault went in whole
+abbrev pub TakesMessage : Fault → Option (List ℕ) → Option (List ℕ) → Type 0
+TakesMessage f old new = (text : List ℕ) × Says f text × Appends old new text
+
+-- a front of such a text went in
+abbrev pub TakesFront : Fault → Option (List ℕ) → Option (List ℕ) → Type 0
+TakesFront f old new = (text : List ℕ) × Says f text × AppendsFront old new text

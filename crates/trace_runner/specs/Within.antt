@@ -1,0 +1,44 @@
+-- Lines as the parser keeps them: a number that does not fit is clipped, and some causes are found before others are asked for.
+use Rattle.std.specs.Prelude.{List, [], ◌∷◌, Option, Some, None, Result, Ok, Err, find, if◌then◌else◌}
+use Rattle.trace_runner.specs.Number.{clip}
+use Rattle.trace_runner.specs.Reference.{clip_reference}
+use Rattle.trace_runner.specs.Causes.{binds_again, holds, is_call, is_call_over, reads_unknown}
+use Rattle.trace_runner.specs.declared.text.header.Header.{Header}
+use Rattle.trace_runner.specs.declared.text.line.Call.{Call}
+use Rattle.trace_runner.specs.declared.text.line.Call.TheVariants.{Get, Free, Sweep}
+use Rattle.trace_runner.specs.declared.text.line.Line.{Line}
+use Rattle.trace_runner.specs.declared.text.line.Line.TheVariants as line
+use Rattle.trace_runner.specs.declared.text.cause.Cause.{Cause}
+use Rattle.trace_runner.specs.declared.text.cause.Cause.TheVariants.{Form, Limit, Thread, Bound, Unknown}
+
+-- an index that does not fit is kept as the greatest that does
+abbrev pub clip_call : Call → Call
+clip_call (Get key) = Get (clip_reference key)
+clip_call (Free key) = Free (clip_reference key)
+clip_call (Sweep name from to) = Sweep name (clip from) (clip to)
+clip_call call = call
+
+-- so is a thread's number
+abbrev pub clip_line : Line → Line
+clip_line (line.Call thread call) = line.Call (clip thread) (clip_call call)
+clip_line line.Silent = line.Silent
+
+-- the call as it is kept, or what its text alone shows to be wrong
+abbrev pub within_call : Option Call → Result Call Cause
+within_call None = Err Form
+within_call (Some call) = if is_call_over call then Err Limit else Ok (clip_call call)
+
+-- the line as it is kept, or what its text alone shows to be wrong
+abbrev pub within : Option Line → Result Line Cause
+within None = Err Form
+within (Some line) = if is_call is_call_over line then Err Limit else Ok (clip_line line)
+
+-- the first of the causes that ask for the header or the lines before
+abbrev pub order_cause : Header → List Line → Line → Option Cause
+order_cause h before line = find (holds h before line) (Thread ∷ Bound ∷ Unknown ∷ [])
+
+-- the same for the names of a call
+abbrev pub name_cause : List Line → Call → Option Cause
+name_cause before call =
+    if binds_again before call then Some Bound
+    else (if reads_unknown before call then Some Unknown else None)

@@ -1,0 +1,160 @@
+//! What stops a replay, and what stops the program.
+
+ghost use Rattle.std.specs.Prelude.{◌≡◌};
+ghost use Rattle.trace_runner.specs.declared.fault.Fault.TheVariants as fault;
+ghost use Rattle.trace_runner.specs.declared.fault.ReplayError.TheVariants as replay_error;
+ghost use Rattle.trace_runner.specs.Telling.{fault_of_replay, fault_of_job, stop_of_parse};
+
+use crate::job::JobError;
+use crate::sink::SinkFailed;
+use crate::text::{Cause, ParseError};
+use std::alloc::{AllocError, AllocFailed};
+use std::io;
+use thiserror::Error;
+
+/// Why a trace was not replayed.
+#[derive(Clone, Copy, Debug, PartialEq, Eq, Error)]
+pub enum ReplayError {
+    /// Memory ran out. Nothing was written.
+    #[error("memory ran out before the report was written: replay a shorter trace")]
+    OutOfMemory,
+    /// The text is no trace. `line` is the first line at fault, where the first line is 1, and
+    /// nothing was written.
+    #[error("line {line} of the trace is at fault: {cause}")]
+    BadTrace { line: usize, cause: Cause },
+    /// The sink did not take the whole report. It took a front of it.
+    #[error("the report could not be written whole: look for a full disk or a closed pipe")]
+    SinkFailed,
+}
+
+impl From<AllocError> for ReplayError {
+    ghost from_gives = { λ _ error. error ≡ replay_error.OutOfMemory };
+
+    fn from(_error: AllocError) -> ReplayError {
+        ReplayError::OutOfMemory
+    }
+}
+
+impl<T: Drop> From<AllocFailed<T>> for ReplayError {
+    ghost from_gives = { λ _ error. error ≡ replay_error.OutOfMemory };
+
+    fn from(_error: AllocFailed<T>) -> ReplayError {
+        ReplayError::OutOfMemory
+    }
+}
+
+impl From<ParseError> for ReplayError {
+    ghost from_gives = { λ error stop. stop ≡ stop_of_parse error };
+
+    fn from(error: ParseError) -> ReplayError {
+        match error {
+            ParseError::OutOfMemory => ReplayError::OutOfMemory,
+            ParseError::BadTrace { line, cause } => ReplayError::BadTrace { line, cause },
+        }
+    }
+}
+
+impl From<SinkFailed> for ReplayError {
+    ghost from_gives = { λ _ error. error ≡ replay_error.SinkFailed };
+
+    fn from(_error: SinkFailed) -> ReplayError {
+        ReplayError::SinkFailed
+    }
+}
+
+/// Why the program did not do its job, or what it shows in place of one.
+#[derive(Debug, Drop, Error)]
+pub enum Fault {
+    /// Memory ran out.
+    #[error("memory ran out: replay a shorter trace")]
+    OutOfMemory,
+    /// The text is no trace. `line` is the first line at fault, where the first line is 1.
+    #[error("line {line} of the trace is at fault: {cause}")]
+    BadTrace { line: usize, cause: Cause },
+    /// The sink did not take the whole report.
+    #[error("the report could not be written whole: look for a full disk or a closed pipe")]
+    SinkFailed,
+    /// The words of the command line name no job, or they ask for help.
+    #[error(transparent)]
+    Words(clap::Error),
+    /// The words or the trace could not be read.
+    #[error("the trace could not be read: look whether the file is there and may be read")]
+    Io,
+}
+
+impl Fault {
+    ghost use Rattle.trace_runner.specs.Telling.{asks_for_help, status_of};
+
+    /// Whether nothing is wrong: help was asked for.
+    pub fn asks_for_help(&self) -> bool
+        ensures { result ≡ asks_for_help self.now }
+    {
+        match self {
+            Fault::Words(error) => !error.use_stderr(),
+            _ => false,
+        }
+    }
+
+    /// The status with which the program ends: 0 where help was asked for, 1 where the text is no
+    /// trace, 2 where the words name no job, 3 where memory ran out, and 5 where a read or a write
+    /// failed.
+    pub fn status(&self) -> u8
+        ensures { result ≡ status_of self.now }
+    {
+        match self {
+            Fault::BadTrace { .. } => 1,
+            Fault::Words(error) if error.use_stderr() => 2,
+            Fault::Words(_) => 0,
+            Fault::OutOfMemory => 3,
+            Fault::SinkFailed | Fault::Io => 5,
+        }
+    }
+}
+
+impl From<ReplayError> for Fault {
+    ghost from_gives = { λ error stop. stop ≡ fault_of_replay error };
+
+    fn from(error: ReplayError) -> Fault {
+        match error {
+            ReplayError::OutOfMemory => Fault::OutOfMemory,
+            ReplayError::BadTrace { line, cause } => Fault::BadTrace { line, cause },
+            ReplayError::SinkFailed => Fault::SinkFailed,
+        }
+    }
+}
+
+impl From<JobError> for Fault {
+    ghost from_gives = { λ error stop. stop ≡ fault_of_job error };
+
+    fn from(error: JobError) -> Fault {
+        match error {
+            JobError::OutOfMemory => Fault::OutOfMemory,
+            JobError::Words(error) => Fault::Words(error),
+        }
+    }
+}
+
+impl From<AllocError> for Fault {
+    ghost from_gives = { λ _ stop. stop ≡ fault.OutOfMemory };
+
+    fn from(_error: AllocError) -> Fault {
+        Fault::OutOfMemory
+    }
+}
+
+impl<T: Drop> From<AllocFailed<T>> for Fault {
+    ghost from_gives = { λ _ stop. stop ≡ fault.OutOfMemory };
+
+    fn from(_error: AllocFailed<T>) -> Fault {
+        Fault::OutOfMemory
+    }
+}
+
+impl From<io::Error> for Fault {
+    fn from(error: io::Error) -> Fault {
+        match error.kind() {
+            io::ErrorKind::OutOfMemory => Fault::OutOfMemory,
+            _ => Fault::Io,
+        }
+    }
+}

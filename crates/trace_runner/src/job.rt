@@ -1,0 +1,125 @@
+//! What the program is asked to do.
+
+ghost use Rattle.std.specs.Prelude.{◌≡◌, IfOk, IfErr, OnOk, []};
+ghost use Rattle.clap.specs.Walk.{texts};
+ghost use Rattle.clap.specs.Words.{found_of, rows_of};
+ghost use Rattle.trace_runner.specs.declared.job.JobError.TheVariants as job_error;
+ghost use Rattle.trace_runner.specs.Job.{IsApp, IsFaultIn, IsJobOf, IsRun, fault_from, kinds_of, program_app, run_app};
+
+use clap::error::ErrorKind;
+use clap::{Arg, ArgAction, ArgMatches, Command};
+use std::alloc::{AllocError, Global};
+use thiserror::Error;
+
+/// What the program is asked to do.
+#[derive(Clone, Copy, Debug, PartialEq, Eq)]
+pub enum Job<'a> {
+    /// `run [TRACE] [--serial] [--replies]`: replay a trace and write its report.
+    Run {
+        /// The file of the trace. Where there is none, it is read from standard input.
+        trace: Option<&'a str>,
+        /// The calls are carried out one after another, in the order of their lines.
+        serial: bool,
+        /// The report has a line for what each call answered.
+        replies: bool,
+    },
+}
+
+/// Why the words name no job.
+#[derive(Debug, Drop, Error)]
+pub enum JobError {
+    /// Memory ran out.
+    #[error("memory ran out")]
+    OutOfMemory,
+    /// The words are not those of a job, or they ask for help. The text says which, and how the
+    /// program is called.
+    #[error(transparent)]
+    Words(clap::Error),
+}
+
+impl From<AllocError> for JobError {
+    ghost from_gives = { λ _ error. error ≡ job_error.OutOfMemory };
+
+    fn from(_error: AllocError) -> JobError {
+        JobError::OutOfMemory
+    }
+}
+
+impl From<clap::Error> for JobError {
+    ghost from_gives = { λ error fault. fault ≡ fault_from error };
+
+    fn from(error: clap::Error) -> JobError {
+        match error.kind() {
+            ErrorKind::OutOfMemory => JobError::OutOfMemory,
+            _ => JobError::Words(error),
+        }
+    }
+}
+
+fn run_command<'a>(alloc: Global) -> Result<Command<'a>, AllocError>
+    ensures { IfOk result (IsApp run_app) }
+{
+    let trace = Arg::new(alloc, "TRACE").help(
+        "The file of the trace, a text with one call on a line; left out, the trace is read from standard input",
+    );
+    let serial = Arg::new(alloc, "serial")
+        .long("serial")
+        .action(ArgAction::SetTrue)
+        .help("Carry out the calls one after another, in the order of their lines");
+    let replies = Arg::new(alloc, "replies")
+        .long("replies")
+        .action(ArgAction::SetTrue)
+        .help("Report also what each call answered, after the number of its line");
+    let run = Command::new(alloc, "run")
+        .about("Replays a trace and writes its report to standard output")
+        .arg(trace)?
+        .arg(serial)?
+        .arg(replies)?;
+    Ok(run)
+}
+
+fn program_command<'a>(alloc: Global) -> Result<Command<'a>, AllocError>
+    ensures { IfOk result (IsApp program_app) }
+{
+    let run = run_command(alloc)?;
+    let program = Command::new(alloc, "meshrun")
+        .about("Replays traces: texts with one call on a line")
+        .bin_name("meshrun")?
+        .no_binary_name(true)
+        .disable_help_subcommand(true)
+        .subcommand_required(true)
+        .subcommand(run)?;
+    Ok(program)
+}
+
+/// The job that the words after `run` name.
+fn run_job<'a>(run: &ArgMatches<'a>) -> Job<'a>
+    ensures { IsRun (rows_of (found_of run.now)) result }
+{
+    Job::Run {
+        trace: run.get_str("TRACE"),
+        serial: run.get_flag("serial"),
+        replies: run.get_flag("replies"),
+    }
+}
+
+impl<'a> Job<'a> {
+    /// Reads the words after the program's own name.
+    ///
+    /// `Words` comes where they are not `run [TRACE] [--serial] [--replies]`, or where they ask for
+    /// help by `--help` or `-h`.
+    pub fn from_words(alloc: Global, words: &'a [&'a str]) -> Result<Job<'a>, JobError>
+        ensures named { IfOk result (IsJobOf (texts words.entry.now)) }
+        ensures accepted { OnOk result (kinds_of (texts words.entry.now) ≡ []) }
+        ensures refused { IfErr result (IsFaultIn (texts words.entry.now)) }
+    {
+        let program = program_command(alloc)?;
+        let matches = program.try_get_matches_from(words)?;
+        // A command is required, and there is no other.
+        let run = matches.subcommand_matches("run").unwrap();
+        Ok(run_job(run))
+    }
+}
+
+#[cfg(test)]
+mod tests;

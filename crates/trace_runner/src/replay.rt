@@ -1,0 +1,74 @@
+//! Replays a trace on a core of its own.
+
+ghost use Rattle.std.specs.Prelude.{◌≡◌, ◌<◌, ◌-◌, ◌^◌, IfOk, IfErr, OnOk};
+ghost use Rattle.span.specs.PlainMap.{empty_map};
+ghost use Rattle.trace_runner.specs.CoreState.{shown};
+ghost use Rattle.trace_runner.specs.Header.{IsWithinLimits};
+ghost use Rattle.trace_runner.specs.Replay.{IsReportOf, Stops, WritesReport, start_of};
+
+use crate::events::{Core, CoreError};
+use crate::fault::ReplayError;
+use crate::report::Ending;
+use crate::run::run_lines;
+use crate::sink::{Sink, give};
+use crate::text::{Header, Trace, parse};
+use crate::writing::report_text;
+use std::alloc::{AllocError, Global};
+
+/// Replays a trace: reads the text whole, runs its calls one after another on a core of its own, and gives the report to
+/// `out`, with a line for each call where `replies` asks for them. `cert` is as it was: no trace has a certificate yet.
+///
+/// `BadTrace` comes for a text that is no trace, with its first line at fault and the first cause that holds of it.
+/// `SinkFailed` comes where `out` failed; it has then taken a front of the report. `OutOfMemory` comes where a
+/// growth was refused. After the first and the last `out` has taken nothing.
+pub fn replay_serial<S: Sink>(
+    alloc: Global,
+    text: &[u8],
+    replies: bool,
+    out: &mut S,
+    cert: &mut Vec<u8>,
+) -> Result<(), ReplayError>
+    requires { S.failures out.old < 2 ^ 64 - 1 }
+    ensures ok { OnOk result (WritesReport text.now replies (S.taken out.old) (S.taken out.new)) }
+    ensures succeeded { OnOk result (S.failures out.new ≡ S.failures out.old) }
+    ensures err { IfErr result (Stops text.now replies (S.failures out.old) (S.failures out.new) (S.taken out.old) (S.taken out.new)) }
+    ensures certificate { cert.new ≡ cert.old }
+{
+    let _ = cert;
+    let trace = parse(alloc, text)?;
+    let report = report(alloc, &trace, replies)?;
+    match give(out, report.as_slice()) {
+        Ok(()) => Ok(()),
+        Err(_) => Err(ReplayError::SinkFailed),
+    }
+}
+
+/// The report of a run of the trace.
+fn report(alloc: Global, trace: &Trace, replies: bool) -> Result<Vec<u8>, AllocError>
+    ensures { IfOk result (λ report. IsReportOf trace.now replies report.items) }
+{
+    let core = core_of(alloc, &trace.header)?;
+    let (core, answers) = run_lines(alloc, trace, core)?;
+    let totals = core.totals();
+    let ending = Ending {
+        pages: totals.pages,
+        live: totals.live,
+        calls: answers.len(),
+    };
+    report_text(alloc, replies, answers.as_slice(), &ending)
+}
+
+/// The core that the header asks for.
+fn core_of(alloc: Global, header: &Header) -> Result<Core, AllocError>
+    requires { IsWithinLimits header.now }
+    ensures core { IfOk result (λ core. core ≡ start_of header.now) }
+    ensures empty { OnOk result (shown (start_of header.now) ≡ empty_map) }
+{
+    let pages = header.pages as usize;
+    let ring = header.ring as usize;
+    match Core::new(alloc, header.shards, pages, ring, header.gens) {
+        Ok(core) => Ok(core),
+        Err(CoreError::OutOfMemory) => Err(AllocError),
+        Err(CoreError::Config) => unreachable!(),
+    }
+}

@@ -1,0 +1,312 @@
+//! Traces and what their reports say, texts that are no traces, and what a refused growth leaves.
+use super::*;
+use std::alloc::{AllocError, Global};
+use std::process::Abort;
+use std::test::Fail;
+
+const STALE_KEY: &[u8] =
+    b"mesh 1\nshards 1\npages 4\nring 4\ngens 9\n0 put a 5\n0 get a\n0 free a\n0 get a\n0 put b 6\n0 get a\n";
+
+/// The report of the text, or the message of the refusal.
+fn report_of(alloc: Global, text: &[u8], replies: bool) -> Result<Vec<u8>, AllocError> {
+    let mut out = Memory::new(alloc);
+    match replay_serial(alloc, text, replies, &mut out, &mut Vec::new(alloc)) {
+        Ok(()) => Ok(out.bytes),
+        Err(ReplayError::BadTrace { line, cause }) => {
+            Ok(format!(in alloc; "line {line}: {cause}")?.into_bytes())
+        }
+        Err(_) => Err(AllocError),
+    }
+}
+
+/// A trace of one shard: the header, then the lines.
+fn trace(alloc: Global, pages: u32, gens: u32, lines: &str) -> Result<Vec<u8>, AllocError> {
+    let text = format!(in alloc; "mesh 1\nshards 1\npages {pages}\nring 4\ngens {gens}\n{lines}")?;
+    Ok(text.into_bytes())
+}
+
+/// Whether the report of the lines is the replies and the end, and without replies the end alone.
+fn reports(
+    rt: &(impl AllocGlobal + Abort),
+    text: &[u8],
+    replies: &str,
+    end: &str,
+) -> Result<(), Fail> {
+    let report = report_of(rt.alloc(), text, true)?;
+    let whole = format!(in rt.alloc(); "{replies}{end}\n")?;
+    assert_eq!(rt; report.as_slice(), whole.as_bytes());
+    let report = report_of(rt.alloc(), text, false)?;
+    let whole = format!(in rt.alloc(); "{end}\n")?;
+    assert_eq!(rt; report.as_slice(), whole.as_bytes());
+    Ok(())
+}
+
+/// The replies of 256 puts on one line that fill the page of span 0.
+fn page_of_keys(alloc: Global, line: u32) -> Result<String, AllocError> {
+    let mut text = String::new(alloc);
+    for slot in 0..256u32 {
+        text.push_str(&format!(in alloc; "{line} key 0.0/{slot}/1\n")?)?;
+    }
+    Ok(text)
+}
+
+/// The reply of each of 256 calls on one line.
+fn page_of(alloc: Global, reply: &str) -> Result<String, AllocError> {
+    let mut text = String::new(alloc);
+    for _ in 0..256u32 {
+        text.push_str(reply)?;
+    }
+    Ok(text)
+}
+
+#[test]
+fn small_traces(rt: HostRuntime) -> Result<(), Fail> {
+    for (pages, gens, lines, replies, end) in [
+        (4, 9, "", "", "end pages 0 live 0 calls 0"),
+        (
+            4,
+            9,
+            "0 put a 5\n0 get a\n0 free a\n0 get a\n0 put b 6\n0 get a\n",
+            "6 key 0.0/0/1\n7 value 5\n8 yes\n9 none\n10 key 0.0/0/2\n11 none\n",
+            "end pages 1 live 1 calls 6",
+        ),
+        (
+            4,
+            2,
+            "0 put a 1\n0 free a\n0 put b 2\n0 free b\n0 put c 3\n",
+            "6 key 0.0/0/1\n7 yes\n8 key 0.0/0/2\n9 yes\n10 key 0.0/1/1\n",
+            "end pages 1 live 1 calls 5",
+        ),
+        (
+            4,
+            9,
+            "0 put a 340282366920938463463374607431768211455\n0 get a\n",
+            "6 key 0.0/0/1\n7 value 340282366920938463463374607431768211455\n",
+            "end pages 1 live 1 calls 2",
+        ),
+        (
+            4,
+            9,
+            "\n0 put a 5\n# put a 5\n0 free a\n0 free a",
+            "7 key 0.0/0/1\n9 yes\n10 no\n",
+            "end pages 1 live 0 calls 3",
+        ),
+        (
+            4,
+            9,
+            "0 fill a 3 7\n0 get a.2\n0 sweep a 1 3\n0 sweep a 0 3\n0 get a.0\n",
+            "6 key 0.0/0/1\n6 key 0.0/1/1\n6 key 0.0/2/1\n7 value 9\n8 yes\n8 yes\n9 yes\n9 no\n9 no\n10 none\n",
+            "end pages 1 live 0 calls 10",
+        ),
+    ] {
+        let text = trace(rt.alloc(), pages, gens, lines)?;
+        reports(&rt, &text, replies, end)?;
+    }
+    Ok(())
+}
+
+#[test]
+fn full_pages(rt: HostRuntime) -> Result<(), Fail> {
+    let keys = page_of_keys(rt.alloc(), 6)?;
+
+    // The 257th put opens a second page,
+    let text = trace(rt.alloc(), 4, 9, "0 fill a 257 1\n")?;
+    let replies = format!(in rt.alloc(); "{keys}6 key 0.1/0/1\n")?;
+    reports(&rt, &text, &replies, "end pages 2 live 257 calls 257")?;
+
+    // or finds none left, and what it would have put was never bound.
+    let text = trace(
+        rt.alloc(),
+        1,
+        9,
+        "0 fill a 257 1\n0 get a.256\n0 free a.256\n0 get a.255\n",
+    )?;
+    let replies = format!(in rt.alloc();
+        "{keys}6 refused pages\n7 unbound\n8 unbound\n9 value 256\n"
+    )?;
+    reports(&rt, &text, &replies, "end pages 1 live 256 calls 260")?;
+
+    // A slot whose generations are spent takes no put.
+    let swept = page_of(rt.alloc(), "7 yes\n")?;
+    let lines = "0 fill a 256 0\n0 sweep a 0 256\n0 put b 1\n";
+    let text = trace(rt.alloc(), 1, 1, lines)?;
+    let replies = format!(in rt.alloc(); "{keys}{swept}8 refused pages\n")?;
+    reports(&rt, &text, &replies, "end pages 1 live 0 calls 513")?;
+    let text = trace(rt.alloc(), 2, 1, lines)?;
+    let replies = format!(in rt.alloc(); "{keys}{swept}8 key 0.1/0/1\n")?;
+    reports(&rt, &text, &replies, "end pages 2 live 1 calls 513")?;
+    Ok(())
+}
+
+#[test]
+fn fills_of_many_pages(rt: HostRuntime) -> Result<(), Fail> {
+    for (limit, gens, lines, end) in [
+        (1, 9, "0 fill a 256 0\n", "end pages 1 live 256 calls 256"),
+        (2, 9, "0 fill a 512 0\n", "end pages 2 live 512 calls 512"),
+        (
+            4,
+            9,
+            "0 fill a 1024 0\n",
+            "end pages 4 live 1024 calls 1024",
+        ),
+        (
+            4,
+            9,
+            "0 fill a 1025 0\n",
+            "end pages 4 live 1024 calls 1025",
+        ),
+        (
+            2,
+            9,
+            "0 fill a 1024 0\n0 sweep a 0 1024\n",
+            "end pages 2 live 0 calls 2048",
+        ),
+        (
+            2,
+            1,
+            "0 fill a 512 0\n0 sweep a 0 512\n0 fill b 2 0\n",
+            "end pages 2 live 0 calls 1026",
+        ),
+        (
+            4,
+            2,
+            "0 fill a 256 0\n0 sweep a 0 256\n0 fill b 256 0\n0 sweep b 0 256\n0 fill c 2 0\n",
+            "end pages 2 live 2 calls 1026",
+        ),
+    ] {
+        let text = trace(rt.alloc(), limit, gens, lines)?;
+        let report = report_of(rt.alloc(), &text, false)?;
+        let whole = format!(in rt.alloc(); "{end}\n")?;
+        assert_eq!(rt; report.as_slice(), whole.as_bytes(), "{lines}");
+    }
+    Ok(())
+}
+
+#[test]
+fn a_broken_trace_writes_nothing(rt: HostRuntime) -> Result<(), Fail> {
+    for (text, line, cause) in [
+        ("", 1, Cause::Header),
+        ("mesh 1\nshards 1", 3, Cause::Header),
+        (
+            "mesh 1\nshards 2\npages 4\nring 4\ngens 9\n",
+            2,
+            Cause::Limit,
+        ),
+        (
+            "mesh 1\nshards 1\npages 4\nring 4\ngens 0\n",
+            5,
+            Cause::Limit,
+        ),
+        (
+            "mesh 1\nshards 1\npages 4\nring 4\ngens 9\n0 put a 1\n0 put a 2\n",
+            7,
+            Cause::Bound,
+        ),
+        (
+            "mesh 1\nshards 1\npages 4\nring 4\ngens 9\n0 put a 340282366920938463463374607431768211456\n",
+            6,
+            Cause::Limit,
+        ),
+    ] {
+        let mut out = Memory::new(rt.alloc());
+        let mut cert = Vec::from_slice(rt.alloc(), b"before")?;
+        let result = replay_serial(rt.alloc(), text.as_bytes(), true, &mut out, &mut cert);
+        assert_eq!(rt; result, Err(ReplayError::BadTrace { line, cause }));
+        assert_eq!(rt; (out.bytes.len(), out.failures), (0, 0));
+        assert_eq!(rt; cert.as_slice(), b"before".as_slice());
+    }
+    Ok(())
+}
+
+/// Takes one byte a write, and fails from one write on.
+#[derive(Drop)]
+struct Narrow {
+    taken: usize,
+    room: usize,
+    failures: u64,
+}
+
+impl Sink for Narrow {
+    ghost taken = { λ _. None };
+
+    ghost failures = { λ sink. sink.failures };
+
+    fn take(&mut self, _bytes: &[u8]) -> Result<usize, SinkFailed> {
+        if self.taken >= self.room {
+            self.failures += 1;
+            return Err(SinkFailed);
+        }
+        self.taken += 1;
+        Ok(1)
+    }
+
+    fn failures(&self) -> u64 {
+        self.failures
+    }
+}
+
+#[test]
+fn a_sink_that_fails_is_told(rt: HostRuntime) -> Result<(), Fail> {
+    let empty = trace(rt.alloc(), 4, 9, "")?;
+    for room in 0..29usize {
+        let mut out = Narrow {
+            taken: 0,
+            room,
+            failures: 0,
+        };
+        let result = replay_serial(
+            rt.alloc(),
+            &empty,
+            false,
+            &mut out,
+            &mut Vec::new(rt.alloc()),
+        );
+        let wanted = if room < 27 {
+            Err(ReplayError::SinkFailed)
+        } else {
+            Ok(())
+        };
+        assert_eq!(rt; result, wanted);
+        assert_eq!(rt; out.taken, room.min(27));
+        assert_eq!(rt; out.failures(), u64::from(room < 27));
+    }
+    Ok(())
+}
+
+// Replays the text. Where a growth is refused, nothing is written and the certificate stays, and the same call is made again.
+fn replay_again(
+    rt: &(impl AllocGlobal + Abort),
+    out: &mut Memory,
+    cert: &mut Vec<u8>,
+) -> Result<(), ReplayError> {
+    let result = replay_serial(rt.alloc(), STALE_KEY, true, out, cert);
+    if result.is_ok() {
+        return result;
+    }
+    // The report is in the sink's memory, so the last growth is the sink's.
+    let failures = if result == Err(ReplayError::SinkFailed) {
+        1
+    } else {
+        0
+    };
+    assert_eq!(rt; out.failures, failures);
+    assert_eq!(rt; out.bytes.len(), 0);
+    assert_eq!(rt; cert.as_slice(), b"before".as_slice());
+    replay_serial(rt.alloc(), STALE_KEY, true, out, cert)
+}
+
+#[test]
+fn a_refused_growth_leaves_nothing(rt: HostRuntime) -> Result<(), Fail> {
+    let mut cert = match Vec::from_slice(rt.alloc(), b"before") {
+        Ok(cert) => cert,
+        Err(_) => Vec::from_slice(rt.alloc(), b"before")?,
+    };
+    let mut out = Memory::new(rt.alloc());
+    assert_eq!(rt; replay_again(&rt, &mut out, &mut cert), Ok(()));
+    assert_eq!(rt;
+        out.bytes.as_slice(),
+        b"6 key 0.0/0/1\n7 value 5\n8 yes\n9 none\n10 key 0.0/0/2\n11 none\nend pages 1 live 1 calls 6\n".as_slice()
+    );
+    assert_eq!(rt; cert.as_slice(), b"before".as_slice());
+    Ok(())
+}

@@ -1,0 +1,46 @@
+//! The text of a trace.
+//!
+//! A trace is lines of bytes, each ended by one line feed, which the last line may lack. Lines are
+//! counted from 1. Words are parted by one space, and no space stands before the first word or
+//! after the last. A number is decimal digits with no sign and no leading zero. Lines 1 to 5 are
+//! the header, and every further line is empty, a remark, or a call of a thread:
+//!
+//! ```text
+//! mesh 1                  0 put a 7            puts 7, and binds `a` to its key
+//! shards 1                0 fill b 3 5         puts 5, 6, 7, and binds `b.0`, `b.1`, `b.2`
+//! pages 4                 0 get b.1            reads the value of a key
+//! ring 4                  0 free a             frees a key
+//! gens 9                  0 sweep b 0 2        frees `b.0` and `b.1`
+//! # bytes of any kind
+//! ```
+//!
+//! A name is 1 to 16 of `a` to `z` and `0` to `9`, and begins with a letter. It is bound once, by a
+//! put or a fill, and stands for its keys from the next line on: alone where a put binds it, and
+//! with a full stop and an index below the count where a fill does. A sweep lies within its fill.
+//!
+//! There is 1 shard, and its one thread is 0. It has 1 to 1,024 pages, a ring 1 to 1,024 places, and
+//! a slot 1 to 4,294,967,295 generations. A fill has 1 to 262,144 keys. Each value, the last one of
+//! a fill too, is below 2^128.
+//!
+//! `parse` gives the trace that a text spells, or the first line at fault and, of the causes that
+//! hold of it, the first in the order of `Cause`.
+
+mod cause;
+mod earlier;
+mod header;
+mod line;
+mod name;
+mod numeral;
+mod parsing;
+mod reading;
+#[cfg(test)]
+mod tests;
+mod trace;
+mod words;
+
+pub use cause::{Cause, ParseError};
+pub use header::Header;
+pub use line::{Binding, Call, Keys, Line};
+pub use name::{Name, Reference};
+pub use parsing::parse;
+pub use trace::Trace;
