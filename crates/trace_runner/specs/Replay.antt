@@ -49,3 +49,8 @@ abbrev pub Stops : List ℕ → Bool → (failures_old failures_new : ℕ) → (
 Stops text replies failures_old failures_new old new OutOfMemory = (failures_new ≡ failures_old) × (new ≡ old)
 Stops text replies failures_old failures_new old new (BadTrace line cause) = IsFaultAt text line cause × (failures_new ≡ failures_old) × (new ≡ old)
 Stops text replies failures_old failures_new old new SinkFailed = (failures_new ≡ failures_old + 1) × WritesFront text replies old new
+
+-- the text is at no fault: memory ran out, or the sink failed
+abbrev pub IsNoFault : ReplayError → Type 0
+IsNoFault (BadTrace line cause) = ⊥
+IsNoFault error = Unit {0}

@@ -1,10 +1,13 @@
 //! Replays a trace on a core of its own.
 
-ghost use Rattle.std.specs.Prelude.{◌≡◌, ◌<◌, ◌-◌, ◌^◌, IfOk, IfErr, OnOk};
+ghost use Rattle.std.specs.Prelude.{◌≡◌, ◌<◌, ◌-◌, ◌^◌, IfOk, IfErr, List, OnOk};
 ghost use Rattle.span.specs.PlainMap.{empty_map};
 ghost use Rattle.trace_runner.specs.CoreState.{shown};
 ghost use Rattle.trace_runner.specs.Header.{IsWithinLimits};
-ghost use Rattle.trace_runner.specs.Replay.{IsReportOf, Stops, WritesReport, start_of};
+ghost use Rattle.trace_runner.specs.Trace.{Spells};
+ghost use Rattle.trace_runner.specs.declared.text.header.Header.{Header};
+ghost use Rattle.trace_runner.specs.declared.text.line.Line.{Line};
+ghost use Rattle.trace_runner.specs.Replay.{IsNoFault, IsReportOf, Stops, WritesReport, start_of};
 
 use crate::events::{Core, CoreError};
 use crate::fault::ReplayError;
@@ -18,7 +21,7 @@ use std::alloc::{AllocError, Global};
 /// Replays a trace: reads the text whole, runs its calls one after another on a core of its own, and gives the report to
 /// `out`, with a line for each call where `replies` asks for them. `cert` is as it was: no trace has a certificate yet.
 ///
-/// `BadTrace` comes for a text that is no trace, with its first line at fault and the first cause that holds of it.
+/// `BadTrace` comes exactly for a text that is no trace, with its first line at fault and the first cause that holds of it.
 /// `SinkFailed` comes where `out` failed; it has then taken a front of the report. `OutOfMemory` comes where a
 /// growth was refused. After the first and the last `out` has taken nothing.
 pub fn replay_serial<S: Sink>(
@@ -30,6 +33,7 @@ pub fn replay_serial<S: Sink>(
 ) -> Result<(), ReplayError>
     requires { S.failures out.old < 2 ^ 64 - 1 }
     ensures ok { OnOk result (WritesReport text.now replies (S.taken out.old) (S.taken out.new)) }
+    ensures accepted { (header : Header) (lines : List Line) → Spells text.now header lines → IfErr result IsNoFault }
     ensures succeeded { OnOk result (S.failures out.new ≡ S.failures out.old) }
     ensures err { IfErr result (Stops text.now replies (S.failures out.old) (S.failures out.new) (S.taken out.old) (S.taken out.new)) }
     ensures certificate { cert.new ≡ cert.old }

@@ -1,4 +1,6 @@
 //! Traces and what their reports say, texts that are no traces, and what a refused growth leaves.
+ghost use Rattle.std.specs.Prelude.{◌≡◌, None};
+
 use super::*;
 use std::alloc::{AllocError, Global};
 use std::process::Abort;
@@ -278,7 +280,9 @@ fn replay_again(
     rt: &(impl AllocGlobal + Abort),
     out: &mut Memory,
     cert: &mut Vec<u8>,
-) -> Result<(), ReplayError> {
+) -> Result<(), ReplayError>
+    requires { out.old.failures ≡ 0 }
+{
     let result = replay_serial(rt.alloc(), STALE_KEY, true, out, cert);
     if result.is_ok() {
         return result;

@@ -106,3 +106,17 @@ fn limits_its_numbers(rt: HostRuntime) -> Result<(), Fail> {
     assert_eq!(rt; Shard::new(rt.alloc(), 63, 1024, u32::MAX)?.number(), 63);
     Ok(())
 }
+
+#[test]
+fn a_key_names_one_value(rt: HostRuntime) -> Result<(), Fail> {
+    let alloc = rt.alloc();
+    // The lines that the tour of the README has.
+    let mut shard = Shard::new(alloc, 0, 16, 2)?;
+    let (key, _) = shard.put(7)?;
+    assert_eq!(rt; shard.get(&key), Found::Value(7, 1));
+    assert_eq!(rt; shard.free(&key), Freed::Yes(1));
+    let (again, _) = shard.put(8)?;
+    assert_eq!(rt; shard.get(&key), Found::Gone(3));
+    assert_eq!(rt; shard.get(&again), Found::Value(8, 3));
+    Ok(())
+}
