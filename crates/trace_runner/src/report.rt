@@ -7,7 +7,7 @@ use span::Key;
 pub enum Answer {
     /// A put stored its value under this key.
     Key(Key),
-    /// A put found no free slot, and no page is left.
+    /// A put found no usable slot, and the shard may have no further page.
     PagesSpent,
     /// A look-up found this value.
     Value(u128),
