@@ -26,6 +26,7 @@ pub enum Answer {
 pub struct LineAnswer {
     /// The number of the line that made the call, where the first line of the trace is 1.
     pub line: usize,
+    /// What the call answered.
     pub answer: Answer,
 }
 

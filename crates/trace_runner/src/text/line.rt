@@ -38,6 +38,7 @@ pub enum Keys {
 /// What a name is bound to.
 #[derive(Clone, Copy, Debug, PartialEq, Eq)]
 pub struct Binding {
+    /// The keys that it stands for.
     pub keys: Keys,
     /// The place of the line that binds it among the lines below the header, from 0.
     pub line: usize,

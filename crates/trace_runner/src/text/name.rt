@@ -100,6 +100,7 @@ impl Hash for Name {
 /// A name, or a name and an index, for one of the keys that the name is bound to.
 #[derive(Debug, Drop, PartialEq, Eq)]
 pub struct Reference {
+    /// The name, which an earlier line binds.
     pub name: Name,
     /// Counted from 0, in the order of the fill.
     pub index: Option<u32>,
