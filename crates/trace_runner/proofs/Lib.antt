@@ -6,16 +6,6 @@ pub mod Clips
 pub mod Bindings
 pub mod Texts
 pub mod Exclusion
-pub mod Lists
-pub mod Spans
-pub mod Shown
-pub mod Changes
-pub mod Steps
-pub mod Fields
-pub mod Runs
-pub mod Start
-pub mod LiveKeys
-pub mod LiveKeysShown
 pub mod Taken
 pub mod Entered
 pub mod Refused

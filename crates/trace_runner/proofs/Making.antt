@@ -3,13 +3,13 @@ use Rattle.std.proofs.Common.{ℕ, List, [], ◌∷◌, ◌++◌, map, Option, S
 use Rattle.std.specs.List.{AllByRecursion}
 use Rattle.std.proofs.lemmas.List.{map-append, append-nil}
 use Rattle.std.proofs.lemmas.List.Elements.{filter_map-append}
-use Rattle.trace_runner.specs.CoreState.{CoreState, shown}
-use Rattle.trace_runner.specs.CoreStep.{CoreStep, CoreRun}
-use Rattle.trace_runner.specs.Plain.{PlainStep, PlainRun}
+use Rattle.arena_core.specs.State.{CoreState, shown}
+use Rattle.arena_core.specs.Step.{CoreStep, CoreRun}
+use Rattle.arena_core.specs.Plain.{PlainStep, PlainRun}
 use Rattle.trace_runner.specs.Recalls.{Makes, Recalls}
 use Rattle.trace_runner.specs.Runs.{IsAnswered, Made, answers_from, Called, Unbound, IsTold, event_made, reply_made, events_of, replies_of, on_line}
-use Rattle.trace_runner.specs.declared.events.event.Event.{Event}
-use Rattle.trace_runner.specs.declared.events.reply.Reply.{Reply}
+use Rattle.arena_core.specs.declared.event.Event.{Event}
+use Rattle.arena_core.specs.declared.reply.Reply.{Reply}
 use Rattle.trace_runner.specs.declared.report.LineAnswer.{LineAnswer}
 use Rattle.span.specs.PlainMap.{PlainMap}
 

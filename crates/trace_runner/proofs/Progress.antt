@@ -4,7 +4,7 @@ use Rattle.std.proofs.Math.Seq.{get_or-append_seam, take-length}
 use Rattle.std.proofs.lemmas.Bool.{cases_lt}
 use Rattle.std.proofs.lemmas.Grind.{flat_map-append}
 use Rattle.std.proofs.lemmas.List.{append-nil, get_or_append_left, length_push, take-append-le}
-use Rattle.trace_runner.specs.CoreState.{CoreState}
+use Rattle.arena_core.specs.State.{CoreState}
 use Rattle.trace_runner.specs.Recalls.{HasCome, Makes, Recalls}
 use Rattle.trace_runner.specs.Runs.{DoLines, Made, all_made, answers_from, event_made, events_of_line, on_line}
 use Rattle.trace_runner.specs.declared.report.LineAnswer.{LineAnswer}

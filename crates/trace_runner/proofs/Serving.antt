@@ -5,14 +5,14 @@ use Rattle.shard.specs.Calls.{Puts, Frees}
 use Rattle.shard.specs.declared.shard.Freed.TheVariants.{Yes}
 use Rattle.span.specs.declared.key.Key.{Key}
 use Rattle.shard.proofs.Lists.{cases-set}
-use Rattle.trace_runner.specs.CoreState.{CoreState, with_shard}
-use Rattle.trace_runner.specs.CoreStep.{CoreStep}
+use Rattle.arena_core.specs.State.{CoreState, with_shard}
+use Rattle.arena_core.specs.Step.{CoreStep}
 use Rattle.trace_runner.specs.Recalls.{IsFor, IsServed, Serves}
-use Rattle.trace_runner.specs.declared.events.event.Event.{Event}
-use Rattle.trace_runner.specs.declared.events.event.Event.TheVariants.{Put, Get, Free}
-use Rattle.trace_runner.specs.declared.events.reply.Reply.{Reply}
-use Rattle.trace_runner.specs.declared.events.reply.Reply.TheVariants.{Issued, Found, Freed, Refused}
-use Rattle.trace_runner.specs.declared.events.reply.Refusal.TheVariants.{OutOfMemory, PagesSpent, Ended, Config}
+use Rattle.arena_core.specs.declared.event.Event.{Event}
+use Rattle.arena_core.specs.declared.event.Event.TheVariants.{Put, Get, Free}
+use Rattle.arena_core.specs.declared.reply.Reply.{Reply}
+use Rattle.arena_core.specs.declared.reply.Reply.TheVariants.{Issued, Found, Freed, Refused}
+use Rattle.arena_core.specs.declared.reply.Refusal.TheVariants.{OutOfMemory, PagesSpent, Ended, Config}
 
 ended-Puts : (old new : ShardState) (value : ℕ) (key : Key) (at : ℕ) → Puts old value key at new → new.ended ≡ old.ended
 ended-Puts old new value key at (running, inl (index, group, room, span, generation, count, is)) = ap (λ (s : ShardState). s.ended) is

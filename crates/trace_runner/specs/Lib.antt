@@ -8,12 +8,6 @@ pub mod Within
 pub mod Header
 pub mod Earlier
 pub mod Trace
-pub mod Plain
-pub mod CoreState
-pub mod CoreSound
-pub mod CoreStep
-pub mod Refusals
-pub mod CoreKept
 pub mod Sink
 pub mod Report
 pub mod Job

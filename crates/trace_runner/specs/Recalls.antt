@@ -3,13 +3,13 @@ use Rattle.std.specs.Prelude.{◌≡◌, ◌<◌, ◌≤◌, ◌+◌, ◌++◌, 
 use Rattle.span.specs.declared.key.Key.{Key}
 use Rattle.shard.specs.State.{ShardState}
 use Rattle.trace_runner.specs.Causes.{first_cause}
-use Rattle.trace_runner.specs.CoreState.{CoreState}
+use Rattle.arena_core.specs.State.{CoreState}
 use Rattle.trace_runner.specs.Runs.{DoLines, IsAnswered, Made, all_made, answers_from, event_made, key_made, on_line}
-use Rattle.trace_runner.specs.declared.events.event.Event.{Event}
-use Rattle.trace_runner.specs.declared.events.event.Event.TheVariants.{Put}
-use Rattle.trace_runner.specs.declared.events.reply.Reply.{Reply}
-use Rattle.trace_runner.specs.declared.events.reply.Reply.TheVariants.{Refused}
-use Rattle.trace_runner.specs.declared.events.reply.Refusal.TheVariants.{Ended, Config}
+use Rattle.arena_core.specs.declared.event.Event.{Event}
+use Rattle.arena_core.specs.declared.event.Event.TheVariants.{Put}
+use Rattle.arena_core.specs.declared.reply.Reply.{Reply}
+use Rattle.arena_core.specs.declared.reply.Reply.TheVariants.{Refused}
+use Rattle.arena_core.specs.declared.reply.Refusal.TheVariants.{Ended, Config}
 use Rattle.trace_runner.specs.declared.report.LineAnswer.{LineAnswer}
 use Rattle.trace_runner.specs.declared.text.header.Header.{Header}
 use Rattle.trace_runner.specs.declared.text.line.Line.{Line}

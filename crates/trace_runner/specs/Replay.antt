@@ -2,7 +2,7 @@
 use Rattle.std.specs.Prelude.{◌≡◌, ◌+◌, ℕ, Bool, List, Option, length}
 use Rattle.std.specs.Io.KnownBytes.{Appends}
 use Rattle.span.specs.PlainMap.{empty_map}
-use Rattle.trace_runner.specs.CoreState.{CoreState, HasKeys, limits_of, live_keys, new_core, pages, shown}
+use Rattle.arena_core.specs.State.{CoreState, HasKeys, limits_of, live_keys, new_core, pages, shown}
 use Rattle.trace_runner.specs.Report.{report_text}
 use Rattle.trace_runner.specs.Runs.{IsRun}
 use Rattle.trace_runner.specs.Sink.{AppendsFront}

@@ -3,14 +3,14 @@ use Rattle.std.specs.Prelude.{◌≡◌, ◌+◌, ◌-◌, ℕ, true, false, Lis
 use Rattle.std.specs.List.{AllByRecursion, filter_map, flat_map, range_with_len}
 use Rattle.span.specs.declared.key.Key.{Key}
 use Rattle.trace_runner.specs.Causes.{binding_of}
-use Rattle.trace_runner.specs.CoreState.{CoreState, shown}
-use Rattle.trace_runner.specs.CoreStep.{CoreRun}
-use Rattle.trace_runner.specs.Plain.{PlainRun}
-use Rattle.trace_runner.specs.declared.events.event.Event.{Event}
-use Rattle.trace_runner.specs.declared.events.event.Event.TheVariants as event
-use Rattle.trace_runner.specs.declared.events.reply.Refusal.TheVariants.{PagesSpent}
-use Rattle.trace_runner.specs.declared.events.reply.Reply.{Reply}
-use Rattle.trace_runner.specs.declared.events.reply.Reply.TheVariants.{Issued, Found, Freed, Refused}
+use Rattle.arena_core.specs.State.{CoreState, shown}
+use Rattle.arena_core.specs.Step.{CoreRun}
+use Rattle.arena_core.specs.Plain.{PlainRun}
+use Rattle.arena_core.specs.declared.event.Event.{Event}
+use Rattle.arena_core.specs.declared.event.Event.TheVariants as event
+use Rattle.arena_core.specs.declared.reply.Refusal.TheVariants.{PagesSpent}
+use Rattle.arena_core.specs.declared.reply.Reply.{Reply}
+use Rattle.arena_core.specs.declared.reply.Reply.TheVariants.{Issued, Found, Freed, Refused}
 use Rattle.trace_runner.specs.declared.report.Answer.{Answer}
 use Rattle.trace_runner.specs.declared.report.Answer.TheVariants as answer
 use Rattle.trace_runner.specs.declared.report.LineAnswer.{LineAnswer}

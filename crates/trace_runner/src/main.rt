@@ -10,7 +10,6 @@
 
 ghost use Rattle.std.specs.Prelude.{◌<◌, ◌≤◌, ◌+◌, ◌-◌, ◌^◌};
 
-pub mod events;
 mod fault;
 mod job;
 mod replay;

@@ -2,14 +2,14 @@
 
 ghost use Rattle.std.specs.Prelude.{◌≡◌, ◌<◌, ◌-◌, ◌^◌, IfOk, IfErr, List, OnOk};
 ghost use Rattle.span.specs.PlainMap.{empty_map};
-ghost use Rattle.trace_runner.specs.CoreState.{shown};
+ghost use Rattle.arena_core.specs.State.{shown};
 ghost use Rattle.trace_runner.specs.Header.{IsWithinLimits};
 ghost use Rattle.trace_runner.specs.Trace.{Spells};
 ghost use Rattle.trace_runner.specs.declared.text.header.Header.{Header};
 ghost use Rattle.trace_runner.specs.declared.text.line.Line.{Line};
 ghost use Rattle.trace_runner.specs.Replay.{IsNoFault, IsReportOf, Stops, WritesReport, start_of};
 
-use crate::events::{Core, CoreError};
+use arena_core::{Core, CoreError};
 use crate::fault::ReplayError;
 use crate::report::Ending;
 use crate::run::run_lines;

@@ -2,13 +2,13 @@
 
 ghost use Rattle.std.specs.Prelude.{◌≡◌, ◌+◌, ◌-◌, ◌≤◌, ◌^◌, ◌<◌, [], ◌∷◌, false, List, ℕ, Some, None, map, option_map, OnOk, IfOk, length, slice_get, slice_range, unwrap_or};
 ghost use Rattle.std.specs.List.{range_with_len};
-ghost use Rattle.trace_runner.specs.CoreState.{CoreState};
+ghost use Rattle.arena_core.specs.State.{CoreState};
 ghost use Rattle.trace_runner.specs.Recalls.{HasCome, IsFine, IsFor, IsRunning, IsServed, Makes, Recalls, Serves, answers_if_run, key_if_run};
 ghost use Rattle.trace_runner.specs.Causes.{is_call_over};
 ghost use Rattle.trace_runner.specs.Runs.{IsRun, Made, answer_to, event_made, events_asked, events_of_line, IsTold, key_at, key_of, on_line, Called};
-ghost use Rattle.trace_runner.specs.declared.events.event.Event.TheVariants as event;
+ghost use Rattle.arena_core.specs.declared.event.Event.TheVariants as event;
 
-use crate::events::{Core, Event, Refusal, Reply};
+use arena_core::{Core, Event, Refusal, Reply};
 use crate::report::{Answer, LineAnswer};
 use crate::text::{Call, Line, Name, Reference, Trace};
 use span::Key;

@@ -2,8 +2,8 @@ use Rattle.std.proofs.Common.{◌+◌, ◌∙◌, ◌∷◌, [], Some, List, Opt
 use Rattle.std.specs.List.{range_with_len}
 use Rattle.std.proofs.lemmas.List.FromFn.{map-range_with_len_more}
 use Rattle.trace_runner.specs.Recalls.{Makes}
-use Rattle.trace_runner.specs.declared.events.event.Event.{Event}
-use Rattle.trace_runner.specs.declared.events.event.Event.TheVariants as event
+use Rattle.arena_core.specs.declared.event.Event.{Event}
+use Rattle.arena_core.specs.declared.event.Event.TheVariants as event
 use Rattle.trace_runner.proofs.Making.{Makes-append}
 use Rattle.trace_runner.proofs.run.Run.fill.Goals as goal
 

@@ -1,7 +1,7 @@
 use Rattle.std.proofs.Common.{◌≡◌, ◌+◌, Some, map}
 use Rattle.std.specs.List.{range_with_len}
 use Rattle.trace_runner.specs.Recalls.{Makes, Serves}
-use Rattle.trace_runner.specs.declared.events.event.Event.TheVariants as event
+use Rattle.arena_core.specs.declared.event.Event.TheVariants as event
 use Rattle.trace_runner.proofs.run.Run.fill.Given as goal
 
 abbrev pub invariant-loop-i : goal.invariant-loop-i

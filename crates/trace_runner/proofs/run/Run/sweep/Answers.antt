@@ -5,8 +5,8 @@ use Rattle.std.proofs.lemmas.List.FromFn.{map-range_with_len_more}
 use Rattle.trace_runner.specs.Recalls.{Makes, Recalls}
 use Rattle.trace_runner.specs.Runs.{Made, key_at}
 use Rattle.trace_runner.specs.declared.text.line.Line.{Line}
-use Rattle.trace_runner.specs.declared.events.event.Event.{Event}
-use Rattle.trace_runner.specs.declared.events.event.Event.TheVariants as event
+use Rattle.arena_core.specs.declared.event.Event.{Event}
+use Rattle.arena_core.specs.declared.event.Event.TheVariants as event
 use Rattle.trace_runner.proofs.Making.{Makes-append, Recalls-makes}
 use Rattle.trace_runner.proofs.run.Run.sweep.Goals as goal
 

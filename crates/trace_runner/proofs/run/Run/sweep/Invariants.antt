@@ -3,7 +3,7 @@ use Rattle.std.specs.List.{range_with_len}
 use Rattle.std.specs.Prelude.{option_map}
 use Rattle.trace_runner.specs.Recalls.{IsRunning, Makes, Recalls, Serves}
 use Rattle.trace_runner.specs.Runs.{Made, key_at}
-use Rattle.trace_runner.specs.declared.events.event.Event.TheVariants as event
+use Rattle.arena_core.specs.declared.event.Event.TheVariants as event
 use Rattle.trace_runner.proofs.run.Run.sweep.Given as goal
 
 abbrev pub invariant-loop-place : goal.invariant-loop-place

@@ -1,0 +1,10 @@
+pub mod Changes
+pub mod Fields
+pub mod Lists
+pub mod LiveKeys
+pub mod LiveKeysShown
+pub mod Runs
+pub mod Shown
+pub mod Spans
+pub mod Start
+pub mod Steps

@@ -1,0 +1,22 @@
+-- When a core is sound.
+use Rattle.std.specs.Prelude.{◌≡◌, ℕ, nat_lt, if◌then◌else◌, length, slice_get, Some, count_by}
+use Rattle.span.specs.declared.id.SpanId.{SpanId}
+use Rattle.span.specs.Ids.{same_span}
+use Rattle.shard.specs.Sound.{IsSound as IsSoundShard}
+use Rattle.shard.specs.State.{ShardState}
+use Rattle.arena_core.specs.State.{Limits, AreWithin, CoreState, all_spans, opened_by}
+
+-- the shard has this number and the limits of the core, and is sound
+pub record IsSoundAt (limits : Limits) (number : ℕ) (shard : ShardState) : Type 0 where
+  pub number_is : shard.number ≡ number
+  pub page_limit_is : shard.page_limit ≡ limits.page_limit
+  pub gens_is : shard.gens ≡ limits.gens
+  pub sound : IsSoundShard shard
+
+-- the numbers are within their ranges, and the shards are those of the numbers, each sound
+pub record IsSound (core : CoreState) : Type 0 where
+  pub within : AreWithin core.limits
+  pub count : length core.shards ≡ core.limits.shards
+  pub shards : (number : ℕ) (shard : ShardState) → slice_get core.shards number ≡ Some shard → IsSoundAt core.limits number shard
+  -- each opened span stands in exactly one group of one shard, and no other span stands anywhere
+  pub once : (id : SpanId) → count_by (λ span. same_span span.id id) (all_spans core.shards) ≡ (if nat_lt id.serial (opened_by core.shards id.shard) then 1 else 0)
