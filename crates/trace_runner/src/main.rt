@@ -8,7 +8,8 @@
 //! words name no job, 3 where memory ran out, and 5 where a read or a write failed.
 #![tactic(auto)]
 
-ghost use Rattle.std.specs.Prelude.{◌<◌, ◌≤◌, ◌+◌, ◌-◌, ◌^◌};
+ghost use Rattle.std.specs.Prelude.{◌≡◌, ◌<◌, ◌≤◌, ◌+◌, ◌-◌, ◌^◌, Bool, List, OnOk, ℕ};
+ghost use Rattle.trace_runner.specs.Replay.{WritesReport};
 
 mod fault;
 mod job;
@@ -60,6 +61,8 @@ fn trace_text(rt: &(impl Files + Input + AllocGlobal), path: Option<&str>) -> io
 /// Does the job that the words name, and writes to `out`.
 fn do_job<R: Env + Files + Input + AllocGlobal, S: Sink>(rt: &R, out: &mut S) -> Result<(), Fault>
     requires { S.failures out.old < 2 ^ 64 - 1 }
+    ensures done { OnOk result ((text : List ℕ) × (replies : Bool) × WritesReport text replies (S.taken out.old) (S.taken out.new)) }
+    ensures succeeded { OnOk result (S.failures out.new ≡ S.failures out.old) }
     ensures failures { S.failures out.new ≤ S.failures out.old + 1 }
 {
     let words = words_after_name(rt)?;
