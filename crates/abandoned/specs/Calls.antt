@@ -1,5 +1,5 @@
 -- What the calls of the pool do and answer.
-use Rattle.std.specs.Prelude.{◌≡◌, ◌≢◌, ◌⊎◌, map, ℕ, ◌<◌, ◌≤◌, true, false, List, [], ◌∷◌, length, insert, remove, Option, Some, None, IsSome, option_and_then, slice_get, slice_set, slice_index}
+use Rattle.std.specs.Prelude.{◌≡◌, ◌≢◌, ◌⊎◌, map, ℕ, ◌-◌, ◌<◌, ◌≤◌, true, false, List, [], ◌∷◌, length, insert, remove, Option, Some, None, IsSome, option_and_then, slice_get, slice_set, slice_index}
 use Rattle.std.specs.FinMap as finite
 use Rattle.std.specs.FinSet as set
 use Rattle.span.specs.declared.id.SpanId.{SpanId}
@@ -66,11 +66,16 @@ Lifts old head (Some whole) new =
 abbrev pub with_room : PoolState → ℕ → PoolState
 with_room pool spans = record pool { table = record pool.table { page_room = 1; span_room = spans } }
 
--- the group is in the pool at the place of its head: on a new page with its words where a slot is live, and else without a page
+-- the table with one page and so many spans less of reserved room
+abbrev pub less_room : TableState → ℕ → TableState
+less_room table spans = record table { span_room = table.span_room - spans; page_room = table.page_room - 1 }
+
+-- the group is in the pool at the place of its head, in reserved room: on a new page with its words where a slot is live, and else without a page
 pub record TakesIn (old : PoolState) (whole : WholeState) (new : PoolState) : Type 0 where
   pub index : ℕ
   pub place : IsPlaceFor old.groups whole.head.id index
-  pub emptied : union_of (spans_moved whole) ≡ set.empty → new ≡ record old { groups = insert old.groups index (record { head = whole.head; guests = whole.guests; page = None }) }
+  pub emptied : union_of (spans_moved whole) ≡ set.empty
+      → new ≡ record old { groups = insert old.groups index (record { head = whole.head; guests = whole.guests; page = None }); table = less_room old.table (length (spans_moved whole)) }
   pub live : union_of (spans_moved whole) ≢ set.empty → (page : ℕ) × (words : List ℕ) × (finite.get old.table.pages page ≡ None) × (whole.words ≡ Some words)
       × (new ≡ record old { groups = insert old.groups index (record { head = whole.head; guests = whole.guests; page = Some page }); table = with_page old.table (spans_moved whole) page words })
 
