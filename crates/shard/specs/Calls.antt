@@ -91,7 +91,7 @@ abbrev pub PutsInNew : ShardState → Word → Key → ℕ → ShardState → Ty
 PutsInNew old value key at new =
     (key.span.shard ≡ old.number) × (key.span.serial ≡ old.opened) × (key.slot ≡ 0) × (key.generation ≡ 1) × (at ≡ 0)
     × ((page index : ℕ) × (map.get old.table.pages page ≡ None) × IsPlaceFor old.groups key.span index
-    × (new ≡ record old { opened = old.opened + 1; groups = insert old.groups index (new_group key.span old.gens page value); table = with_word (with_open old.table key.span page) page 0 value }))
+    × (new ≡ record old { opened = old.opened + 1; onto = None; groups = insert old.groups index (new_group key.span old.gens page value); table = with_word (with_open old.table key.span page) page 0 value }))
 
 -- a put needs a new page and gets none: the shard has all its pages, or has opened all its spans
 abbrev pub IsSpent : ShardState → Type 0

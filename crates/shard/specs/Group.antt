@@ -8,6 +8,14 @@ use Rattle.span.specs.declared.change.Change.TheVariants.{Put, Free}
 use Rattle.span.specs.Log.{Value, live_slots, worn_slots, puts_of}
 use Rattle.span.specs.State.{SpanState}
 
+-- a head and its guests, which are on one page
+pub record SpansState : Type 0 where
+  pub head : SpanState
+  pub guests : List SpanState
+
+abbrev pub all_spans : SpansState → List SpanState
+all_spans spans = spans.head ∷ spans.guests
+
 -- a head and its guests, all on one page; a closed group takes no put
 pub record GroupState : Type 0 where
   pub head : SpanState
@@ -31,6 +39,10 @@ AreApart (span ∷ spans) = AreDisjoint (live_slots span.log) (union_of spans) �
 -- the occupied set of a group
 abbrev pub occupied : GroupState → SlotSet
 occupied group = union_of (spans_of group)
+
+-- the slots that are live in one of the spans, or worn in the head
+abbrev pub taken : SpansState → SlotSet
+taken spans = set.union (union_of (all_spans spans)) (worn_slots spans.head.gens spans.head.log)
 
 -- the slots that are occupied, or worn in the head
 abbrev pub unusable : GroupState → SlotSet
@@ -56,6 +68,15 @@ HasNoSpan spans id = (place : ℕ) → IsSpanAt spans id place → ⊥
 abbrev pub with_span : GroupState → ℕ → SpanState → GroupState
 with_span group zero span = record group { head = span }
 with_span group (suc place) span = record group { guests = slice_set group.guests place span }
+
+-- the spans with another span at the place, 0 being the head
+abbrev pub with_span_at : SpansState → ℕ → SpanState → SpansState
+with_span_at spans zero span = record spans { head = span }
+with_span_at spans (suc place) span = record spans { guests = slice_set spans.guests place span }
+
+-- the group of the spans on the page
+abbrev pub group_of : SpansState → ℕ → Bool → GroupState
+group_of spans page closed = record { head = spans.head; guests = spans.guests; page = page; closed = closed }
 
 -- the span after a put at the slot
 abbrev pub with_put : SpanState → ℕ → Value → SpanState

@@ -8,7 +8,7 @@ use Rattle.span.specs.Log.{Held, IsLegal, replay}
 use Rattle.span.specs.State.{SpanState}
 use Rattle.page_table.specs.State.{Spans, TableState, unmapped, words_of}
 use Rattle.shard.specs.Calls.{IsPlaceFor}
-use Rattle.shard.specs.Group.{AreApart, GroupState, union_of}
+use Rattle.shard.specs.Group.{AreApart, GroupState, SpansState, union_of}
 use Rattle.shard.specs.State.{IsElsewhere, ShardState}
 
 -- a group on its way from one owner to another: its spans, and the words of its page, if it has one
@@ -16,6 +16,10 @@ pub record WholeState : Type 0 where
   pub head : SpanState
   pub guests : List SpanState
   pub words : Option (List ℕ)
+
+-- the group of the spans, with the words
+abbrev pub whole_with : SpansState → Option (List ℕ) → WholeState
+whole_with spans words = record { head = spans.head; guests = spans.guests; words = words }
 
 abbrev pub spans_moved : WholeState → List SpanState
 spans_moved whole = whole.head ∷ whole.guests
@@ -90,4 +94,3 @@ pub record TakesIn (old : ShardState) (whole : WholeState) (new : ShardState) : 
   pub new_page : map.get old.table.pages page ≡ None
   pub place : IsPlaceFor old.groups whole.head.id index
   pub after : new ≡ record old { onto = None; groups = insert old.groups index (record { head = whole.head; guests = whole.guests; page = page; closed = false }); table = with_page old.table (spans_moved whole) page words }
-
