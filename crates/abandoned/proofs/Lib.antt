@@ -4,3 +4,4 @@ pub mod Pages
 pub mod Removed
 pub mod Standing
 pub mod Tables
+pub mod TakenIn

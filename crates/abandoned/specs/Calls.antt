@@ -66,6 +66,12 @@ Lifts old head (Some whole) new =
 abbrev pub with_room : PoolState → ℕ → PoolState
 with_room pool spans = record pool { table = record pool.table { page_room = 1; span_room = spans } }
 
+-- the pool may take the group in: its spans are not here, and there is room for it
+pub record MayTakeIn (pool : PoolState) (whole : WholeState) : Type 0 where
+  pub elsewhere : (place : ℕ) (span : SpanState) → slice_get (spans_moved whole) place ≡ Some span → IsElsewhere pool.groups span.id
+  pub page_room : 0 < pool.table.page_room
+  pub span_room : length (spans_moved whole) ≤ pool.table.span_room
+
 -- the table with one page and so many spans less of reserved room
 abbrev pub less_room : TableState → ℕ → TableState
 less_room table spans = record table { span_room = table.span_room - spans; page_room = table.page_room - 1 }
@@ -94,7 +100,7 @@ pub record Receives (old : PoolState) (shard : ShardState) (new : PoolState) (en
   pub span_room : ℕ
   pub running : shard.ended ≡ false
   pub moved : TakesAll (with_rooms old page_room span_room) (map (whole_of_shard shard.table) shard.groups) new
-  pub after : ended ≡ record shard { ended = true; groups = []; table = record shard.table { spans = finite.empty; pages = finite.empty } }
+  pub after : ended ≡ record shard { ended = true; onto = None; groups = []; table = record shard.table { spans = finite.empty; pages = finite.empty } }
 
 -- a span that would move is in the pool already
 abbrev pub IsInPool : PoolState → ShardState → Type 0
