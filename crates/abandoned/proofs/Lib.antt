@@ -1,7 +1,9 @@
+pub mod Freed
 pub mod Inserted
 pub mod Lifted
 pub mod Pages
 pub mod Removed
+pub mod ShownLogs
 pub mod Standing
 pub mod Tables
 pub mod TakenIn
