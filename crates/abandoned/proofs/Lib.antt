@@ -1,9 +1,14 @@
 pub mod Freed
+pub mod HeadPlaces
+pub mod Heads
+pub mod Here
 pub mod Inserted
 pub mod Lifted
 pub mod Pages
+pub mod Released
 pub mod Removed
 pub mod ShownLogs
 pub mod Standing
+pub mod Started
 pub mod Tables
 pub mod TakenIn

@@ -27,6 +27,16 @@ Gets pool key (Gone at) =
     × (Holds span.log key.slot key.generation → ⊥) × (at ≡ length span.log)
 Gets pool key NotHere = IsElsewhere pool.groups key.span
 
+-- the table without the page of a group, if the group has one
+abbrev pub without_page_of : TableState → Option ℕ → TableState
+without_page_of table None = table
+without_page_of table (Some page) = without_page table page
+
+-- the group and the table after the group gives its page up, which it does where no slot is live
+pub record GivesUp (group : PooledState) (table : TableState) (group_now : PooledState) (table_now : TableState) : Type 0 where
+  pub emptied : union_of (spans_of group) ≡ set.empty → (group_now ≡ record group { page = None }) × (table_now ≡ without_page_of table group.page)
+  pub live : union_of (spans_of group) ≢ set.empty → (group_now ≡ group) × (table_now ≡ table)
+
 -- the pool with another group in the place of one; where the new one has no live slot, it has no page, and the old one's page goes
 pub record Leaves (old : PoolState) (index : ℕ) (group : PooledState) (new : PoolState) : Type 0 where
   pub emptied : union_of (spans_of group) ≡ set.empty → (page : ℕ) → group.page ≡ Some page
@@ -49,11 +59,6 @@ pub record IsPlaceFor (groups : List PooledState) (id : SpanId) (index : ℕ) : 
   pub within : index ≤ length groups
   pub before : (other : ℕ) (group : PooledState) → other < index → slice_get groups other ≡ Some group → rank group.head.id < rank id
   pub after : (other : ℕ) (group : PooledState) → index ≤ other → slice_get groups other ≡ Some group → rank id < rank group.head.id
-
--- the table without the page of a group, if the group has one
-abbrev pub without_page_of : TableState → Option ℕ → TableState
-without_page_of table None = table
-without_page_of table (Some page) = without_page table page
 
 -- the group of the head leaves the pool, with its page, if it has one, and its spans, and all else stays
 abbrev pub Lifts : PoolState → SpanId → Option WholeState → PoolState → Type 0

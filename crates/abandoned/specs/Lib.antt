@@ -1,4 +1,5 @@
 pub mod Calls
+pub mod Kept
 pub mod Shown
 pub mod Sound
 pub mod State
