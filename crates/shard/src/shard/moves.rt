@@ -61,9 +61,11 @@ impl Shard {
         };
         let group = self.groups.remove(index);
         let words = self.table.take_page(group.page());
+        let spans = group.into_spans();
+        self.hints.forget(&spans);
         self.rooms = Rooms::below(self.groups.len());
         self.onto = None;
-        Some(Whole::new(group.into_spans(), Some(words)))
+        Some(Whole::new(spans, Some(words)))
     }
 
     /// Makes room for one group of so many spans: as guests of the group of the head, where one is named that the
@@ -79,6 +81,7 @@ impl Shard {
     {
         let onto = self.reserve_guests(onto, spans)?;
         self.groups.reserve(1)?;
+        self.hints.reserve(spans)?;
         self.table.reserve(1, spans)?;
         self.onto = onto;
         Ok(())
@@ -119,6 +122,7 @@ impl Shard {
         };
         let page = self.table.give_page(words);
         map_all(&mut self.table, &spans, page);
+        self.hints.note(&spans);
         let index = lower_heads(self.groups.as_slice(), spans.head_id());
         insert_reserved(&mut self.groups, index, Group::of(spans, page));
         self.rooms = Rooms::below(self.groups.len());
