@@ -33,6 +33,7 @@
 mod brief;
 mod error;
 mod group;
+mod hints;
 mod rooms;
 mod shard;
 mod spans;
