@@ -1,6 +1,7 @@
 pub mod Freed
 pub mod HeadPlaces
 pub mod Heads
+pub mod HeadsHere
 pub mod Here
 pub mod Inserted
 pub mod Lifted

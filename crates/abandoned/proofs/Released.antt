@@ -21,9 +21,14 @@ page_there pool sound index group here = at_page group.page refl
     at_page None is = tt
     at_page (Some page) is = (sound_paged pool sound index group here page is).has_page
 
-same_rooms : (table : TableState) (o : Option ℕ) → ((without_page_of table o).page_room ≡ table.page_room) × ((without_page_of table o).span_room ≡ table.span_room)
+pub same_rooms : (table : TableState) (o : Option ℕ) → ((without_page_of table o).page_room ≡ table.page_room) × ((without_page_of table o).span_room ≡ table.span_room)
 same_rooms table None = (refl, refl)
 same_rooms table (Some page) = (refl, refl)
+
+pub with_rooms-without : (table : TableState) (o : Option ℕ) (pages spans : ℕ)
+    → ◌≡◌ {A = TableState} (record (without_page_of table o) { page_room = pages; span_room = spans }) (without_page_of (record table { page_room = pages; span_room = spans }) o)
+with_rooms-without table None pages spans = refl
+with_rooms-without table (Some page) pages spans = refl
 
 module _ (group now : PooledState) (table after : TableState) (gives : GivesUp group table now after) where
   pub rooms-GivesUp : (after.page_room ≡ table.page_room) × (after.span_room ≡ table.span_room)

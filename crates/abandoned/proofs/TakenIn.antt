@@ -186,3 +186,11 @@ IsSound-TakesAll [] old new sound fits once same = subst IsSound (sym same) soun
 IsSound-TakesAll (whole ∷ wholes) old new sound fits once (mid, takes, rest) =
     let first = fits 0 whole refl in
     IsSound-TakesAll wholes mid new (IsSound-TakesIn old mid whole sound first (elsewhere_first old whole wholes once) takes) (λ at other there. fits (suc at) other there) (once_after old mid whole wholes sound first once takes) rest
+
+-- where a slot is live, the group came with a page
+pub words_if_live : (whole : WholeState) → IsSoundWhole whole → union_of (spans_moved whole) ≢ set.empty → IsSome whole.words
+words_if_live whole fits live = by_words whole.words fits.words
+  where
+    by_words : (o : Option (List ℕ)) → MatchOption o (union_of (spans_moved whole) ≡ set.empty) (λ words. (length words ≡ 256) × ((place : ℕ) (span : SpanState) → slice_get (spans_moved whole) place ≡ Some span → IsSoundMoved words span)) → IsSome o
+    by_words None none = absurd (live none)
+    by_words (Some words) its = refl

@@ -1,5 +1,5 @@
 -- What the calls of the pool do and answer.
-use Rattle.std.specs.Prelude.{◌≡◌, ◌≢◌, ◌⊎◌, map, ℕ, ◌-◌, ◌<◌, ◌≤◌, true, false, List, [], ◌∷◌, length, insert, remove, Option, Some, None, IsSome, option_and_then, slice_get, slice_set, slice_index}
+use Rattle.std.specs.Prelude.{◌≡◌, ◌≢◌, ◌⊎◌, map, ℕ, ◌-◌, ◌<◌, ◌≤◌, true, false, List, [], ◌∷◌, length, insert, remove, Option, Some, None, IsSome, is_some, option_and_then, slice_get, slice_set, slice_index}
 use Rattle.std.specs.FinMap as finite
 use Rattle.std.specs.FinSet as set
 use Rattle.span.specs.declared.id.SpanId.{SpanId}
@@ -8,9 +8,10 @@ use Rattle.span.specs.Ids.{rank}
 use Rattle.span.specs.Log.{Holds}
 use Rattle.span.specs.State.{SpanState}
 use Rattle.page_table.specs.State.{TableState, words_of}
-use Rattle.shard.specs.Group.{GroupState, union_of, with_free}
-use Rattle.shard.specs.Moves.{WholeState, Lifts as LiftsFromShard, TakesIn as TakesInShard, spans_moved, whole_of as whole_of_shard, with_page, with_room as with_room_in, without_page}
+use Rattle.shard.specs.Group.{GroupState, IsSpanAt, union_of, with_free}
+use Rattle.shard.specs.Moves.{IsBriefOf, WholeState, Lifts as LiftsFromShard, TakesIn as TakesInShard, spans_moved, whole_of as whole_of_shard, with_page, with_room as with_room_in, without_page}
 use Rattle.shard.specs.State.{ShardState, IsElsewhere as IsElsewhereInShard, Stands as StandsInShard}
+use Rattle.shard.specs.declared.brief.Brief.{Brief}
 use Rattle.shard.specs.declared.shard.Found.{Found}
 use Rattle.shard.specs.declared.shard.Found.TheVariants.{Value, Gone, NotHere}
 use Rattle.shard.specs.declared.shard.Freed.{Freed}
@@ -26,6 +27,18 @@ Gets pool key (Gone at) =
     (index place : ℕ) × (group : PooledState) × (span : SpanState) × IsHere pool.groups key.span index place group span
     × (Holds span.log key.slot key.generation → ⊥) × (at ≡ length span.log)
 Gets pool key NotHere = IsElsewhere pool.groups key.span
+
+-- the group of the head, and what the brief tells of it; a group of the pool is never closed
+abbrev pub IsBriefHere : List PooledState → SpanId → Brief → Type 0
+IsBriefHere groups head brief = (index : ℕ) × (group : PooledState) × IsHeadOf groups head index group × IsBriefOf (spans_of group) (is_some group.page) false brief
+
+-- the span of this id stands at the place of the head's group
+abbrev pub IsMemberAt : List PooledState → SpanId → ℕ → SpanId → Type 0
+IsMemberAt groups head place id = (index : ℕ) × (group : PooledState) × IsHeadOf groups head index group × IsSpanAt (spans_of group) id place
+
+-- no group has the head, or its group has no such place
+abbrev pub HasNoMember : List PooledState → SpanId → ℕ → Type 0
+HasNoMember groups head place = (index : ℕ) (group : PooledState) → IsHeadOf groups head index group → length (spans_of group) ≤ place
 
 -- the table without the page of a group, if the group has one
 abbrev pub without_page_of : TableState → Option ℕ → TableState

@@ -15,11 +15,12 @@ use crate::pooled::Pooled;
 use crate::search::{find_at, lower_heads, search};
 use bitmap::Bits256;
 use page_table::Table;
-use shard::{Found, Freed};
+use shard::{Found, Freed, Hints};
 use span::{Key, SpanId};
 use std::alloc::{AllocError, Global};
-use std::collections::HashMap;
 use std::marker::Model;
+
+mod moves;
 
 /// The groups of shards that have ended, by ascending head, and the pages of those that have a live slot.
 ///
@@ -29,8 +30,7 @@ use std::marker::Model;
 pub struct Pool {
     alloc: Global,
     groups: Vec<Pooled>,
-    // For guests, the ranks of their heads: a hint, which a look-up checks.
-    heads: HashMap<u32, u32>,
+    hints: Hints,
     table: Table,
     page_room: usize,
     span_room: usize,
@@ -61,7 +61,7 @@ impl Pool {
         Pool {
             alloc,
             groups: Vec::new(alloc),
-            heads: HashMap::new(alloc),
+            hints: Hints::new(alloc),
             table: Table::new(alloc),
             page_room: 0,
             span_room: 0,
@@ -158,19 +158,12 @@ impl Pool {
         ensures place { MatchOption result (IsElsewhere self.now.groups id) (λ at. (group : PooledState) × (span : SpanState) × IsHere self.now.groups id at.0 at.1 group span) }
     {
         let groups = self.groups.as_slice();
-        let guess = lower_heads(groups, self.head_of(id));
+        let head = self.hints.head_of(id).unwrap_or(id);
+        let guess = lower_heads(groups, head.rank());
         if let Some(at) = find_at(groups, guess, id) {
             return Some(at);
         }
         search(groups, id)
-    }
-
-    // The rank of the head whose group may have the span.
-    fn head_of(&self, id: SpanId) -> u32 {
-        match self.heads.get(&id.rank()) {
-            Some(head) => *head,
-            None => id.rank(),
-        }
     }
 
     // Where the group of the head stands.

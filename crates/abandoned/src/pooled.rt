@@ -1,17 +1,18 @@
 // A group of the pool: a head and its guests, and their page, if they have one.
-ghost use Rattle.std.specs.Prelude.{◌≡◌, ◌<◌, ◌≤◌, ◌↔◌, IfSome, Some, IsTrue, MatchOption, is_some, length, slice_get};
+ghost use Rattle.std.specs.Prelude.{◌≡◌, ◌<◌, ◌≤◌, ◌↔◌, IfSome, Some, IsTrue, MatchOption, false, is_some, length, slice_get};
 ghost use Rattle.std.specs.Bool.{OnTrue, OnFalse};
 ghost use Rattle.span.specs.Log.{Holds};
 ghost use Rattle.span.specs.State.{SpanState};
 ghost use Rattle.page_table.specs.State.{HasPage};
 ghost use Rattle.shard.specs.Group.{HasNoSpan, IsSpanAt, union_of, with_free};
+ghost use Rattle.shard.specs.Moves.{IsBriefOf};
 ghost use Rattle.shard.specs.State.{live_count};
 ghost use Rattle.abandoned.specs.Calls.{GivesUp};
 ghost use Rattle.abandoned.specs.State.{group_of, spans_of, with_span};
 
 use bitmap::Bits256;
 use page_table::{Page, Table};
-use shard::Spans;
+use shard::{Brief, Spans};
 use span::{Key, Span, SpanId};
 use std::marker::Model;
 
@@ -43,6 +44,25 @@ impl Pooled {
         ensures { self ≡ group_of result.0 result.1 }
     {
         (self.spans, self.page)
+    }
+
+    /// The head and its guests.
+    pub(crate) fn spans(&self) -> &Spans
+        ensures { result.now ≡ record { head = self.now.head; guests = self.now.guests } }
+    {
+        &self.spans
+    }
+
+    /// A look at it.
+    pub(crate) fn brief(&self) -> Brief
+        ensures { IsBriefOf (spans_of self.now) (is_some self.now.page) false result }
+    {
+        Brief {
+            spans: self.spans.len(),
+            occupied: self.spans.occupied(),
+            paged: self.page.is_some(),
+            closed: false,
+        }
     }
 
     /// The id of the head, which names the group.

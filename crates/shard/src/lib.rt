@@ -41,6 +41,7 @@ mod whole;
 
 pub use brief::Brief;
 pub use error::{Config, PutError};
-pub use shard::{Found, Freed, Shard};
+pub use hints::Hints;
+pub use shard::{Found, Freed, Shard, map_all};
 pub use spans::Spans;
 pub use whole::Whole;

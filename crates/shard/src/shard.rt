@@ -24,6 +24,7 @@ use std::alloc::{AllocError, Global};
 use std::marker::Model;
 
 mod moves;
+pub use moves::map_all;
 #[cfg(test)]
 mod tests;
 
@@ -118,7 +119,8 @@ impl Shard {
 
     /// Whether it has ended, and so takes no put.
     pub fn ended(&self) -> bool
-        ensures { result ≡ self.now.ended }
+        ensures ended { result ≡ self.now.ended }
+        ensures sound { IsSound self.now }
     {
         self.ended
     }

@@ -95,7 +95,7 @@ returns-clause-step c =
       subst (λ (s : PoolState). IsHere s.groups c.args.key.now.span c.in-Some.index c.in-Some.place c.index_mut-group.result.now c.span_at.result.now) c.self.view_is here,
       holds,
       ap length c.log-at.ensures.changes,
-      subst (λ (s : PoolState). Leaves s c.in-Some.index (with_span c.index_mut-group.result.now c.in-Some.place (with_free c.span_at.result.now c.args.key.now)) _) c.self.view_is leaves,
+      subst (λ (s : PoolState). Leaves s c.in-Some.index (with_span c.index_mut-group.result.now c.in-Some.place (with_free c.span_at.result.now c.args.key.now)) (record { groups = set c.self.inside.groups.items c.in-Some.index c.free.new.self; table = record c.free.new.table { page_room = c.self.inside.page_room; span_room = c.self.inside.span_room } })) c.self.view_is leaves,
     )
 
 pub returns-clause-found : goal.returns-clause-found

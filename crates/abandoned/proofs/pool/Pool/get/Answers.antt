@@ -43,3 +43,12 @@ returns-then-not-find-clause-found c =
 
 pub returns-then-not-find-clause-plain : goal.returns-then-not-find-clause-plain
 returns-then-not-find-clause-plain c = value_found-Gets c.args.self.now c.find.ensures.sound c.args.key.now (Gone (length c.log-at.result.now)) (returns-then-not-find-clause-found c)
+
+pub unreachable-requires : goal.unreachable-requires
+unreachable-requires c = ?
+
+pub value_at-requires : goal.value_at-requires
+value_at-requires c = ?
+
+pub returns-clause-found : goal.returns-clause-found
+returns-clause-found c = ?
