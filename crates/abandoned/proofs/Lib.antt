@@ -3,6 +3,7 @@ pub mod HeadPlaces
 pub mod Heads
 pub mod HeadsHere
 pub mod Here
+pub mod Housed
 pub mod Inserted
 pub mod Lifted
 pub mod Pages

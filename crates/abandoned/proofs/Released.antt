@@ -1,7 +1,8 @@
 -- What a group that gives its page up does to the pool.
-use Rattle.std.proofs.Common.{◌≡◌, ℕ, ◌⊎◌, Bool, true, false, List, Option, Some, None, IfSome, set, slice_get, ap, sym, ◌∙◌, refl, inl, inr}
+use Rattle.std.proofs.Common.{◌≡◌, ℕ, ◌⊎◌, Bool, true, false, List, Option, Some, None, IfSome, MatchOption, is_some, set, slice_get, ap, sym, ◌∙◌, refl, inl, inr}
 use Rattle.std.specs.FinSet as set_of
 use Rattle.std.specs.Ordering.{nat_cmp}
+use Rattle.bitmap.specs.Slots.{IsLowest, SlotSet}
 use Rattle.span.specs.Log.{Holds}
 use Rattle.span.specs.State.{SpanState}
 use Rattle.page_table.specs.State.{HasPage, TableState}
@@ -12,6 +13,11 @@ use Rattle.abandoned.specs.Sound.{IsSound}
 use Rattle.abandoned.specs.State.{PoolState, PooledState, spans_of}
 use Rattle.abandoned.proofs.Pages.{none_live, sound_paged}
 use Rattle.abandoned.proofs.TakenIn.{empty_or_not}
+
+-- a set with a lowest member has a member
+pub not_empty : (s : SlotSet) (o : Option ℕ) → MatchOption o (s ≡ set_of.empty) (IsLowest s) → is_some o ≡ true → s ≡ set_of.empty → ⊥
+not_empty s None m some none = absurd cc
+not_empty s (Some slot) m some none = let e : true ≡ false = sym m.inside ∙ ap (λ x. set_of.contains x slot) none ∙ set_of.contains-empty nat_cmp slot in cc
 
 -- a group's page is one of the table
 pub page_there : (pool : PoolState) → IsSound pool → (index : ℕ) (group : PooledState) → slice_get pool.groups index ≡ Some group → IfSome group.page (HasPage pool.table)

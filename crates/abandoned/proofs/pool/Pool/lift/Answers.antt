@@ -1,6 +1,6 @@
-use Rattle.std.proofs.Common.{◌≡◌, ◌∙◌, ℕ, Option, Some, None, ap, arith, refl, subst, sym}
+use Rattle.std.proofs.Common.{◌≡◌, ◌∙◌, ℕ, Option, IfSome, ap, arith, refl, subst, sym}
 use Rattle.std.specs.Prelude.{remove}
-use Rattle.page_table.specs.State.{TableState, words_of}
+use Rattle.page_table.specs.State.{HasPage, TableState}
 use Rattle.shard.specs.Moves.{IsSoundWhole, whole_with}
 use Rattle.abandoned.specs.Calls.{without_page_of}
 use Rattle.abandoned.specs.Kept.{state_of}
@@ -12,7 +12,9 @@ use Rattle.abandoned.proofs.Released.{page_there, same_rooms, with_rooms-without
 use Rattle.abandoned.proofs.pool.Pool.lift.Goals as goal
 
 pub take_page-words-requires : goal.take_page-words-requires
-take_page-words-requires c = ?
+take_page-words-requires c =
+    let head_here = head_read c.self.inside.groups.items c.args.self.now.groups (ap (λ (s : PoolState). s.groups) c.self.view_is) c.args.head c.in-Some.index c.in-Some.ensures.head c.remove-group.result c.remove-group.ensures.value in
+    subst (λ (o : Option ℕ). IfSome o (HasPage c.self.inside.table)) (ap (λ (g : PooledState). g.page) c.into_parts-spans.ensures) (page_there (state_of c.self.inside) c.self.invariant.sound c.in-Some.index c.remove-group.result head_here.here)
 
 pub new-requires : goal.new-requires
 new-requires c =

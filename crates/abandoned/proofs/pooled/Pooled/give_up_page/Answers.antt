@@ -1,14 +1,8 @@
-use Rattle.std.proofs.Common.{◌≡◌, ℕ, Option, Some, None, MatchOption, is_some, true, false, sym, ap, ◌∙◌, refl}
-use Rattle.std.specs.FinSet as set
-use Rattle.std.specs.Ordering.{nat_cmp}
-use Rattle.bitmap.specs.Slots.{IsLowest, SlotSet}
-use Rattle.abandoned.specs.State.{PooledState, spans_of}
+use Rattle.std.proofs.Common.{◌∙◌, ap, refl, sym}
 use Rattle.shard.specs.Group.{union_of}
+use Rattle.abandoned.specs.State.{PooledState, spans_of}
+use Rattle.abandoned.proofs.Released.{not_empty}
 use Rattle.abandoned.proofs.pooled.Pooled.give_up_page.Goals as goal
-
-not_empty : (s : SlotSet) (o : Option ℕ) → MatchOption o (s ≡ set.empty) (IsLowest s) → is_some o ≡ true → s ≡ set.empty → ⊥
-not_empty s None m some none = absurd cc
-not_empty s (Some slot) m some none = let e : true ≡ false = sym m.inside ∙ ap (λ x. set.contains x slot) none ∙ set.contains-empty nat_cmp slot in cc
 
 pub returns-then-is_some : goal.returns-then-is_some
 returns-then-is_some c = record {
