@@ -14,3 +14,4 @@ pub mod Standing
 pub mod Started
 pub mod Tables
 pub mod TakenIn
+pub mod Together

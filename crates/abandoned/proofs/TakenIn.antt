@@ -167,14 +167,14 @@ AreSound wholes = (at : ℕ) (whole : WholeState) → slice_get wholes at ≡ So
 abbrev pub AreOnce : PoolState → List WholeState → Type 0
 AreOnce pool wholes = (id : SpanId) → times id (flat_map spans_moved wholes) + times id (spans_in pool.groups) ≤ 1
 
-elsewhere_first : (pool : PoolState) (whole : WholeState) (wholes : List WholeState) → AreOnce pool (whole ∷ wholes) → IsElsewhereWhole pool whole
+pub elsewhere_first : (pool : PoolState) (whole : WholeState) (wholes : List WholeState) → AreOnce pool (whole ∷ wholes) → IsElsewhereWhole pool whole
 elsewhere_first pool whole wholes once place span here = elsewhere-times pool.groups span.id (
     let most = once span.id in
     let both = count-append (λ (s : SpanState). same_span s.id span.id) (spans_moved whole) (flat_map spans_moved wholes) in
     let some = count-some (λ (s : SpanState). same_span s.id span.id) (spans_moved whole) place span here (test_from_same_id span.id span.id refl) in
     omega arith)
 
-once_after : (old mid : PoolState) (whole : WholeState) (wholes : List WholeState) → IsSound old → IsSoundWhole whole → AreOnce old (whole ∷ wholes) → TakesIn old whole mid → AreOnce mid wholes
+pub once_after : (old mid : PoolState) (whole : WholeState) (wholes : List WholeState) → IsSound old → IsSoundWhole whole → AreOnce old (whole ∷ wholes) → TakesIn old whole mid → AreOnce mid wholes
 once_after old mid whole wholes sound fits once takes id =
     let most = once id in
     let both = count-append (λ (s : SpanState). same_span s.id id) (spans_moved whole) (flat_map spans_moved wholes) in

@@ -8,9 +8,9 @@ use Rattle.span.specs.Ids.{rank}
 use Rattle.span.specs.Log.{Holds}
 use Rattle.span.specs.State.{SpanState}
 use Rattle.page_table.specs.State.{TableState, words_of}
-use Rattle.shard.specs.Group.{GroupState, IsSpanAt, union_of, with_free}
+use Rattle.shard.specs.Group.{GroupState, IsSpanAt, spans_of as spans_in_shard, union_of, with_free}
 use Rattle.shard.specs.Moves.{IsBriefOf, WholeState, Lifts as LiftsFromShard, TakesIn as TakesInShard, spans_moved, whole_of as whole_of_shard, with_page, with_room as with_room_in, without_page}
-use Rattle.shard.specs.State.{ShardState, IsElsewhere as IsElsewhereInShard, Stands as StandsInShard}
+use Rattle.shard.specs.State.{ShardState, IsElsewhere as IsElsewhereInShard}
 use Rattle.shard.specs.declared.brief.Brief.{Brief}
 use Rattle.shard.specs.declared.shard.Found.{Found}
 use Rattle.shard.specs.declared.shard.Found.TheVariants.{Value, Gone, NotHere}
@@ -120,19 +120,31 @@ pub record Receives (old : PoolState) (shard : ShardState) (new : PoolState) (en
   pub moved : TakesAll (with_rooms old page_room span_room) (map (whole_of_shard shard.table) shard.groups) new
   pub after : ended ≡ record shard { ended = true; onto = None; groups = []; table = record shard.table { spans = finite.empty; pages = finite.empty } }
 
+-- one of the spans is among the groups already
+abbrev pub HasAny : List PooledState → List SpanState → Type 0
+HasAny groups spans = (place : ℕ) × (span : SpanState) × (slice_get spans place ≡ Some span) × (IsElsewhere groups span.id → ⊥)
+
 -- a span that would move is in the pool already
 abbrev pub IsInPool : PoolState → ShardState → Type 0
-IsInPool pool shard = (index place : ℕ) × (group : GroupState) × (span : SpanState) × StandsInShard shard.groups index place group span × (IsElsewhere pool.groups span.id → ⊥)
+IsInPool pool shard = (index : ℕ) × (group : GroupState) × (slice_get shard.groups index ≡ Some group) × HasAny pool.groups (spans_in_shard group)
 
--- the group of lowest head that has a page
-pub record IsLowestPaged (pool : PoolState) (index : ℕ) (group : PooledState) : Type 0 where
-  pub here : slice_get pool.groups index ≡ Some group
+-- the first of the groups that has a page
+pub record IsFirstPaged (groups : List PooledState) (index : ℕ) (group : PooledState) : Type 0 where
+  pub here : slice_get groups index ≡ Some group
   pub paged : IsSome group.page
-  pub lower : (other : ℕ) (before : PooledState) → other < index → slice_get pool.groups other ≡ Some before → before.page ≡ None
+  pub lower : (other : ℕ) (before : PooledState) → other < index → slice_get groups other ≡ Some before → before.page ≡ None
 
--- no group has a page
+-- the group of lowest head that has a page: groups stand by ascending head
+abbrev pub IsLowestPaged : PoolState → ℕ → PooledState → Type 0
+IsLowestPaged pool index group = IsFirstPaged pool.groups index group
+
+-- none of the groups has a page
+abbrev pub HasNoPage : List PooledState → Type 0
+HasNoPage groups = (index : ℕ) (group : PooledState) → slice_get groups index ≡ Some group → group.page ≡ None
+
+-- no group of the pool has a page
 abbrev pub HasNothingToAdopt : PoolState → Type 0
-HasNothingToAdopt pool = (index : ℕ) (group : PooledState) → slice_get pool.groups index ≡ Some group → group.page ≡ None
+HasNothingToAdopt pool = HasNoPage pool.groups
 
 -- an adoption: the pool's group of lowest head that has a page goes to the shard whole
 pub record Adopts (old : PoolState) (shard : ShardState) (head : SpanId) (new : PoolState) (adopter : ShardState) : Type 0 where
@@ -144,8 +156,10 @@ pub record Adopts (old : PoolState) (shard : ShardState) (head : SpanId) (new : 
   pub lifts : Lifts old head (Some whole) new
   pub takes_in : TakesInShard (with_room_in shard None (length (spans_moved whole))) whole adopter
 
+-- one of the spans is in the shard already, or bears its number
+abbrev pub HasDoubled : ShardState → List SpanState → Type 0
+HasDoubled shard spans = (place : ℕ) × (span : SpanState) × (slice_get spans place ≡ Some span) × ((span.id.shard ≡ shard.number) ⊎ (IsElsewhereInShard shard.groups span.id → ⊥))
+
 -- a span of the pool's lowest group that has a page is in the shard already, or bears its number
 abbrev pub IsDoubled : PoolState → ShardState → Type 0
-IsDoubled pool shard =
-    (index place : ℕ) × (group : PooledState) × (span : SpanState) × IsLowestPaged pool index group × (slice_get (spans_of group) place ≡ Some span)
-    × ((span.id.shard ≡ shard.number) ⊎ (IsElsewhereInShard shard.groups span.id → ⊥))
+IsDoubled pool shard = (index : ℕ) × (group : PooledState) × IsLowestPaged pool index group × HasDoubled shard (spans_of group)
