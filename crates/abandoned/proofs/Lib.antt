@@ -6,6 +6,7 @@ pub mod Here
 pub mod Housed
 pub mod Inserted
 pub mod Lifted
+pub mod Moving
 pub mod Pages
 pub mod Released
 pub mod Removed

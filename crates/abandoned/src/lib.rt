@@ -24,8 +24,10 @@
 //! [`Pool::receive`] and [`Pool::adopt`] change nothing of what pool and shard show together.
 #![tactic(auto)]
 
+mod error;
 mod pool;
 mod pooled;
 mod search;
 
+pub use error::{AdoptError, ReceiveError};
 pub use pool::Pool;

@@ -20,6 +20,7 @@ use span::{Key, SpanId};
 use std::alloc::{AllocError, Global};
 use std::marker::Model;
 
+mod handover;
 mod moves;
 
 /// The groups of shards that have ended, by ascending head, and the pages of those that have a live slot.

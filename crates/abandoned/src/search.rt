@@ -2,6 +2,7 @@
 ghost use Rattle.std.specs.Prelude.{◌≡◌, ◌<◌, ◌≤◌, ℕ, IfSome, MatchOption, Some, length, slice_get};
 ghost use Rattle.span.specs.Ids.{rank};
 ghost use Rattle.span.specs.State.{SpanState};
+ghost use Rattle.abandoned.specs.Calls.{HasNoPage, IsFirstPaged};
 ghost use Rattle.abandoned.specs.State.{Ascend, IsElsewhere, IsHere, PooledState};
 
 use crate::pooled::Pooled;
@@ -47,6 +48,19 @@ pub(crate) fn search(groups: &[Pooled], id: SpanId) -> Option<(usize, usize)>
     for index in 0..groups.len() {
         if let Some(place) = groups[index].place_of(id) {
             return Some((index, place));
+        }
+    }
+    None
+}
+
+/// The first group that has a page.
+pub(crate) fn first_paged(groups: &[Pooled]) -> Option<usize>
+    ensures first { MatchOption result (HasNoPage groups.now) (λ index. (group : PooledState) × IsFirstPaged groups.now index group) }
+    ensures within { IfSome result (λ index. index < length groups.now) }
+{
+    for index in 0..groups.len() {
+        if groups[index].is_paged() {
+            return Some(index);
         }
     }
     None
