@@ -2,12 +2,11 @@
 use Rattle.std.proofs.Common.{◌≡◌, ℕ, ◌≤◌, false, [], Some, None, sym, ◌∙◌, arith, refl}
 use Rattle.std.specs.FinMap as map
 use Rattle.std.specs.Ordering.{nat_cmp}
-use Rattle.shard.specs.Kept.{AreOwn}
 use Rattle.shard.specs.Sound.{IsSound}
 use Rattle.shard.specs.State.{ShardState, no_pages}
 
 abbrev pub new_shard : ℕ → ℕ → ℕ → ShardState
-new_shard number page_limit gens = record { number = number; page_limit = page_limit; gens = gens; opened = 0; ended = false; groups = []; table = no_pages }
+new_shard number page_limit gens = record { number = number; page_limit = page_limit; gens = gens; opened = 0; ended = false; groups = []; table = no_pages; onto = None }
 
 pub IsSound-new : (number page_limit gens : ℕ) → 1 ≤ gens → IsSound (new_shard number page_limit gens)
 IsSound-new number page_limit gens some = record {
@@ -26,6 +25,3 @@ IsSound-new number page_limit gens some = record {
   where
     nothing : {X : Type 0} {x : X} → None ≡ Some x → ⊥
     nothing e = cc
-
-pub AreOwn-new_shard : (number : ℕ) → AreOwn number 0 []
-AreOwn-new_shard number = record { each = λ index group there. absurd cc; all = refl }

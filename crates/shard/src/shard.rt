@@ -1,25 +1,30 @@
 // A shard and its calls on keys.
-ghost use Rattle.std.specs.Prelude.{◌*◌, ◌≡◌, ◌<◌, ◌≤◌, ℕ, [], map, length, IsTrue, IsOk, IfOk, IfSome, IsOkUnless, ◌↔◌, OnErr, MatchOption, Some, true, false, slice_get, if◌then◌else◌, is_some};
+ghost use Rattle.std.specs.Prelude.{◌*◌, ◌+◌, ◌≡◌, ◌<◌, ◌≤◌, ℕ, [], insert, vec_len, vec_capacity, map, length, IsTrue, IsOk, IfOk, IfSome, IsOkUnless, ◌↔◌, OnErr, MatchOption, Some, None, true, false, slice_get, if◌then◌else◌, is_some};
 ghost use Rattle.std.specs.List.Sorted.{IsStrictlyIncreasing};
 ghost use Rattle.span.specs.Ids.{rank};
 ghost use Rattle.span.specs.State.{SpanState};
 ghost use Rattle.span.specs.PlainMap as plain;
 ghost use Rattle.shard.specs.Group.{GroupState, IsLowestUsable};
+ghost use Rattle.shard.specs.Moves.{HasNoHead, IsHeadOf};
 ghost use Rattle.shard.specs.Rooms.{HasRooms, IsFirstRoom};
 ghost use Rattle.shard.specs.Shown.{shown};
 ghost use Rattle.shard.specs.Sound.{IsSound};
 ghost use Rattle.shard.specs.State.{IsElsewhere, IsHere, live_keys, no_pages, summary};
-ghost use Rattle.shard.specs.Calls.{Frees, Gets, IsFull, IsLowestRoom, IsSpent, Puts, PutsHere, PutsInNew, value_found, was_freed};
+ghost use Rattle.shard.specs.Calls.{Ascend, Frees, Gets, IsFull, IsLowestRoom, IsSpent, Puts, PutsHere, PutsInNew, value_found, was_freed};
 
 use crate::error::{Config, PutError};
 use crate::group::Group;
+use crate::hints::Hints;
 use crate::rooms::Rooms;
+use crate::spans::Spans;
 use bitmap::Bits256;
 use page_table::Table;
 use span::{Key, Span, SpanId};
 use std::alloc::{AllocError, Global};
 use std::marker::Model;
 
+mod moves;
+pub use moves::map_all;
 #[cfg(test)]
 mod tests;
 
@@ -47,8 +52,7 @@ pub enum Freed {
 
 /// The groups of spans that one thread owns, by ascending head, and their pages of 256 words.
 ///
-/// It keeps that each group is a span which it opened itself, alone on its page, at the index that
-/// is the span's serial; and that a group whose index is not in `rooms` has no usable slot.
+/// It keeps that it is sound, and that a group whose index is not in `rooms` has no usable slot.
 #[derive(Drop)]
 pub struct Shard {
     alloc: Global,
@@ -59,7 +63,9 @@ pub struct Shard {
     ended: bool,
     groups: Vec<Group>,
     rooms: Rooms,
+    hints: Hints,
     table: Table,
+    onto: Option<SpanId>,
 }
 
 impl Model for Shard {
@@ -83,7 +89,7 @@ impl Shard {
     /// is refused exactly where the number is not below 64, the pages are not 1 to 1,024, or `gens` is 0.
     pub fn new(alloc: Global, number: u32, page_limit: usize, gens: u32) -> Result<Shard, Config>
         ensures in_range { IsOk result ↔ ((number < 64) × (1 ≤ page_limit) × (page_limit ≤ 1024) × (1 ≤ gens)) }
-        ensures empty { IfOk result (λ shard. shard ≡ record { number = number; page_limit = page_limit; gens = gens; opened = 0; ended = false; groups = []; table = no_pages }) }
+        ensures empty { IfOk result (λ shard. shard ≡ record { number = number; page_limit = page_limit; gens = gens; opened = 0; ended = false; groups = []; table = no_pages; onto = None }) }
         ensures sound { IfOk result IsSound }
     {
         if number >= 64 || page_limit == 0 || page_limit > 1024 || gens == 0 {
@@ -98,7 +104,9 @@ impl Shard {
             ended: false,
             groups: Vec::new(alloc),
             rooms: Rooms::empty(),
+            hints: Hints::new(alloc),
             table: Table::new(alloc),
+            onto: None,
         })
     }
 
@@ -111,7 +119,8 @@ impl Shard {
 
     /// Whether it has ended, and so takes no put.
     pub fn ended(&self) -> bool
-        ensures { result ≡ self.now.ended }
+        ensures ended { result ≡ self.now.ended }
+        ensures sound { IsSound self.now }
     {
         self.ended
     }
@@ -236,7 +245,7 @@ impl Shard {
     }
 
     // Opens a span on a new page, with the value at its first slot. The new head, the list of groups and the
-    // table grow before the shard changes.
+    // table grow before the shard changes. No other group has room, so its own is the only one that may have.
     fn put_in_new(&mut self, value: u128) -> Result<(Key, usize), PutError>
         requires full { IsFull self.old.groups }
         requires pages { length self.old.groups < self.old.page_limit }
@@ -254,9 +263,16 @@ impl Shard {
         self.groups.reserve(1)?;
         let page = self.table.open(id)?;
         self.table.set_at(page, 0, value);
-        self.rooms.insert(self.groups.len());
-        self.groups.push_reserved(Group::of(self.alloc, head, page));
+        let index = lower_heads(self.groups.as_slice(), id);
+        insert_reserved(
+            &mut self.groups,
+            index,
+            Group::of(Spans::of(self.alloc, head), page),
+        );
+        self.rooms = Rooms::empty();
+        self.rooms.insert(index);
         self.opened += 1;
+        self.onto = None;
         Ok((key, 0))
     }
 
@@ -265,10 +281,33 @@ impl Shard {
         ensures sound { IsSound self.now }
         ensures place { MatchOption result (IsElsewhere self.now.groups id) (λ at. (group : GroupState) × (span : SpanState) × IsHere self.now.groups id at.0 at.1 group span) }
     {
-        if id.shard() != self.number {
+        if let Some(at) = self.find_at(self.guess(id), id) {
+            return Some(at);
+        }
+        if self.table.page_of(id).is_none() {
             return None;
         }
+        search(self.groups.as_slice(), id)
+    }
+
+    // The index of a group that may have the span: its serial where the shard has all that it opened, and else
+    // the place of the head that a hint names for a guest, or of the span itself.
+    fn guess(&self, id: SpanId) -> usize {
         let index = id.serial() as usize;
+        if index < self.groups.len() && self.groups[index].head_id() == id {
+            return index;
+        }
+        match self.hints.head_of(id) {
+            Some(head) => lower_heads(self.groups.as_slice(), head),
+            None => lower_heads(self.groups.as_slice(), id),
+        }
+    }
+
+    // The place of the span in the group at the index, if it stands there.
+    fn find_at(&self, index: usize, id: SpanId) -> Option<(usize, usize)>
+        ensures sound { IsSound self.now }
+        ensures place { IfSome result (λ at. (group : GroupState) × (span : SpanState) × IsHere self.now.groups id at.0 at.1 group span) }
+    {
         if index >= self.groups.len() {
             return None;
         }
@@ -277,6 +316,69 @@ impl Shard {
             None => None,
         }
     }
+
+    // Where the group of the head stands.
+    fn find_head(&self, head: SpanId) -> Option<usize>
+        ensures head { MatchOption result (HasNoHead self.now.groups head) (λ index. (group : GroupState) × IsHeadOf self.now.groups head index group) }
+        ensures within { IfSome result (λ index. index < length self.now.groups) }
+        ensures sound { IsSound self.now }
+    {
+        let index = lower_heads(self.groups.as_slice(), head);
+        if index >= self.groups.len() {
+            return None;
+        }
+        if self.groups[index].head_id() == head {
+            Some(index)
+        } else {
+            None
+        }
+    }
+}
+
+// Where the span of the id stands among the groups: the walk that decides where no guess was right.
+fn search(groups: &[Group], id: SpanId) -> Option<(usize, usize)>
+    ensures { MatchOption result (IsElsewhere groups.now id) (λ at. (group : GroupState) × (span : SpanState) × IsHere groups.now id at.0 at.1 group span) }
+{
+    for index in 0..groups.len() {
+        if let Some(place) = groups[index].place_of(id) {
+            return Some((index, place));
+        }
+    }
+    None
+}
+
+// Inserts where there is room, which needs no memory.
+fn insert_reserved(groups: &mut Vec<Group>, index: usize, group: Group)
+    requires within { index ≤ vec_len groups.old }
+    requires room { vec_len groups.old < vec_capacity groups.old }
+    ensures items { groups.new.items ≡ insert groups.old.items index group }
+    ensures len { vec_len groups.new ≡ vec_len groups.old + 1 }
+    ensures capacity { vec_capacity groups.new ≡ vec_capacity groups.old }
+{
+    match groups.insert(index, group) {
+        Ok(()) => {}
+        Err(_) => unreachable!(),
+    }
+}
+
+// How many heads are lower than the id, by halving.
+fn lower_heads(groups: &[Group], id: SpanId) -> usize
+    requires { Ascend groups.now }
+    ensures within { result ≤ length groups.now }
+    ensures lower { (other : ℕ) (group : GroupState) → other < result → slice_get groups.now other ≡ Some group → rank group.head.id < rank id }
+    ensures others { (other : ℕ) (group : GroupState) → result ≤ other → slice_get groups.now other ≡ Some group → rank id ≤ rank group.head.id }
+{
+    let mut low = 0;
+    let mut high = groups.len();
+    while low < high {
+        let middle = low + (high - low) / 2;
+        if groups[middle].head_id().rank() < id.rank() {
+            low = middle + 1;
+        } else {
+            high = middle;
+        }
+    }
+    low
 }
 
 // The first open group that has a usable slot, and the lowest such slot. Groups that have none leave the set.

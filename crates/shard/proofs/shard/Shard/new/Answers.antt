@@ -1,6 +1,7 @@
-use Rattle.std.proofs.Common.{arith}
+use Rattle.std.proofs.Common.{ap, arith}
+use Rattle.page_table.specs.State.{TableState}
 use Rattle.shard.proofs.RoomBits.{HasRooms-empty}
-use Rattle.shard.proofs.Start.{AreOwn-new_shard, IsSound-new}
+use Rattle.shard.proofs.Start.{IsSound-new}
 use Rattle.shard.proofs.shard.Shard.new.Goals as goal
 
 pub invariant_of-result : goal.invariant_of-result
@@ -8,10 +9,10 @@ invariant_of-result c = record {
   number_fits = omega arith;
   pages_fit = omega arith;
   gens_fit = omega arith;
-  sound = rw (c.new.ensures.items, c.new-2.ensures) (IsSound-new c.args.number c.args.page_limit c.args.gens (omega arith));
-  own = rw c.new.ensures.items (AreOwn-new_shard c.args.number);
+  sound = rw (c.new.ensures.items, c.new-3.ensures) (IsSound-new c.args.number c.args.page_limit c.args.gens (omega arith));
   rooms = rw (c.new.ensures.items, c.empty.ensures) HasRooms-empty;
+  room_for_groups = omega (arith, ap (λ (t : TableState). t.page_room) c.new-3.ensures, c.new.result.ok.1);
 }
 
 pub returns-clause-sound : goal.returns-clause-sound
-returns-clause-sound c = rw (c.new.ensures.items, c.new-2.ensures) (IsSound-new c.args.number c.args.page_limit c.args.gens (omega arith))
+returns-clause-sound c = rw (c.new.ensures.items, c.new-3.ensures) (IsSound-new c.args.number c.args.page_limit c.args.gens (omega arith))
