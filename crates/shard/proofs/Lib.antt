@@ -1,4 +1,5 @@
 pub mod FreeHere
+pub mod Guests
 pub mod HeadPlaces
 pub mod Heads
 pub mod HeadsHere

@@ -7,12 +7,12 @@
 //! ```text
 //!   rooms     1 0 0 1           a bit a group: it may have a usable slot
 //!             │ │ │ │
-//!   groups    0 1 2 3           a group stands at the serial of its head
-//!             │ │ │ └───── head 5.3, guests: none ──┐
-//!             │ │ └─────── head 5.2, guests: none ──┤  spans, their logs and keys
-//!             │ └───────── head 5.1, guests: none ──┤
-//!             └─────────── head 5.0, guests: none ──┘
-//!   table     5.0 ─► page, 5.1 ─► page, 5.2 ─► page, 5.3 ─► page      256 words a page
+//!   groups    0 1 2 3           by ascending head
+//!             │ │ │ └───── head 7.4, guests: none ──┐
+//!             │ │ └─────── head 5.1, guests: none ──┤  spans, their logs and keys
+//!             │ └───────── head 5.0, guests: none ──┤
+//!             └─────────── head 2.9, guests: 3.0 ───┘
+//!   table     2.9 ─► page ◄─ 3.0, 5.0 ─► page, 5.1 ─► page, 7.4 ─► page      256 words a page
 //! ```
 //!
 //! A group has a head, which gives out the keys of its puts, and may have guests, whose live slots
@@ -22,8 +22,12 @@
 //!
 //! No call walks the full groups: a put asks `rooms` for the lowest group that may have a usable
 //! slot, takes out those that turn out to have none, and a free puts its group back. (mimalloc, too,
-//! keeps its full pages out of the way of an allocation.) A look-up finds the group of a key at the
-//! index that is its span's serial.
+//! keeps its full pages out of the way of an allocation.) A look-up guesses the group of a key, by
+//! its span's serial, its place in order or a hint, and looks whether the span is there; only where
+//! no guess was right and the table has the span are the groups walked.
+//!
+//! A group comes and goes whole, as a [`Whole`], with its guests and the words of its page, and no
+//! word is copied: [`Shard::lift`], [`Shard::reserve_for`] and [`Shard::take_in`].
 //!
 //! The public fact of the crate is that a shard is a plain map of keys: [`Shard::put`],
 //! [`Shard::get`] and [`Shard::free`] answer and do what a map would (`shown` in

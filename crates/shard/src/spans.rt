@@ -2,8 +2,8 @@
 ghost use Rattle.std.specs.Prelude.{[], ◌∷◌, ◌++◌, ◌≡◌, ◌<◌, ◌≤◌, ◌+◌, ℕ, IfOk, IfSome, OnOk, OnErr, MatchOption, Some, IsTrue, ◌↔◌, slice_get, slice_set, length, false};
 ghost use Rattle.std.specs.Bool.{OnTrue, OnFalse};
 ghost use Rattle.std.specs.FinSet as set;
-ghost use Rattle.bitmap.specs.Slots.{HasAllBelow, IsLowestOutside};
-ghost use Rattle.span.specs.Log.{puts_of, Holds};
+ghost use Rattle.bitmap.specs.Slots.{AreDisjoint, HasAllBelow, IsLowestOutside};
+ghost use Rattle.span.specs.Log.{live_slots, puts_of, Holds};
 ghost use Rattle.span.specs.State.{SpanState};
 ghost use Rattle.shard.specs.Group.{all_spans, taken, union_of, IsSpanAt, HasNoSpan, with_put, with_free, with_span_at};
 ghost use Rattle.shard.specs.State.{live_count};
@@ -70,6 +70,22 @@ impl Spans {
         ensures { self.new ≡ self.old }
     {
         self.guests.reserve(guests)
+    }
+
+    /// Takes a guest in. Its live slots are live in none of the spans so far.
+    ///
+    /// # Errors
+    ///
+    /// `AllocError` where the list of guests could not grow. The spans are then as they were.
+    pub fn push(&mut self, guest: Span) -> Result<(), AllocError>
+        requires { AreDisjoint (live_slots guest.log) (union_of (all_spans self.old)) }
+        ensures ok { OnOk result (self.new ≡ record self.old { guests = self.old.guests ++ guest ∷ [] }) }
+        ensures err { OnErr result (self.new ≡ self.old) }
+    {
+        self.guests.reserve(1)?;
+        self.occupied = self.occupied.union(&guest.live());
+        self.guests.push_reserved(guest);
+        Ok(())
     }
 
     /// The slots that are live in one of the spans.

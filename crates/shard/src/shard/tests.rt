@@ -1,9 +1,18 @@
 //! A shard at work, and what a refused growth leaves of it.
+ghost use Rattle.std.specs.Prelude.{[], ◌≡◌, ◌≢◌, ℕ, IfOk, IsSome, None, Some, false, length, slice_get};
+ghost use Rattle.span.specs.State.{SpanState};
+ghost use Rattle.shard.specs.Moves.{spans_moved};
+ghost use Rattle.shard.specs.State.{no_pages};
+
 use super::*;
+use crate::whole::Whole;
+use page_table::PageWords;
 use std::process::Abort;
 use std::test::Fail;
 
-fn shard(alloc: Global, page_limit: usize, gens: u32) -> Result<Shard, Fail> {
+fn shard(alloc: Global, page_limit: usize, gens: u32) -> Result<Shard, Fail>
+    ensures { IfOk result (λ shard. shard ≡ record { number = 3; page_limit = page_limit; gens = gens; opened = 0; ended = false; groups = []; table = no_pages; onto = None }) }
+{
     Ok(Shard::new(alloc, 3, page_limit, gens)?)
 }
 
@@ -118,5 +127,144 @@ fn a_key_names_one_value(rt: HostRuntime) -> Result<(), Fail> {
     let (again, _) = shard.put(8)?;
     assert_eq!(rt; shard.get(&key), Found::Gone(3));
     assert_eq!(rt; shard.get(&again), Found::Value(8, 3));
+    Ok(())
+}
+
+// Asks for room for a group. Where memory was refused, the shard is as before, and has room the second time.
+fn reserve(rt: &impl Abort, shard: &mut Shard, onto: Option<SpanId>) -> Result<(), Fail> {
+    let (pages, live) = (shard.pages(), shard.live());
+    if shard.reserve_for(onto, 40).is_err() {
+        assert_eq!(rt; (shard.pages(), shard.live()), (pages, live));
+        shard.reserve_for(onto, 40)?;
+    }
+    assert_eq!(rt; (shard.pages(), shard.live()), (pages, live));
+    Ok(())
+}
+
+#[test]
+fn tells_of_a_group(rt: HostRuntime) -> Result<(), Fail> {
+    let mut shard = shard(rt.alloc(), 2, 1)?;
+    let head = key(0, 0, 1)?.span();
+    assert!(rt; shard.brief(head).is_none());
+    assert_eq!(rt; shard.span_at(head, 0), None);
+    put(&rt, &mut shard, 5)?;
+    put(&rt, &mut shard, 6)?;
+    let brief = shard.brief(head).ok_or("the group is here")?;
+    assert_eq!(rt; (brief.spans, brief.occupied.count()), (1, 2));
+    assert_eq!(rt; (brief.paged, brief.closed), (true, false));
+    assert_eq!(rt; shard.span_at(head, 0), Some(head));
+    assert_eq!(rt; shard.span_at(head, 1), None);
+    Ok(())
+}
+
+#[test]
+fn lets_a_group_go(rt: HostRuntime) -> Result<(), Fail> {
+    let mut shard = shard(rt.alloc(), 2, 1)?;
+    for value in 0..257 {
+        put(&rt, &mut shard, value)?;
+    }
+    let head = key(0, 0, 1)?.span();
+    let whole = shard.lift(head).ok_or("the group is here")?;
+    assert_eq!(rt; (whole.head_id(), whole.has_page()), (head, true));
+    assert_eq!(rt; (whole.spans().len(), whole.spans().live()), (1, 256));
+    assert!(rt; shard.lift(head).is_none());
+    assert_eq!(rt; (shard.pages(), shard.live()), (1, 1));
+    assert_eq!(rt; shard.get(&key(0, 7, 1)?), Found::NotHere);
+    assert_eq!(rt; shard.get(&key(1, 0, 1)?), Found::Value(256, 1));
+    assert_eq!(rt; put(&rt, &mut shard, 3), Ok((key(1, 1, 1)?, 1)));
+    let (_, words) = whole.into_parts();
+    let words = words.ok_or("the group has a page")?;
+    assert_eq!(rt; (words.value_at(0), words.value_at(255)), (0, 255));
+    Ok(())
+}
+
+#[test]
+fn puts_where_a_group_has_left(rt: HostRuntime) -> Result<(), Fail> {
+    let mut shard = shard(rt.alloc(), 1, 1)?;
+    let first = put(&rt, &mut shard, 5)?.0;
+    assert!(rt; shard.lift(first.span()).is_some());
+    assert_eq!(rt; put(&rt, &mut shard, 6), Ok((key(1, 0, 1)?, 0)));
+    assert_eq!(rt; shard.get(&first), Found::NotHere);
+    assert_eq!(rt; shard.free(&key(1, 0, 1)?), Freed::Yes(1));
+    Ok(())
+}
+
+#[test]
+fn reserves_room(rt: HostRuntime) -> Result<(), Fail> {
+    let mut shard = shard(rt.alloc(), 2, 1)?;
+    reserve(&rt, &mut shard, None)?;
+    let made = put(&rt, &mut shard, 5)?.0;
+    reserve(&rt, &mut shard, Some(made.span()))?;
+    reserve(&rt, &mut shard, Some(key(9, 0, 1)?.span()))?;
+    assert_eq!(rt; shard.get(&made), Found::Value(5, 1));
+    Ok(())
+}
+
+#[test]
+fn takes_nothing_after_its_end(rt: HostRuntime) -> Result<(), Fail> {
+    let mut shard = shard(rt.alloc(), 2, 1)?;
+    shard.set_ended();
+    assert_eq!(rt; (shard.ended(), shard.pages()), (true, 0));
+    assert_eq!(rt; shard.put(5), Err(PutError::Ended));
+    Ok(())
+}
+
+fn id_of(shard: u32) -> Result<SpanId, Fail>
+    ensures { IfOk result (λ id. id.shard ≡ shard) }
+{
+    Ok(SpanId::new(shard, 0).ok_or("there are fewer shards")?)
+}
+
+// A group that shard 5 opened, with a guest from shard 6, and a key in each.
+fn two_spans(alloc: Global) -> Result<Whole, Fail>
+    ensures both { IfOk result (λ whole. IsSome whole.words × (length (spans_moved whole) ≡ 2)) }
+    ensures foreign { IfOk result (λ whole. (place : ℕ) (span : SpanState) → slice_get (spans_moved whole) place ≡ Some span → span.id.shard ≢ 3) }
+{
+    let mut head = Span::new(alloc, id_of(5)?, 2);
+    head.put_at(0, 7)?;
+    let mut guest = Span::new(alloc, id_of(6)?, 2);
+    guest.put_at(1, 8)?;
+    let mut spans = Spans::of(alloc, head);
+    spans.push(guest)?;
+    let mut words = PageWords::blank(alloc)?;
+    words.set_at(0, 7);
+    words.set_at(1, 8);
+    Ok(Whole::new(spans, Some(words)))
+}
+
+// Shard 3 with that group.
+fn with_guest(alloc: Global) -> Result<Shard, Fail> {
+    let mut shard = shard(alloc, 2, 2)?;
+    shard.reserve_for(None, 2)?;
+    shard.take_in(two_spans(alloc)?);
+    Ok(shard)
+}
+
+#[test]
+fn finds_a_guest(rt: HostRuntime) -> Result<(), Fail> {
+    let mut shard = with_guest(rt.alloc())?;
+    let (head, guest) = (id_of(5)?, id_of(6)?);
+    let of_guest = Key::new(guest, 1, 1).ok_or("generations count from 1")?;
+    assert_eq!(rt; shard.get(&of_guest), Found::Value(8, 1));
+    assert_eq!(rt;
+        (shard.span_at(head, 1), shard.span_at(guest, 0)),
+        (Some(guest), None)
+    );
+    let (made, _) = put(&rt, &mut shard, 9)?;
+    assert_eq!(rt; (made.span(), made.slot()), (head, 2));
+    assert_eq!(rt; shard.free(&of_guest), Freed::Yes(1));
+    assert_eq!(rt; shard.get(&of_guest), Found::Gone(2));
+    assert_eq!(rt; put(&rt, &mut shard, 9)?.0.slot(), 1);
+    Ok(())
+}
+
+#[test]
+fn lets_a_guest_go_with_its_head(rt: HostRuntime) -> Result<(), Fail> {
+    let mut shard = with_guest(rt.alloc())?;
+    let whole = shard.lift(id_of(5)?).ok_or("the group is here")?;
+    assert_eq!(rt; (whole.spans().len(), whole.spans().live()), (2, 2));
+    let of_guest = Key::new(id_of(6)?, 1, 1).ok_or("generations count from 1")?;
+    assert_eq!(rt; shard.get(&of_guest), Found::NotHere);
+    assert_eq!(rt; put(&rt, &mut shard, 9)?.0, key(0, 0, 1)?);
     Ok(())
 }
