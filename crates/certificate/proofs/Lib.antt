@@ -1,0 +1,5 @@
+pub mod Duality
+pub mod IdSets
+pub mod Members
+pub mod PartnersFilter
+pub mod Tests

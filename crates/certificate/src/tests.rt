@@ -1,0 +1,2 @@
+//! The checker and its partners at work.
+use super::*;
