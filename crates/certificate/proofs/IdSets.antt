@@ -15,7 +15,7 @@ use Rattle.span.specs.declared.id.SpanId.{SpanId}
 use Rattle.span.specs.Ids.{rank, same_span}
 use Rattle.mesh_graph.proofs.Entries.{rank-apart, rank-same, same_span-flip}
 use Rattle.mesh_graph.proofs.Building.{has_bit-set}
-use Rattle.certificate.proofs.Tests.{tells_span}
+use Rattle.certificate.proofs.Verdicts.{tells_span}
 
 -- ids are the same where their ranks are
 pub same_rank : (a b : SpanId) → eqb (rank a) (rank b) ≡ same_span a b

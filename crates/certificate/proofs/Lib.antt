@@ -2,4 +2,4 @@ pub mod Duality
 pub mod IdSets
 pub mod Members
 pub mod PartnersFilter
-pub mod Tests
+pub mod Verdicts

@@ -12,7 +12,7 @@ use Rattle.mesh_graph.specs.declared.entry.Entry.{Entry}
 use Rattle.mesh_graph.specs.Groups.{Groups, IsAscending, any_compatible, are_compatible, ids}
 use Rattle.mesh_graph.proofs.Entries.{any_at}
 use Rattle.certificate.specs.Plans.{partners_of, sides_of}
-use Rattle.certificate.proofs.Tests.{tells_span}
+use Rattle.certificate.proofs.Verdicts.{tells_span}
 
 none-at-all : {X : Type 0} (q : X → Bool) (xs : List X) → list_any (λ x. false && q x) xs ≡ false
 none-at-all q [] = refl

@@ -3,7 +3,7 @@ use Rattle.std.proofs.lemmas.Bool.{both_ways}
 use Rattle.span.specs.Ids.{same_span}
 use Rattle.certificate.specs.Plans.{IsCertificateOf, partners_of, sides_of}
 use Rattle.certificate.proofs.Duality.{best_from_certificate}
-use Rattle.certificate.proofs.Tests.{certificate-from_tests, equation-from_certificate, tells_span}
+use Rattle.certificate.proofs.Verdicts.{certificate-from_tests, equation-from_certificate, tells_span}
 use Rattle.certificate.proofs.checking.check.Goals as goal
 
 pub returns-then-not-is_choice-clause-exact : goal.returns-then-not-is_choice-clause-exact

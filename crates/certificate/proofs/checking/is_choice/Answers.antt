@@ -1,6 +1,6 @@
 use Rattle.std.proofs.Common.{false, refl, sym, ◌∙◌}
 use Rattle.std.proofs.lemmas.Bool.{both_ways}
-use Rattle.certificate.proofs.Tests.{choice-from_tests, tests-from_choice}
+use Rattle.certificate.proofs.Verdicts.{choice-from_tests, tests-from_choice}
 use Rattle.certificate.proofs.checking.is_choice.Goals as goal
 
 pub returns-then-not-are_abandoned : goal.returns-then-not-are_abandoned

@@ -1,6 +1,6 @@
 use Rattle.std.proofs.Common.{false, refl, sym, ◌∙◌}
 use Rattle.std.proofs.lemmas.Bool.{both_ways}
-use Rattle.certificate.proofs.Tests.{plan-from_tests, tests-from_plan}
+use Rattle.certificate.proofs.Verdicts.{plan-from_tests, tests-from_plan}
 use Rattle.certificate.proofs.checking.is_plan.Goals as goal
 
 pub returns-then-not-are_compatible : goal.returns-then-not-are_compatible
