@@ -24,11 +24,13 @@ mod distinct;
 mod id_set;
 mod partner;
 mod plan;
+mod text;
 
 pub use certificate::Certificate;
 pub use checking::check;
 pub use partner::partners;
 pub use plan::{Plan, Short};
+pub use text::{Cause, ReadError, read, write};
 
 #[cfg(test)]
 mod tests;

@@ -52,6 +52,16 @@ impl Snapshot {
         Ok(Snapshot { abandoned, owned })
     }
 
+    /// The snapshot of two lists that stand by ascending ids already.
+    pub fn from_ascending(abandoned: Vec<Entry>, owned: Vec<Entry>) -> Snapshot
+        requires abandoned { IsAscending (ids abandoned.items) }
+        requires owned { IsAscending (ids owned.items) }
+        ensures abandoned { result.abandoned ≡ abandoned.items }
+        ensures owned { result.owned ≡ owned.items }
+    {
+        Snapshot { abandoned, owned }
+    }
+
     /// The abandoned groups.
     pub fn abandoned(&self) -> &[Entry]
         ensures entries { result.now ≡ self.now.abandoned }
