@@ -96,11 +96,11 @@ module _ {X : Type 0} (id_of : X → SpanId) (xs : List X) (k : ℕ) where
       let here : get_or (map id_of xs) k (id_of x) ≡ id_of x = get_or-map id_of xs k x (id_of x) l ∙ ap id_of (sym is) in
       both_ways (list_any (same_span (id_of x)) (take k (map id_of xs)))
       (list_any_none (same_span (id_of x)) (take k (map id_of xs)) (λ i d low.
-          let few : length (take k (map id_of xs)) ≡ k = length-take-le k (map id_of xs) (omega arith) in
-          ap (same_span (id_of x)) (get_or-take k (map id_of xs) i d (omega arith))
-          ∙ same_span-flip (id_of x) (get_or (map id_of xs) i d)
-          ∙ ap (same_span (get_or (map id_of xs) i d)) (sym here ∙ get_or_default (map id_of xs) k (id_of x) d (omega arith))
-          ∙ apart_from_distinct same_span (map id_of xs) i k d distinct (omega arith) (omega arith)))
+      let few : length (take k (map id_of xs)) ≡ k = length-take-le k (map id_of xs) (omega arith) in
+      ap (same_span (id_of x)) (get_or-take k (map id_of xs) i d (omega arith))
+      ∙ same_span-flip (id_of x) (get_or (map id_of xs) i d)
+      ∙ ap (same_span (get_or (map id_of xs) i d)) (sym here ∙ get_or_default (map id_of xs) k (id_of x) d (omega arith))
+      ∙ apart_from_distinct same_span (map id_of xs) i k d distinct (omega arith) (omega arith)))
       (sym (had (id_of x)) ∙ old)
 
 -- all of them

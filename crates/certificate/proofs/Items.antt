@@ -1,5 +1,5 @@
 -- A list of items while it is read.
-use Rattle.std.proofs.Common.{ℕ, ◌+◌, ◌-◌, ◌<◌, ◌≤◌, ◌≡◌, List, [], ◌∷◌, ◌++◌, codes, length, map, get_or, Option, Some, None, option_map, Result, Ok, Err, refl, subst, sym, ◌∙◌, ap, arith, zero, suc, inl, inr}
+use Rattle.std.proofs.Common.{ℕ, ◌+◌, ◌-◌, ◌<◌, ◌≤◌, ◌≡◌, List, [], ◌∷◌, ◌++◌, codes, length, map, get_or, Option, Some, None, option_map, Result, Ok, Err, refl, subst, sym, ◌∙◌, ap, arith, suc, inl, inr}
 use Rattle.std.proofs.lemmas.Bool.{cases_eq}
 use Rattle.std.proofs.lemmas.List.{append_assoc, get_or_append_left, get_or_push, length-map, length_push}
 use Rattle.bitmap.specs.Slots.{SlotSet}

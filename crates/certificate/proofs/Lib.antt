@@ -4,5 +4,8 @@ pub mod IdSets
 pub mod Items
 pub mod Members
 pub mod PartnersFilter
+pub mod ReadAgain
+pub mod Rereading
+pub mod Split
 pub mod Verdicts
 pub mod Written

@@ -1,15 +1,14 @@
 -- What the tests of the checker mean
-use Rattle.std.proofs.Common.{ℕ, ◌+◌, ◌<◌, ◌≡◌, Bool, true, false, ◌&&◌, ◌||◌, not, List, [], ◌∷◌, length, map, get_or, drop, refl, sym, ◌∙◌, ap, zero, suc, arith, eqb, eqb-true, eq-eqb, inl, inr, count_by, cond, IsTrue, ◌↔◌}
-use Rattle.std.specs.List.{All, AllByRecursion, IsDistinct, list_all, list_any, filter}
-use Rattle.std.proofs.lemmas.Bool.{cases_Bool, cases_eq, both_ways, or_cases, or_left, or_right, or_parts, or_from, and_parts, and_from, eqb-false, ne_eqb}
+use Rattle.std.proofs.Common.{◌+◌, ◌≡◌, Bool, true, false, ◌&&◌, ◌||◌, List, [], ◌∷◌, length, map, refl, sym, ◌∙◌, ap, inl, inr}
+use Rattle.std.specs.List.{All, AllByRecursion, IsDistinct, list_all, list_any}
+use Rattle.std.proofs.lemmas.Bool.{cases_Bool, both_ways, or_cases, or_left, or_right, and_parts, and_from}
 use Rattle.std.proofs.lemmas.List.Elements.{All-from_recursion, recursion_from_All}
-use Rattle.std.proofs.lemmas.List.Sums.{sum_by-cons}
-use Rattle.std.proofs.lemmas.List.{get_or_default, length-map}
+use Rattle.std.proofs.lemmas.List.{length-map}
 use Rattle.span.specs.declared.id.SpanId.{SpanId}
 use Rattle.span.specs.Ids.{same_span}
 use Rattle.span.proofs.Ids.{same_id_from_test, test_from_same_id}
 use Rattle.mesh_graph.specs.declared.entry.Entry.{Entry}
-use Rattle.certificate.specs.Sides.{among, IsCertificate, IsChoice, IsPlan, partners}
+use Rattle.certificate.specs.Sides.{among, IsChoice}
 use Rattle.mesh_graph.specs.Groups.{Groups, any_compatible, are_compatible, has_id, ids}
 use Rattle.certificate.specs.Plans.{IsCertificateOf, IsPlanOf, partners_of, sides_of}
 use Rattle.certificate.proofs.Members.{Tells}

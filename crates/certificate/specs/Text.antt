@@ -1,6 +1,6 @@
 -- A certificate as text: the one text that is written.
-use Rattle.std.specs.Prelude.{ℕ, ◌≤◌, List, [], ◌∷◌, ◌++◌, length, map, codes, decimal}
-use Rattle.bitmap.specs.Slots.{set_text}
+use Rattle.std.specs.Prelude.{ℕ, ◌≡◌, ◌≤◌, List, [], ◌∷◌, ◌++◌, length, map, codes, decimal}
+use Rattle.bitmap.specs.Slots.{set_text, slots_of_text}
 use Rattle.span.specs.declared.id.SpanId.{SpanId}
 use Rattle.span.specs.Texts.{id_text}
 use Rattle.mesh_graph.specs.declared.entry.Entry.{Entry}
@@ -10,6 +10,10 @@ use Rattle.certificate.specs.declared.certificate.Certificate.{Certificate}
 -- a group: its id and its set
 abbrev pub entry_line : Entry → List ℕ
 entry_line x = id_text x.id ++ (codes " " ++ (set_text x.occupied ++ codes "\n"))
+
+-- the set's text gives the set again
+abbrev pub IsReadable : Entry → Type 0
+IsReadable x = slots_of_text (set_text x.occupied) ≡ x.occupied
 
 -- a fold: an abandoned id and the owned one
 abbrev pub pair_line : SpanId × SpanId → List ℕ

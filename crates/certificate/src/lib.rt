@@ -16,6 +16,9 @@
 //! The public fact of the crate is that where `check` says yes, no plan of the snapshot has more
 //! pairs. That is the deficiency form of Hall's theorem: of the short set at most as many groups are
 //! planned as it has partners, so every plan leaves out all the others.
+//!
+//! A [`Certificate`] has snapshot, plan and short set together. [`write()`] gives it as text, and
+//! [`read`] reads that text again; of a text that is none it names the first line at fault.
 #![tactic(auto)]
 
 mod certificate;

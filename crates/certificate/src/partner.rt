@@ -62,7 +62,5 @@ fn count_among(abandoned: &[Entry], chosen: &IdSet, owned: &[Entry]) -> usize
 fn is_partner(abandoned: &[Entry], chosen: &IdSet, owned: &Entry) -> bool
     ensures { result ≡ has_chosen chosen.now.words abandoned.now owned.now }
 {
-    abandoned
-        .iter()
-        .any(|entry| chosen.contains(entry.id) && entry.is_compatible(owned))
+    abandoned.iter().any(|entry| chosen.contains(entry.id) && entry.is_compatible(owned))
 }

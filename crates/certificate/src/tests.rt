@@ -49,7 +49,11 @@ fn first_lines(alloc: Global, count: usize) -> Result<Vec<u8>, Fail> {
 fn answer(alloc: Global, text: &[u8]) -> Result<String, Fail> {
     let said = match read(alloc, text) {
         Ok(certificate) => {
-            let Certificate { snapshot, plan, short } = certificate;
+            let Certificate {
+                snapshot,
+                plan,
+                short,
+            } = certificate;
             if check(&snapshot, &plan, &short) {
                 let partners = partners(alloc, &snapshot, &short)?.len();
                 let (folds, short) = (plan.pairs().len(), short.ids().len());
@@ -71,9 +75,15 @@ fn answer_with(alloc: Global, number: usize, line: &str) -> Result<String, Fail>
 fn a_certificate_is_accepted(rt: HostRuntime) -> Result<(), Fail> {
     let alloc = rt.alloc();
     let text = first_lines(alloc, 14)?;
-    assert_eq!(rt; answer(alloc, &text)?.as_str(), "accepted folds 1 short 3 partners 1");
+    assert_eq!(rt;
+        answer(alloc, &text)?.as_str(),
+        "accepted folds 1 short 3 partners 1"
+    );
     let none = b"meshcert 1\nabandoned 0\nowned 0\nfolds 0\nshort 0\nend\n";
-    assert_eq!(rt; answer(alloc, none)?.as_str(), "accepted folds 0 short 0 partners 0");
+    assert_eq!(rt;
+        answer(alloc, none)?.as_str(),
+        "accepted folds 0 short 0 partners 0"
+    );
     Ok(())
 }
 
@@ -92,10 +102,19 @@ fn a_line_at_fault_is_named(rt: HostRuntime) -> Result<(), Fail> {
     let alloc = rt.alloc();
     assert_eq!(rt; answer_with(alloc, 12, "0.0")?.as_str(), "line 12: order");
     assert_eq!(rt; answer_with(alloc, 7, "3.0 02")?.as_str(), "line 7: set");
-    assert_eq!(rt; answer_with(alloc, 2, "abandoned 4097")?.as_str(), "line 2: limit");
-    assert_eq!(rt; answer_with(alloc, 2, "abandoned 03")?.as_str(), "line 2: form");
+    assert_eq!(rt;
+        answer_with(alloc, 2, "abandoned 4097")?.as_str(),
+        "line 2: limit"
+    );
+    assert_eq!(rt;
+        answer_with(alloc, 2, "abandoned 03")?.as_str(),
+        "line 2: form"
+    );
     assert_eq!(rt; answer_with(alloc, 9, "64.0 x")?.as_str(), "line 9: form");
-    assert_eq!(rt; answer_with(alloc, 14, "end\nend")?.as_str(), "line 15: tail");
+    assert_eq!(rt;
+        answer_with(alloc, 14, "end\nend")?.as_str(),
+        "line 15: tail"
+    );
     Ok(())
 }
 

@@ -67,11 +67,7 @@ fn entry_at(lines: &[&[u8]], at: usize, last: Option<SpanId>) -> Result<Entry, C
     Ok(entry)
 }
 
-fn pair_at(
-    lines: &[&[u8]],
-    at: usize,
-    last: Option<SpanId>,
-) -> Result<(SpanId, SpanId), Cause>
+fn pair_at(lines: &[&[u8]], at: usize, last: Option<SpanId>) -> Result<(SpanId, SpanId), Cause>
     ensures line { shown pair_parts result ≡ line_in (item_in pair_in (λ p. p.0) (option_map id_parts last)) (contents_of lines.now) at }
     ensures after { IfOk result (λ pair. Follows last pair.0) }
 {

@@ -35,7 +35,9 @@ fn value_of(digits: &[u8]) -> u32
 {
     let mut value: u32 = 0;
     for digit in digits {
-        value = value.saturating_mul(10).saturating_add(u32::from(*digit - b'0'));
+        value = value
+            .saturating_mul(10)
+            .saturating_add(u32::from(*digit - b'0'));
     }
     value
 }

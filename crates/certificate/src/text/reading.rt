@@ -13,8 +13,8 @@ use crate::plan::{Plan, Short};
 use mesh_graph::Snapshot;
 use std::alloc::Global;
 
-/// Reads a certificate of version 1. It accepts exactly the texts that `write` gives, and says of any
-/// other text which line is the first at fault, and its first cause.
+/// Reads a certificate of version 1. It accepts exactly the texts of the grammar, which `write` gives,
+/// and says of any other text which line is the first at fault, and that line's first cause.
 ///
 /// # Errors
 ///

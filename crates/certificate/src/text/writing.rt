@@ -1,7 +1,10 @@
 // Writes certificates.
 ghost use Rattle.std.specs.Prelude.{◌≡◌, ◌++◌, codes, decimal, length, IfOk};
 ghost use Rattle.span.specs.Texts.{id_text};
-ghost use Rattle.certificate.specs.Text.{IsWritable, certificate_text, entry_line, id_line, list_text, pair_line};
+ghost use Rattle.std.specs.List.{All};
+ghost use Rattle.mesh_graph.specs.Groups.{IsAscending, ids};
+ghost use Rattle.certificate.specs.Grammar.{certificate_in, outline_of};
+ghost use Rattle.certificate.specs.Text.{IsReadable, IsWritable, certificate_text, entry_line, id_line, list_text, pair_line};
 
 use crate::certificate::Certificate;
 use itoa::Buffer;
@@ -11,10 +14,24 @@ use std::alloc::{AllocError, Global};
 
 /// The text of a certificate, of version 1: the only one that it has. The lists and numbers are within
 /// the grammar, so that `read` reads it again.
-#[tactic(auto, unfolding(crate::specs::Text::certificate_text))]
 pub fn write(alloc: Global, certificate: &Certificate) -> Result<Vec<u8>, AllocError>
     requires { IsWritable certificate.now }
-    ensures { IfOk result (λ text. text.items ≡ certificate_text certificate.now) }
+    ensures text { IfOk result (λ text. text.items ≡ certificate_text certificate.now) }
+
+    // What is written is read again.
+    ensures read_again { IfOk result (λ text. certificate_in text.items ≡ Ok (outline_of certificate.now)) }
+{
+    let text = text_of(alloc, certificate)?;
+    Ok(text)
+}
+
+#[tactic(auto, unfolding(crate::specs::Text::certificate_text))]
+fn text_of(alloc: Global, certificate: &Certificate) -> Result<Vec<u8>, AllocError>
+    ensures text { IfOk result (λ text. text.items ≡ certificate_text certificate.now) }
+    ensures abandoned { IfOk result (λ _. All IsReadable certificate.now.snapshot.abandoned) }
+    ensures owned { IfOk result (λ _. All IsReadable certificate.now.snapshot.owned) }
+    ensures abandoned_ascending { IfOk result (λ _. IsAscending (ids certificate.now.snapshot.abandoned)) }
+    ensures owned_ascending { IfOk result (λ _. IsAscending (ids certificate.now.snapshot.owned)) }
 {
     let mut text = Vec::from_slice(alloc, b"meshcert 1\n")?;
     write_entries(&mut text, b"abandoned", certificate.snapshot.abandoned())?;
@@ -49,7 +66,8 @@ fn write_count(text: &mut Vec<u8>, title: &[u8], count: usize) -> Result<(), All
 }
 
 fn write_entry(text: &mut Vec<u8>, entry: &Entry) -> Result<(), AllocError>
-    ensures { IfOk result (λ _. text.new.items ≡ text.old.items ++ entry_line entry.now) }
+    ensures line { IfOk result (λ _. text.new.items ≡ text.old.items ++ entry_line entry.now) }
+    ensures readable { IfOk result (λ _. IsReadable entry.now) }
 {
     write_id(text, entry.id)?;
     text.extend_from_slice(b" ")?;
@@ -77,7 +95,8 @@ fn write_id_line(text: &mut Vec<u8>, id: SpanId) -> Result<(), AllocError>
 }
 
 fn write_entries(text: &mut Vec<u8>, title: &[u8], entries: &[Entry]) -> Result<(), AllocError>
-    ensures { IfOk result (λ _. text.new.items ≡ text.old.items ++ list_text title.now entry_line entries.now) }
+    ensures lines { IfOk result (λ _. text.new.items ≡ text.old.items ++ list_text title.now entry_line entries.now) }
+    ensures readable { IfOk result (λ _. All IsReadable entries.now) }
 {
     write_count(text, title, entries.len())?;
     for entry in entries {

@@ -1,7 +1,7 @@
-use Rattle.std.proofs.Common.{false, refl, subst, sym}
+use Rattle.std.proofs.Common.{false, refl}
 use Rattle.std.proofs.lemmas.Bool.{both_ways}
 use Rattle.bitmap.specs.Slots.{has_bit}
-use Rattle.span.specs.Ids.{rank, same_span}
+use Rattle.span.specs.Ids.{rank}
 use Rattle.certificate.proofs.IdSets.{HasFirst-insert, IsDistinct-nil, distinct-insert, distinct-refuted, new-from_not, old-from_not}
 use Rattle.certificate.proofs.distinct.has_distinct_abandoned.Goals as goal
 

@@ -1,11 +1,10 @@
-use Rattle.std.proofs.Common.{◌≡◌, ◌+◌, ◌∙◌, refl, Err, Global, Vec, ap, arith, codes, map, subst}
+use Rattle.std.proofs.Common.{◌≡◌, ◌+◌, ◌∙◌, refl, Err, Global, Vec, ap, arith, codes, map}
 use Rattle.std.proofs.lemmas.Result.{err_from_is_err_and}
 use Rattle.span.specs.declared.id.SpanId.{SpanId}
-use Rattle.mesh_graph.specs.Groups.{IsAscending}
 use Rattle.certificate.specs.declared.text.cause.ReadError.TheVariants.{BadCertificate}
 use Rattle.certificate.specs.Grammar.{pair_in, pair_parts}
 use Rattle.certificate.specs.Words.{contents_of}
-use Rattle.certificate.proofs.Items.{IsReading-done, IsReading-more, IsReading-refused, Reads-err, list_in-err, list_in-ok, map_same}
+use Rattle.certificate.proofs.Items.{IsReading-done, IsReading-more, IsReading-refused, Reads-err, list_in-err, list_in-ok}
 use Rattle.certificate.proofs.text.items.read_folds.Goals as goal
 
 pub returns-in_err-count-clause-read : goal.returns-in_err-count-clause-read

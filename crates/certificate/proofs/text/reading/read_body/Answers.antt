@@ -1,4 +1,4 @@
-use Rattle.std.proofs.Common.{◌∙◌, arith, length, map}
+use Rattle.std.proofs.Common.{◌∙◌, arith, map}
 use Rattle.std.proofs.lemmas.List.{length-map}
 use Rattle.std.proofs.lemmas.Result.{err_from_is_err_and}
 use Rattle.certificate.specs.Grammar.{entry_parts, id_parts, outline_of, pair_parts}
