@@ -1,0 +1,171 @@
+-- The loops of a search: what each keeps
+use Rattle.std.proofs.Common.{ℕ, ◌+◌, ◌<◌, ◌≤◌, ◌≡◌, ◌≢◌, Bool, true, false, List, [], ◌∷◌, ◌++◌, length, Option, Some, None, sym, ◌∙◌, ap, subst, inl, inr, arith, set, length-set, get_or-set_same, get_or-set_other, replicate}
+use Rattle.std.proofs.lemmas.Bool.{cases_eq, cases_lt, both_ways}
+use Rattle.std.proofs.lemmas.List.{get_or-replicate, get_or_past, length-replicate, length_push}
+use Rattle.augment.specs.declared.walks.Reached.{Reached}
+use Rattle.augment.specs.Mates.{mate, ArePaired}
+use Rattle.mesh_graph.specs.Groups.{Groups, compatible_at}
+use Rattle.augment.specs.Walks.{group, is_marked, Stands, IsSearch, unmarked}
+use Rattle.augment.proofs.Searching.{search_more, unmarked-set, group_kept, group_last, below_push, stands_kept, stands_last}
+
+-- the places below i that are left out, each once
+pub record IsStarting (onto : List (Option ℕ)) (entries : List Reached) (i : ℕ) : Type 0 where
+  pub below : (t : ℕ) → t < length entries → group entries t < i
+  pub out : (t : ℕ) → t < length entries → mate onto (group entries t) ≡ None
+  pub rising : (t u : ℕ) → t < u → u < length entries → group entries t < group entries u
+  pub all : (a : ℕ) → a < i → mate onto a ≡ None → Stands entries a
+
+pub starting_none : (onto : List (Option ℕ)) → IsStarting onto [] 0
+starting_none onto = record {
+  below = λ t h. absurd (omega arith);
+  out = λ t h. absurd (omega arith);
+  rising = λ t u h k. absurd (omega arith);
+  all = λ a h m. absurd (omega arith);
+}
+
+pub starting_skip : (onto : List (Option ℕ)) (entries : List Reached) (i : ℕ) → IsStarting onto entries i → mate onto i ≢ None → IsStarting onto entries (i + 1)
+starting_skip onto entries i s m = record {
+  below = λ t h. let b : group entries t < i = s.below t h in omega arith;
+  out = s.out;
+  rising = s.rising;
+  all = λ a h n. elim (cases_lt a i) [
+    | inl l ↦ s.all a l n
+    | inr l ↦ let ai : i ≡ a = omega arith in absurd (m (ap (mate onto) ai ∙ n))
+  ];
+}
+
+pub starting_push : (onto : List (Option ℕ)) (entries : List Reached) (i : ℕ) → IsStarting onto entries i → mate onto i ≡ None → IsStarting onto (entries ++ record { group = i; before = 0 } ∷ []) (i + 1)
+starting_push onto entries i s m =
+    let e : Reached = record { group = i; before = 0 } in
+    record {
+      below = λ t h. elim (below_push entries e t h) [
+        | inl l ↦ let b : group entries t < i = s.below t l in let k : group (entries ++ e ∷ []) t ≡ group entries t = group_kept entries e t l in omega arith
+        | inr l ↦ let k : group (entries ++ e ∷ []) t ≡ i = group_last entries e t l in omega arith
+      ];
+      out = λ t h. elim (below_push entries e t h) [
+        | inl l ↦ ap (mate onto) (group_kept entries e t l) ∙ s.out t l
+        | inr l ↦ ap (mate onto) (group_last entries e t l) ∙ m
+      ];
+      rising = λ t u tu h. elim (below_push entries e u h) [
+        | inl l ↦
+            let tl : t < length entries = omega arith in
+            let old : group entries t < group entries u = s.rising t u tu l in
+            let kt : group (entries ++ e ∷ []) t ≡ group entries t = group_kept entries e t tl in
+            let ku : group (entries ++ e ∷ []) u ≡ group entries u = group_kept entries e u l in
+            omega arith
+        | inr l ↦
+            let tl : t < length entries = omega arith in
+            let b : group entries t < i = s.below t tl in
+            let kt : group (entries ++ e ∷ []) t ≡ group entries t = group_kept entries e t tl in
+            let ku : group (entries ++ e ∷ []) u ≡ i = group_last entries e u l in
+            omega arith
+      ];
+      all = λ a h n. elim (cases_lt a i) [
+        | inl l ↦ stands_kept entries e a (s.all a l n)
+        | inr l ↦ let ai : i ≡ a = omega arith in subst (Stands (entries ++ e ∷ [])) ai (stands_last entries e)
+      ];
+    }
+
+no_mark : (n k : ℕ) → is_marked (replicate n false) k ≡ false
+no_mark n k = elim (cases_lt k n) [
+  | inl l ↦ get_or-replicate n k false false l
+  | inr l ↦ get_or_past (replicate n false) k false (let e : length (replicate n false) ≡ n = length-replicate n false in omega arith)
+]
+
+pub started : (graph : Groups) (onto : List (Option ℕ)) (entries : List Reached) (n i : ℕ) → IsStarting onto entries i → length onto ≡ i → IsSearch graph onto entries (replicate n false) 0
+started graph onto entries n i s e =
+    let no : (t k : ℕ) → t < length entries → mate onto (group entries t) ≡ Some k → ⊥ = λ t k h m. let b : None ≡ Some k = sym (s.out t h) ∙ m in cc in
+    record {
+      linked = record {
+        within = λ t h. let b : group entries t < i = s.below t h in omega arith;
+        earlier = λ t k h m. absurd (no t k h m);
+        joined_to = λ t k h m. absurd (no t k h m);
+        apart = λ t u tu h q. let r : group entries t < group entries u = s.rising t u tu h in absurd (omega arith);
+      };
+      marked = λ t k h m. absurd (no t k h m);
+      mates_stand = λ a k h m. absurd (both_ways (is_marked (replicate n false) k) (no_mark n k) h);
+      are_planned = λ k h. absurd (both_ways (is_marked (replicate n false) k) (no_mark n k) h);
+      left_out = λ a h m. s.all a (omega arith) m;
+      closed = λ t k h j. absurd (omega arith);
+    }
+
+-- the partners below from of the group of entry at are marked; total counts the entries and what is not marked
+pub record IsReaching (graph : Groups) (onto : List (Option ℕ)) (entries : List Reached) (reached : List Bool) (at g from total owned : ℕ) : Type 0 where
+  pub search : IsSearch graph onto entries reached at
+  pub at_in : at < length entries
+  pub group_is : group entries at ≡ g
+  pub below : (k : ℕ) → k < from → compatible_at graph g k ≡ true → is_marked reached k ≡ true
+  pub left : length entries + unmarked reached ≡ total
+  pub marks : length reached ≡ owned
+
+below_more_partner : (graph : Groups) (reached : List Bool) (g from k : ℕ) → ((q : ℕ) → q < from → compatible_at graph g q ≡ true → is_marked reached q ≡ true) → ((q : ℕ) → from ≤ q → q < k → compatible_at graph g q ≡ false) → is_marked reached k ≡ true → (q : ℕ) → q < k + 1 → compatible_at graph g q ≡ true → is_marked reached q ≡ true
+below_more_partner graph reached g from k below least here q h j =
+    elim (cases_lt q from) [
+      | inl l ↦ below q l j
+      | inr l ↦ elim (cases_lt q k) [
+        | inl m ↦ absurd (both_ways (compatible_at graph g q) (least q l m) j)
+        | inr m ↦ let qk : q ≡ k = omega arith in ap (is_marked reached) qk ∙ here
+      ]
+    ]
+
+pub reaching_skip : (graph : Groups) (onto : List (Option ℕ)) (entries : List Reached) (reached : List Bool) (at g from total owned k : ℕ) → IsReaching graph onto entries reached at g from total owned → ((q : ℕ) → from ≤ q → q < k → compatible_at graph g q ≡ false) → is_marked reached k ≡ true → IsReaching graph onto entries reached at g (k + 1) total owned
+reaching_skip graph onto entries reached at g from total owned k s least here = record {
+  search = s.search;
+  at_in = s.at_in;
+  group_is = s.group_is;
+  below = below_more_partner graph reached g from k s.below least here;
+  left = s.left;
+  marks = s.marks;
+}
+
+pub reaching_push : (graph : Groups) (onto planned : List (Option ℕ)) (entries : List Reached) (reached : List Bool) (at g from total owned k i : ℕ) → ArePaired onto planned → IsReaching graph onto entries reached at g from total owned → ((q : ℕ) → from ≤ q → q < k → compatible_at graph g q ≡ false) → compatible_at graph g k ≡ true → k < owned → is_marked reached k ≡ false → mate planned k ≡ Some i
+    → IsReaching graph onto (entries ++ record { group = i; before = at } ∷ []) (set reached k true) at g (k + 1) total owned
+reaching_push graph onto planned entries reached at g from total owned k i paired s least j k_in unmarked_k m =
+    let e : Reached = record { group = i; before = at } in
+    let at_in : at < length entries = s.at_in in
+    let n : length (entries ++ e ∷ []) ≡ length entries + 1 = length_push entries e in
+    let k_marks : k < length reached = rw s.marks k_in in
+    let now : is_marked (set reached k true) k ≡ true = get_or-set_same reached k true false k_marks in
+    let kept : (q : ℕ) → q < from → compatible_at graph g q ≡ true → is_marked (set reached k true) q ≡ true = λ q h jq. elim (cases_eq q k) [
+      | inl o ↦ ap (is_marked (set reached k true)) o ∙ now
+      | inr o ↦ get_or-set_other reached k q true false o ∙ s.below q h jq
+    ] in
+    let fewer : unmarked (set reached k true) + 1 ≡ unmarked reached = unmarked-set reached k k_marks unmarked_k in
+    let was : length entries + unmarked reached ≡ total = s.left in
+    record {
+      search = search_more graph onto planned entries reached at i k at paired s.search (omega arith) at_in k_marks (ap (λ x. compatible_at graph x k) s.group_is ∙ j) unmarked_k (paired.back i k m);
+      at_in = omega arith;
+      group_is = group_kept entries e at at_in ∙ s.group_is;
+      below = below_more_partner graph (set reached k true) g from k kept least now;
+      left = omega arith;
+      marks = length-set reached k true ∙ s.marks;
+    }
+
+pub reaching_start : (graph : Groups) (onto : List (Option ℕ)) (entries : List Reached) (reached : List Bool) (at g total owned : ℕ) → IsSearch graph onto entries reached at → at < length entries → group entries at ≡ g → length entries + unmarked reached ≡ total → length reached ≡ owned → IsReaching graph onto entries reached at g 0 total owned
+reaching_start graph onto entries reached at g total owned s h e l m = record {
+  search = s;
+  at_in = h;
+  group_is = e;
+  below = λ k b j. absurd (omega arith);
+  left = l;
+  marks = m;
+}
+
+pub reaching_end : (graph : Groups) (onto : List (Option ℕ)) (entries : List Reached) (reached : List Bool) (at g from total owned : ℕ) → IsReaching graph onto entries reached at g from total owned → ((q : ℕ) → from ≤ q → compatible_at graph g q ≡ false) → IsSearch graph onto entries reached (at + 1)
+reaching_end graph onto entries reached at g from total owned s none = record {
+  linked = s.search.linked;
+  marked = s.search.marked;
+  mates_stand = s.search.mates_stand;
+  are_planned = s.search.are_planned;
+  left_out = s.search.left_out;
+  closed = λ t k h j. elim (cases_lt t at) [
+    | inl l ↦ s.search.closed t k l j
+    | inr l ↦
+        let ta : t ≡ at = omega arith in
+        let jg : compatible_at graph g k ≡ true = ap (λ x. compatible_at graph x k) (sym (ap (group entries) ta ∙ s.group_is)) ∙ j in
+        elim (cases_lt k from) [
+          | inl f ↦ s.below k f jg
+          | inr f ↦ absurd (both_ways (compatible_at graph g k) (none k f) jg)
+        ]
+  ];
+}

@@ -1,0 +1,190 @@
+// Turning round several walks in one phase, along layers.
+ghost use Rattle.std.specs.Prelude.{◌≡◌, ◌+◌, ◌<◌, ◌≤◌, length, true, false, None, IfSome, IfNone, IfOk};
+ghost use Rattle.augment.specs.Mates.{mate};
+ghost use Rattle.mesh_graph.specs.Groups.{compatible_at};
+ghost use Rattle.augment.specs.Walks.{Joins, pair_count, AreLinked, is_marked, IsSearched};
+
+use crate::mates::Mates;
+use crate::walks::{Reached, Walks, turn_round};
+use mesh_graph::Graph;
+use std::alloc::{AllocError, Global};
+
+/// Turns round, in one phase, walks along shortest layers that share no group. Where no walk comes to
+/// a free owned place, it answers which owned places walks reach, and changes nothing.
+pub(crate) fn turn_phase(
+    alloc: Global,
+    graph: &Graph,
+    mates: &mut Mates,
+) -> Result<Option<Vec<bool>>, AllocError>
+    requires joins { Joins graph.now mates.old.onto.items }
+    requires groups { length mates.old.onto.items ≡ length graph.now.abandoned }
+    requires owned { length mates.old.planned.items ≡ length graph.now.owned }
+    ensures joins { Joins graph.now mates.new.onto.items }
+    ensures groups { length mates.new.onto.items ≡ length graph.now.abandoned }
+    ensures owned { length mates.new.planned.items ≡ length graph.now.owned }
+    ensures more { IfOk result (λ reached. IfNone reached (pair_count mates.old.onto.items + 1 ≤ pair_count mates.new.onto.items)) }
+    ensures unchanged { IfOk result (λ reached. IfSome reached (λ marks. mates.new.onto.items ≡ mates.old.onto.items)) }
+    ensures searched { IfOk result (λ reached. IfSome reached (λ marks. IsSearched graph.now mates.new.onto.items marks.items)) }
+    ensures marks { IfOk result (λ reached. IfSome reached (λ marks. length marks.items ≡ length graph.now.owned)) }
+{
+    let mut walks = Walks::start(alloc, graph, mates)?;
+    let mut next = 0;
+    'entries: while next < walks.entries.len() {
+        if let Some(free) = walks.reach_from(graph, mates, next)? {
+            let layers = layers_of(alloc, graph, mates, &walks.entries)?;
+            let mut used = vec![in alloc; false; graph.owned()]?;
+            turn_round(graph, mates, &walks.entries, next, free, &mut used);
+            turn_others(alloc, graph, mates, &layers, &mut used)?;
+            return Ok(None);
+        }
+        next += 1;
+    }
+    Ok(Some(walks.reached))
+}
+
+/// Turns round a walk from each place left out from which there is one along the layers.
+fn turn_others(
+    alloc: Global,
+    graph: &Graph,
+    mates: &mut Mates,
+    layers: &[Option<usize>],
+    used: &mut [bool],
+) -> Result<(), AllocError>
+    requires joins { Joins graph.now mates.old.onto.items }
+    requires groups { length mates.old.onto.items ≡ length graph.now.abandoned }
+    requires layers { length layers.now ≡ length mates.old.onto.items }
+    requires owned { length mates.old.planned.items ≡ length graph.now.owned }
+    requires used { length used.old ≡ length graph.now.owned }
+    ensures joins { Joins graph.now mates.new.onto.items }
+    ensures groups { length mates.new.onto.items ≡ length graph.now.abandoned }
+    ensures owned { length mates.new.planned.items ≡ length graph.now.owned }
+    ensures more { pair_count mates.old.onto.items ≤ pair_count mates.new.onto.items }
+{
+    let mut cursors = vec![in alloc; 0; mates.onto.len()]?;
+    for root in 0..mates.onto.len() {
+        if mates.onto[root].is_none() {
+            turn_from(alloc, graph, mates, layers, used, &mut cursors, root)?;
+        }
+    }
+    Ok(())
+}
+
+/// The layer of each abandoned place that an entry reached: how many pairs its walk has.
+fn layers_of(
+    alloc: Global,
+    graph: &Graph,
+    mates: &Mates,
+    entries: &[Reached],
+) -> Result<Vec<Option<usize>>, AllocError>
+    requires { AreLinked graph.now mates.now.onto.items entries.now }
+    ensures { IfOk result (λ layers. length layers.items ≡ length mates.now.onto.items) }
+{
+    let mut layers: Vec<Option<usize>> = vec![in alloc; None; mates.onto.len()]?;
+    for (t, entry) in entries.iter().enumerate() {
+        let layer = match mates.onto[entry.group] {
+            None => Some(0),
+            Some(_) => layers[entries[entry.before].group].map(|layer| layer.saturating_add(1)),
+        };
+        layers[entry.group] = layer;
+    }
+    Ok(layers)
+}
+
+/// A partner of `group` that is not used, and that is free or whose mate lies in the next layer. The
+/// partners before the group's cursor were looked at in this phase, and need no second look: what was
+/// used stays so, and layers don't change.
+fn next_step(
+    graph: &Graph,
+    mates: &Mates,
+    layers: &[Option<usize>],
+    used: &[bool],
+    cursors: &mut [usize],
+    group: usize,
+) -> Option<usize>
+    requires group { group < length graph.now.abandoned }
+    requires groups { length mates.now.onto.items ≡ length graph.now.abandoned }
+    requires layers { length layers.now ≡ length mates.now.onto.items }
+    requires owned { length mates.now.planned.items ≡ length graph.now.owned }
+    requires used { length used.now ≡ length graph.now.owned }
+    requires cursors { length cursors.old ≡ length mates.now.onto.items }
+    ensures joined_to { IfSome result (λ j. compatible_at graph.now group j ≡ true) }
+    ensures within { IfSome result (λ j. j < length graph.now.owned) }
+    ensures unused { IfSome result (λ j. is_marked used.now j ≡ false) }
+{
+    let mut from = cursors[group];
+    'partners: while let Some(owned) = graph.next_partner(group, from) {
+        from = owned + 1;
+        cursors[group] = from;
+        if !used[owned] {
+            match mates.planned[owned] {
+                None => return Some(owned),
+                Some(next) => {
+                    if is_next(layers[group], layers[next]) {
+                        return Some(owned);
+                    }
+                }
+            }
+        }
+    }
+    None
+}
+
+/// Whether the second layer is the one after the first.
+fn is_next(layer: Option<usize>, other: Option<usize>) -> bool {
+    match (layer, other) {
+        (Some(layer), Some(other)) => other.checked_sub(layer) == Some(1),
+        _ => false,
+    }
+}
+
+/// Turns round a walk along the layers from a place left out, where one is left.
+fn turn_from(
+    alloc: Global,
+    graph: &Graph,
+    mates: &mut Mates,
+    layers: &[Option<usize>],
+    used: &mut [bool],
+    cursors: &mut [usize],
+    root: usize,
+) -> Result<(), AllocError>
+    requires joins { Joins graph.now mates.old.onto.items }
+    requires groups { length mates.old.onto.items ≡ length graph.now.abandoned }
+    requires layers { length layers.now ≡ length mates.old.onto.items }
+    requires owned { length mates.old.planned.items ≡ length graph.now.owned }
+    requires used { length used.old ≡ length graph.now.owned }
+    requires cursors { length cursors.old ≡ length mates.old.onto.items }
+    requires root { root < length mates.old.onto.items }
+    requires left_out { mate mates.old.onto.items root ≡ None }
+    ensures joins { Joins graph.now mates.new.onto.items }
+    ensures groups { length mates.new.onto.items ≡ length graph.now.abandoned }
+    ensures owned { length mates.new.planned.items ≡ length graph.now.owned }
+    ensures more { pair_count mates.old.onto.items ≤ pair_count mates.new.onto.items }
+{
+    let mut path = Vec::new(alloc);
+    path.push(Reached {
+        group: root,
+        before: 0,
+    })?;
+    'path: while !path.is_empty() {
+        let at = path.len() - 1;
+        match next_step(graph, mates, layers, used, cursors, path[at].group) {
+            None => {
+                path.pop();
+            }
+            Some(owned) => {
+                used[owned] = true;
+                match mates.planned[owned] {
+                    None => {
+                        turn_round(graph, mates, &path, at, owned, used);
+                        return Ok(());
+                    }
+                    Some(next) => path.push(Reached {
+                        group: next,
+                        before: at,
+                    })?,
+                }
+            }
+        }
+    }
+    Ok(())
+}

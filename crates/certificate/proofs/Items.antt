@@ -1,0 +1,169 @@
+-- A list of items while it is read.
+use Rattle.std.proofs.Common.{ℕ, ◌+◌, ◌-◌, ◌<◌, ◌≤◌, ◌≡◌, List, [], ◌∷◌, ◌++◌, codes, length, map, get_or, Option, Some, None, option_map, Result, Ok, Err, refl, subst, sym, ◌∙◌, ap, arith, suc, inl, inr}
+use Rattle.std.proofs.lemmas.Bool.{cases_eq}
+use Rattle.std.proofs.lemmas.List.{append_assoc, get_or_append_left, get_or_push, length-map, length_push}
+use Rattle.bitmap.specs.Slots.{SlotSet}
+use Rattle.span.specs.declared.id.SpanId.{SpanId}
+use Rattle.span.specs.Ids.{rank}
+use Rattle.mesh_graph.specs.Groups.{IsAscending}
+use Rattle.certificate.specs.declared.text.cause.Cause.{Cause}
+use Rattle.certificate.specs.declared.text.cause.ReadError.{ReadError}
+use Rattle.certificate.specs.declared.text.cause.ReadError.TheVariants.{BadCertificate, OutOfMemory}
+use Rattle.certificate.specs.Grammar.{◌>>=◌, Follows, Id, Outline, Reads, at_line, body_in, count_in, end_in, entry_in, fixed_in, id_in, id_parts, item_in, items_in, line_in, list_in, pair_in}
+
+-- a refusal that the grammar has, too
+pub Reads-err : {X Y : Type 0} (f : X → Y) (e : ReadError) (said : Result Y ReadError) → said ≡ Err e → Reads f (Err e) said
+Reads-err f OutOfMemory said h = tt
+Reads-err f (BadCertificate line cause) said h = h
+
+-- a part that is refused refuses the whole
+pub Reads-then : {X Y W Z : Type 0} (f : X → Y) (g : W → Z) (e : ReadError) (said : Result Y ReadError) (next : Y → Result Z ReadError) → Reads f (Err e) said → Reads g (Err e) (said >>= next)
+Reads-then f g OutOfMemory said next h = tt
+Reads-then f g (BadCertificate line cause) said next h = ap (λ r. r >>= next) h
+
+-- the first step, and then the next one
+pub then-err : {A B E : Type 0} (r : Result A E) (next : A → Result B E) (e : E) → Err e ≡ r → (r >>= next) ≡ Err e
+then-err r next e h = ap (λ x. x >>= next) (sym h)
+
+pub then-ok : {A B E : Type 0} (r : Result A E) (next : A → Result B E) (a : A) → Ok a ≡ r → (r >>= next) ≡ next a
+then-ok r next a h = ap (λ x. x >>= next) (sym h)
+
+append_nil : {X : Type 0} (xs : List X) → xs ++ [] ≡ xs
+append_nil [] = refl
+append_nil (x ∷ xs) = ap (λ ys. x ∷ ys) (append_nil xs)
+
+pub map_same : {X : Type 0} (xs : List X) → map (λ x. x) xs ≡ xs
+map_same [] = refl
+map_same (x ∷ xs) = ap (λ ys. x ∷ ys) (map_same xs)
+
+map_push : {X Y : Type 0} (f : X → Y) (xs : List X) (x : X) → map f (xs ++ x ∷ []) ≡ map f xs ++ f x ∷ []
+map_push f [] x = refl
+map_push f (y ∷ xs) x = ap (λ ys. f y ∷ ys) (map_push f xs x)
+
+-- items that stand before the rest
+abbrev pub carried : {X : Type 0} → List X → Result (List X) ReadError → Result (List X) ReadError
+carried xs r = r >>= (λ more. Ok (xs ++ more))
+
+carried-nil : {X : Type 0} (r : Result (List X) ReadError) → r ≡ carried [] r
+carried-nil (Ok more) = refl
+carried-nil (Err e) = refl
+
+carried-push : {X : Type 0} (xs : List X) (x : X) (r : Result (List X) ReadError) → carried xs (r >>= (λ more. Ok (x ∷ more))) ≡ carried (xs ++ x ∷ []) r
+carried-push xs x (Ok more) = ap Ok (sym (append_assoc xs (x ∷ []) more))
+carried-push xs x (Err e) = refl
+
+-- one id more, that comes after the last one
+ascending-push : (ids : List SpanId) (y : SpanId) → IsAscending ids → ((i : ℕ) → i + 1 ≡ length ids → get_or (map rank ids) i 0 < rank y) → IsAscending (ids ++ y ∷ [])
+ascending-push ids y up late k l =
+    let long : length (map rank ids) ≡ length ids = length-map ids rank in
+    let more : length (map rank ids ++ rank y ∷ []) ≡ length (map rank ids) + 1 = length_push (map rank ids) (rank y) in
+    let all : map rank (ids ++ y ∷ []) ≡ map rank ids ++ rank y ∷ [] = map_push rank ids y in
+    let total : length (map rank (ids ++ y ∷ [])) ≡ length (map rank ids ++ rank y ∷ []) = ap length all in
+    let here : get_or (map rank (ids ++ y ∷ [])) k 0 ≡ get_or (map rank ids) k 0 = ap (λ xs. get_or xs k 0) all ∙ get_or_append_left (map rank ids) (rank y ∷ []) 0 k (omega arith) in
+    elim (cases_eq (k + 1) (length ids)) [
+      | inl e ↦
+          let next : get_or (map rank (ids ++ y ∷ [])) (k + 1) 0 ≡ rank y = ap (λ xs. get_or xs (k + 1) 0) all ∙ get_or_push (map rank ids) (rank y) 0 (k + 1) (omega arith) in
+          let less : get_or (map rank ids) k 0 < rank y = late k e in
+          omega arith
+      | inr n ↦
+          let next : get_or (map rank (ids ++ y ∷ [])) (k + 1) 0 ≡ get_or (map rank ids) (k + 1) 0 = ap (λ xs. get_or xs (k + 1) 0) all ∙ get_or_append_left (map rank ids) (rank y ∷ []) 0 (k + 1) (omega arith) in
+          let less : get_or (map rank ids) k 0 < get_or (map rank ids) (k + 1) 0 = up k (omega arith) in
+          omega arith
+    ]
+
+-- the first k items of n have been read, and the last of them has this id
+pub record IsReading {X Y : Type 0} (parse : List ℕ → Result X Cause) (id_of : X → Id) (view : Y → X) (key : Y → SpanId) (parts : List (List ℕ)) (at n : ℕ) (done : List Y) (last : Option SpanId) (k : ℕ) : Type 0 where
+  pub count : length done ≡ k
+  pub within : k ≤ n
+  pub so_far : items_in parse id_of parts None at n ≡ carried (map view done) (items_in parse id_of parts (option_map id_parts last) (at + k) (n - k))
+  pub ascending : IsAscending (map key done)
+  pub first : last ≡ None → length done ≡ 0
+  pub latest : (l : SpanId) (i : ℕ) → last ≡ Some l → i + 1 ≡ length done → get_or (map rank (map key done)) i 0 ≡ rank l
+
+module _ {X Y : Type 0} (parse : List ℕ → Result X Cause) (id_of : X → Id) (view : Y → X) (key : Y → SpanId) (keys : (y : Y) → id_of (view y) ≡ id_parts (key y)) (parts : List (List ℕ)) (at n : ℕ) where
+  pub IsReading-start : IsReading parse id_of view key parts at n [] None 0
+  IsReading-start = record {
+    count = refl;
+    within = omega arith;
+    so_far = carried-nil (items_in parse id_of parts None at n) ∙ (λ i. carried [] (items_in parse id_of parts None (places i) (counts i)));
+    ascending = λ k l. absurd (omega arith);
+    first = λ e. refl;
+    latest = λ l i e n. absurd (omega arith);
+  }
+    where
+      places : at ≡ at + 0
+      places = omega arith
+
+      counts : n ≡ n - 0
+      counts = omega arith
+
+  module _ (done : List Y) (last : Option SpanId) (k : ℕ) (s : IsReading parse id_of view key parts at n done last k) where
+    pub IsReading-more : (y : Y) → k < n → Ok (view y) ≡ line_in (item_in parse id_of (option_map id_parts last)) parts (at + k) → Follows last (key y) → IsReading parse id_of view key parts at n (done ++ y ∷ []) (Some (key y)) (k + 1)
+    IsReading-more y l line after = record {
+      count = length_push done y ∙ ap (λ m. m + 1) s.count;
+      within = omega arith;
+      so_far = s.so_far
+          ∙ ap (λ m. carried (map view done) (items_in parse id_of parts (option_map id_parts last) (at + k) m)) (suc_of)
+          ∙ ap (λ r. carried (map view done) (at_line (at + k) r >>= (λ x. items_in parse id_of parts (Some (id_of x)) (at + k + 1) (n - (k + 1)) >>= (λ more. Ok (x ∷ more))))) (sym line)
+          ∙ carried-push (map view done) (view y) (items_in parse id_of parts (Some (id_of (view y))) (at + k + 1) (n - (k + 1)))
+          ∙ (λ i. carried (sym (map_push view done y) i) (items_in parse id_of parts (Some (keys y i)) (next i) (n - (k + 1))));
+      ascending = rw (map_push key done y) (ascending-push (map key done) (key y) s.ascending (λ i e. before last after s.latest s.first i (e ∙ length-map done key)));
+      first = λ e. let no : Some (key y) ≡ None = e in cc;
+      latest = λ l i e n. let same : key y ≡ l = cc in
+          let long : length (map rank (map key done)) ≡ length done = length-map (map key done) rank ∙ length-map done key in
+          let more : length (done ++ y ∷ []) ≡ length done + 1 = length_push done y in
+          ap (λ xs. get_or (map rank xs) i 0) (map_push key done y) ∙ ap (λ xs. get_or xs i 0) (map_push rank (map key done) (key y)) ∙ get_or_push (map rank (map key done)) (rank (key y)) 0 i (omega arith) ∙ ap rank same;
+    }
+      where
+        suc_of : n - k ≡ suc (n - (k + 1))
+        suc_of = omega arith
+
+        next : at + k + 1 ≡ at + (k + 1)
+        next = omega arith
+
+        before : (last : Option SpanId) → Follows last (key y) → ((l : SpanId) (i : ℕ) → last ≡ Some l → i + 1 ≡ length done → get_or (map rank (map key done)) i 0 ≡ rank l) → (last ≡ None → length done ≡ 0) → (i : ℕ) → i + 1 ≡ length done → get_or (map rank (map key done)) i 0 < rank (key y)
+        before None after latest first i e = let none : length done ≡ 0 = first refl in absurd (omega arith)
+        before (Some l) after latest first i e = let at_l : get_or (map rank (map key done)) i 0 ≡ rank l = latest l i refl e in omega (arith, after)
+
+    pub IsReading-refused : (cause : Cause) → k < n → Err cause ≡ line_in (item_in parse id_of (option_map id_parts last)) parts (at + k) → items_in parse id_of parts None at n ≡ Err (BadCertificate (at + k + 1) cause)
+    IsReading-refused cause l line =
+        s.so_far
+        ∙ ap (λ m. carried (map view done) (items_in parse id_of parts (option_map id_parts last) (at + k) m)) (suc_of)
+        ∙ ap (λ r. carried (map view done) (at_line (at + k) r >>= (λ x. items_in parse id_of parts (Some (id_of x)) (at + k + 1) (n - (k + 1)) >>= (λ more. Ok (x ∷ more))))) (sym line)
+      where
+        suc_of : n - k ≡ suc (n - (k + 1))
+        suc_of = omega arith
+
+    pub IsReading-done : n ≤ k → items_in parse id_of parts None at n ≡ Ok (map view done)
+    IsReading-done past =
+        s.so_far
+        ∙ ap (λ m. carried (map view done) (items_in parse id_of parts (option_map id_parts last) (at + k) m)) (none_left)
+        ∙ ap Ok (append_nil (map view done))
+      where
+        none_left : n - k ≡ 0
+        none_left = omega arith
+
+-- the items of a list, where its title is read
+module _ {X : Type 0} (title : List ℕ) (parse : List ℕ → Result X Cause) (id_of : X → Id) (parts : List (List ℕ)) (at : ℕ) where
+  pub list_in-ok : (n : ℕ) → Ok n ≡ at_line at (line_in (count_in title) parts at) → list_in title parse id_of parts at ≡ items_in parse id_of parts None (at + 1) n
+  unfolding list_in
+  list_in-ok n h = ap (λ r. r >>= items_in parse id_of parts None (at + 1)) (sym h)
+
+  pub list_in-err : (e : ReadError) → Err e ≡ at_line at (line_in (count_in title) parts at) → list_in title parse id_of parts at ≡ Err e
+  unfolding list_in
+  list_in-err e h = ap (λ r. r >>= items_in parse id_of parts None (at + 1)) (sym h)
+
+-- the body of a certificate, where its lists are read
+pub body_in-lists : (parts : List (List ℕ)) (abandoned owned : List (Id × SlotSet)) (folds : List (Id × Id)) (short : List Id) (second third fourth fifth : ℕ)
+    → list_in (codes "abandoned") entry_in (λ x. x.0) parts 1 ≡ Ok abandoned → list_in (codes "owned") entry_in (λ x. x.0) parts second ≡ Ok owned → list_in (codes "folds") pair_in (λ p. p.0) parts third ≡ Ok folds
+    → list_in (codes "short") id_in (λ id. id) parts fourth ≡ Ok short
+    → second ≡ 2 + length abandoned → third ≡ 3 + length abandoned + length owned → fourth ≡ 4 + length abandoned + length owned + length folds → fifth ≡ 5 + length abandoned + length owned + length folds + length short
+    → body_in parts ≡ (at_line fifth (line_in (fixed_in (codes "end")) parts fifth) >>= (λ ended. at_line (fifth + 1) (end_in parts (fifth + 1)) >>= (λ done. Ok (record { abandoned = abandoned; owned = owned; folds = folds; short = short }))))
+body_in-lists parts abandoned owned folds short second third fourth fifth a o f s two three four five =
+    let o' : list_in (codes "owned") entry_in (λ x. x.0) parts (2 + length abandoned) ≡ Ok owned = subst (λ p. list_in (codes "owned") entry_in (λ x. x.0) parts p ≡ Ok owned) two o in
+    let f' : list_in (codes "folds") pair_in (λ p. p.0) parts (3 + length abandoned + length owned) ≡ Ok folds = subst (λ p. list_in (codes "folds") pair_in (λ p. p.0) parts p ≡ Ok folds) three f in
+    let s' : list_in (codes "short") id_in (λ id. id) parts (4 + length abandoned + length owned + length folds) ≡ Ok short = subst (λ p. list_in (codes "short") id_in (λ id. id) parts p ≡ Ok short) four s in
+    let six : 6 + length abandoned + length owned + length folds + length short ≡ fifth + 1 = omega arith in
+    let rest : ℕ → ℕ → Result Outline ReadError = λ p q. at_line p (line_in (fixed_in (codes "end")) parts p) >>= (λ ended. at_line q (end_in parts q) >>= (λ done. Ok (record { abandoned = abandoned; owned = owned; folds = folds; short = short }))) in
+    let all : body_in parts ≡ rest (5 + length abandoned + length owned + length folds + length short) (6 + length abandoned + length owned + length folds + length short) = rw (a, o', f', s') refl in
+    all ∙ (λ i. rest (sym five i) (six i))

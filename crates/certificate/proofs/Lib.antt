@@ -1,0 +1,11 @@
+pub mod Digits
+pub mod Duality
+pub mod IdSets
+pub mod Items
+pub mod Members
+pub mod PartnersFilter
+pub mod ReadAgain
+pub mod Rereading
+pub mod Split
+pub mod Verdicts
+pub mod Written

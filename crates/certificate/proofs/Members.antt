@@ -1,0 +1,97 @@
+-- Membership by a test, lists without repeats, and how long they can be
+use Rattle.std.proofs.Common.{◌+◌, ◌≤◌, ◌≡◌, Bool, true, false, cond, not, List, [], ◌∷◌, length, refl, sym, ap, subst, suc, inl, inr, arith}
+use Rattle.std.specs.List.{AllByRecursion, IsDistinct, filter, list_any}
+use Rattle.std.proofs.lemmas.Bool.{cases_Bool, both_ways, or_cases, or_left, or_right}
+use Rattle.std.proofs.lemmas.List.Filters.{length-filter_both}
+use Rattle.certificate.specs.Sides.{among}
+
+-- a test that tells when two are one
+pub record Tells {K : Type 0} (same : K → K → Bool) : Type 0 where
+  pub one : (x y : K) → same x y ≡ true → x ≡ y
+  pub itself : (x : K) → same x x ≡ true
+
+-- the list less the first x
+unfoldable pub without : {K : Type 0} → (K → K → Bool) → K → List K → List K
+without same x [] = []
+without same x (y ∷ ys) = cond (same x y) ys (y ∷ without same x ys)
+
+pub length-without : {K : Type 0} (same : K → K → Bool) (x : K) (ys : List K) → among same x ys ≡ true → suc (length (without same x ys)) ≡ length ys
+unfolding without
+length-without same x [] h = absurd (both_ways false refl h)
+length-without same x (y ∷ ys) h =
+    elim (cases_Bool (same x y)) [
+      | inl e ↦ rw e
+      | inr e ↦ let k : among same x ys ≡ true = rw e at h in rw e (ap suc (length-without same x ys k))
+    ]
+
+pub among-without : {K : Type 0} (same : K → K → Bool) → Tells same → (x q : K) (ys : List K) → same x q ≡ false → among same q ys ≡ true → among same q (without same x ys) ≡ true
+unfolding without
+among-without same t x q [] n h = h
+among-without same t x q (y ∷ ys) n h =
+    elim (cases_Bool (same x y)) [
+      | inl e ↦ elim (or_cases (same q y) (among same q ys) h) [
+        | inl f ↦ absurd (both_ways (same x q) n (subst (λ z. same x z ≡ true) (sym (t.one q y f)) e))
+        | inr f ↦ rw e f
+      ]
+      | inr e ↦ elim (or_cases (same q y) (among same q ys) h) [
+        | inl f ↦ rw e (or_left (same q y) _ f)
+        | inr f ↦ rw e (or_right (same q y) _ (among-without same t x q ys n f))
+      ]
+    ]
+
+left_within : {K : Type 0} (same : K → K → Bool) → Tells same → (x : K) (xs ys : List K) → AllByRecursion (λ y. same x y ≡ false) xs → AllByRecursion (λ x. among same x ys ≡ true) xs → AllByRecursion (λ q. among same q (without same x ys) ≡ true) xs
+left_within same t x [] ys d h = tt
+left_within same t x (q ∷ xs) ys d h = (among-without same t x q ys d.0 h.0, left_within same t x xs ys d.1 h.1)
+
+-- no more than they can be chosen from
+pub length-le_from_distinct : {K : Type 0} (same : K → K → Bool) → Tells same → (xs ys : List K) → IsDistinct same xs → AllByRecursion (λ x. among same x ys ≡ true) xs → length xs ≤ length ys
+unfolding IsDistinct
+length-le_from_distinct same t [] ys d h = omega arith
+length-le_from_distinct same t (x ∷ xs) ys d h =
+    let shorter : suc (length (without same x ys)) ≡ length ys = length-without same x ys h.0 in
+    let rest : length xs ≤ length (without same x ys) = length-le_from_distinct same t xs (without same x ys) d.1 (left_within same t x xs ys d.0 h.1) in
+    omega arith
+
+-- a member that passes stands in the filter
+pub among-filter : {K : Type 0} (same : K → K → Bool) → Tells same → (test : K → Bool) (x : K) (ys : List K) → among same x ys ≡ true → test x ≡ true → among same x (filter test ys) ≡ true
+among-filter same t test x [] h p = h
+among-filter same t test x (y ∷ ys) h p =
+    elim (or_cases (same x y) (among same x ys) h) [
+      | inl f ↦ let q : test y ≡ true = subst (λ z. test z ≡ true) (t.one x y f) p in rw q (or_left (same x y) _ f)
+      | inr f ↦ elim (cases_Bool (test y)) [
+        | inl e ↦ rw e (or_right (same x y) _ (among-filter same t test x ys f p))
+        | inr e ↦ rw e (among-filter same t test x ys f p)
+      ]
+    ]
+
+-- a test that holds of a member holds of some member
+pub any_from_among : {K : Type 0} (same : K → K → Bool) → Tells same → (test : K → Bool) (x : K) (ys : List K) → among same x ys ≡ true → test x ≡ true → list_any test ys ≡ true
+any_from_among same t test x [] h p = h
+any_from_among same t test x (y ∷ ys) h p =
+    elim (or_cases (same x y) (among same x ys) h) [
+      | inl f ↦ or_left (test y) _ (subst (λ z. test z ≡ true) (t.one x y f) p)
+      | inr f ↦ or_right (test y) _ (any_from_among same t test x ys f p)
+    ]
+
+kept : {K : Type 0} (same : K → K → Bool) → Tells same → (zs xs ys : List K) → AllByRecursion (λ x. among same x ys ≡ true) xs → AllByRecursion (λ x. among same x zs ≡ true) xs → AllByRecursion (λ x. among same x (filter (λ y. among same y zs) ys) ≡ true) xs
+kept same t zs [] ys h k = tt
+kept same t zs (x ∷ xs) ys h k = (among-filter same t (λ y. among same y zs) x ys h.0 k.0, kept same t zs xs ys h.1 k.1)
+
+all_more : {K : Type 0} (same : K → K → Bool) (y : K) (ys xs : List K) → AllByRecursion (λ x. among same x ys ≡ true) xs → AllByRecursion (λ x. among same x (y ∷ ys) ≡ true) xs
+all_more same y ys [] h = tt
+all_more same y ys (x ∷ xs) h = (or_right (same x y) _ h.0, all_more same y ys xs h.1)
+
+-- each member is a member
+pub all_among : {K : Type 0} (same : K → K → Bool) → Tells same → (xs : List K) → AllByRecursion (λ x. among same x xs ≡ true) xs
+all_among same t [] = tt
+all_among same t (x ∷ xs) = (or_left (same x x) _ (t.itself x), all_more same x xs xs (all_among same t xs))
+
+pub among_itself : {K : Type 0} (same : K → K → Bool) → Tells same → (xs ys : List K) → AllByRecursion (λ x. among same x ys ≡ true) xs → AllByRecursion (λ x. among same x (filter (λ y. among same y xs) ys) ≡ true) xs
+among_itself same t xs ys h = kept same t xs xs ys h (all_among same t xs)
+
+-- those outside a choice are as many as the choice leaves
+pub length-outside : {K : Type 0} (same : K → K → Bool) → Tells same → (xs ys : List K) → IsDistinct same xs → AllByRecursion (λ x. among same x ys ≡ true) xs → length (filter (λ y. not (among same y xs)) ys) + length xs ≤ length ys
+length-outside same t xs ys d h =
+    let inside : length xs ≤ length (filter (λ y. among same y xs) ys) = length-le_from_distinct same t xs (filter (λ y. among same y xs) ys) d (among_itself same t xs ys h) in
+    let both : length (filter (λ y. among same y xs) ys) + length (filter (λ y. not (among same y xs)) ys) ≡ length ys = length-filter_both (λ y. among same y xs) (λ y. not (among same y xs)) (λ y. refl) ys in
+    omega arith

@@ -1,0 +1,124 @@
+-- What is written of an item is read again.
+use Rattle.std.proofs.Common.{ℕ, ◌^◌, ◌<◌, ◌≤◌, ◌≡◌, ◌==◌, ◌||◌, not, true, List, [], ◌∷◌, ◌++◌, codes, length, get_or, Some, Ok, refl, ◌∙◌, ap, arith, rules, suc, inl, inr, nat_lt, nat_le, lt-ltb, eqb, eq-eqb}
+use Rattle.std.specs.Char.{is_ascii_digit}
+use Rattle.std.specs.Fmt.{decimal}
+use Rattle.std.specs.List.{list_all}
+use Rattle.std.specs.Str.{bytes_eq}
+use Rattle.std.proofs.lemmas.Bool.{and_from, cases_eq, ne_eqb, le-leb, or_right}
+use Rattle.std.proofs.lemmas.Fmt.{decimal_digit, decimal_is_IsNumeral, first_decimal}
+use Rattle.std.proofs.lemmas.List.{append_assoc}
+use Rattle.std.proofs.lemmas.Str.Parse.{digit_at}
+use Rattle.bitmap.specs.HexText.{is_hex_digit, is_set_text}
+use Rattle.bitmap.specs.Slots.{SlotSet, set_text, slots_of_text}
+use Rattle.bitmap.proofs.HexText.{is_hex_digit-at, is_set_text-set_text, length-is_set_text}
+use Rattle.span.specs.declared.id.SpanId.{SpanId}
+use Rattle.span.specs.Texts.{id_text}
+use Rattle.mesh_graph.specs.declared.entry.Entry.{Entry}
+use Rattle.certificate.specs.Grammar.{count_in, entry_in, entry_parts, id_in, id_parts, pair_in, pair_parts}
+use Rattle.certificate.specs.Number.{is_numeral, number_in}
+use Rattle.certificate.specs.Words.{parts_of}
+use Rattle.certificate.proofs.Split.{lacks, lacks-append, lacks-digits, lacks-high, parts-last, parts-word}
+
+-- ---- numbers
+
+is_digits : (ds : List ℕ) → ((i : ℕ) → i < length ds → is_ascii_digit (get_or ds i 0) ≡ true) → list_all is_ascii_digit ds ≡ true
+is_digits [] h = refl
+is_digits (d ∷ ds) h = and_from (is_ascii_digit d) (list_all is_ascii_digit ds) (h 0 (omega arith)) (is_digits ds (λ i l. h (suc i) (omega arith)))
+
+digit-test : (c : ℕ) → 48 ≤ c → c ≤ 57 → is_ascii_digit c ≡ true
+digit-test c low high = and_from (nat_le 48 c) (nat_le c 57) (le-leb 48 c low) (le-leb c 57 high)
+
+pub number_in-decimal : (n : ℕ) → n < 2 ^ 64 → number_in (decimal n) ≡ Some n
+number_in-decimal n fits =
+    let is = decimal_is_IsNumeral n fits in
+    let some : nat_lt 0 (length (decimal n)) ≡ true = lt-ltb 0 (length (decimal n)) is.0.0 in
+    let digits : list_all is_ascii_digit (decimal n) ≡ true = is_digits (decimal n) (λ i l. let d = digit_at (decimal n) i is.0.1 l in digit-test (get_or (decimal n) i 0) d.0 (omega (arith, d.1))) in
+    let front : (length (decimal n) == 1 || not (get_or (decimal n) 0 0 == 48)) ≡ true = elim (cases_eq n 0) [
+      | inl e ↦ rw (e, decimal_digit 0 (omega arith)) refl
+      | inr some' ↦
+          let high : 48 < get_or (decimal n) 0 0 = first_decimal n (omega arith) fits in
+          or_right (length (decimal n) == 1) (not (get_or (decimal n) 0 0 == 48)) (ap not (ne_eqb (get_or (decimal n) 0 0) 48 (λ e. absurd (omega arith))))
+    ] in
+    let numeral : is_numeral (decimal n) ≡ true = and_from (nat_lt 0 (length (decimal n))) _ some (and_from (length (decimal n) == 1 || not (get_or (decimal n) 0 0 == 48)) (list_all is_ascii_digit (decimal n)) front digits) in
+    rw numeral (ap Some is.1)
+
+lacks-decimal : (c n : ℕ) → c < 48 → n < 2 ^ 64 → lacks c (decimal n) ≡ true
+lacks-decimal c n low fits = lacks-digits c (decimal n) low (decimal_is_IsNumeral n fits).0.1
+
+-- ---- ids
+
+shard-fits : (id : SpanId) → id.shard < 2 ^ 64
+shard-fits id = let low : id.shard < 64 = id.shard_in_range in omega arith
+
+serial-fits : (id : SpanId) → id.serial < 2 ^ 64
+serial-fits id = let low : id.serial < 1024 = id.serial_in_range in omega arith
+
+pub id_in-text : (id : SpanId) → id_in (id_text id) ≡ Ok (id_parts id)
+id_in-text id =
+    let parts : parts_of 46 (id_text id) ≡ decimal id.shard ∷ decimal id.serial ∷ [] =
+    ap (parts_of 46) (append_assoc (decimal id.shard) (codes ".") (decimal id.serial))
+    ∙ parts-word 46 (decimal id.shard) (decimal id.serial) (lacks-decimal 46 id.shard (omega arith) (shard-fits id))
+    ∙ ap (λ ps. decimal id.shard ∷ ps) (parts-last 46 (decimal id.serial) (lacks-decimal 46 id.serial (omega arith) (serial-fits id))) in
+    rw (parts, number_in-decimal id.shard (shard-fits id), number_in-decimal id.serial (serial-fits id), lt-ltb id.shard 64 id.shard_in_range, lt-ltb id.serial 1024 id.serial_in_range) refl
+
+pub lacks-id_text : (c : ℕ) (id : SpanId) → c < 46 → lacks c (id_text id) ≡ true
+lacks-id_text c id low =
+    lacks-append c (decimal id.shard ++ codes ".") (decimal id.serial)
+    (lacks-append c (decimal id.shard) (codes ".") (lacks-decimal c id.shard (omega arith) (shard-fits id)) (and_from (not (eqb 46 c)) true (ap not (ne_eqb 46 c (λ e. absurd (omega arith)))) refl))
+    (lacks-decimal c id.serial (omega arith) (serial-fits id))
+
+-- ---- lines
+
+high-digit : (c : ℕ) → is_hex_digit c ≡ true → 48 ≤ c
+high-digit c h = search rules
+
+lacks-set_text : (c : ℕ) (slots : SlotSet) → c < 48 → lacks c (set_text slots) ≡ true
+lacks-set_text c slots low =
+    let is : is_set_text (set_text slots) ≡ true = is_set_text-set_text slots in
+    lacks-high c (set_text slots) low (λ i l. high-digit (get_or (set_text slots) i 0) (is_hex_digit-at (set_text slots) is i (omega (arith, l, length-is_set_text (set_text slots) is))))
+
+-- a group's line, without its line feed
+abbrev pub entry_body : Entry → List ℕ
+entry_body x = id_text x.id ++ (codes " " ++ set_text x.occupied)
+
+pub entry_in-body : (x : Entry) → slots_of_text (set_text x.occupied) ≡ x.occupied → entry_in (entry_body x) ≡ Ok (entry_parts x)
+entry_in-body x back =
+    let parts : parts_of 32 (entry_body x) ≡ id_text x.id ∷ set_text x.occupied ∷ [] =
+    parts-word 32 (id_text x.id) (set_text x.occupied) (lacks-id_text 32 x.id (omega arith))
+    ∙ ap (λ ps. id_text x.id ∷ ps) (parts-last 32 (set_text x.occupied) (lacks-set_text 32 x.occupied (omega arith))) in
+    rw (parts, id_in-text x.id, is_set_text-set_text x.occupied, back) refl
+
+pub lacks-entry_body : (x : Entry) → lacks 10 (entry_body x) ≡ true
+lacks-entry_body x = lacks-append 10 (id_text x.id) (codes " " ++ set_text x.occupied) (lacks-id_text 10 x.id (omega arith)) (lacks-append 10 (codes " ") (set_text x.occupied) refl (lacks-set_text 10 x.occupied (omega arith)))
+
+-- a fold's line
+abbrev pub pair_body : SpanId × SpanId → List ℕ
+pair_body p = id_text p.0 ++ (codes " " ++ id_text p.1)
+
+pub pair_in-body : (p : SpanId × SpanId) → pair_in (pair_body p) ≡ Ok (pair_parts p)
+pair_in-body p =
+    let parts : parts_of 32 (pair_body p) ≡ id_text p.0 ∷ id_text p.1 ∷ [] =
+    parts-word 32 (id_text p.0) (id_text p.1) (lacks-id_text 32 p.0 (omega arith))
+    ∙ ap (λ ps. id_text p.0 ∷ ps) (parts-last 32 (id_text p.1) (lacks-id_text 32 p.1 (omega arith))) in
+    rw (parts, id_in-text p.0, id_in-text p.1) refl
+
+pub lacks-pair_body : (p : SpanId × SpanId) → lacks 10 (pair_body p) ≡ true
+lacks-pair_body p = lacks-append 10 (id_text p.0) (codes " " ++ id_text p.1) (lacks-id_text 10 p.0 (omega arith)) (lacks-append 10 (codes " ") (id_text p.1) refl (lacks-id_text 10 p.1 (omega arith)))
+
+-- a title's line
+abbrev pub title_body : List ℕ → ℕ → List ℕ
+title_body title n = title ++ (codes " " ++ decimal n)
+
+bytes_eq-same : (xs : List ℕ) → bytes_eq xs xs ≡ true
+bytes_eq-same [] = refl
+bytes_eq-same (x ∷ xs) = and_from (eqb x x) (bytes_eq xs xs) (eq-eqb x x refl) (bytes_eq-same xs)
+
+pub count_in-body : (title : List ℕ) (n : ℕ) → lacks 32 title ≡ true → n ≤ 4096 → count_in title (title_body title n) ≡ Ok n
+count_in-body title n plain few =
+    let fits : n < 2 ^ 64 = omega arith in
+    let parts : parts_of 32 (title_body title n) ≡ title ∷ decimal n ∷ [] =
+    parts-word 32 title (decimal n) plain ∙ ap (λ ps. title ∷ ps) (parts-last 32 (decimal n) (lacks-decimal 32 n (omega arith) fits)) in
+    rw (parts, bytes_eq-same title, number_in-decimal n fits, le-leb n 4096 few) refl
+
+pub lacks-title_body : (title : List ℕ) (n : ℕ) → lacks 10 title ≡ true → n ≤ 4096 → lacks 10 (title_body title n) ≡ true
+lacks-title_body title n plain few = lacks-append 10 title (codes " " ++ decimal n) plain (lacks-append 10 (codes " ") (decimal n) refl (lacks-decimal 10 n (omega arith) (omega arith)))

@@ -1,0 +1,45 @@
+-- Texts that are cut at a byte, from the words that were joined.
+use Rattle.std.proofs.Common.{ℕ, ◌<◌, ◌≤◌, ◌≡◌, ◌==◌, not, Bool, true, false, List, [], ◌∷◌, ◌++◌, length, get_or, refl, ◌∙◌, ap, arith, suc, eqb, eq-eqb}
+use Rattle.std.specs.List.{list_all}
+use Rattle.std.specs.Str.Parse.{AllDigits}
+use Rattle.std.proofs.lemmas.Bool.{and_parts, and_from, ne_eqb, both_ways}
+use Rattle.std.proofs.lemmas.List.Splits.{slice_split-cons_no, slice_split-cons_yes}
+use Rattle.std.proofs.lemmas.Str.Parse.{digit_at}
+use Rattle.certificate.specs.Words.{parts_of}
+
+-- no byte of the text is c
+abbrev pub lacks : ℕ → List ℕ → Bool
+lacks c xs = list_all (λ b. not (eqb b c)) xs
+
+pub lacks-append : (c : ℕ) (xs ys : List ℕ) → lacks c xs ≡ true → lacks c ys ≡ true → lacks c (xs ++ ys) ≡ true
+lacks-append c [] ys h k = k
+lacks-append c (x ∷ xs) ys h k =
+    let p : (not (eqb x c) ≡ true) × (lacks c xs ≡ true) = and_parts (not (eqb x c)) (lacks c xs) h in
+    and_from (not (eqb x c)) (lacks c (xs ++ ys)) p.0 (lacks-append c xs ys p.1 k)
+
+not-true : (b : Bool) → not b ≡ true → b ≡ false
+not-true true h = absurd (both_ways false refl h)
+not-true false h = refl
+
+-- the text before the first c
+pub parts-word : (c : ℕ) (xs ys : List ℕ) → lacks c xs ≡ true → parts_of c (xs ++ c ∷ ys) ≡ xs ∷ parts_of c ys
+parts-word c [] ys h = slice_split-cons_yes (λ b. b == c) c ys (eq-eqb c c refl)
+parts-word c (x ∷ xs) ys h =
+    let p : (not (eqb x c) ≡ true) × (lacks c xs ≡ true) = and_parts (not (eqb x c)) (lacks c xs) h in
+    slice_split-cons_no (λ b. b == c) x (xs ++ c ∷ ys) (not-true (eqb x c) p.0) ∙ rw (parts-word c xs ys p.1) refl
+
+pub parts-last : (c : ℕ) (xs : List ℕ) → lacks c xs ≡ true → parts_of c xs ≡ xs ∷ []
+parts-last c [] h = refl
+parts-last c (x ∷ xs) h =
+    let p : (not (eqb x c) ≡ true) × (lacks c xs ≡ true) = and_parts (not (eqb x c)) (lacks c xs) h in
+    slice_split-cons_no (λ b. b == c) x xs (not-true (eqb x c) p.0) ∙ rw (parts-last c xs p.1) refl
+
+-- a byte at or above 48 is no separator below it
+pub lacks-high : (c : ℕ) (xs : List ℕ) → c < 48 → ((i : ℕ) → i < length xs → 48 ≤ get_or xs i 0) → lacks c xs ≡ true
+lacks-high c [] low high = refl
+lacks-high c (x ∷ xs) low high =
+    let here : 48 ≤ x = high 0 (omega arith) in
+    and_from (not (eqb x c)) (lacks c xs) (ap not (ne_eqb x c (λ e. absurd (omega arith)))) (lacks-high c xs low (λ i l. high (suc i) (omega arith)))
+
+pub lacks-digits : (c : ℕ) (ds : List ℕ) → c < 48 → AllDigits 10 ds → lacks c ds ≡ true
+lacks-digits c ds low all = lacks-high c ds low (λ i l. (digit_at ds i all l).0)

@@ -1,0 +1,137 @@
+-- What the tests of the checker mean
+use Rattle.std.proofs.Common.{◌+◌, ◌≡◌, Bool, true, false, ◌&&◌, ◌||◌, List, [], ◌∷◌, length, map, refl, sym, ◌∙◌, ap, inl, inr}
+use Rattle.std.specs.List.{All, AllByRecursion, IsDistinct, list_all, list_any}
+use Rattle.std.proofs.lemmas.Bool.{cases_Bool, both_ways, or_cases, or_left, or_right, and_parts, and_from}
+use Rattle.std.proofs.lemmas.List.Elements.{All-from_recursion, recursion_from_All}
+use Rattle.std.proofs.lemmas.List.{length-map}
+use Rattle.span.specs.declared.id.SpanId.{SpanId}
+use Rattle.span.specs.Ids.{same_span}
+use Rattle.span.proofs.Ids.{same_id_from_test, test_from_same_id}
+use Rattle.mesh_graph.specs.declared.entry.Entry.{Entry}
+use Rattle.certificate.specs.Sides.{among, IsChoice}
+use Rattle.mesh_graph.specs.Groups.{Groups, any_compatible, are_compatible, has_id, ids}
+use Rattle.certificate.specs.Plans.{IsCertificateOf, IsPlanOf, partners_of, sides_of}
+use Rattle.certificate.proofs.Members.{Tells}
+
+pub tells_span : Tells same_span
+tells_span = record { one = same_id_from_test; itself = λ x. test_from_same_id x x refl }
+
+flip : {K : Type 0} (same : K → K → Bool) → Tells same → (x y : K) → same x y ≡ same y x
+flip same t x y = elim (cases_Bool (same x y)) [
+  | inl e ↦ e ∙ sym (ap (λ z. same y z) (t.one x y e) ∙ t.itself y)
+  | inr e ↦ elim (cases_Bool (same y x)) [
+    | inl e' ↦ absurd (both_ways (same x y) e (ap (λ z. same x z) (t.one y x e') ∙ t.itself x))
+    | inr e' ↦ e ∙ sym e'
+  ]
+]
+
+-- what each member that passes shows, the list's test shows
+any_elim : {X : Type 0} (test : X → Bool) (r : Bool) (xs : List X) → ((x : X) → test x ≡ true → r ≡ true) → list_any test xs ≡ true → r ≡ true
+any_elim test r [] h e = absurd (both_ways false refl e)
+any_elim test r (x ∷ xs) h e = elim (or_cases (test x) (list_any test xs) e) [
+  | inl f ↦ h x f
+  | inr f ↦ any_elim test r xs h f
+]
+
+any_less : {X : Type 0} (p q : X → Bool) (xs : List X) → list_any (λ x. p x && q x) xs ≡ true → list_any p xs ≡ true
+any_less p q [] h = h
+any_less p q (x ∷ xs) h = elim (or_cases (p x && q x) (list_any (λ y. p y && q y) xs) h) [
+  | inl e ↦ or_left (p x) _ (and_parts (p x) (q x) e).0
+  | inr e ↦ or_right (p x) _ (any_less p q xs e)
+]
+
+-- an id that some group has is among the ids
+pub among-ids : (xs : List Entry) (a : SpanId) → list_any (λ x. same_span x.id a) xs ≡ among same_span a (ids xs)
+among-ids [] a = refl
+among-ids (x ∷ xs) a = (λ i. flip same_span tells_span x.id a i || among-ids xs a i)
+
+pub among_left : (s : Groups) (a b : SpanId) → any_compatible s a b ≡ true → among same_span a (ids s.abandoned) ≡ true
+among_left s a b h = sym (among-ids s.abandoned a) ∙ any_less (λ x. same_span x.id a) (λ x. list_any (λ y. same_span y.id b && are_compatible x y) s.owned) s.abandoned h
+
+pub among_right : (s : Groups) (a b : SpanId) → any_compatible s a b ≡ true → among same_span b (ids s.owned) ≡ true
+among_right s a b h = sym (among-ids s.owned b) ∙
+    any_elim (λ x. same_span x.id a && list_any (λ y. same_span y.id b && are_compatible x y) s.owned) (has_id s.owned b) s.abandoned
+    (λ x e. any_less (λ y. same_span y.id b) (are_compatible x) s.owned (and_parts (same_span x.id a) _ e).1) h
+
+map_same : {X : Type 0} (xs : List X) → map (λ x. x) xs ≡ xs
+map_same [] = refl
+map_same (x ∷ xs) = ap (λ l. x ∷ l) (map_same xs)
+
+-- a list is distinct exactly where its members are
+pub IsDistinct-map_same : {K : Type 0} (same : K → K → Bool) (xs : List K) → IsDistinct same (map (λ x. x) xs) ≡ IsDistinct same xs
+IsDistinct-map_same same xs = ap (IsDistinct same) (map_same xs)
+
+-- a list in which each passes
+module _ {X : Type 0} (test : X → Bool) (P : X → Type 0) where
+  pub All-from_list_all : (xs : List X) → ((x : X) → test x ≡ true → P x) → list_all test xs ≡ true → All P xs
+  All-from_list_all xs h all = All-from_recursion P xs (each xs all)
+    where
+      each : (ys : List X) → list_all test ys ≡ true → AllByRecursion P ys
+      each [] e = tt
+      each (y ∷ ys) e = let p : (test y ≡ true) × (list_all test ys ≡ true) = and_parts (test y) (list_all test ys) e in (h y p.0, each ys p.1)
+
+  pub list_all-from_All : (xs : List X) → ((x : X) → P x → test x ≡ true) → All P xs → list_all test xs ≡ true
+  list_all-from_All xs h all = each xs (recursion_from_All P xs all)
+    where
+      each : (ys : List X) → AllByRecursion P ys → list_all test ys ≡ true
+      each [] e = refl
+      each (y ∷ ys) e = and_from (test y) (list_all test ys) (h y e.0) (each ys e.1)
+
+-- the ids of groups, none twice
+pub choice-from_tests : (entries : List Entry) (chosen : List SpanId) → list_all (λ id. has_id entries id) chosen ≡ true → IsDistinct same_span chosen → IsChoice same_span (ids entries) chosen
+choice-from_tests entries chosen all distinct = record {
+  within = All-from_list_all (λ id. has_id entries id) (λ id. among same_span id (ids entries) ≡ true) chosen (λ id h. sym (among-ids entries id) ∙ h) all;
+  distinct = distinct;
+}
+
+pub tests-from_choice : (entries : List Entry) (chosen : List SpanId) → IsChoice same_span (ids entries) chosen → list_all (λ id. has_id entries id) chosen ≡ true
+tests-from_choice entries chosen c =
+    list_all-from_All (λ id. has_id entries id) (λ id. among same_span id (ids entries) ≡ true) chosen (λ id h. among-ids entries id ∙ h) c.within
+
+-- the test whether each pair is compatible
+abbrev pub all_compatible : Groups → List (SpanId × SpanId) → Bool
+all_compatible s pairs = list_all (λ p. any_compatible s p.0 p.1) pairs
+
+each_side : {K : Type 0} (P : K → Type 0) (f : SpanId × SpanId → K) (pairs : List (SpanId × SpanId)) → AllByRecursion (λ p. P (f p)) pairs → AllByRecursion P (map f pairs)
+each_side P f [] h = tt
+each_side P f (p ∷ pairs) h = (h.0, each_side P f pairs h.1)
+
+all_side : {K : Type 0} (P : K → Type 0) (f : SpanId × SpanId → K) (pairs : List (SpanId × SpanId)) → All (λ p. P (f p)) pairs → All P (map f pairs)
+all_side P f pairs h = All-from_recursion P (map f pairs) (each_side P f pairs (recursion_from_All (λ p. P (f p)) pairs h))
+
+pub plan-from_tests : (s : Groups) (pairs : List (SpanId × SpanId)) → all_compatible s pairs ≡ true → IsDistinct same_span (map (λ p. p.0) pairs) → IsDistinct same_span (map (λ p. p.1) pairs) → IsPlanOf s pairs
+unfolding sides_of
+plan-from_tests s pairs all left right = record {
+  left = record {
+    within = all_side (λ a. among same_span a (ids s.abandoned) ≡ true) (λ p. p.0) pairs
+        (All-from_list_all (λ p. any_compatible s p.0 p.1) (λ p. among same_span p.0 (ids s.abandoned) ≡ true) pairs (λ p h. among_left s p.0 p.1 h) all);
+    distinct = left;
+  };
+  right = record {
+    within = all_side (λ b. among same_span b (ids s.owned) ≡ true) (λ p. p.1) pairs
+        (All-from_list_all (λ p. any_compatible s p.0 p.1) (λ p. among same_span p.1 (ids s.owned) ≡ true) pairs (λ p h. among_right s p.0 p.1 h) all);
+    distinct = right;
+  };
+  compatible = All-from_list_all (λ p. any_compatible s p.0 p.1) (λ p. any_compatible s p.0 p.1 ≡ true) pairs (λ p h. h) all;
+}
+
+pub tests-from_plan : (s : Groups) (pairs : List (SpanId × SpanId)) → IsPlanOf s pairs → all_compatible s pairs ≡ true
+unfolding sides_of
+tests-from_plan s pairs p = list_all-from_All (λ p. any_compatible s p.0 p.1) (λ p. any_compatible s p.0 p.1 ≡ true) pairs (λ p h. h) p.compatible
+
+-- the parts of a certificate
+pub certificate-from_tests : (s : Groups) (pairs : List (SpanId × SpanId)) (short : List SpanId) → IsPlanOf s pairs → IsChoice same_span (ids s.abandoned) short
+    → length pairs + length short ≡ length s.abandoned + length (partners_of s short) → IsCertificateOf s pairs short
+unfolding sides_of
+certificate-from_tests s pairs short plan chosen equal = record {
+  plan = plan;
+  chosen = chosen;
+  equation = let left : length (ids s.abandoned) ≡ length s.abandoned = length-map s.abandoned (λ (x : Entry). x.id) in equal ∙ (λ i. sym left i + length (partners_of s short));
+}
+
+pub equation-from_certificate : (s : Groups) (pairs : List (SpanId × SpanId)) (short : List SpanId) → IsCertificateOf s pairs short
+    → length pairs + length short ≡ length s.abandoned + length (partners_of s short)
+unfolding sides_of
+equation-from_certificate s pairs short shown =
+    let left : length (ids s.abandoned) ≡ length s.abandoned = length-map s.abandoned (λ (x : Entry). x.id) in
+    shown.equation ∙ (λ i. left i + length (partners_of s short))

@@ -1,0 +1,188 @@
+-- The texts that are certificates of version 1, line by line; and, of another text, the first line at fault and its first cause. A text
+-- is what its line feeds (10) part, so that a line stands whole where a part follows it.
+use Rattle.std.specs.Prelude.{◌+◌, ◌*◌, ◌&&◌, ◌<◌, ◌≡◌, ℕ, Bool, nat_eq, nat_lt, nat_le, List, [], ◌∷◌, length, map, Option, Some, None, Result, Ok, Err, slice_index_or, codes, zero, suc, if◌then◌else◌}
+use Rattle.std.specs.Str.{bytes_eq}
+use Rattle.bitmap.specs.HexText.{is_set_text}
+use Rattle.bitmap.specs.Slots.{SlotSet, slots_of_text}
+use Rattle.span.specs.declared.id.SpanId.{SpanId}
+use Rattle.span.specs.Ids.{rank}
+use Rattle.mesh_graph.specs.declared.entry.Entry.{Entry}
+use Rattle.certificate.specs.Number.{number_in}
+use Rattle.certificate.specs.Words.{parts_of}
+use Rattle.certificate.specs.declared.text.cause.Cause.{Cause}
+use Rattle.certificate.specs.declared.text.cause.Cause.TheVariants.{Cut, Form, Limit, Set, Order, Tail}
+use Rattle.certificate.specs.declared.text.cause.ReadError.{ReadError}
+use Rattle.certificate.specs.declared.text.cause.ReadError.TheVariants.{BadCertificate, OutOfMemory}
+use Rattle.certificate.specs.declared.certificate.Certificate.{Certificate}
+
+-- the first step, and then the next one, unless the first fails
+infixl 10 ◌>>=◌
+abbrev pub ◌>>=◌ : {A B E : Type 0} → Result A E → (A → Result B E) → Result B E
+(Ok x) >>= f = f x
+(Err e) >>= f = Err e
+
+-- ---- words
+
+-- an id: its shard and its serial
+abbrev pub Id : Type 0
+Id = ℕ × ℕ
+
+-- ids stand by shard and then by serial
+abbrev pub comes_before : Id → Id → Bool
+comes_before a b = nat_lt (1024 * a.0 + a.1) (1024 * b.0 + b.1)
+
+-- two numbers as an id
+abbrev pub id_of_numbers : Option ℕ → Option ℕ → Result Id Cause
+id_of_numbers (Some shard) (Some serial) = if nat_lt shard 64 && nat_lt serial 1024 then Ok (shard, serial) else Err Limit
+id_of_numbers (Some shard) None = Err Form
+id_of_numbers None serial = Err Form
+
+abbrev pub id_of_parts : List (List ℕ) → Result Id Cause
+id_of_parts (shard ∷ serial ∷ []) = id_of_numbers (number_in shard) (number_in serial)
+id_of_parts _ = Err Form
+
+-- a word as an id: a shard, a full stop (46) and a serial
+abbrev pub id_in : List ℕ → Result Id Cause
+id_in word = id_of_parts (parts_of 46 word)
+
+-- a word as a set
+abbrev pub set_in : List ℕ → Result SlotSet Cause
+set_in word = if is_set_text word then Ok (slots_of_text word) else Err Set
+
+-- ---- lines, by the words that spaces (32) part
+
+-- a group: its id and its set
+abbrev pub entry_of : List ℕ → List ℕ → Result (Id × SlotSet) Cause
+entry_of id set = id_in id >>= (λ i. set_in set >>= (λ slots. Ok (i, slots)))
+
+abbrev pub entry_of_words : List (List ℕ) → Result (Id × SlotSet) Cause
+entry_of_words (id ∷ set ∷ []) = entry_of id set
+entry_of_words _ = Err Form
+
+abbrev pub entry_in : List ℕ → Result (Id × SlotSet) Cause
+entry_in line = entry_of_words (parts_of 32 line)
+
+-- two ids; the form of both is asked before the range of either
+abbrev pub both_ids : Result Id Cause → Result Id Cause → Result (Id × Id) Cause
+both_ids (Ok a) (Ok b) = Ok (a, b)
+both_ids (Err Form) _ = Err Form
+both_ids _ (Err Form) = Err Form
+both_ids _ _ = Err Limit
+
+-- a fold: an abandoned id and an owned one
+abbrev pub pair_of_words : List (List ℕ) → Result (Id × Id) Cause
+pair_of_words (abandoned ∷ owned ∷ []) = both_ids (id_in abandoned) (id_in owned)
+pair_of_words _ = Err Form
+
+abbrev pub pair_in : List ℕ → Result (Id × Id) Cause
+pair_in line = pair_of_words (parts_of 32 line)
+
+-- how many lines follow, at most 4,096
+abbrev pub count_of_number : Option ℕ → Result ℕ Cause
+count_of_number None = Err Form
+count_of_number (Some n) = if nat_le n 4096 then Ok n else Err Limit
+
+abbrev pub count_of_words : List ℕ → List (List ℕ) → Result ℕ Cause
+count_of_words title (word ∷ number ∷ []) = if bytes_eq word title then count_of_number (number_in number) else Err Form
+count_of_words title _ = Err Form
+
+-- a title and a count
+abbrev pub count_in : List ℕ → List ℕ → Result ℕ Cause
+count_in title line = count_of_words title (parts_of 32 line)
+
+-- just these bytes
+abbrev pub fixed_in : List ℕ → List ℕ → Result (Unit {0}) Cause
+fixed_in bytes line = if bytes_eq line bytes then Ok tt else Err Form
+
+-- ---- lines at their places, from 0 on
+
+-- a fault of the line at the place: lines are counted from 1
+abbrev pub at_line : {X : Type 0} → ℕ → Result X Cause → Result X ReadError
+at_line at (Ok x) = Ok x
+at_line at (Err cause) = Err (BadCertificate (at + 1) cause)
+
+-- the line at the place, where it stands whole
+abbrev pub whole_line : List (List ℕ) → ℕ → Result (List ℕ) Cause
+whole_line parts at = if nat_lt (at + 1) (length parts) then Ok (slice_index_or parts at []) else Err Cut
+
+-- what the line at the place says
+abbrev pub line_in : {X : Type 0} → (List ℕ → Result X Cause) → List (List ℕ) → ℕ → Result X Cause
+line_in parse parts at = whole_line parts at >>= parse
+
+-- an id after the last one in its list
+abbrev pub order_of : Option Id → Id → Result (Unit {0}) Cause
+order_of None id = Ok tt
+order_of (Some last) id = if comes_before last id then Ok tt else Err Order
+
+-- an item of a list: its form first, and then its order
+abbrev pub item_in : {X : Type 0} → (List ℕ → Result X Cause) → (X → Id) → Option Id → List ℕ → Result X Cause
+item_in parse id_of last line = parse line >>= (λ x. order_of last (id_of x) >>= (λ fine. Ok x))
+
+-- so many items from the place on, by ascending ids
+abbrev pub items_in : {X : Type 0} → (List ℕ → Result X Cause) → (X → Id) → List (List ℕ) → Option Id → ℕ → ℕ → Result (List X) ReadError
+items_in parse id_of parts last at zero = Ok []
+items_in parse id_of parts last at (suc n) =
+    at_line at (line_in (item_in parse id_of last) parts at) >>= (λ x. items_in parse id_of parts (Some (id_of x)) (at + 1) n >>= (λ more. Ok (x ∷ more)))
+
+-- a title with a count, and so many items
+unfoldable pub list_in : {X : Type 0} → List ℕ → (List ℕ → Result X Cause) → (X → Id) → List (List ℕ) → ℕ → Result (List X) ReadError
+list_in title parse id_of parts at = at_line at (line_in (count_in title) parts at) >>= items_in parse id_of parts None (at + 1)
+
+-- nothing follows: the part at the place is the last one, and is empty
+abbrev pub end_in : List (List ℕ) → ℕ → Result (Unit {0}) Cause
+end_in parts at = if nat_eq (length parts) (at + 1) && nat_eq (length (slice_index_or parts at [])) 0 then Ok tt else Err Tail
+
+-- ---- certificates
+
+-- what a certificate says: its ids by their numbers
+pub record Outline : Type 0 where
+  pub abandoned : List (Id × SlotSet)
+  pub owned : List (Id × SlotSet)
+  pub folds : List (Id × Id)
+  pub short : List Id
+
+-- the lists and the last line, below the first line
+abbrev pub body_in : List (List ℕ) → Result Outline ReadError
+body_in parts = do
+  abandoned ← list_in (codes "abandoned") entry_in (λ x. x.0) parts 1
+  owned ← list_in (codes "owned") entry_in (λ x. x.0) parts (2 + length abandoned)
+  folds ← list_in (codes "folds") pair_in (λ p. p.0) parts (3 + length abandoned + length owned)
+  short ← list_in (codes "short") id_in (λ id. id) parts (4 + length abandoned + length owned + length folds)
+  ended ← at_line (5 + length abandoned + length owned + length folds + length short) (line_in (fixed_in (codes "end")) parts (5 + length abandoned + length owned + length folds + length short))
+  done ← at_line (6 + length abandoned + length owned + length folds + length short) (end_in parts (6 + length abandoned + length owned + length folds + length short))
+  Ok (record { abandoned = abandoned; owned = owned; folds = folds; short = short })
+
+-- what the text says, where it is a certificate, or else its first line at fault and that line's first cause
+unfoldable pub certificate_in : List ℕ → Result Outline ReadError
+certificate_in text = at_line 0 (line_in (fixed_in (codes "meshcert 1")) (parts_of 10 text) 0) >>= (λ opened. body_in (parts_of 10 text))
+
+-- ---- what is read
+
+abbrev pub id_parts : SpanId → Id
+id_parts id = (id.shard, id.serial)
+
+abbrev pub entry_parts : Entry → Id × SlotSet
+entry_parts x = (id_parts x.id, x.occupied)
+
+abbrev pub pair_parts : SpanId × SpanId → Id × Id
+pair_parts p = (id_parts p.0, id_parts p.1)
+
+-- a certificate's outline
+abbrev pub outline_of : Certificate → Outline
+outline_of c = record { abandoned = map entry_parts c.snapshot.abandoned; owned = map entry_parts c.snapshot.owned; folds = map pair_parts c.plan; short = map id_parts c.short }
+
+-- an id comes after the last one of its list, where there is one
+abbrev pub Follows : Option SpanId → SpanId → Type 0
+Follows None id = Unit {0}
+Follows (Some last) id = rank last < rank id
+
+-- a result by what it shows
+abbrev pub shown : {X Y E : Type 0} → (X → Y) → Result X E → Result Y E
+shown f (Ok x) = Ok (f x)
+shown f (Err e) = Err e
+
+-- what is read is what the grammar says, and so is each refusal but for want of memory
+abbrev pub Reads : {X Y : Type 0} → (X → Y) → Result X ReadError → Result Y ReadError → Type 0
+Reads f (Ok x) said = said ≡ Ok (f x)
+Reads f (Err OutOfMemory) said = Unit {0}
+Reads f (Err (BadCertificate line cause)) said = said ≡ Err (BadCertificate line cause)

@@ -1,0 +1,39 @@
+//! Plans of folds, and the certificates that no plan has more pairs.
+//!
+//! A [`Plan`] pairs abandoned groups with owned groups that they may be folded onto, no group twice.
+//! Beside it stands a [`Short`] set: abandoned groups that have so few partners between them that as
+//! many of them must be left out as the plan leaves out. [`check`] believes nothing: it tests the
+//! sets of a [`Snapshot`](mesh_graph::Snapshot) pair by pair, and it shares no code with whoever
+//! found the plan (as the certifying algorithms of LEDA do).
+//!
+//! ```text
+//!   abandoned           owned                 plan: 0.0 onto 3.0
+//!     0.0 {0} ───────── 3.0 {1}               short set: 0.0, 1.0, 2.0, whose one partner is 3.0
+//!     1.0 {0} ────────╱
+//!     2.0 {0} ───────╱                        1 pair + 3 short  =  3 abandoned + 1 partner
+//! ```
+//!
+//! The public fact of the crate is that where `check` says yes, no plan of the snapshot has more
+//! pairs. That is the deficiency form of Hall's theorem: of the short set at most as many groups are
+//! planned as it has partners, so every plan leaves out all the others.
+//!
+//! A [`Certificate`] has snapshot, plan and short set together. [`write()`] gives it as text, and
+//! [`read`] reads that text again; of a text that is none it names the first line at fault.
+#![tactic(auto)]
+
+mod certificate;
+mod checking;
+mod distinct;
+mod id_set;
+mod partner;
+mod plan;
+mod text;
+
+pub use certificate::Certificate;
+pub use checking::check;
+pub use partner::partners;
+pub use plan::{Plan, Short};
+pub use text::{Cause, ReadError, read, write};
+
+#[cfg(test)]
+mod tests;

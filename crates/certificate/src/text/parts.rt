@@ -1,0 +1,31 @@
+// The parts of a line.
+ghost use Rattle.std.specs.Prelude.{◌≡◌, ◌<◌, length, IfNone, IfOk, IfSome};
+ghost use Rattle.certificate.specs.Words.{contents_of, parts_of};
+
+use arrayvec::ArrayVec;
+use std::alloc::{AllocError, Global};
+
+/// No line has more words, and no id more parts.
+const MOST_PARTS: usize = 2;
+
+/// What is between the separators, where that is not more than two parts.
+pub(super) fn parts(separator: u8, bytes: &[u8]) -> Option<ArrayVec<&[u8], MOST_PARTS>>
+    ensures some { IfSome result (λ parts. contents_of parts.items ≡ parts_of separator bytes.now) }
+    ensures none { IfNone result (2 < length (parts_of separator bytes.now)) }
+{
+    let mut parts = ArrayVec::new();
+    for part in bytes.split(|byte| *byte == separator) {
+        if parts.is_full() {
+            return None;
+        }
+        parts.push(part);
+    }
+    Some(parts)
+}
+
+/// What is between the line feeds of a text.
+pub(super) fn lines(alloc: Global, text: &[u8]) -> Result<Vec<&[u8]>, AllocError>
+    ensures { IfOk result (λ lines. contents_of lines.items ≡ parts_of 10 text.now) }
+{
+    text.split(|byte| *byte == b'\n').collect(alloc)
+}

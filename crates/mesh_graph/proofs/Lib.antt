@@ -1,0 +1,5 @@
+pub mod Bits
+pub mod Building
+pub mod Entries
+pub mod Order
+pub mod Sorting

@@ -1,0 +1,25 @@
+// A group as a plan sees it.
+ghost use Rattle.std.specs.Prelude.{◌≡◌};
+
+use bitmap::Bits256;
+use span::SpanId;
+
+/// A group of a snapshot.
+#[derive(Clone, Copy, PartialEq, Eq, Debug)]
+pub struct Entry {
+    /// The id of the group's head.
+    pub id: SpanId,
+    /// The slots that are live in one of the group's spans.
+    pub occupied: Bits256,
+}
+
+impl Entry {
+    ghost use Rattle.mesh_graph.specs.Groups.{are_compatible};
+
+    /// Whether no slot is occupied in both groups, so that one page can hold the words of both.
+    pub fn is_compatible(&self, other: &Entry) -> bool
+        ensures { result ≡ are_compatible self.now other.now }
+    {
+        self.occupied.is_disjoint(&other.occupied)
+    }
+}

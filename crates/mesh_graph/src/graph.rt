@@ -1,0 +1,126 @@
+// A graph of two sides, as rows of bits.
+ghost use Rattle.std.specs.Prelude.{◌≡◌, ◌+◌, ◌/◌, ◌<◌, ◌≤◌, ℕ, true, false, length, slice_get, IfNone, IfSome, Some, map};
+ghost use Rattle.bitmap.specs.Slots.{has_bit};
+ghost use Rattle.mesh_graph.specs.Groups.{IsAscending, compatible_at, ids};
+
+use crate::snapshot::Snapshot;
+use span::SpanId;
+use std::marker::Model;
+
+/// Which abandoned group of a snapshot is compatible with which owned one, by their places in the
+/// snapshot. It has a copy of the snapshot, and a row of bits for each abandoned group.
+#[derive(Drop)]
+pub struct Graph {
+    pub(crate) snapshot: Snapshot,
+    pub(crate) rows: Vec<Vec<u64>>,
+}
+
+impl Model for Graph {
+    ghost use Rattle.std.specs.Coded.{codes};
+    ghost use Rattle.std.specs.Prelude.{map};
+    ghost use Rattle.mesh_graph.specs.Groups.{Groups};
+    ghost use Rattle.mesh_graph.specs.Rows.{AreRows};
+    ghost use Rattle.mesh_graph.specs.contracts.entry.Entry as entry;
+
+    ghost Value = { Groups };
+
+    ghost coded = { Prim.hlevel (codes, entry.the_row.coded) };
+
+    ghost view = { λ g. g.snapshot };
+
+    ghost invariant = { λ g. AreRows g.snapshot (map (λ r. r.items) g.rows.items) };
+}
+
+impl Graph {
+    /// How many abandoned groups there are.
+    pub fn abandoned(&self) -> usize
+        ensures count { result ≡ length self.now.abandoned }
+        ensures at_most { result ≤ 4096 }
+        ensures ascending { IsAscending (ids self.now.abandoned) }
+    {
+        self.snapshot.abandoned().len()
+    }
+
+    /// How many owned groups there are.
+    pub fn owned(&self) -> usize
+        ensures count { result ≡ length self.now.owned }
+        ensures at_most { result ≤ 4096 }
+        ensures ascending { IsAscending (ids self.now.owned) }
+    {
+        self.snapshot.owned().len()
+    }
+
+    /// The id of the abandoned group at the place.
+    pub fn abandoned_id(&self, i: usize) -> SpanId
+        requires { i < length self.now.abandoned }
+        ensures { slice_get (ids self.now.abandoned) i ≡ Some result }
+    {
+        self.snapshot.abandoned()[i].id
+    }
+
+    /// The id of the owned group at the place.
+    pub fn owned_id(&self, j: usize) -> SpanId
+        requires { j < length self.now.owned }
+        ensures { slice_get (ids self.now.owned) j ≡ Some result }
+    {
+        self.snapshot.owned()[j].id
+    }
+
+    /// The bits of the abandoned group at the place, in words of 64: bit j of the row is bit j % 64
+    /// of word j / 64, and says whether the group is compatible with the owned group at place j.
+    pub fn row(&self, i: usize) -> &[u64]
+        requires { i < length self.now.abandoned }
+        ensures bits { (j : ℕ) → has_bit result.now j ≡ compatible_at self.now i j }
+        ensures words { length result.now ≡ (length self.now.owned + 63) / 64 }
+        ensures at_most { length result.now ≤ 64 }
+    {
+        &self.rows[i]
+    }
+
+    /// Whether the abandoned group at the first place is compatible with the owned one at the second.
+    pub fn has(&self, i: usize, j: usize) -> bool
+        requires abandoned { i < length self.now.abandoned }
+        requires owned { j < length self.now.owned }
+        ensures { result ≡ compatible_at self.now i j }
+    {
+        let row = self.row(i);
+        (row[j / 64] >> (j % 64)) & 1 == 1
+    }
+
+    /// The least owned place from `from` on that is compatible with the abandoned one at `i`.
+    pub fn next_partner(&self, i: usize, from: usize) -> Option<usize>
+        requires { i < length self.now.abandoned }
+        ensures partner { IfSome result (λ j. compatible_at self.now i j ≡ true) }
+        ensures within { IfSome result (λ j. j < length self.now.owned) }
+        ensures from { IfSome result (λ j. from ≤ j) }
+        ensures least { IfSome result (λ j. (k : ℕ) → from ≤ k → k < j → compatible_at self.now i k ≡ false) }
+        ensures none { IfNone result ((k : ℕ) → from ≤ k → compatible_at self.now i k ≡ false) }
+    {
+        next_bit(self.row(i), from)
+    }
+}
+
+// The least bit from `from` on that is set.
+fn next_bit(words: &[u64], from: usize) -> Option<usize>
+    requires { length words.now ≤ 64 }
+    ensures set { IfSome result (λ j. has_bit words.now j ≡ true) }
+    ensures from { IfSome result (λ j. from ≤ j) }
+    ensures least { IfSome result (λ j. (k : ℕ) → from ≤ k → k < j → has_bit words.now k ≡ false) }
+    ensures none { IfNone result ((k : ℕ) → from ≤ k → has_bit words.now k ≡ false) }
+{
+    let start = from / 64;
+    if start >= words.len() {
+        return None;
+    }
+    let left = words[start] >> (from % 64);
+    if left != 0 {
+        return Some(from + left.trailing_zeros() as usize);
+    }
+    for k in start + 1..words.len() {
+        let word = words[k];
+        if word != 0 {
+            return Some(64 * k + word.trailing_zeros() as usize);
+        }
+    }
+    None
+}

@@ -1,0 +1,32 @@
+//! Which abandoned groups may be folded onto which owned ones.
+//!
+//! A [`Snapshot`] has the groups of both sides, each with the id of its head and the slots that are
+//! occupied. Two groups are compatible where no slot is occupied in both (Mesh, PLDI 2019, calls
+//! such spans meshable), so that one page can hold the words of both. A [`Graph`] has worked that
+//! out for each pair, as a row of bits for each abandoned group.
+//!
+//! ```text
+//!                 owned    3.0 {1}   3.1 {0}   4.0 {}
+//!   abandoned
+//!   0.0 {0}                   1         .        1       row 0: the word 0b101
+//!   0.1 {1}                   .         1        1       row 1: the word 0b110
+//!   1.0 {0, 1}                .         .        1       row 2: the word 0b100
+//! ```
+//!
+//! Contracts see a snapshot as its two lists, and a graph as the snapshot that it was built from.
+//! The public fact of the crate is that bit j of row i says exactly whether abandoned group i and
+//! owned group j of that snapshot are compatible.
+#![tactic(auto)]
+
+mod build;
+mod entry;
+mod graph;
+mod snapshot;
+
+pub use build::BuildError;
+pub use entry::Entry;
+pub use graph::Graph;
+pub use snapshot::{Doubled, Snapshot};
+
+#[cfg(test)]
+mod tests;
