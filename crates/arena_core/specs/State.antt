@@ -34,7 +34,7 @@ pub record CoreState : Type 0 where
 
 -- a shard that has opened no span
 abbrev pub new_shard : ℕ → ℕ → ℕ → ShardState
-new_shard page_limit gens number = record { number = number; page_limit = page_limit; gens = gens; opened = 0; ended = false; groups = []; table = no_pages }
+new_shard page_limit gens number = record { number = number; page_limit = page_limit; gens = gens; opened = 0; ended = false; groups = []; table = no_pages; onto = None }
 
 -- a core of new shards, one for each number
 abbrev pub new_core : Limits → CoreState

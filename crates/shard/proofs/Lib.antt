@@ -14,7 +14,7 @@ pub mod PutResult
 pub mod Replaced
 pub mod ShownLogs
 pub mod RoomBits
-pub mod Spans
+pub mod Standing
 pub mod Start
 pub mod Tables
 pub mod Unions

@@ -17,7 +17,7 @@ use Rattle.shard.specs.Group.{with_put as with_put_at, with_free}
 use Rattle.shard.specs.Shown.{issued_by, span_named}
 use Rattle.shard.proofs.Lists.{count-append, count-cons, find-elsewhere, find-here, find-none, one_where}
 use Rattle.shard.proofs.Logs.{value_in-empty}
-use Rattle.shard.proofs.Spans.{same_span-right}
+use Rattle.shard.proofs.Standing.{same_span-right}
 
 -- the value that the span's log leaves under the key
 abbrev pub logged_by : Key → Option SpanState → Option Value

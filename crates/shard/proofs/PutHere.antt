@@ -41,10 +41,10 @@ module _ (old : ShardState) (sound : IsSound old) (index : ℕ) (group : GroupSt
   abbrev now : ShardState
   now = record old { groups = set old.groups index after; table = table }
 
-  before : IsSoundGroup old group
+  before : IsSoundGroup old.table group
   before = sound.groups index group room.here
 
-  head_before : IsSoundSpan old group group.head
+  head_before : IsSoundSpan old.table group group.head
   head_before = before.spans 0 group.head refl
 
   free_slot : contains (occupied group) slot ≡ false
@@ -67,9 +67,8 @@ module _ (old : ShardState) (sound : IsSound old) (index : ℕ) (group : GroupSt
   word_other : (q : ℕ) → (q ≡ slot → ⊥) → word_at table group q ≡ word_at old.table group q
   word_other q other = rw (words_of-with_word_same old.table group.page slot value) (get_or-set_other (words_of old.table group.page) slot q value 0 other)
 
-  head_now : IsSoundSpan now after head
+  head_now : IsSoundSpan now.table after head
   head_now = record {
-    gens_is = head_before.gens_is;
     legal = IsLegal-put group.head.gens group.head.log slot value head_before.legal room.slot_is.1 not_live not_worn;
     mapped = head_before.mapped;
     stored = λ q held is. elim (cases_eq q slot) [
@@ -83,11 +82,10 @@ module _ (old : ShardState) (sound : IsSound old) (index : ℕ) (group : GroupSt
     ];
   }
 
-  guest_now : (place : ℕ) (span : SpanState) → slice_get group.guests place ≡ Some span → IsSoundSpan now after span
+  guest_now : (place : ℕ) (span : SpanState) → slice_get group.guests place ≡ Some span → IsSoundSpan now.table after span
   guest_now place span here =
-      let then : IsSoundSpan old group span = before.spans (suc place) span here in
+      let then : IsSoundSpan old.table group span = before.spans (suc place) span here in
       record {
-        gens_is = then.gens_is;
         legal = then.legal;
         mapped = then.mapped;
         stored = λ q held is.
@@ -98,8 +96,8 @@ module _ (old : ShardState) (sound : IsSound old) (index : ℕ) (group : GroupSt
       clash : true ≡ false → ⊥
       clash e = cc
 
-  spans_now : (place : ℕ) (span : SpanState) → slice_get (spans_of after) place ≡ Some span → IsSoundSpan now after span
-  spans_now zero span here = subst (IsSoundSpan now after) (same_some here) head_now
+  spans_now : (place : ℕ) (span : SpanState) → slice_get (spans_of after) place ≡ Some span → IsSoundSpan now.table after span
+  spans_now zero span here = subst (IsSoundSpan now.table after) (same_some here) head_now
   spans_now (suc place) span here = guest_now place span here
 
   apart_now : AreApart (spans_of after)
@@ -109,7 +107,7 @@ module _ (old : ShardState) (sound : IsSound old) (index : ℕ) (group : GroupSt
     before.apart.1,
   )
 
-  after_now : IsSoundGroup now after
+  after_now : IsSoundGroup now.table after
   after_now = record {
     apart = apart_now;
     has_page = HasPage-with_word old.table group.page slot value group.page before.has_page;
@@ -118,22 +116,22 @@ module _ (old : ShardState) (sound : IsSound old) (index : ℕ) (group : GroupSt
   }
 
   -- a group on another page
-  other_now : (other : ℕ) (g : GroupState) → (other ≡ index → ⊥) → slice_get old.groups other ≡ Some g → IsSoundGroup now g
+  other_now : (other : ℕ) (g : GroupState) → (other ≡ index → ⊥) → slice_get old.groups other ≡ Some g → IsSoundGroup now.table g
   other_now other g apart there =
-      let then : IsSoundGroup old g = sound.groups other g there in
+      let then : IsSoundGroup old.table g = sound.groups other g there in
       let words = words_of-with_word_other old.table group.page slot value g.page (other_page old sound other index g group there room.here apart) in
       record {
         apart = then.apart;
         has_page = HasPage-with_word old.table group.page slot value g.page then.has_page;
         whole = rw words then.whole;
         spans = λ place span here.
-            let s : IsSoundSpan old g span = then.spans place span here in
-            record { gens_is = s.gens_is; legal = s.legal; mapped = s.mapped; stored = λ q held is. rw words (s.stored q held is) };
+            let s : IsSoundSpan old.table g span = then.spans place span here in
+            record { legal = s.legal; mapped = s.mapped; stored = λ q held is. rw words (s.stored q held is) };
       }
 
-  groups_now : (other : ℕ) (g : GroupState) → slice_get (set old.groups index after) other ≡ Some g → IsSoundGroup now g
+  groups_now : (other : ℕ) (g : GroupState) → slice_get (set old.groups index after) other ≡ Some g → IsSoundGroup now.table g
   groups_now other g there = elim (cases-set old.groups index after other g there) [
-    | inl here ↦ subst (IsSoundGroup now) here.1 after_now
+    | inl here ↦ subst (IsSoundGroup now.table) here.1 after_now
     | inr old_one ↦ other_now other g old_one.0 old_one.1
   ]
 

@@ -19,7 +19,7 @@ use Rattle.shard.specs.State.{ShardState, Stands, spans_in, word_at}
 use Rattle.shard.specs.Sound.{IsSound, IsSoundGroup, IsSoundSpan}
 use Rattle.shard.proofs.Lists.{after-insert, cases-insert, count-append, count-cons, count-insert, count-none, get-insert, length_insert, none_where, one_where, pairs-insert, part_at, same_some}
 use Rattle.shard.proofs.Logs.{contains-live_slots-empty, contains-worn_slots-empty}
-use Rattle.shard.proofs.Spans.{count-spans_in, same_rank, same_span-right}
+use Rattle.shard.proofs.Standing.{count-spans_in, same_rank, same_span-right}
 use Rattle.shard.proofs.Tables.{HasPage-with_open, HasPage-with_open_same, HasPage-with_word, len-with_open, len-with_word, length-blank_page, mapped-with_open, mapped-with_open_other, words_of-with_open_other, words_of-with_open_same, words_of-with_word_other, words_of-with_word_same}
 use Rattle.shard.proofs.Unions.{AreDisjoint-empty}
 
@@ -42,7 +42,7 @@ module _ (old : ShardState) (sound : IsSound old) (id : SpanId) (page index valu
   table = with_word wide page 0 value
 
   abbrev now : ShardState
-  now = record old { opened = old.opened + 1; groups = insert old.groups index group; table = table }
+  now = record old { opened = old.opened + 1; onto = None; groups = insert old.groups index group; table = table }
 
   -- the id is that of no span so far
   pub unlike : (at_group at : ℕ) (g : GroupState) (s : SpanState) → Stands old.groups at_group at g s → same_span s.id id ≡ false
@@ -93,16 +93,15 @@ module _ (old : ShardState) (sound : IsSound old) (id : SpanId) (page index valu
     | inr other ↦ absurd (nothing q held (sym (get-put [] 0 (puts_of 0 [] + 1) value q ∙ rw (ne_eqb q 0 other) refl) ∙ is))
   ]
 
-  spans_now : (at : ℕ) (span : SpanState) → slice_get (spans_of group) at ≡ Some span → IsSoundSpan now group span
-  spans_now zero span here = subst (IsSoundSpan now group) (same_some here) (record {
-    gens_is = refl;
+  spans_now : (at : ℕ) (span : SpanState) → slice_get (spans_of group) at ≡ Some span → IsSoundSpan now.table group span
+  spans_now zero span here = subst (IsSoundSpan now.table group) (same_some here) (record {
     legal = legal_now;
     mapped = mapped-with_open old.table id page;
     stored = stored_now;
   })
   spans_now (suc at) span here = absurd cc
 
-  group_now : IsSoundGroup now group
+  group_now : IsSoundGroup now.table group
   group_now = record {
     apart = (AreDisjoint-empty _, tt);
     has_page = HasPage-with_word wide page 0 value page (HasPage-with_open_same old.table id page);
@@ -110,28 +109,27 @@ module _ (old : ShardState) (sound : IsSound old) (id : SpanId) (page index valu
     spans = spans_now;
   }
 
-  other_now : (at_group : ℕ) (g : GroupState) → slice_get old.groups at_group ≡ Some g → IsSoundGroup now g
+  other_now : (at_group : ℕ) (g : GroupState) → slice_get old.groups at_group ≡ Some g → IsSoundGroup now.table g
   other_now at_group g there =
-      let then : IsSoundGroup old g = sound.groups at_group g there in
+      let then : IsSoundGroup old.table g = sound.groups at_group g there in
       let words = words_other g.page (other_page at_group g there) in
       record {
         apart = then.apart;
         has_page = HasPage-with_word wide page 0 value g.page (HasPage-with_open old.table id page g.page then.has_page);
         whole = rw words then.whole;
         spans = λ at span here.
-            let s : IsSoundSpan old g span = then.spans at span here in
+            let s : IsSoundSpan old.table g span = then.spans at span here in
             record {
-              gens_is = s.gens_is;
               legal = s.legal;
               mapped = mapped-with_open_other old.table id page (rank span.id) (other_rank span (unlike at_group at g span (there, here))) ∙ s.mapped;
               stored = λ q held is. rw words (s.stored q held is);
             };
       }
 
-  groups_now : (at_group : ℕ) (g : GroupState) → slice_get (insert old.groups index group) at_group ≡ Some g → IsSoundGroup now g
+  groups_now : (at_group : ℕ) (g : GroupState) → slice_get (insert old.groups index group) at_group ≡ Some g → IsSoundGroup now.table g
   groups_now at_group g there = elim (cases-insert old.groups index group place.within at_group g there) [
     | inl low ↦ other_now at_group g low.1
-    | inr (inl here) ↦ subst (IsSoundGroup now) here.1 group_now
+    | inr (inl here) ↦ subst (IsSoundGroup now.table) here.1 group_now
     | inr (inr high) ↦ other_now high.0 g high.3
   ]
 

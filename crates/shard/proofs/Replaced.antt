@@ -10,7 +10,7 @@ use Rattle.shard.specs.Group.{GroupState, spans_of, with_span}
 use Rattle.shard.specs.State.{ShardState, Stands, spans_in}
 use Rattle.shard.specs.Sound.{IsSound, IsSoundGroup}
 use Rattle.shard.proofs.Lists.{after-set, before-set, count-append, count-cons, count-set, same_some}
-use Rattle.shard.proofs.Spans.{page-with_span, spans_of-with_span, spans_round}
+use Rattle.shard.proofs.Standing.{page-with_span, spans_of-with_span, spans_round}
 
 -- the groups have spans of the same ids, at the same places
 record HasSameIds (old new : GroupState) : Type 0 where
@@ -79,7 +79,7 @@ module _ (old : ShardState) (sound : IsSound old) (index place : ℕ) (group : G
       omega (arith, was, is, one, count-append p round.left (span ∷ round.right), count-append p round.left (changed ∷ round.right), count-cons p span round.right, count-cons p changed round.right)
 
   pub IsSound-replaced : (table : TableState) → table.spans ≡ old.table.spans → map.len table.pages ≡ map.len old.table.pages
-      → ((other : ℕ) (g : GroupState) → slice_get (set old.groups index after) other ≡ Some g → IsSoundGroup (replaced table) g)
+      → ((other : ℕ) (g : GroupState) → slice_get (set old.groups index after) other ≡ Some g → IsSoundGroup table g)
       → IsSound (replaced table)
   IsSound-replaced table spans pages groups = record {
     ascending = λ low high a b less at_low at_high.

@@ -28,7 +28,7 @@ use Rattle.shard.proofs.Logged.{logged, logged_by, logged-free, logged-new, logg
 use Rattle.shard.proofs.Logs.{contains-live_slots-empty, is_some-value_in-gone}
 use Rattle.shard.proofs.PutHere.{IsSound-put_here, not_live}
 use Rattle.shard.proofs.PutInNew.{IsSound-put_in_new, none_before}
-use Rattle.shard.proofs.Spans.{count-spans_in, named_stands, spans_round}
+use Rattle.shard.proofs.Standing.{count-spans_in, named_stands, spans_round}
 use Rattle.shard.proofs.Unions.{false_or_true}
 
 abbrev nothing_pending : ℕ → ℕ → List Key
@@ -48,7 +48,7 @@ rank_same : (a b : SpanId) → same_span a b ≡ true → rank b ≡ rank a
 rank_same a b same = ap rank (sym (same_id_from_test a b same))
 
 module _ (shard : ShardState) (sound : IsSound shard) where
-  value_in-word : (key : Key) (group : GroupState) (span : SpanState) → IsSoundSpan shard group span → same_span span.id key.span ≡ true → value_by shard.table key (Some span) ≡ value_in span.log key.slot key.generation
+  value_in-word : (key : Key) (group : GroupState) (span : SpanState) → IsSoundSpan shard.table group span → same_span span.id key.span ≡ true → value_by shard.table key (Some span) ≡ value_in span.log key.slot key.generation
   value_in-word key group span s same =
       let mapped : map.get shard.table.spans (rank key.span) ≡ Some group.page = ap (map.get shard.table.spans) (rank_same span.id key.span same) ∙ s.mapped in
       let word : word_of shard.table key.span key.slot ≡ Some (word_at shard.table group key.slot) = rw mapped refl in

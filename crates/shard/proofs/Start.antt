@@ -7,7 +7,7 @@ use Rattle.shard.specs.Sound.{IsSound}
 use Rattle.shard.specs.State.{ShardState, no_pages}
 
 abbrev pub new_shard : ℕ → ℕ → ℕ → ShardState
-new_shard number page_limit gens = record { number = number; page_limit = page_limit; gens = gens; opened = 0; ended = false; groups = []; table = no_pages }
+new_shard number page_limit gens = record { number = number; page_limit = page_limit; gens = gens; opened = 0; ended = false; groups = []; table = no_pages; onto = None }
 
 pub IsSound-new : (number page_limit gens : ℕ) → 1 ≤ gens → IsSound (new_shard number page_limit gens)
 IsSound-new number page_limit gens some = record {

@@ -8,7 +8,7 @@ use Rattle.shard.specs.declared.shard.Shard.TheInside.{Inside}
 
 -- what contracts see of the fields
 abbrev pub state_of : Inside → ShardState
-state_of s = record { number = s.number; page_limit = s.page_limit; gens = s.gens; opened = s.opened; ended = s.ended; groups = s.groups.items; table = s.table }
+state_of s = record { number = s.number; page_limit = s.page_limit; gens = s.gens; opened = s.opened; ended = s.ended; groups = s.groups.items; table = s.table; onto = s.onto }
 
 -- an open group of one span, which the shard opened as its index says
 pub record IsOwn (number index : ℕ) (group : GroupState) : Type 0 where

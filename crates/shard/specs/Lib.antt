@@ -1,8 +1,9 @@
 pub mod Calls
 pub mod Group
-pub mod GroupKept
 pub mod Kept
+pub mod Moves
 pub mod Rooms
 pub mod Shown
 pub mod Sound
+pub mod SpansKept
 pub mod State

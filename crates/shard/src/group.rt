@@ -1,52 +1,44 @@
 // A group: a head and its guests on one page.
-ghost use Rattle.std.specs.Prelude.{[], ◌≡◌, ◌<◌, ◌≤◌, ◌+◌, ℕ, IfOk, IfSome, OnOk, OnErr, MatchOption, Some, IsTrue, ◌↔◌, slice_get, slice_set, length, true, false};
+ghost use Rattle.std.specs.Prelude.{[], ◌≡◌, ◌<◌, ◌≤◌, ◌+◌, ℕ, IfOk, IfSome, OnOk, OnErr, MatchOption, Some, IsTrue, ◌↔◌, slice_get, length, true, false};
 ghost use Rattle.std.specs.Bool.{OnTrue, OnFalse};
 ghost use Rattle.std.specs.FinSet as set;
 ghost use Rattle.span.specs.Log.{puts_of, Holds};
-ghost use Rattle.shard.specs.Group.{occupied, unusable, HasNoRoom, IsLowestUsable, IsSpanAt, HasNoSpan, spans_of, with_put, with_free, with_span};
+ghost use Rattle.shard.specs.Group.{occupied, unusable, HasNoRoom, IsLowestUsable, IsSpanAt, HasNoSpan, spans_of, with_put, with_free, with_span, group_of};
 ghost use Rattle.shard.specs.State.{live_count};
 ghost use Rattle.span.specs.State.{SpanState};
 
+use crate::spans::Spans;
 use bitmap::Bits256;
 use page_table::Page;
 use span::{Key, Span, SpanId};
-use std::alloc::{AllocError, Global};
+use std::alloc::AllocError;
 use std::marker::Model;
 
-/// A head and its guests, whose live slots differ, on one page (the idea is that of Mesh). A closed group takes no put.
+/// Spans and the page that all of them are on. A closed group takes no put.
 #[derive(Drop)]
 pub struct Group {
-    head: Span,
-    guests: Vec<Span>,
+    spans: Spans,
     page: Page,
     closed: bool,
-    occupied: Bits256,
 }
 
 impl Model for Group {
-    ghost use Rattle.shard.specs.Group.{GroupState};
+    ghost use Rattle.shard.specs.Group.{GroupState, group_of};
 
     ghost Value = { GroupState };
 
-    ghost view = { λ g. record { head = g.head; guests = g.guests.items; page = g.page; closed = g.closed } };
-
-    ghost use Rattle.shard.specs.GroupKept.{IsKept};
-
-    ghost invariant = { IsKept };
+    ghost view = { λ g. group_of g.spans g.page g.closed };
 }
 
 impl Group {
-    /// A group of a span alone, on a page.
-    pub fn of(alloc: Global, head: Span, page: Page) -> Group
-        ensures { result ≡ record { head = head; guests = []; page = page; closed = false } }
+    /// An open group of the spans, on a page.
+    pub fn of(spans: Spans, page: Page) -> Group
+        ensures { result ≡ group_of spans page false }
     {
-        let occupied = head.live();
         Group {
-            head,
-            guests: Vec::new(alloc),
+            spans,
             page,
             closed: false,
-            occupied,
         }
     }
 
@@ -54,7 +46,7 @@ impl Group {
     pub fn head_id(&self) -> SpanId
         ensures { result ≡ self.now.head.id }
     {
-        self.head.id()
+        self.spans.head_id()
     }
 
     /// The page of all its spans.
@@ -68,7 +60,7 @@ impl Group {
     pub fn occupied(&self) -> Bits256
         ensures { result ≡ occupied self.now }
     {
-        self.occupied
+        self.spans.occupied()
     }
 
     /// How many keys are live in the spans.
@@ -76,7 +68,7 @@ impl Group {
         ensures live { result ≡ live_count (spans_of self.now) }
         ensures at_most { result ≤ 256 }
     {
-        self.occupied.count() as usize
+        self.spans.live()
     }
 
     /// The lowest slot that a put may take.
@@ -87,20 +79,14 @@ impl Group {
         if self.closed {
             return None;
         }
-        self.occupied.union(&self.head.worn()).lowest_outside()
+        self.spans.lowest_usable()
     }
 
     /// Where the span is among the head and its guests; 0 is the head.
     pub fn place_of(&self, id: SpanId) -> Option<usize>
         ensures { MatchOption result (HasNoSpan (spans_of self.now) id) (IsSpanAt (spans_of self.now) id) }
     {
-        if self.head.id() == id {
-            return Some(0);
-        }
-        match position(self.guests.as_slice(), id) {
-            Some(at) => Some(at + 1),
-            None => None,
-        }
+        self.spans.place_of(id)
     }
 
     /// The span at the place, 0 being the head.
@@ -108,11 +94,7 @@ impl Group {
         requires { place < length (spans_of self.now) }
         ensures { slice_get (spans_of self.now) place ≡ Some result.now }
     {
-        if place == 0 {
-            &self.head
-        } else {
-            &self.guests[place - 1]
-        }
+        self.spans.span_at(place)
     }
 
     /// Puts the value at a usable slot of the head.
@@ -122,9 +104,7 @@ impl Group {
         ensures ok { OnOk result (self.new ≡ record self.old { head = with_put self.old.head slot value }) }
         ensures err { OnErr result (self.new ≡ self.old) }
     {
-        let key = self.head.put_at(slot, value)?;
-        self.occupied.insert(slot);
-        Ok(key)
+        self.spans.put(slot, value)
     }
 
     /// Frees the key in the span at the place, where it is live there.
@@ -134,48 +114,6 @@ impl Group {
         ensures freed { (span : SpanState) → slice_get (spans_of self.old) place ≡ Some span → OnTrue result (self.new ≡ with_span self.old place (with_free span key.now)) }
         ensures unknown { OnFalse result (self.new ≡ self.old) }
     {
-        if place == 0 {
-            self.free_in_head(key)
-        } else {
-            self.free_in_guest(place - 1, key)
-        }
+        self.spans.free(place, key)
     }
-
-    fn free_in_head(&mut self, key: &Key) -> bool
-        ensures found { IsTrue result ↔ ((key.now.span ≡ self.old.head.id) × Holds self.old.head.log key.now.slot key.now.generation) }
-        ensures freed { OnTrue result (self.new ≡ record self.old { head = with_free self.old.head key.now }) }
-        ensures unknown { OnFalse result (self.new ≡ self.old) }
-    {
-        if !self.head.free(key) {
-            return false;
-        }
-        self.occupied.remove(key.slot());
-        true
-    }
-
-    fn free_in_guest(&mut self, at: usize, key: &Key) -> bool
-        requires { at < length self.old.guests }
-        ensures found { (span : SpanState) → slice_get self.old.guests at ≡ Some span → (IsTrue result ↔ ((key.now.span ≡ span.id) × Holds span.log key.now.slot key.now.generation)) }
-        ensures freed { (span : SpanState) → slice_get self.old.guests at ≡ Some span → OnTrue result (self.new ≡ record self.old { guests = slice_set self.old.guests at (with_free span key.now) }) }
-        ensures unknown { OnFalse result (self.new ≡ self.old) }
-    {
-        if !self.guests[at].free(key) {
-            return false;
-        }
-        self.occupied.remove(key.slot());
-        true
-    }
-}
-
-// The place of the span of this id.
-fn position(spans: &[Span], id: SpanId) -> Option<usize>
-    ensures place { MatchOption result (HasNoSpan spans.now id) (IsSpanAt spans.now id) }
-    ensures within { IfSome result (λ place. place < length spans.now) }
-{
-    for at in 0..spans.len() {
-        if spans[at].id() == id {
-            return Some(at);
-        }
-    }
-    None
 }

@@ -30,10 +30,16 @@
 //! `specs/Shown.antt`), and every put gives out a key that was never given out before.
 #![tactic(auto)]
 
+mod brief;
 mod error;
 mod group;
 mod rooms;
 mod shard;
+mod spans;
+mod whole;
 
+pub use brief::Brief;
 pub use error::{Config, PutError};
 pub use shard::{Found, Freed, Shard};
+pub use spans::Spans;
+pub use whole::Whole;

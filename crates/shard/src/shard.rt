@@ -1,5 +1,5 @@
 // A shard and its calls on keys.
-ghost use Rattle.std.specs.Prelude.{◌*◌, ◌≡◌, ◌<◌, ◌≤◌, ℕ, [], map, length, IsTrue, IsOk, IfOk, IfSome, IsOkUnless, ◌↔◌, OnErr, MatchOption, Some, true, false, slice_get, if◌then◌else◌, is_some};
+ghost use Rattle.std.specs.Prelude.{◌*◌, ◌≡◌, ◌<◌, ◌≤◌, ℕ, [], map, length, IsTrue, IsOk, IfOk, IfSome, IsOkUnless, ◌↔◌, OnErr, MatchOption, Some, None, true, false, slice_get, if◌then◌else◌, is_some};
 ghost use Rattle.std.specs.List.Sorted.{IsStrictlyIncreasing};
 ghost use Rattle.span.specs.Ids.{rank};
 ghost use Rattle.span.specs.State.{SpanState};
@@ -14,6 +14,7 @@ ghost use Rattle.shard.specs.Calls.{Frees, Gets, IsFull, IsLowestRoom, IsSpent, 
 use crate::error::{Config, PutError};
 use crate::group::Group;
 use crate::rooms::Rooms;
+use crate::spans::Spans;
 use bitmap::Bits256;
 use page_table::Table;
 use span::{Key, Span, SpanId};
@@ -60,6 +61,7 @@ pub struct Shard {
     groups: Vec<Group>,
     rooms: Rooms,
     table: Table,
+    onto: Option<SpanId>,
 }
 
 impl Model for Shard {
@@ -83,7 +85,7 @@ impl Shard {
     /// is refused exactly where the number is not below 64, the pages are not 1 to 1,024, or `gens` is 0.
     pub fn new(alloc: Global, number: u32, page_limit: usize, gens: u32) -> Result<Shard, Config>
         ensures in_range { IsOk result ↔ ((number < 64) × (1 ≤ page_limit) × (page_limit ≤ 1024) × (1 ≤ gens)) }
-        ensures empty { IfOk result (λ shard. shard ≡ record { number = number; page_limit = page_limit; gens = gens; opened = 0; ended = false; groups = []; table = no_pages }) }
+        ensures empty { IfOk result (λ shard. shard ≡ record { number = number; page_limit = page_limit; gens = gens; opened = 0; ended = false; groups = []; table = no_pages; onto = None }) }
         ensures sound { IfOk result IsSound }
     {
         if number >= 64 || page_limit == 0 || page_limit > 1024 || gens == 0 {
@@ -99,6 +101,7 @@ impl Shard {
             groups: Vec::new(alloc),
             rooms: Rooms::empty(),
             table: Table::new(alloc),
+            onto: None,
         })
     }
 
@@ -255,8 +258,10 @@ impl Shard {
         let page = self.table.open(id)?;
         self.table.set_at(page, 0, value);
         self.rooms.insert(self.groups.len());
-        self.groups.push_reserved(Group::of(self.alloc, head, page));
+        self.groups
+            .push_reserved(Group::of(Spans::of(self.alloc, head), page));
         self.opened += 1;
+        self.onto = None;
         Ok((key, 0))
     }
 

@@ -41,3 +41,6 @@ returns-clause-plain c = rw (← c.self.view_is) (shown-result (state_of c.self.
 
 pub returns-clause-sound : goal.returns-clause-sound
 returns-clause-sound c = IsSound-result (state_of c.self.inside) c.put_in_new.new.self c.args.value c.put_in_new.result c.self.invariant.sound (new_one c) c.put_in_new.ensures.err
+
+pub returns-clause-ok : goal.returns-clause-ok
+returns-clause-ok c = rw (← c.self.view_is) (new_one c)

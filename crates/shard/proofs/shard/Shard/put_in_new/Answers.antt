@@ -1,4 +1,4 @@
-use Rattle.std.proofs.Common.{◌≡◌, ◌<◌, ◌∙◌, ◌+◌, [], length, insert, ap, sym, subst, refl, arith}
+use Rattle.std.proofs.Common.{◌≡◌, ◌<◌, ◌∙◌, ◌+◌, [], false, length, insert, ap, sym, subst, refl, arith}
 use Rattle.std.specs.FinMap as map
 use Rattle.std.specs.FinSet as set
 use Rattle.span.proofs.LegalLogs.{puts_of-empty}
@@ -7,7 +7,7 @@ use Rattle.span.specs.State.{SpanState}
 use Rattle.span.specs.declared.id.SpanId.{SpanId}
 use Rattle.page_table.specs.State.{TableState, HasPage}
 use Rattle.shard.specs.Calls.{IsPlaceFor, new_group, with_open, with_word}
-use Rattle.shard.specs.Group.{GroupState, with_put}
+use Rattle.shard.specs.Group.{GroupState, group_of, with_put}
 use Rattle.shard.specs.Kept.{state_of}
 use Rattle.shard.specs.State.{ShardState}
 use Rattle.shard.proofs.Lists.{insert-length}
@@ -27,29 +27,26 @@ put_at-requires-clause-not_worn c = ap (λ (s : SpanState). set.contains (worn_s
 pub set_at-requires : goal.set_at-requires
 set_at-requires c = subst (λ (t : TableState). HasPage t c.in_ok-page.page) (sym c.in_ok-page.ensures.ok) (HasPage-with_open_same c.self.inside.table c.in-Some.id c.in_ok-page.page)
 
-abbrev alone : SpanState → GroupState → GroupState
-alone head group = record { head = head; guests = []; page = group.page; closed = group.closed }
-
-head_now : (c : goal.After-self-1) → c.put_at.new.self ≡ with_put (record { id = c.in-Some.id; gens = c.self.inside.gens; log = [] }) 0 c.args.value
+head_now : (c : goal.After-self-2-1) → c.put_at.new.self ≡ with_put (record { id = c.in-Some.id; gens = c.self.inside.gens; log = [] }) 0 c.args.value
 head_now c = c.in_ok-key.ensures.ok ∙ ap (λ (s : SpanState). with_put s 0 c.args.value) c.new-head.ensures
 
-abbrev made : goal.After-self-1 → GroupState
+abbrev made : goal.After-self-2-1 → GroupState
 made c = new_group c.in-Some.id c.self.inside.gens c.in_ok-page.page c.args.value
 
-group_now : (c : goal.After-self-1) → c.of.result ≡ made c
-group_now c = c.of.ensures ∙ ap (λ (head : SpanState). alone head (made c)) (head_now c)
+group_now : (c : goal.After-self-2-1) → c.of-2.result ≡ made c
+group_now c = c.of-2.ensures ∙ rw c.of.ensures (ap (λ (head : SpanState). group_of (record { head = head; guests = [] }) c.in_ok-page.page false) (head_now c))
 
-groups_now : (c : goal.After-self-1) → c.push_reserved.new.self.items ≡ insert c.self.inside.groups.items (length c.self.inside.groups.items) (made c)
+groups_now : (c : goal.After-self-2-1) → c.push_reserved.new.self.items ≡ insert c.self.inside.groups.items (length c.self.inside.groups.items) (made c)
 groups_now c =
     c.push_reserved.ensures.items ∙ rw (c.in_ok-reserve.ensures.items, group_now c) (sym (insert-length c.self.inside.groups.items (made c)))
 
-table_now : (c : goal.After-self-1) → c.set_at.new.self ≡ with_word (with_open c.self.inside.table c.in-Some.id c.in_ok-page.page) c.in_ok-page.page 0 c.args.value
+table_now : (c : goal.After-self-2-1) → c.set_at.new.self ≡ with_word (with_open c.self.inside.table c.in-Some.id c.in_ok-page.page) c.in_ok-page.page 0 c.args.value
 table_now c = c.set_at.ensures ∙ rw c.in_ok-page.ensures.ok refl
 
-place_now : (c : goal.After-self-1) → IsPlaceFor c.self.inside.groups.items c.in-Some.id (length c.self.inside.groups.items)
+place_now : (c : goal.After-self-2-1) → IsPlaceFor c.self.inside.groups.items c.in-Some.id (length c.self.inside.groups.items)
 place_now c = IsPlaceFor-next c.self.inside.number c.self.inside.opened c.self.inside.groups.items c.self.invariant.own c.in-Some.id c.in-Some.ensures.parts.0 c.in-Some.ensures.parts.1
 
-end_is : (c : goal.After-self-1) → c.len.result ≡ length c.self.inside.groups.items
+end_is : (c : goal.After-self-2-1) → c.len.result ≡ length c.self.inside.groups.items
 end_is c = let same = ap length c.in_ok-reserve.ensures.items in omega (arith, c.len.ensures, c.reserve.new.self.ok.0)
 
 pub invariant_of-self-2 : goal.invariant_of-self-2

@@ -2,16 +2,16 @@ use Rattle.std.proofs.Common.{◌<◌, length, ◌≡◌, ◌∙◌, ◌∷◌, 
 use Rattle.std.specs.FinSet as finset
 use Rattle.std.proofs.lemmas.Option.{slice_get_read}
 use Rattle.span.specs.State.{SpanState}
-use Rattle.shard.specs.Group.{GroupState, union_of, AreApart, with_free}
+use Rattle.shard.specs.Group.{SpansState, union_of, AreApart, with_free}
 use Rattle.shard.proofs.Lists.{same_some}
 use Rattle.shard.proofs.Unions.{lose_key}
-use Rattle.shard.proofs.group.Group.free_in_guest.Goals as goal
+use Rattle.shard.proofs.spans.Spans.free_in_guest.Goals as goal
 
 here : (c : goal.After-remove) → slice_get c.self.inside.guests.items c.args.at ≡ Some c.index_mut.result.now
-here c = slice_get_read c.self.inside.guests.items _ c.args.at c.index_mut.result.now refl (subst (λ (g : GroupState). c.args.at < length g.guests) (sym c.self.view_is) c.requires) c.index_mut.ensures.value
+here c = slice_get_read c.self.inside.guests.items _ c.args.at c.index_mut.result.now refl (subst (λ (g : SpansState). c.args.at < length g.guests) (sym c.self.view_is) c.requires) c.index_mut.ensures.value
 
 same_span : (c : goal.After-remove) (span : SpanState) → slice_get c.args.self.now.guests c.args.at ≡ Some span → c.index_mut.result.now ≡ span
-same_span c span at = same_some (sym (here c) ∙ ap (λ (g : GroupState). slice_get g.guests c.args.at) c.self.view_is ∙ at)
+same_span c span at = same_some (sym (here c) ∙ ap (λ (g : SpansState). slice_get g.guests c.args.at) c.self.view_is ∙ at)
 
 pub invariant_of-self-2 : goal.invariant_of-self-2
 invariant_of-self-2 c =

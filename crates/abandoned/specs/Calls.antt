@@ -1,0 +1,127 @@
+-- What the calls of the pool do and answer.
+use Rattle.std.specs.Prelude.{◌≡◌, ◌≢◌, ◌⊎◌, map, ℕ, ◌-◌, ◌<◌, ◌≤◌, true, false, List, [], ◌∷◌, length, insert, remove, Option, Some, None, IsSome, option_and_then, slice_get, slice_set, slice_index}
+use Rattle.std.specs.FinMap as finite
+use Rattle.std.specs.FinSet as set
+use Rattle.span.specs.declared.id.SpanId.{SpanId}
+use Rattle.span.specs.declared.key.Key.{Key}
+use Rattle.span.specs.Ids.{rank}
+use Rattle.span.specs.Log.{Holds}
+use Rattle.span.specs.State.{SpanState}
+use Rattle.page_table.specs.State.{TableState, words_of}
+use Rattle.shard.specs.Group.{GroupState, union_of, with_free}
+use Rattle.shard.specs.Moves.{WholeState, Lifts as LiftsFromShard, TakesIn as TakesInShard, spans_moved, whole_of as whole_of_shard, with_page, with_room as with_room_in, without_page}
+use Rattle.shard.specs.State.{ShardState, IsElsewhere as IsElsewhereInShard, Stands as StandsInShard}
+use Rattle.shard.specs.declared.shard.Found.{Found}
+use Rattle.shard.specs.declared.shard.Found.TheVariants.{Value, Gone, NotHere}
+use Rattle.shard.specs.declared.shard.Freed.{Freed}
+use Rattle.shard.specs.declared.shard.Freed.TheVariants as freed
+use Rattle.abandoned.specs.State.{HasNoHead, IsElsewhere, IsHeadOf, IsHere, PoolState, PooledState, spans_of, whole_of, with_span}
+
+-- what a look-up of the key finds: the word at its slot of its span's page, and how many changes its span's log has
+abbrev pub Gets : PoolState → Key → Found → Type 0
+Gets pool key (Value value at) =
+    (index place page : ℕ) × (group : PooledState) × (span : SpanState) × IsHere pool.groups key.span index place group span × (group.page ≡ Some page)
+    × Holds span.log key.slot key.generation × (value ≡ slice_index (words_of pool.table page) key.slot) × (at ≡ length span.log)
+Gets pool key (Gone at) =
+    (index place : ℕ) × (group : PooledState) × (span : SpanState) × IsHere pool.groups key.span index place group span
+    × (Holds span.log key.slot key.generation → ⊥) × (at ≡ length span.log)
+Gets pool key NotHere = IsElsewhere pool.groups key.span
+
+-- the pool with another group in the place of one; where the new one has no live slot, it has no page, and the old one's page goes
+pub record Leaves (old : PoolState) (index : ℕ) (group : PooledState) (new : PoolState) : Type 0 where
+  pub emptied : union_of (spans_of group) ≡ set.empty → (page : ℕ) → group.page ≡ Some page
+      → new ≡ record old { groups = slice_set old.groups index (record group { page = None }); table = without_page old.table page }
+  pub live : union_of (spans_of group) ≢ set.empty → new ≡ record old { groups = slice_set old.groups index group }
+
+-- what a free of the key does and answers: it adds its own change to its span's log, and gives up the page of a group that it empties; or it does nothing
+abbrev pub Frees : PoolState → Key → Freed → PoolState → Type 0
+Frees old key (freed.Yes at) new =
+    (index place : ℕ) × (group : PooledState) × (span : SpanState) × IsHere old.groups key.span index place group span
+    × Holds span.log key.slot key.generation × (at ≡ length span.log)
+    × Leaves old index (with_span group place (with_free span key)) new
+Frees old key (freed.No at) new =
+    (index place : ℕ) × (group : PooledState) × (span : SpanState) × IsHere old.groups key.span index place group span
+    × (Holds span.log key.slot key.generation → ⊥) × (at ≡ length span.log) × (new ≡ old)
+Frees old key freed.NotHere new = IsElsewhere old.groups key.span × (new ≡ old)
+
+-- the place of a head among the groups: the heads before it are lower, and the head there is higher
+pub record IsPlaceFor (groups : List PooledState) (id : SpanId) (index : ℕ) : Type 0 where
+  pub within : index ≤ length groups
+  pub before : (other : ℕ) (group : PooledState) → other < index → slice_get groups other ≡ Some group → rank group.head.id < rank id
+  pub after : (other : ℕ) (group : PooledState) → index ≤ other → slice_get groups other ≡ Some group → rank id < rank group.head.id
+
+-- the table without the page of a group, if the group has one
+abbrev pub without_page_of : TableState → Option ℕ → TableState
+without_page_of table None = table
+without_page_of table (Some page) = without_page table page
+
+-- the group of the head leaves the pool, with its page, if it has one, and its spans, and all else stays
+abbrev pub Lifts : PoolState → SpanId → Option WholeState → PoolState → Type 0
+Lifts old head None new = HasNoHead old.groups head × (new ≡ old)
+Lifts old head (Some whole) new =
+    (index : ℕ) × (group : PooledState) × IsHeadOf old.groups head index group × (whole ≡ whole_of old.table group)
+    × (new ≡ record { groups = remove old.groups index; table = without_page_of old.table group.page })
+
+-- the pool with reserved room for one group of so many spans
+abbrev pub with_room : PoolState → ℕ → PoolState
+with_room pool spans = record pool { table = record pool.table { page_room = 1; span_room = spans } }
+
+-- the table with one page and so many spans less of reserved room
+abbrev pub less_room : TableState → ℕ → TableState
+less_room table spans = record table { span_room = table.span_room - spans; page_room = table.page_room - 1 }
+
+-- the group is in the pool at the place of its head, in reserved room: on a new page with its words where a slot is live, and else without a page
+pub record TakesIn (old : PoolState) (whole : WholeState) (new : PoolState) : Type 0 where
+  pub index : ℕ
+  pub place : IsPlaceFor old.groups whole.head.id index
+  pub emptied : union_of (spans_moved whole) ≡ set.empty
+      → new ≡ record old { groups = insert old.groups index (record { head = whole.head; guests = whole.guests; page = None }); table = less_room old.table (length (spans_moved whole)) }
+  pub live : union_of (spans_moved whole) ≢ set.empty → (page : ℕ) × (words : List ℕ) × (finite.get old.table.pages page ≡ None) × (whole.words ≡ Some words)
+      × (new ≡ record old { groups = insert old.groups index (record { head = whole.head; guests = whole.guests; page = Some page }); table = with_page old.table (spans_moved whole) page words })
+
+-- the groups come into the pool, one after another
+abbrev pub TakesAll : PoolState → List WholeState → PoolState → Type 0
+TakesAll old [] new = new ≡ old
+TakesAll old (whole ∷ wholes) new = (mid : PoolState) × TakesIn old whole mid × TakesAll mid wholes new
+
+-- the pools hold the same, reserved room aside
+abbrev pub with_rooms : PoolState → ℕ → ℕ → PoolState
+with_rooms pool pages spans = record pool { table = record pool.table { page_room = pages; span_room = spans } }
+
+-- the end of a shard: all its groups come to the pool whole, and those with no live slot give up their pages on the way; the shard has ended and has no group
+pub record Receives (old : PoolState) (shard : ShardState) (new : PoolState) (ended : ShardState) : Type 0 where
+  pub page_room : ℕ
+  pub span_room : ℕ
+  pub running : shard.ended ≡ false
+  pub moved : TakesAll (with_rooms old page_room span_room) (map (whole_of_shard shard.table) shard.groups) new
+  pub after : ended ≡ record shard { ended = true; groups = []; table = record shard.table { spans = finite.empty; pages = finite.empty } }
+
+-- a span that would move is in the pool already
+abbrev pub IsInPool : PoolState → ShardState → Type 0
+IsInPool pool shard = (index place : ℕ) × (group : GroupState) × (span : SpanState) × StandsInShard shard.groups index place group span × (IsElsewhere pool.groups span.id → ⊥)
+
+-- the group of lowest head that has a page
+pub record IsLowestPaged (pool : PoolState) (index : ℕ) (group : PooledState) : Type 0 where
+  pub here : slice_get pool.groups index ≡ Some group
+  pub paged : IsSome group.page
+  pub lower : (other : ℕ) (before : PooledState) → other < index → slice_get pool.groups other ≡ Some before → before.page ≡ None
+
+-- no group has a page
+abbrev pub HasNothingToAdopt : PoolState → Type 0
+HasNothingToAdopt pool = (index : ℕ) (group : PooledState) → slice_get pool.groups index ≡ Some group → group.page ≡ None
+
+-- an adoption: the pool's group of lowest head that has a page goes to the shard whole
+pub record Adopts (old : PoolState) (shard : ShardState) (head : SpanId) (new : PoolState) (adopter : ShardState) : Type 0 where
+  pub whole : WholeState
+  pub index : ℕ
+  pub group : PooledState
+  pub lowest : IsLowestPaged old index group
+  pub head_is : head ≡ group.head.id
+  pub lifts : Lifts old head (Some whole) new
+  pub takes_in : TakesInShard (with_room_in shard None (length (spans_moved whole))) whole adopter
+
+-- a span of the pool's lowest group that has a page is in the shard already, or bears its number
+abbrev pub IsDoubled : PoolState → ShardState → Type 0
+IsDoubled pool shard =
+    (index place : ℕ) × (group : PooledState) × (span : SpanState) × IsLowestPaged pool index group × (slice_get (spans_of group) place ≡ Some span)
+    × ((span.id.shard ≡ shard.number) ⊎ (IsElsewhereInShard shard.groups span.id → ⊥))

@@ -1,0 +1,25 @@
+//! The pool: the groups of shards that have ended, with the pages of those that still have a live slot.
+//!
+//! A [`Pool`] keeps words under keys as a shard does, save that nothing is put there. A shard's end
+//! brings its groups here whole, and an adoption moves one of them, whole, to another shard.
+//!
+//! ```text
+//!   groups    0.3     1.0     1.2     4.0        by ascending head
+//!              │       │       │       │
+//!   guests    0.7     none    none    1.1, 2.5   spans on the page of the head
+//!              │       │       │       │
+//!   page       7      none     2       4         none where no slot is live
+//! ```
+//!
+//! A group has a page exactly where one of its slots is live: those with none give their pages up on
+//! the way in, and the free that empties a group gives up its page. (What Mesh calls a span with no
+//! live object goes back to the system in the same way.) The group itself stays, with the logs of
+//! its spans, so that a stale key is still answered.
+//!
+//! That shards are left behind by their threads, and taken up by others, is mimalloc's abandonment of
+//! segments; that a group moves whole, with its guests and its page, is this library's own.
+//!
+//! The public fact of the crate is that a pool is a plain map of keys: [`Pool::get`] and
+//! [`Pool::free`] answer and do what a map would (`shown` in `specs/Shown.antt`), and
+//! [`Pool::receive`] and [`Pool::adopt`] change nothing of what pool and shard show together.
+#![tactic(auto)]

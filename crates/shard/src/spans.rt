@@ -1,0 +1,179 @@
+// A head and its guests, whose live slots differ.
+ghost use Rattle.std.specs.Prelude.{[], ◌∷◌, ◌++◌, ◌≡◌, ◌<◌, ◌≤◌, ◌+◌, ℕ, IfOk, IfSome, OnOk, OnErr, MatchOption, Some, IsTrue, ◌↔◌, slice_get, slice_set, length, false};
+ghost use Rattle.std.specs.Bool.{OnTrue, OnFalse};
+ghost use Rattle.std.specs.FinSet as set;
+ghost use Rattle.bitmap.specs.Slots.{HasAllBelow, IsLowestOutside};
+ghost use Rattle.span.specs.Log.{puts_of, Holds};
+ghost use Rattle.span.specs.State.{SpanState};
+ghost use Rattle.shard.specs.Group.{all_spans, taken, union_of, IsSpanAt, HasNoSpan, with_put, with_free, with_span_at};
+ghost use Rattle.shard.specs.State.{live_count};
+
+use bitmap::Bits256;
+use span::{Key, Span, SpanId};
+use std::alloc::{AllocError, Global};
+use std::marker::Model;
+
+/// A head and its guests, which are on one page: no slot is live in two of them (the idea is that of
+/// Mesh). The slots that are live in one of them are kept beside them.
+#[derive(Drop)]
+pub struct Spans {
+    head: Span,
+    guests: Vec<Span>,
+    occupied: Bits256,
+}
+
+impl Model for Spans {
+    ghost use Rattle.shard.specs.Group.{SpansState};
+
+    ghost Value = { SpansState };
+
+    ghost view = { λ s. record { head = s.head; guests = s.guests.items } };
+
+    ghost use Rattle.shard.specs.SpansKept.{IsKept};
+
+    ghost invariant = { IsKept };
+}
+
+impl Spans {
+    /// A head with no guest. Takes no memory.
+    pub fn of(alloc: Global, head: Span) -> Spans
+        ensures { result ≡ record { head = head; guests = [] } }
+    {
+        let occupied = head.live();
+        Spans {
+            head,
+            guests: Vec::new(alloc),
+            occupied,
+        }
+    }
+
+    /// The id of the head, which names the group.
+    pub fn head_id(&self) -> SpanId
+        ensures { result ≡ self.now.head.id }
+    {
+        self.head.id()
+    }
+
+    /// How many spans there are, the head and its guests.
+    pub fn len(&self) -> usize
+        ensures { result ≡ length (all_spans self.now) }
+    {
+        1 + self.guests.len()
+    }
+
+    /// The slots that are live in one of the spans.
+    pub fn occupied(&self) -> Bits256
+        ensures { result ≡ union_of (all_spans self.now) }
+    {
+        self.occupied
+    }
+
+    /// How many keys are live in the spans.
+    pub fn live(&self) -> usize
+        ensures live { result ≡ live_count (all_spans self.now) }
+        ensures at_most { result ≤ 256 }
+    {
+        self.occupied.count() as usize
+    }
+
+    /// Where the span is among the head and its guests; 0 is the head.
+    pub fn place_of(&self, id: SpanId) -> Option<usize>
+        ensures { MatchOption result (HasNoSpan (all_spans self.now) id) (IsSpanAt (all_spans self.now) id) }
+    {
+        if self.head.id() == id {
+            return Some(0);
+        }
+        match position(self.guests.as_slice(), id) {
+            Some(at) => Some(at + 1),
+            None => None,
+        }
+    }
+
+    /// The span at the place, 0 being the head.
+    pub fn span_at(&self, place: usize) -> &Span
+        requires { place < length (all_spans self.now) }
+        ensures { slice_get (all_spans self.now) place ≡ Some result.now }
+    {
+        if place == 0 {
+            &self.head
+        } else {
+            &self.guests[place - 1]
+        }
+    }
+
+    /// The lowest slot that the head may be put at: it is live in no span, and not worn in the head.
+    pub fn lowest_usable(&self) -> Option<u8>
+        ensures lowest { MatchOption result (HasAllBelow (taken self.now) 256) (λ slot. (slot < 256) × IsLowestOutside (taken self.now) slot) }
+        ensures in_range { IfSome result (λ slot. slot < 256) }
+    {
+        self.occupied.union(&self.head.worn()).lowest_outside()
+    }
+
+    /// Puts the value at a slot that is live in no span, and not worn in the head, which gives out the key.
+    ///
+    /// # Errors
+    ///
+    /// `AllocError` where the head's log could not grow. The spans are then as they were.
+    pub fn put(&mut self, slot: u8, value: u128) -> Result<Key, AllocError>
+        requires { set.contains (taken self.old) slot ≡ false }
+        ensures key { IfOk result (λ key. (key.span ≡ self.old.head.id) × (key.slot ≡ slot) × (key.generation ≡ puts_of slot self.old.head.log + 1)) }
+        ensures ok { OnOk result (self.new ≡ record self.old { head = with_put self.old.head slot value }) }
+        ensures err { OnErr result (self.new ≡ self.old) }
+    {
+        let key = self.head.put_at(slot, value)?;
+        self.occupied.insert(slot);
+        Ok(key)
+    }
+
+    /// Frees the key in the span at the place, where it is live there. It takes no memory.
+    pub fn free(&mut self, place: usize, key: &Key) -> bool
+        requires { place < length (all_spans self.old) }
+        ensures found { (span : SpanState) → slice_get (all_spans self.old) place ≡ Some span → (IsTrue result ↔ ((key.now.span ≡ span.id) × Holds span.log key.now.slot key.now.generation)) }
+        ensures freed { (span : SpanState) → slice_get (all_spans self.old) place ≡ Some span → OnTrue result (self.new ≡ with_span_at self.old place (with_free span key.now)) }
+        ensures unknown { OnFalse result (self.new ≡ self.old) }
+    {
+        if place == 0 {
+            self.free_in_head(key)
+        } else {
+            self.free_in_guest(place - 1, key)
+        }
+    }
+
+    fn free_in_head(&mut self, key: &Key) -> bool
+        ensures found { IsTrue result ↔ ((key.now.span ≡ self.old.head.id) × Holds self.old.head.log key.now.slot key.now.generation) }
+        ensures freed { OnTrue result (self.new ≡ record self.old { head = with_free self.old.head key.now }) }
+        ensures unknown { OnFalse result (self.new ≡ self.old) }
+    {
+        if !self.head.free(key) {
+            return false;
+        }
+        self.occupied.remove(key.slot());
+        true
+    }
+
+    fn free_in_guest(&mut self, at: usize, key: &Key) -> bool
+        requires { at < length self.old.guests }
+        ensures found { (span : SpanState) → slice_get self.old.guests at ≡ Some span → (IsTrue result ↔ ((key.now.span ≡ span.id) × Holds span.log key.now.slot key.now.generation)) }
+        ensures freed { (span : SpanState) → slice_get self.old.guests at ≡ Some span → OnTrue result (self.new ≡ record self.old { guests = slice_set self.old.guests at (with_free span key.now) }) }
+        ensures unknown { OnFalse result (self.new ≡ self.old) }
+    {
+        if !self.guests[at].free(key) {
+            return false;
+        }
+        self.occupied.remove(key.slot());
+        true
+    }
+}
+
+// The place of the span of this id.
+fn position(spans: &[Span], id: SpanId) -> Option<usize>
+    ensures place { MatchOption result (HasNoSpan spans.now id) (IsSpanAt spans.now id) }
+    ensures within { IfSome result (λ place. place < length spans.now) }
+{
+    for at in 0..spans.len() {
+        if spans[at].id() == id {
+            return Some(at);
+        }
+    }
+    None
+}
