@@ -19,7 +19,7 @@ length_ranks : (groups : List GroupState) → length (map head_rank groups) ≡ 
 length_ranks [] = refl
 length_ranks (group ∷ groups) = ap suc (length_ranks groups)
 
-there : (groups : List GroupState) (at : ℕ) → at < length groups → (group : GroupState) × (slice_get groups at ≡ Some group)
+pub there : (groups : List GroupState) (at : ℕ) → at < length groups → (group : GroupState) × (slice_get groups at ≡ Some group)
 there [] at low = absurd (omega arith)
 there (group ∷ groups) zero low = (group, refl)
 there (group ∷ groups) (suc at) low = there groups at (omega arith)

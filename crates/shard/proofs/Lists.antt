@@ -1,6 +1,6 @@
 -- What stands in a list after a write or an insertion, and how often.
 use Rattle.std.proofs.Common.{◌≡◌, ℕ, zero, suc, ◌+◌, ◌<◌, ◌≤◌, Bool, true, false, cond, List, [], ◌∷◌, ◌++◌, ◌⊎◌, inl, inr, refl, sym, ap, subst, ◌∙◌, arith, length, insert, Some, None, set, slice_get}
-use Rattle.std.specs.Prelude.{find, count_by}
+use Rattle.std.specs.Prelude.{find, count_by, remove}
 use Rattle.std.proofs.lemmas.List.Sums.{sum_by-append, sum_by-cons}
 use Rattle.std.proofs.lemmas.List.Folds.{find-append}
 
@@ -106,10 +106,11 @@ pub record IsSplit {X : Type 0} (xs : List X) (at : ℕ) (x : X) : Type 0 where
   pub right : List X
   pub whole : xs ≡ left ++ x ∷ right
   pub after_set : (y : X) → set xs at y ≡ left ++ y ∷ right
+  pub after_remove : remove xs at ≡ left ++ right
 
 pub split_at : {X : Type 0} (xs : List X) (at : ℕ) (x : X) → slice_get xs at ≡ Some x → IsSplit xs at x
 split_at [] at x here = absurd cc
-split_at (y ∷ xs) zero x here = record { left = []; right = xs; whole = ap (λ z. z ∷ xs) (same_some here); after_set = λ z. refl }
+split_at (y ∷ xs) zero x here = record { left = []; right = xs; whole = ap (λ z. z ∷ xs) (same_some here); after_set = λ z. refl; after_remove = refl }
 split_at (y ∷ xs) (suc at) x here =
     let rest : IsSplit xs at x = split_at xs at x here in
     record {
@@ -117,6 +118,7 @@ split_at (y ∷ xs) (suc at) x here =
       right = rest.right;
       whole = ap (λ zs. y ∷ zs) rest.whole;
       after_set = λ z. ap (λ zs. y ∷ zs) (rest.after_set z);
+      after_remove = ap (λ zs. y ∷ zs) rest.after_remove;
     }
 
 -- the lists before and behind a place

@@ -1,10 +1,10 @@
 -- The groups that may have a usable slot, after each change.
-use Rattle.std.proofs.Common.{◌≡◌, ℕ, ◌<◌, ◌≤◌, ◌⊎◌, Bool, true, false, ◌||◌, not, ◌&&◌, List, [], length, length-set, insert, Some, set, slice_get, ◌∙◌, ap, sym, subst, refl, inl, inr, arith, eq-eqb, eqb, get_or}
+use Rattle.std.proofs.Common.{◌≡◌, ℕ, ◌+◌, ◌<◌, ◌≤◌, ◌⊎◌, Bool, true, false, ◌||◌, not, ◌&&◌, List, [], length, length-set, insert, Some, set, slice_get, ◌∙◌, ap, sym, subst, refl, inl, inr, arith, eq-eqb, eqb, get_or, lt-ltb, le-ltb, nat_lt}
 use Rattle.std.specs.Ordering.{nat_cmp, eq_by_cmp}
 use Rattle.std.specs.Cmp.{nat_cmp_total, unsigned_tied}
 use Rattle.std.specs.FinSet as finset
 use Rattle.std.specs.FinSet.{contains, empty, len, contains-empty, contains-insert, contains-remove}
-use Rattle.std.proofs.lemmas.Bool.{cases_eq, cases_lt, ne_eqb}
+use Rattle.std.proofs.lemmas.Bool.{cases_eq, cases_lt, ltb-true, ne_eqb}
 use Rattle.std.proofs.lemmas.Option.{slice_get_read}
 use Rattle.bitmap.specs.Slots.{SlotSet, IsLowest}
 use Rattle.span.proofs.Keeping.{len-remove_member, some_member}
@@ -100,20 +100,28 @@ module _ (groups : List GroupState) (rooms : SlotSet) (has : HasRooms groups roo
           ];
     }
 
-  pub HasRooms-new : (group : GroupState) → HasRooms (insert groups (length groups) group) (finset.insert rooms (length groups))
-  HasRooms-new group = record {
-    within = λ q member. let long = length_insert groups (length groups) group in elim (cases_eq q (length groups)) [
-      | inl same ↦ omega arith
-      | inr apart ↦ let low : q < length groups = has.within q (sym (contains-insert nat_cmp_total rooms (length groups) q ∙ rw (unsigned_tied q (length groups), ne_eqb q (length groups) apart) refl) ∙ member) in omega arith
-    ];
-    others = λ q other there out.
-        let parts = contains-insert_other rooms (length groups) q out in
-        elim (cases-insert groups (length groups) group (omega arith) q other there) [
-          | inl low ↦ has.others q other low.1 parts.1
-          | inr (inl here) ↦ absurd (parts.0 here.0)
-          | inr (inr high) ↦ absurd (let low : high.0 < length groups = get_within groups high.0 other high.3 in let above : length groups ≤ high.0 = high.2 in omega arith)
-        ];
-  }
+-- where all others are full, the new group alone may have room
+pub HasRooms-only : (groups : List GroupState) (index : ℕ) (group : GroupState) → index ≤ length groups → IsFull groups → HasRooms (insert groups index group) (finset.insert empty index)
+HasRooms-only groups index group within full = record {
+  within = λ q member. let long = length_insert groups index group in elim (cases_eq q index) [
+    | inl same ↦ omega arith
+    | inr apart ↦ absurd (clash (sym member ∙ contains-insert nat_cmp_total empty index q ∙ rw (unsigned_tied q index, ne_eqb q index apart) (contains-empty nat_cmp q)))
+  ];
+  others = λ q other there out.
+      let parts = contains-insert_other empty index q out in
+      elim (cases-insert groups index group within q other there) [
+        | inl low ↦ full q other low.1
+        | inr (inl here) ↦ absurd (parts.0 here.0)
+        | inr (inr high) ↦ full high.0 other high.3
+      ];
+}
+
+-- each group may have room
+pub HasRooms-all : (groups : List GroupState) (rooms : SlotSet) (count : ℕ) → count ≡ length groups → ((index : ℕ) → contains rooms index ≡ nat_lt index count) → HasRooms groups rooms
+HasRooms-all groups rooms count long below = record {
+  within = λ q member. let less : q < count = ltb-true q count (sym (below q) ∙ member) in omega arith;
+  others = λ q other there out. absurd (let less : q < length groups = get_within groups q other there in clash (sym (lt-ltb q count (omega arith)) ∙ sym (below q) ∙ out));
+}
 
 pub len-remove_lt : (s : SlotSet) (index : ℕ) → contains s index ≡ true → len (finset.remove s index) < len s
 len-remove_lt s index member = omega (arith, len-remove_member s index member, some_member s index member)
@@ -141,3 +149,17 @@ IsLowestRoom-read shard now same index slot asked read is =
     let room : (group : GroupState) × IsLowestRoom shard.groups index group slot = subst (λ (s : ShardState). (group : GroupState) × IsLowestRoom s.groups index group slot) (sym same) asked in
     let here = slice_get_read shard.groups _ index read refl (get_within shard.groups index room.0 room.1.here) is in
     subst (λ (g : GroupState). IsLowestRoom shard.groups index g slot) (same_some (sym room.1.here ∙ here)) room.1
+
+-- the indexes below a count, and below the next
+
+pub below-none : (index : ℕ) → contains {R = nat_cmp} empty index ≡ nat_lt index 0
+below-none index = contains-empty nat_cmp index ∙ sym (le-ltb index 0 (omega arith))
+
+pub below-next : (rooms : SlotSet) (count : ℕ) → ((index : ℕ) → contains rooms index ≡ nat_lt index count) → (index : ℕ) → contains (finset.insert rooms count) index ≡ nat_lt index (count + 1)
+below-next rooms count below index = contains-insert nat_cmp_total rooms count index ∙ each (cases_lt index count) (cases_eq index count)
+  where
+    each : (index < count) ⊎ (count ≤ index) → (index ≡ count) ⊎ (index ≡ count → ⊥) → (eq_by_cmp nat_cmp index count || contains rooms index) ≡ nat_lt index (count + 1)
+    each (inl less) (inl same) = absurd (omega arith)
+    each (inl less) (inr apart) = rw (unsigned_tied index count, ne_eqb index count apart, below index, lt-ltb index count less) (sym (lt-ltb index (count + 1) (omega arith)))
+    each (inr more) (inl same) = rw (unsigned_tied index count, eq-eqb index count same) (sym (lt-ltb index (count + 1) (omega arith)))
+    each (inr more) (inr apart) = rw (unsigned_tied index count, ne_eqb index count apart, below index, le-ltb index count more) (sym (le-ltb index (count + 1) (omega arith)))

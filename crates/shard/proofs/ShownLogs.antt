@@ -31,7 +31,7 @@ use Rattle.shard.proofs.PutInNew.{IsSound-put_in_new, none_before}
 use Rattle.shard.proofs.Standing.{count-spans_in, named_stands, spans_round}
 use Rattle.shard.proofs.Unions.{false_or_true}
 
-abbrev nothing_pending : ℕ → ℕ → List Key
+abbrev pub nothing_pending : ℕ → ℕ → List Key
 nothing_pending worker owner = []
 
 -- the value that a log leaves is the word where the word is that of each live slot

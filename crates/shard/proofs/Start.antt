@@ -2,7 +2,6 @@
 use Rattle.std.proofs.Common.{◌≡◌, ℕ, ◌≤◌, false, [], Some, None, sym, ◌∙◌, arith, refl}
 use Rattle.std.specs.FinMap as map
 use Rattle.std.specs.Ordering.{nat_cmp}
-use Rattle.shard.specs.Kept.{AreOwn}
 use Rattle.shard.specs.Sound.{IsSound}
 use Rattle.shard.specs.State.{ShardState, no_pages}
 
@@ -26,6 +25,3 @@ IsSound-new number page_limit gens some = record {
   where
     nothing : {X : Type 0} {x : X} → None ≡ Some x → ⊥
     nothing e = cc
-
-pub AreOwn-new_shard : (number : ℕ) → AreOwn number 0 []
-AreOwn-new_shard number = record { each = λ index group there. absurd cc; all = refl }

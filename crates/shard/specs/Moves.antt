@@ -1,5 +1,5 @@
 -- Groups that move whole from one owner to another.
-use Rattle.std.specs.Prelude.{◌≡◌, ◌≢◌, ℕ, ◌-◌, ◌<◌, ◌≤◌, false, List, [], ◌∷◌, length, insert, remove, Option, Some, None, IsSome, MatchOption, slice_get, slice_index, count_by}
+use Rattle.std.specs.Prelude.{◌≡◌, ◌≢◌, ℕ, ◌-◌, ◌<◌, ◌≤◌, Bool, false, true, List, find, option_map, [], ◌∷◌, length, insert, remove, Option, Some, None, IsSome, MatchOption, slice_get, slice_index, count_by}
 use Rattle.std.specs.FinMap as map
 use Rattle.std.specs.FinSet as set
 use Rattle.span.specs.declared.id.SpanId.{SpanId}
@@ -8,8 +8,9 @@ use Rattle.span.specs.Log.{Held, IsLegal, replay}
 use Rattle.span.specs.State.{SpanState}
 use Rattle.page_table.specs.State.{Spans, TableState, unmapped, words_of}
 use Rattle.shard.specs.Calls.{IsPlaceFor}
-use Rattle.shard.specs.Group.{AreApart, GroupState, SpansState, union_of}
+use Rattle.shard.specs.Group.{AreApart, GroupState, IsSpanAt, SpansState, spans_of, union_of}
 use Rattle.shard.specs.State.{IsElsewhere, ShardState}
+use Rattle.shard.specs.declared.brief.Brief.{Brief}
 
 -- a group on its way from one owner to another: its spans, and the words of its page, if it has one
 pub record WholeState : Type 0 where
@@ -51,6 +52,25 @@ pub record IsHeadOf (groups : List GroupState) (head : SpanId) (index : ℕ) (gr
 abbrev pub HasNoHead : List GroupState → SpanId → Type 0
 HasNoHead groups head = (index : ℕ) (group : GroupState) → IsHeadOf groups head index group → ⊥
 
+-- what the brief tells is so of the spans
+pub record IsBriefOf (spans : List SpanState) (paged closed : Bool) (brief : Brief) : Type 0 where
+  pub spans_is : brief.spans ≡ length spans
+  pub occupied_is : brief.occupied ≡ union_of spans
+  pub paged_is : brief.paged ≡ paged
+  pub closed_is : brief.closed ≡ closed
+
+-- the group of the head, and what the brief tells of it
+abbrev pub IsBriefHere : List GroupState → SpanId → Brief → Type 0
+IsBriefHere groups head brief = (index : ℕ) × (group : GroupState) × IsHeadOf groups head index group × IsBriefOf (spans_of group) true group.closed brief
+
+-- the span of this id stands at the place of the head's group
+abbrev pub IsMemberAt : List GroupState → SpanId → ℕ → SpanId → Type 0
+IsMemberAt groups head place id = (index : ℕ) × (group : GroupState) × IsHeadOf groups head index group × IsSpanAt (spans_of group) id place
+
+-- no group has the head, or its group has no such place
+abbrev pub HasNoMember : List GroupState → SpanId → ℕ → Type 0
+HasNoMember groups head place = (index : ℕ) (group : GroupState) → IsHeadOf groups head index group → length (spans_of group) ≤ place
+
 -- the table without the page and the spans that are mapped to it
 abbrev pub without_page : TableState → ℕ → TableState
 without_page table page = record table { spans = unmapped table.spans page; pages = map.remove table.pages page }
@@ -69,7 +89,12 @@ abbrev pub Lifts : ShardState → SpanId → Option WholeState → ShardState �
 Lifts old head None new = HasNoHead old.groups head × (new ≡ old)
 Lifts old head (Some whole) new =
     (index : ℕ) × (group : GroupState) × IsHeadOf old.groups head index group × (whole ≡ whole_of old.table group)
-    × (new ≡ record old { groups = remove old.groups index; table = without_page old.table group.page })
+    × (new ≡ record old { onto = None; groups = remove old.groups index; table = without_page old.table group.page })
+
+-- the head, where a group has it
+abbrev pub head_among : List GroupState → Option SpanId → Option SpanId
+head_among groups None = None
+head_among groups (Some head) = option_map (λ group. head) (find (λ group. same_span group.head.id head) groups)
 
 -- the shard with reserved room for one group of so many spans, as a group of its own or as guests of a group that it has
 abbrev pub with_room : ShardState → Option SpanId → ℕ → ShardState

@@ -4,9 +4,11 @@ ghost use Rattle.std.specs.Bool.{OnTrue, OnFalse};
 ghost use Rattle.std.specs.FinSet as set;
 ghost use Rattle.span.specs.Log.{puts_of, Holds};
 ghost use Rattle.shard.specs.Group.{occupied, unusable, HasNoRoom, IsLowestUsable, IsSpanAt, HasNoSpan, spans_of, with_put, with_free, with_span, group_of};
+ghost use Rattle.shard.specs.Moves.{IsBriefOf};
 ghost use Rattle.shard.specs.State.{live_count};
 ghost use Rattle.span.specs.State.{SpanState};
 
+use crate::brief::Brief;
 use crate::spans::Spans;
 use bitmap::Bits256;
 use page_table::Page;
@@ -95,6 +97,39 @@ impl Group {
         ensures { slice_get (spans_of self.now) place ≡ Some result.now }
     {
         self.spans.span_at(place)
+    }
+
+    /// A look at it.
+    pub fn brief(&self) -> Brief
+        ensures { IsBriefOf (spans_of self.now) true self.now.closed result }
+    {
+        Brief {
+            spans: self.spans.len(),
+            occupied: self.spans.occupied(),
+            paged: true,
+            closed: self.closed,
+        }
+    }
+
+    /// How many spans there are, the head and its guests.
+    pub fn len(&self) -> usize
+        ensures { result ≡ length (spans_of self.now) }
+    {
+        self.spans.len()
+    }
+
+    /// The spans, without their page.
+    pub fn into_spans(self) -> Spans
+        ensures { result ≡ record { head = self.head; guests = self.guests } }
+    {
+        self.spans
+    }
+
+    /// Makes room for so many more guests.
+    pub fn reserve(&mut self, guests: usize) -> Result<(), AllocError>
+        ensures { self.new ≡ self.old }
+    {
+        self.spans.reserve(guests)
     }
 
     /// Puts the value at a usable slot of the head.

@@ -1,15 +1,16 @@
 // A shard and its calls on keys.
-ghost use Rattle.std.specs.Prelude.{◌*◌, ◌≡◌, ◌<◌, ◌≤◌, ℕ, [], map, length, IsTrue, IsOk, IfOk, IfSome, IsOkUnless, ◌↔◌, OnErr, MatchOption, Some, None, true, false, slice_get, if◌then◌else◌, is_some};
+ghost use Rattle.std.specs.Prelude.{◌*◌, ◌+◌, ◌≡◌, ◌<◌, ◌≤◌, ℕ, [], insert, vec_len, vec_capacity, map, length, IsTrue, IsOk, IfOk, IfSome, IsOkUnless, ◌↔◌, OnErr, MatchOption, Some, None, true, false, slice_get, if◌then◌else◌, is_some};
 ghost use Rattle.std.specs.List.Sorted.{IsStrictlyIncreasing};
 ghost use Rattle.span.specs.Ids.{rank};
 ghost use Rattle.span.specs.State.{SpanState};
 ghost use Rattle.span.specs.PlainMap as plain;
 ghost use Rattle.shard.specs.Group.{GroupState, IsLowestUsable};
+ghost use Rattle.shard.specs.Moves.{HasNoHead, IsHeadOf};
 ghost use Rattle.shard.specs.Rooms.{HasRooms, IsFirstRoom};
 ghost use Rattle.shard.specs.Shown.{shown};
 ghost use Rattle.shard.specs.Sound.{IsSound};
 ghost use Rattle.shard.specs.State.{IsElsewhere, IsHere, live_keys, no_pages, summary};
-ghost use Rattle.shard.specs.Calls.{Frees, Gets, IsFull, IsLowestRoom, IsSpent, Puts, PutsHere, PutsInNew, value_found, was_freed};
+ghost use Rattle.shard.specs.Calls.{Ascend, Frees, Gets, IsFull, IsLowestRoom, IsSpent, Puts, PutsHere, PutsInNew, value_found, was_freed};
 
 use crate::error::{Config, PutError};
 use crate::group::Group;
@@ -21,6 +22,7 @@ use span::{Key, Span, SpanId};
 use std::alloc::{AllocError, Global};
 use std::marker::Model;
 
+mod moves;
 #[cfg(test)]
 mod tests;
 
@@ -48,8 +50,7 @@ pub enum Freed {
 
 /// The groups of spans that one thread owns, by ascending head, and their pages of 256 words.
 ///
-/// It keeps that each group is a span which it opened itself, alone on its page, at the index that
-/// is the span's serial; and that a group whose index is not in `rooms` has no usable slot.
+/// It keeps that it is sound, and that a group whose index is not in `rooms` has no usable slot.
 #[derive(Drop)]
 pub struct Shard {
     alloc: Global,
@@ -239,7 +240,7 @@ impl Shard {
     }
 
     // Opens a span on a new page, with the value at its first slot. The new head, the list of groups and the
-    // table grow before the shard changes.
+    // table grow before the shard changes. No other group has room, so its own is the only one that may have.
     fn put_in_new(&mut self, value: u128) -> Result<(Key, usize), PutError>
         requires full { IsFull self.old.groups }
         requires pages { length self.old.groups < self.old.page_limit }
@@ -257,9 +258,14 @@ impl Shard {
         self.groups.reserve(1)?;
         let page = self.table.open(id)?;
         self.table.set_at(page, 0, value);
-        self.rooms.insert(self.groups.len());
-        self.groups
-            .push_reserved(Group::of(Spans::of(self.alloc, head), page));
+        let index = lower_heads(self.groups.as_slice(), id);
+        insert_reserved(
+            &mut self.groups,
+            index,
+            Group::of(Spans::of(self.alloc, head), page),
+        );
+        self.rooms = Rooms::empty();
+        self.rooms.insert(index);
         self.opened += 1;
         self.onto = None;
         Ok((key, 0))
@@ -270,10 +276,30 @@ impl Shard {
         ensures sound { IsSound self.now }
         ensures place { MatchOption result (IsElsewhere self.now.groups id) (λ at. (group : GroupState) × (span : SpanState) × IsHere self.now.groups id at.0 at.1 group span) }
     {
-        if id.shard() != self.number {
+        if let Some(at) = self.find_at(self.guess(id), id) {
+            return Some(at);
+        }
+        if self.table.page_of(id).is_none() {
             return None;
         }
+        search(self.groups.as_slice(), id)
+    }
+
+    // The index of a group that may have the span: its serial where the shard has all that it opened, and else
+    // where a group of this head would stand.
+    fn guess(&self, id: SpanId) -> usize {
         let index = id.serial() as usize;
+        if index < self.groups.len() && self.groups[index].head_id() == id {
+            return index;
+        }
+        lower_heads(self.groups.as_slice(), id)
+    }
+
+    // The place of the span in the group at the index, if it stands there.
+    fn find_at(&self, index: usize, id: SpanId) -> Option<(usize, usize)>
+        ensures sound { IsSound self.now }
+        ensures place { IfSome result (λ at. (group : GroupState) × (span : SpanState) × IsHere self.now.groups id at.0 at.1 group span) }
+    {
         if index >= self.groups.len() {
             return None;
         }
@@ -282,6 +308,69 @@ impl Shard {
             None => None,
         }
     }
+
+    // Where the group of the head stands.
+    fn find_head(&self, head: SpanId) -> Option<usize>
+        ensures head { MatchOption result (HasNoHead self.now.groups head) (λ index. (group : GroupState) × IsHeadOf self.now.groups head index group) }
+        ensures within { IfSome result (λ index. index < length self.now.groups) }
+        ensures sound { IsSound self.now }
+    {
+        let index = lower_heads(self.groups.as_slice(), head);
+        if index >= self.groups.len() {
+            return None;
+        }
+        if self.groups[index].head_id() == head {
+            Some(index)
+        } else {
+            None
+        }
+    }
+}
+
+// Where the span of the id stands among the groups: the walk that decides where no guess was right.
+fn search(groups: &[Group], id: SpanId) -> Option<(usize, usize)>
+    ensures { MatchOption result (IsElsewhere groups.now id) (λ at. (group : GroupState) × (span : SpanState) × IsHere groups.now id at.0 at.1 group span) }
+{
+    for index in 0..groups.len() {
+        if let Some(place) = groups[index].place_of(id) {
+            return Some((index, place));
+        }
+    }
+    None
+}
+
+// Inserts where there is room, which needs no memory.
+fn insert_reserved(groups: &mut Vec<Group>, index: usize, group: Group)
+    requires within { index ≤ vec_len groups.old }
+    requires room { vec_len groups.old < vec_capacity groups.old }
+    ensures items { groups.new.items ≡ insert groups.old.items index group }
+    ensures len { vec_len groups.new ≡ vec_len groups.old + 1 }
+    ensures capacity { vec_capacity groups.new ≡ vec_capacity groups.old }
+{
+    match groups.insert(index, group) {
+        Ok(()) => {}
+        Err(_) => unreachable!(),
+    }
+}
+
+// How many heads are lower than the id, by halving.
+fn lower_heads(groups: &[Group], id: SpanId) -> usize
+    requires { Ascend groups.now }
+    ensures within { result ≤ length groups.now }
+    ensures lower { (other : ℕ) (group : GroupState) → other < result → slice_get groups.now other ≡ Some group → rank group.head.id < rank id }
+    ensures others { (other : ℕ) (group : GroupState) → result ≤ other → slice_get groups.now other ≡ Some group → rank id ≤ rank group.head.id }
+{
+    let mut low = 0;
+    let mut high = groups.len();
+    while low < high {
+        let middle = low + (high - low) / 2;
+        if groups[middle].head_id().rank() < id.rank() {
+            low = middle + 1;
+        } else {
+            high = middle;
+        }
+    }
+    low
 }
 
 // The first open group that has a usable slot, and the lowest such slot. Groups that have none leave the set.

@@ -61,6 +61,17 @@ impl Spans {
         1 + self.guests.len()
     }
 
+    /// Makes room for so many more guests.
+    ///
+    /// # Errors
+    ///
+    /// `AllocError` where memory is refused.
+    pub fn reserve(&mut self, guests: usize) -> Result<(), AllocError>
+        ensures { self.new ≡ self.old }
+    {
+        self.guests.reserve(guests)
+    }
+
     /// The slots that are live in one of the spans.
     pub fn occupied(&self) -> Bits256
         ensures { result ≡ union_of (all_spans self.now) }

@@ -6,7 +6,6 @@ use Rattle.shard.specs.declared.shard.Freed.TheVariants.{No, NotHere, Yes}
 use Rattle.shard.proofs.FreeHere.{IsSound-free_here}
 use Rattle.shard.proofs.Here.{found_in, here_read, read_is}
 use Rattle.shard.proofs.Lists.{get_within, same_some}
-use Rattle.shard.proofs.OwnGroups.{AreOwn-with_span}
 use Rattle.shard.proofs.Places.{clash, on_true}
 use Rattle.shard.proofs.RoomBits.{HasRooms-free}
 use Rattle.shard.proofs.ShownLogs.{IsSound-Frees, shown-Frees, was_freed-Frees}
@@ -59,8 +58,8 @@ invariant_of-self c =
       pages_fit = c.self.invariant.pages_fit;
       gens_fit = c.self.invariant.gens_fit;
       sound = rw (freed_now c) (IsSound-free_here (state_of c.self.inside) c.self.invariant.sound c.in-Some.index c.in-Some.place group span c.args.key.now (here.group_is, here.span_is) (c.if-not-find.ensures.0 refl).1);
-      own = rw (freed_now c) (AreOwn-with_span c.self.inside.number c.self.inside.opened c.self.inside.groups.items c.self.invariant.own c.in-Some.index c.in-Some.place group span (with_free span c.args.key.now) here.group_is here.span_is refl);
       rooms = rw c.insert.ensures (HasRooms-free c.self.inside.groups.items c.self.inside.rooms c.self.invariant.rooms c.in-Some.index c.free.new.self (get_within c.self.inside.groups.items c.in-Some.index group here.group_is));
+      room_for_groups = c.self.invariant.room_for_groups;
     }
 
 pub returns-clause-step : goal.returns-clause-step

@@ -1,6 +1,7 @@
-use Rattle.std.proofs.Common.{arith}
+use Rattle.std.proofs.Common.{ap, arith}
+use Rattle.page_table.specs.State.{TableState}
 use Rattle.shard.proofs.RoomBits.{HasRooms-empty}
-use Rattle.shard.proofs.Start.{AreOwn-new_shard, IsSound-new}
+use Rattle.shard.proofs.Start.{IsSound-new}
 use Rattle.shard.proofs.shard.Shard.new.Goals as goal
 
 pub invariant_of-result : goal.invariant_of-result
@@ -9,8 +10,8 @@ invariant_of-result c = record {
   pages_fit = omega arith;
   gens_fit = omega arith;
   sound = rw (c.new.ensures.items, c.new-2.ensures) (IsSound-new c.args.number c.args.page_limit c.args.gens (omega arith));
-  own = rw c.new.ensures.items (AreOwn-new_shard c.args.number);
   rooms = rw (c.new.ensures.items, c.empty.ensures) HasRooms-empty;
+  room_for_groups = omega (arith, ap (λ (t : TableState). t.page_room) c.new-2.ensures, c.new.result.ok.1);
 }
 
 pub returns-clause-sound : goal.returns-clause-sound

@@ -1,12 +1,11 @@
-use Rattle.std.proofs.Common.{◌≡◌, ◌∙◌, length, ap, refl, subst, sym}
+use Rattle.std.proofs.Common.{◌≡◌, ◌∙◌, length, ap, arith, refl, subst, sym}
 use Rattle.span.specs.State.{SpanState}
-use Rattle.page_table.specs.State.{HasPage}
+use Rattle.page_table.specs.State.{HasPage, TableState}
 use Rattle.shard.specs.Calls.{IsLowestRoom}
 use Rattle.shard.specs.Group.{GroupState}
 use Rattle.shard.specs.Kept.{state_of}
 use Rattle.shard.specs.State.{ShardState}
 use Rattle.shard.proofs.Lists.{same_some}
-use Rattle.shard.proofs.OwnGroups.{AreOwn-set}
 use Rattle.shard.proofs.PutHere.{IsSound-put_here}
 use Rattle.shard.proofs.RoomBits.{HasRooms-set, has_bit, IsLowestRoom-read}
 use Rattle.shard.proofs.shard.Shard.put_in.Goals as goal
@@ -26,8 +25,8 @@ invariant_of-self-2 c =
       pages_fit = c.self.invariant.pages_fit;
       gens_fit = c.self.invariant.gens_fit;
       sound = rw (c.in_ok-key.ensures.ok, c.set_at.ensures, page) (IsSound-put_here (state_of c.self.inside) c.self.invariant.sound c.args.index group c.args.slot c.args.value room);
-      own = rw c.in_ok-key.ensures.ok (AreOwn-set c.self.inside.number c.self.inside.opened c.self.inside.groups.items c.self.invariant.own c.args.index group _ room.here refl refl refl);
       rooms = HasRooms-set c.self.inside.groups.items c.self.inside.rooms c.self.invariant.rooms c.args.index c.put.new.self (has_bit c.self.inside.groups.items c.self.inside.rooms c.self.invariant.rooms c.args.index group c.args.slot room.here room.slot_is);
+      room_for_groups = omega (arith, c.self.invariant.room_for_groups, ap (λ (t : TableState). t.page_room) c.set_at.ensures);
     }
 
 pub returns-clause-ok : goal.returns-clause-ok

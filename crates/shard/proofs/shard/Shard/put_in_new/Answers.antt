@@ -1,4 +1,4 @@
-use Rattle.std.proofs.Common.{◌≡◌, ◌<◌, ◌∙◌, ◌+◌, [], false, length, insert, ap, sym, subst, refl, arith}
+use Rattle.std.proofs.Common.{◌≡◌, ◌<◌, ◌∙◌, ◌+◌, List, [], false, length, insert, ap, sym, subst, refl, arith}
 use Rattle.std.specs.FinMap as map
 use Rattle.std.specs.FinSet as set
 use Rattle.span.proofs.LegalLogs.{puts_of-empty}
@@ -6,15 +6,14 @@ use Rattle.span.specs.Log.{live_slots, puts_of, worn_slots}
 use Rattle.span.specs.State.{SpanState}
 use Rattle.span.specs.declared.id.SpanId.{SpanId}
 use Rattle.page_table.specs.State.{TableState, HasPage}
-use Rattle.shard.specs.Calls.{IsPlaceFor, new_group, with_open, with_word}
+use Rattle.shard.specs.Calls.{IsFull, IsPlaceFor, new_group, with_open, with_word}
 use Rattle.shard.specs.Group.{GroupState, group_of, with_put}
 use Rattle.shard.specs.Kept.{state_of}
 use Rattle.shard.specs.State.{ShardState}
-use Rattle.shard.proofs.Lists.{insert-length}
 use Rattle.shard.proofs.Logs.{contains-live_slots-empty, contains-worn_slots-empty}
-use Rattle.shard.proofs.OwnGroups.{AreOwn-new, IsPlaceFor-next}
+use Rattle.shard.proofs.HeadPlaces.{IsLower, IsPlaceFor-lower, no_head_next}
 use Rattle.shard.proofs.PutInNew.{IsSound-put_in_new}
-use Rattle.shard.proofs.RoomBits.{HasRooms-new}
+use Rattle.shard.proofs.RoomBits.{HasRooms-only}
 use Rattle.shard.proofs.Tables.{HasPage-with_open_same}
 use Rattle.shard.proofs.shard.Shard.put_in_new.Goals as goal
 
@@ -27,27 +26,33 @@ put_at-requires-clause-not_worn c = ap (λ (s : SpanState). set.contains (worn_s
 pub set_at-requires : goal.set_at-requires
 set_at-requires c = subst (λ (t : TableState). HasPage t c.in_ok-page.page) (sym c.in_ok-page.ensures.ok) (HasPage-with_open_same c.self.inside.table c.in-Some.id c.in_ok-page.page)
 
-head_now : (c : goal.After-self-2-1) → c.put_at.new.self ≡ with_put (record { id = c.in-Some.id; gens = c.self.inside.gens; log = [] }) 0 c.args.value
+head_now : (c : goal.After-self-3-1) → c.put_at.new.self ≡ with_put (record { id = c.in-Some.id; gens = c.self.inside.gens; log = [] }) 0 c.args.value
 head_now c = c.in_ok-key.ensures.ok ∙ ap (λ (s : SpanState). with_put s 0 c.args.value) c.new-head.ensures
 
-abbrev made : goal.After-self-2-1 → GroupState
+abbrev made : goal.After-self-3-1 → GroupState
 made c = new_group c.in-Some.id c.self.inside.gens c.in_ok-page.page c.args.value
 
-group_now : (c : goal.After-self-2-1) → c.of-2.result ≡ made c
+group_now : (c : goal.After-self-3-1) → c.of-2.result ≡ made c
 group_now c = c.of-2.ensures ∙ rw c.of.ensures (ap (λ (head : SpanState). group_of (record { head = head; guests = [] }) c.in_ok-page.page false) (head_now c))
 
-groups_now : (c : goal.After-self-2-1) → c.push_reserved.new.self.items ≡ insert c.self.inside.groups.items (length c.self.inside.groups.items) (made c)
-groups_now c =
-    c.push_reserved.ensures.items ∙ rw (c.in_ok-reserve.ensures.items, group_now c) (sym (insert-length c.self.inside.groups.items (made c)))
+list_is : (c : goal.After-self-3-1) → c.as_slice.result.now ≡ c.self.inside.groups.items
+list_is c = c.as_slice.ensures.value ∙ c.in_ok-reserve.ensures.items
 
-table_now : (c : goal.After-self-2-1) → c.set_at.new.self ≡ with_word (with_open c.self.inside.table c.in-Some.id c.in_ok-page.page) c.in_ok-page.page 0 c.args.value
+groups_now : (c : goal.After-self-3-1) → c.insert_reserved.new.groups.items ≡ insert c.self.inside.groups.items c.lower_heads-index.result (made c)
+groups_now c = c.insert_reserved.ensures.items ∙ rw (c.in_ok-reserve.ensures.items, group_now c) refl
+
+table_now : (c : goal.After-self-3-1) → c.set_at.new.self ≡ with_word (with_open c.self.inside.table c.in-Some.id c.in_ok-page.page) c.in_ok-page.page 0 c.args.value
 table_now c = c.set_at.ensures ∙ rw c.in_ok-page.ensures.ok refl
 
-place_now : (c : goal.After-self-2-1) → IsPlaceFor c.self.inside.groups.items c.in-Some.id (length c.self.inside.groups.items)
-place_now c = IsPlaceFor-next c.self.inside.number c.self.inside.opened c.self.inside.groups.items c.self.invariant.own c.in-Some.id c.in-Some.ensures.parts.0 c.in-Some.ensures.parts.1
+lower_now : (c : goal.After-self-3-1) → IsLower c.self.inside.groups.items c.in-Some.id c.lower_heads-index.result
+lower_now c =
+    subst (λ (groups : List GroupState). IsLower groups c.in-Some.id c.lower_heads-index.result) (list_is c)
+    (record { within = c.lower_heads-index.ensures.within; lower = c.lower_heads-index.ensures.lower; others = c.lower_heads-index.ensures.others })
 
-end_is : (c : goal.After-self-2-1) → c.len.result ≡ length c.self.inside.groups.items
-end_is c = let same = ap length c.in_ok-reserve.ensures.items in omega (arith, c.len.ensures, c.reserve.new.self.ok.0)
+place_now : (c : goal.After-self-3-1) → IsPlaceFor c.self.inside.groups.items c.in-Some.id c.lower_heads-index.result
+place_now c =
+    IsPlaceFor-lower c.self.inside.groups.items c.in-Some.id c.lower_heads-index.result (lower_now c)
+    (no_head_next (state_of c.self.inside) c.self.invariant.sound c.in-Some.id c.in-Some.ensures.parts.0 c.in-Some.ensures.parts.1)
 
 pub invariant_of-self-2 : goal.invariant_of-self-2
 invariant_of-self-2 c = record {
@@ -55,14 +60,12 @@ invariant_of-self-2 c = record {
   pages_fit = c.self.invariant.pages_fit;
   gens_fit = c.self.invariant.gens_fit;
   sound = rw (groups_now c, table_now c)
-      (IsSound-put_in_new (state_of c.self.inside) c.self.invariant.sound c.in-Some.id c.in_ok-page.page (length c.self.inside.groups.items) c.args.value c.in-Some.ensures.parts.0 c.in-Some.ensures.parts.1 c.in_ok-page.ensures.new_page (place_now c)
+      (IsSound-put_in_new (state_of c.self.inside) c.self.invariant.sound c.in-Some.id c.in_ok-page.page c.lower_heads-index.result c.args.value c.in-Some.ensures.parts.0 c.in-Some.ensures.parts.1 c.in_ok-page.ensures.new_page (place_now c)
       (ap (λ (s : ShardState). s.ended) c.self.view_is ∙ c.requires.running)
       (subst (λ (s : ShardState). length s.groups < s.page_limit) (sym c.self.view_is) c.requires.pages)
       (subst (λ (s : ShardState). s.opened < 1024) (sym c.self.view_is) c.requires.opened));
-  own = rw (groups_now c)
-      (AreOwn-new c.self.inside.number c.self.inside.opened c.self.inside.groups.items c.self.invariant.own (made c)
-      (record { shard = c.in-Some.ensures.parts.0; serial = c.in-Some.ensures.parts.1; alone = refl; running = refl }));
-  rooms = rw (groups_now c, c.insert.ensures, end_is c) (HasRooms-new c.self.inside.groups.items c.self.inside.rooms c.self.invariant.rooms (made c));
+  rooms = rw (groups_now c, c.insert.ensures, c.empty-self-inside.ensures) (HasRooms-only c.self.inside.groups.items c.lower_heads-index.result (made c) (place_now c).within (subst (λ (s : ShardState). IsFull s.groups) (sym c.self.view_is) c.requires.full));
+  room_for_groups = omega (arith, c.self.invariant.room_for_groups, c.insert_reserved.ensures.len, c.insert_reserved.ensures.capacity, c.in_ok-reserve.ensures.len, c.in_ok-reserve.ensures.ok, c.in_ok-reserve.ensures.capacity, ap (λ (t : TableState). t.page_room) (table_now c));
 }
 
 pub returns-clause-ok : goal.returns-clause-ok
@@ -76,9 +79,12 @@ returns-clause-ok c =
       refl,
       (
         c.in_ok-page.page,
-        length c.self.inside.groups.items,
+        c.lower_heads-index.result,
         ap (λ (s : ShardState). map.get s.table.pages c.in_ok-page.page) (sym now) ∙ c.in_ok-page.ensures.new_page,
-        subst (λ (s : ShardState). IsPlaceFor s.groups c.in_ok-key.key.span (length c.self.inside.groups.items)) now (rw span (place_now c)),
+        subst (λ (s : ShardState). IsPlaceFor s.groups c.in_ok-key.key.span c.lower_heads-index.result) now (rw span (place_now c)),
         rw (← now, span, groups_now c, table_now c) refl,
       ),
     )
+
+pub lower_heads-index-requires : goal.lower_heads-index-requires
+lower_heads-index-requires c = rw (c.as_slice.ensures.value, c.in_ok-reserve.ensures.items) c.self.invariant.sound.ascending

@@ -1,0 +1,10 @@
+use Rattle.std.proofs.Common.{ap, subst}
+use Rattle.shard.specs.Moves.{IsHeadOf}
+use Rattle.shard.specs.State.{ShardState}
+use Rattle.shard.proofs.HeadsHere.{head_read}
+use Rattle.shard.proofs.shard.Shard.brief.Goals as goal
+
+pub returns : goal.returns
+returns c =
+    let here = head_read c.self.inside.groups.items c.args.self.now.groups (ap (λ (s : ShardState). s.groups) c.self.view_is) c.args.head c.in-Some.index c.in-Some.ensures.head c.index.result.now c.index.ensures in
+    (c.in-Some.index, c.index.result.now, subst (λ (s : ShardState). IsHeadOf s.groups c.args.head c.in-Some.index c.index.result.now) c.self.view_is here, c.brief.ensures)

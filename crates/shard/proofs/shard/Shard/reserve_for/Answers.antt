@@ -1,0 +1,18 @@
+use Rattle.std.proofs.Common.{ap, arith}
+use Rattle.page_table.specs.State.{TableState}
+use Rattle.shard.specs.Kept.{state_of}
+use Rattle.shard.proofs.MovedGroups.{IsSound-with_room}
+use Rattle.shard.proofs.shard.Shard.reserve_for.Goals as goal
+
+pub invariant_of-self-2 : goal.invariant_of-self-2
+invariant_of-self-2 c = record {
+  number_fits = c.self.invariant.number_fits;
+  pages_fit = c.self.invariant.pages_fit;
+  gens_fit = c.self.invariant.gens_fit;
+  sound = rw (c.in_ok-reserve.ensures.items, c.in_ok-reserve-2.ensures.ok) (IsSound-with_room (state_of c.self.inside) c.self.invariant.sound c.in_ok-onto.onto c.args.spans);
+  rooms = rw c.in_ok-reserve.ensures.items c.self.invariant.rooms;
+  room_for_groups = omega (arith, c.in_ok-reserve.ensures.len, c.in_ok-reserve.ensures.ok, ap (λ (t : TableState). t.page_room) c.in_ok-reserve-2.ensures.ok);
+}
+
+pub returns-clause-sound : goal.returns-clause-sound
+returns-clause-sound c = (invariant_of-self-2 c).sound

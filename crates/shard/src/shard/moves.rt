@@ -1,0 +1,141 @@
+// Groups that come and go whole.
+ghost use Rattle.std.specs.Prelude.{◌≡◌, ◌<◌, ◌≤◌, ◌-◌, [], length, true, OnOk, OnErr, IfOk, MatchOption};
+ghost use Rattle.page_table.specs.State.{HasPage};
+ghost use Rattle.shard.specs.Group.{all_spans};
+ghost use Rattle.shard.specs.Moves.{HasNoHead, HasNoMember, IsBriefHere, IsMemberAt, Lifts, MayTakeIn, TakesIn, head_among, with_mapped, with_room};
+ghost use Rattle.shard.specs.Sound.{IsSound};
+
+use super::{Shard, insert_reserved, lower_heads};
+use crate::brief::Brief;
+use crate::group::Group;
+use crate::rooms::Rooms;
+use crate::spans::Spans;
+use crate::whole::Whole;
+use page_table::{Page, Table};
+use span::SpanId;
+use std::alloc::AllocError;
+
+impl Shard {
+    /// A look at the group of the head, if the shard has it.
+    pub fn brief(&self, head: SpanId) -> Option<Brief>
+        ensures { MatchOption result (HasNoHead self.now.groups head) (IsBriefHere self.now.groups head) }
+    {
+        let Some(index) = self.find_head(head) else {
+            return None;
+        };
+        Some(self.groups[index].brief())
+    }
+
+    /// The span at the place of the head's group, 0 being the head. `None` is past the last span, and for a
+    /// head that the shard does not have.
+    pub fn span_at(&self, head: SpanId, place: usize) -> Option<SpanId>
+        ensures { MatchOption result (HasNoMember self.now.groups head place) (IsMemberAt self.now.groups head place) }
+    {
+        let Some(index) = self.find_head(head) else {
+            return None;
+        };
+        let group = &self.groups[index];
+        if place >= group.len() {
+            return None;
+        }
+        Some(group.span_at(place).id())
+    }
+
+    /// Ends it: from now on it takes no put and no group. Its groups have left before.
+    pub fn set_ended(&mut self)
+        requires { self.old.groups ≡ [] }
+        ensures ended { self.new ≡ record self.old { ended = true } }
+        ensures sound { IsSound self.new }
+    {
+        self.ended = true;
+    }
+
+    /// The group of the head leaves, with its guests and its page. `None` where the shard does not have it. It
+    /// takes no memory.
+    pub fn lift(&mut self, head: SpanId) -> Option<Whole>
+        ensures lifts { Lifts self.old head result self.new }
+        ensures sound { IsSound self.new }
+    {
+        let Some(index) = self.find_head(head) else {
+            return None;
+        };
+        let group = self.groups.remove(index);
+        let words = self.table.take_page(group.page());
+        self.rooms = Rooms::below(self.groups.len());
+        self.onto = None;
+        Some(Whole::new(group.into_spans(), Some(words)))
+    }
+
+    /// Makes room for one group of so many spans: as guests of the group of the head, where one is named that the
+    /// shard has, and else as a group of its own. It takes the place of the room that was reserved before.
+    ///
+    /// # Errors
+    ///
+    /// `AllocError` where memory is refused. The shard is then as it was.
+    pub fn reserve_for(&mut self, onto: Option<SpanId>, spans: usize) -> Result<(), AllocError>
+        ensures ok { OnOk result (self.new ≡ with_room self.old (head_among self.old.groups onto) spans) }
+        ensures err { OnErr result (self.new ≡ self.old) }
+        ensures sound { IsSound self.new }
+    {
+        let onto = self.reserve_guests(onto, spans)?;
+        self.groups.reserve(1)?;
+        self.table.reserve(1, spans)?;
+        self.onto = onto;
+        Ok(())
+    }
+
+    // Makes room for so many guests in the group of the head, and answers the head, where the shard has it.
+    fn reserve_guests(
+        &mut self,
+        onto: Option<SpanId>,
+        guests: usize,
+    ) -> Result<Option<SpanId>, AllocError>
+        ensures head { IfOk result (λ kept. kept ≡ head_among self.old.groups onto) }
+        ensures same { self.new ≡ self.old }
+        ensures sound { IsSound self.new }
+    {
+        if self.groups.is_empty() {
+            return Ok(None);
+        }
+        let Some(head) = onto else {
+            return Ok(None);
+        };
+        let Some(index) = self.find_head(head) else {
+            return Ok(None);
+        };
+        self.groups[index].reserve(guests)?;
+        Ok(Some(head))
+    }
+
+    /// Takes the group in, in reserved room, with its guests and its page. It takes no memory.
+    pub fn take_in(&mut self, whole: Whole)
+        requires { MayTakeIn self.old whole }
+        ensures takes { TakesIn self.old whole self.new }
+        ensures sound { IsSound self.new }
+    {
+        let (spans, words) = whole.into_parts();
+        let Some(words) = words else {
+            unreachable!();
+        };
+        let page = self.table.give_page(words);
+        map_all(&mut self.table, &spans, page);
+        let index = lower_heads(self.groups.as_slice(), spans.head_id());
+        insert_reserved(&mut self.groups, index, Group::of(spans, page));
+        self.rooms = Rooms::below(self.groups.len());
+        self.onto = None;
+    }
+}
+
+// Maps the spans to the page, in reserved room.
+fn map_all(table: &mut Table, spans: &Spans, page: Page)
+    requires page { HasPage table.old page }
+    requires room { length (all_spans spans.now) ≤ table.old.span_room }
+    ensures { table.new ≡ record table.old { spans = with_mapped table.old.spans (all_spans spans.now) page; span_room = table.old.span_room - length (all_spans spans.now) } }
+{
+    for place in 0..spans.len() {
+        match table.map(spans.span_at(place).id(), page) {
+            Ok(()) => {}
+            Err(_) => unreachable!(),
+        }
+    }
+}
