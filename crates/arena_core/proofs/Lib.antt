@@ -1,10 +1,9 @@
 pub mod Changes
-pub mod Fields
+pub mod Groups
 pub mod Lists
 pub mod LiveKeys
 pub mod LiveKeysShown
-pub mod Runs
+pub mod Logged
+pub mod Owners
 pub mod Shown
 pub mod Spans
-pub mod Start
-pub mod Steps

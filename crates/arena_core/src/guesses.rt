@@ -18,11 +18,9 @@ impl Guesses {
     pub fn new(alloc: Global, shards: u32) -> Result<Guesses, AllocError>
         requires { shards ≤ 64 }
     {
-        let mut guesses = Vec::with_capacity(alloc, 1024 * shards as usize)?;
-        for _ in 0..1024 * shards as usize {
-            guesses.push_reserved(None);
-        }
-        Ok(Guesses { shards: guesses })
+        Ok(Guesses {
+            shards: vec![in alloc; None; 1024 * shards as usize]?,
+        })
     }
 
     /// The shard that may have the span.
