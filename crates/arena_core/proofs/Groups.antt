@@ -56,6 +56,7 @@ pub record IsCall (before after : ShardState) : Type 0 where
   pub opened_more : before.opened ≤ after.opened
   pub spans : (id : SpanId) → times_in id after + own id before ≡ times_in id before + own id after
   pub strays_are : sum_in (strays before.gens) after ≡ sum_in (strays before.gens) before
+  pub none_lost : (id : SpanId) → times_in id before ≤ times_in id after
 
 -- the pool has the spans of before
 pub record IsPoolCall (before after : PoolState) : Type 0 where
@@ -103,6 +104,7 @@ IsCall-Puts before after value key at (running, inl (index, group, room, span_is
       let same = sum_in-with_head (named id) before after index group (with_put group.head key.slot value) room.here refl (ap (λ (s : ShardState). s.groups) after_is) in
       omega (arith, ap (own id) after_is, same);
   strays_are = sum_in-with_head (strays before.gens) before after index group (with_put group.head key.slot value) room.here refl (ap (λ (s : ShardState). s.groups) after_is);
+  none_lost = λ id. omega (arith, sum_in-with_head (named id) before after index group (with_put group.head key.slot value) room.here refl (ap (λ (s : ShardState). s.groups) after_is));
 }
 IsCall-Puts before after value key at (running, inr (full, pages, spans, (shard_is, serial_is, slot_is, generation_is, at_is, (page, index, new_page, place, after_is)))) = record {
   number_is = ap (λ (s : ShardState). s.number) after_is;
@@ -117,6 +119,7 @@ IsCall-Puts before after value key at (running, inr (full, pages, spans, (shard_
   strays_are =
       let none : sum_by (strays before.gens) (spans_of opened) ≡ 0 = strays-none before.gens (spans_of opened) alone in
       omega (arith, ap (λ (s : ShardState). sum_in (strays before.gens) s) after_is, flat-insert (strays before.gens) spans_of before.groups index opened, none);
+  none_lost = λ id. omega (arith, ap (λ (s : ShardState). sum_in (named id) s) after_is, flat-insert (named id) spans_of before.groups index opened);
 }
   where
     opened : GroupState
@@ -135,6 +138,7 @@ IsCall-Frees before after key at (index, place, group, span, here, holds, at_is,
   opened_more = omega (arith, ap (λ (s : ShardState). s.opened) after_is);
   spans = λ id. omega (arith, ap (own id) after_is, kept (named id) refl);
   strays_are = kept (strays before.gens) refl;
+  none_lost = λ id. omega (arith, kept (named id) refl);
 }
   where
     kept : (w : SpanState → ℕ) → w (with_free span key) ≡ w span → sum_in w after ≡ sum_in w before

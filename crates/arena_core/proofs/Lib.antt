@@ -1,9 +1,15 @@
 pub mod Changes
+pub mod FieldSteps
+pub mod Fields
 pub mod Groups
 pub mod Lists
 pub mod LiveKeys
 pub mod LiveKeysShown
 pub mod Logged
+pub mod Moves
 pub mod Owners
+pub mod Runs
 pub mod Shown
 pub mod Spans
+pub mod Start
+pub mod Steps

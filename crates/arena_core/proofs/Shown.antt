@@ -110,6 +110,13 @@ none_from : {X : Type 0} (o : Option X) → is_some o ≡ false → o ≡ None
 none_from None e = refl
 none_from (Some x) e = absurd cc
 
+pub has_pooled-counted : (id : SpanId) (pool : PoolState) → 1 ≤ times_pooled id pool → has_pooled id pool ≡ true
+has_pooled-counted id pool some = by_test (has_pooled id pool) refl
+  where
+    by_test : (b : Bool) → has_pooled id pool ≡ b → b ≡ true
+    by_test true e = refl
+    by_test false e = absurd (omega (arith, count_by-missed (is_named id) (pooled_spans pool.groups) (none_from _ e)))
+
 module _ (old new : CoreState) (once : (id : SpanId) → times id old ≤ 1) (once_new : (id : SpanId) → times id new ≤ 1) where
   pub IsLocal-shard : (number : ℕ) (before after : ShardState) → slice_get old.shards number ≡ Some before → new ≡ with_shard old number after → IsLocal old new (shown_by before) (shown_by after) (λ id. has_span id after)
   IsLocal-shard number before after here is = record {

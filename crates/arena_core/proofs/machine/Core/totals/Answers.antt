@@ -1,0 +1,38 @@
+use Rattle.std.proofs.Common.{◌≡◌, ap, arith, length, subst, sym, take, ◌∙◌}
+use Rattle.std.specs.Prelude.{sum_by}
+use Rattle.std.proofs.lemmas.List.{take_all}
+use Rattle.std.proofs.lemmas.List.Sums.{sum_by_more}
+use Rattle.shard.specs.State.{ShardState, live_keys}
+use Rattle.arena_core.proofs.Fields.{IsFew, IsFew-fields}
+use Rattle.arena_core.specs.Sound.{IsSound}
+use Rattle.arena_core.specs.State.{HasKeys, live_keys as core_keys, shown}
+use Rattle.arena_core.proofs.LiveKeysShown.{HasKeys-live_keys}
+use Rattle.arena_core.proofs.machine.Core.totals.Goals as goal
+
+pub overflow_add-totals : goal.overflow_add-totals
+overflow_add-totals c =
+    let few : IsFew c.loop-shard.shard-index c.shard-item.result = IsFew-fields c.self.inside c.deref-shard-items.result.now c.loop-shard.shard-index c.shard-item.result c.self.invariant c.deref-shard-items.ensures.value c.loop-shard-test.true c.shard-item.is in
+    omega (arith, few.shards, few.pages)
+
+pub overflow_add-totals-in-loop-shard : goal.overflow_add-totals-in-loop-shard
+overflow_add-totals-in-loop-shard c =
+    let few : IsFew c.loop-shard.shard-index c.shard-item.result = IsFew-fields c.self.inside c.deref-shard-items.result.now c.loop-shard.shard-index c.shard-item.result c.self.invariant c.deref-shard-items.ensures.value c.loop-shard-test.true c.shard-item.is in
+    omega (arith, few.shards, few.pages, c.live.ensures.at_most, c.loop-shard.invariant.few_keys)
+
+pub loop-shard-preserved : goal.loop-shard-preserved
+loop-shard-preserved c =
+    let few : IsFew c.loop-shard.shard-index c.shard-item.result = IsFew-fields c.self.inside c.deref-shard-items.result.now c.loop-shard.shard-index c.shard-item.result c.self.invariant c.deref-shard-items.ensures.value c.loop-shard-test.true c.shard-item.is in
+    record {
+      pages = omega (arith, sum_by_more (λ (shard : ShardState). length shard.groups) c.deref-shard-items.result.now c.loop-shard.shard-index c.shard-item.result c.loop-shard-test.true, ap (λ (shard : ShardState). length shard.groups) c.shard-item.is);
+      live = omega (arith, sum_by_more live_keys c.deref-shard-items.result.now c.loop-shard.shard-index c.shard-item.result c.loop-shard-test.true, ap live_keys c.shard-item.is);
+      few_pages = omega (arith, few.pages);
+      few_keys = omega (arith, few.pages, c.live.ensures.at_most);
+    }
+
+pub returns-clause-shown : goal.returns-clause-shown
+returns-clause-shown c =
+    let shards = c.deref-shard-items.result.now in
+    let all : take c.loop-shard.shard-index shards ≡ shards = take_all c.loop-shard.shard-index shards (omega arith) in
+    let live : c.loop-shard.totals.live ≡ core_keys c.args.self.now =
+    c.loop-shard.invariant.live ∙ ap (sum_by live_keys) (all ∙ c.deref-shard-items.ensures.value) ∙ ap core_keys c.self.view_is in
+    subst (HasKeys (shown c.args.self.now)) (sym live) (HasKeys-live_keys c.args.self.now (subst IsSound c.self.view_is c.self.invariant.sound))
