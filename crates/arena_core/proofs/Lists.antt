@@ -1,8 +1,8 @@
 -- Counts, sums and searches in lists.
-use Rattle.std.proofs.Common.{◌≡◌, ◌≢◌, ℕ, zero, suc, ◌+◌, ◌≤◌, Bool, true, false, cond, List, [], ◌∷◌, ◌++◌, refl, sym, ap, subst, ◌∙◌, arith, Option, Some, None, set, map, slice_get}
-use Rattle.std.specs.Prelude.{find, count_by, sum_by, insert, remove}
+use Rattle.std.proofs.Common.{◌≡◌, ◌≢◌, ℕ, zero, suc, ◌+◌, ◌≤◌, Bool, true, false, cond, List, [], ◌∷◌, ◌++◌, refl, sym, ap, subst, ◌∙◌, arith, Option, Some, None, set, map, slice_get, length}
+use Rattle.std.specs.Prelude.{find, filter, count_by, sum_by, insert, remove}
 use Rattle.std.specs.List.{AllByRecursion, flat_map}
-use Rattle.std.proofs.lemmas.List.Sums.{sum_by-append, sum_by-cons, sum_by-insert, sum_by-remove, sum_by-set}
+use Rattle.std.proofs.lemmas.List.Sums.{length-filter, sum_by-append, sum_by-cons, sum_by-insert, sum_by-remove, sum_by-set}
 use Rattle.std.proofs.lemmas.Option.{get_or_from_slice_get, slice_get_within}
 
 pub one_where : (b : Bool) → b ≡ true → cond {A = ℕ} b 1 0 ≡ 1
@@ -184,3 +184,10 @@ flat-remove w f xs i x here =
 pub sum_by-same : {X : Type 0} (f g : X → ℕ) (xs : List X) → ((i : ℕ) (x : X) → slice_get xs i ≡ Some x → f x ≡ g x) → sum_by f xs ≡ sum_by g xs
 sum_by-same f g [] same = refl
 sum_by-same f g (x ∷ xs) same = omega (arith, sum_by-cons f x xs, sum_by-cons g x xs, same 0 x refl, sum_by-same f g xs (λ i y here. same (suc i) y here))
+
+pub length-filter_most : {X : Type 0} (p : X → Bool) (xs : List X) → length (filter p xs) ≤ length xs
+length-filter_most {X = X} p xs = omega (arith, length-filter p xs, most xs)
+  where
+    most : (ys : List X) → count_by p ys ≤ length ys
+    most [] = omega arith
+    most (y ∷ ys) = omega (arith, count_by-cons p y ys, cond-le_one (p y), most ys)

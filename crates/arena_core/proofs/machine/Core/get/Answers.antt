@@ -1,26 +1,29 @@
-use Rattle.std.proofs.Common.{ap, sym, ◌∙◌}
-use Rattle.span.specs.declared.id.SpanId.{SpanId}
-use Rattle.arena_core.proofs.Fields.{value_of-fields, value_of-no_fields, shard-found}
-use Rattle.arena_core.proofs.Steps.{value_found-none}
+use Rattle.std.proofs.Common.{rules, ◌≡◌, ◌↔◌, ◌⊎◌, ◌<◌, ◌≤◌, ℕ, IfOk, OnOk, OnErr, IsErrOf, IsTrue, MatchOption, MatchResult, Some, None, true, false, map, length, slice_get, slice_set, ◌+◌, ◌-◌, ◌*◌, ◌/◌, ◌%◌, Bool, nat_eq, nat_lt, List, [], ◌∷◌, ◌++◌, slice_index_or, bit_and, bit_or, Fits, w8, w32, w64, Bor, MutBor}
+use Rattle.std.specs.List.{range_with_len}
+use Rattle.shard.specs.Calls.{value_found, was_freed}
+use Rattle.shard.specs.Sound.{IsSound as IsSoundShard}
+use Rattle.shard.specs.State.{ShardState}
+use Rattle.span.specs.PlainMap.{empty_map}
+use Rattle.abandoned.specs.Calls.{Adopts, HasNothingToAdopt, IsDoubled, IsInPool, Receives}
+use Rattle.abandoned.specs.Sound.{IsSound as IsSoundPool}
+use Rattle.abandoned.specs.State.{PoolState}
+use Rattle.arena_core.specs.Owner.{IsNowhere, StandsAt}
+use Rattle.arena_core.specs.Sound.{IsSound}
+use Rattle.arena_core.specs.State.{AreWithin, HasKeys, has_span, limits_of, live_keys, new_core, new_shard, pages, shown}
+use Rattle.arena_core.specs.Step.{Answers, CoreStep}
+use Rattle.arena_core.specs.Plain.{ErasedStep, PlainStep}
+use Rattle.arena_core.specs.declared.event.Event.TheVariants as event
+use Rattle.arena_core.specs.declared.reply.Reply.TheVariants as reply
 use Rattle.arena_core.proofs.machine.Core.get.Goals as goal
 
+-- src/machine.rt:211:13
+pub returns-in_default-clause-value : goal.returns-in_default-clause-value
+returns-in_default-clause-value c = ?
+
+-- src/machine.rt:205:5
 pub returns-in-Value-clause-value : goal.returns-in-Value-clause-value
-returns-in-Value-clause-value c =
-    rw (← c.self.view_is)
-    (c.in-Value.ensures.plain
-    ∙ sym (value_of-fields c.self.inside c.args.key.now c.deref.result.now c.shard.result c.in-Some.shard.now c.self.invariant c.deref.ensures.value (c.shard.ensures.value ∙ ap (λ (id : SpanId). id.shard) c.span.ensures)
-    (shard-found c.deref.result.now c.shard.result c.in-Some.shard c.in-Some.ensures.lookup)))
+returns-in-Value-clause-value c = ?
 
-pub returns-in-Gone : goal.returns-in-Gone
-returns-in-Gone c = rw (← c.self.view_is) (record {
-  value = sym (value_found-none c.get-in-Some.result c.in-Gone.is) ∙ c.get-in-Some.ensures.plain
-      ∙ sym (value_of-fields c.self.inside c.args.key.now c.deref.result.now c.shard.result c.in-Some.shard.now c.self.invariant c.deref.ensures.value (c.shard.ensures.value ∙ ap (λ (id : SpanId). id.shard) c.span.ensures)
-      (shard-found c.deref.result.now c.shard.result c.in-Some.shard c.in-Some.ensures.lookup));
-  sound = c.self.invariant.sound;
-})
-
-pub returns-in-None-clause-value : goal.returns-in-None-clause-value
-returns-in-None-clause-value c =
-    rw (← c.self.view_is)
-    (sym (value_of-no_fields c.self.inside c.args.key.now c.deref.result.now c.shard.result c.self.invariant c.deref.ensures.value (c.shard.ensures.value ∙ ap (λ (id : SpanId). id.shard) c.span.ensures)
-    (c.in-None.ensures.lookup.3)))
+-- src/machine.rt:205:5
+pub returns-in-Gone-clause-value : goal.returns-in-Gone-clause-value
+returns-in-Gone-clause-value c = ?
