@@ -1,1 +1,18 @@
-
+pub mod Freed
+pub mod HeadPlaces
+pub mod Heads
+pub mod HeadsHere
+pub mod Here
+pub mod Housed
+pub mod Inserted
+pub mod Lifted
+pub mod Moving
+pub mod Pages
+pub mod Released
+pub mod Removed
+pub mod ShownLogs
+pub mod Standing
+pub mod Started
+pub mod Tables
+pub mod TakenIn
+pub mod Together

@@ -1,5 +1,5 @@
 -- What the calls of the pool do and answer.
-use Rattle.std.specs.Prelude.{◌≡◌, ◌≢◌, ◌⊎◌, map, ℕ, ◌-◌, ◌<◌, ◌≤◌, true, false, List, [], ◌∷◌, length, insert, remove, Option, Some, None, IsSome, option_and_then, slice_get, slice_set, slice_index}
+use Rattle.std.specs.Prelude.{◌≡◌, ◌≢◌, ◌⊎◌, map, ℕ, ◌-◌, ◌<◌, ◌≤◌, true, false, List, [], ◌∷◌, length, insert, remove, Option, Some, None, IsSome, is_some, option_and_then, slice_get, slice_set, slice_index}
 use Rattle.std.specs.FinMap as finite
 use Rattle.std.specs.FinSet as set
 use Rattle.span.specs.declared.id.SpanId.{SpanId}
@@ -8,9 +8,10 @@ use Rattle.span.specs.Ids.{rank}
 use Rattle.span.specs.Log.{Holds}
 use Rattle.span.specs.State.{SpanState}
 use Rattle.page_table.specs.State.{TableState, words_of}
-use Rattle.shard.specs.Group.{GroupState, union_of, with_free}
-use Rattle.shard.specs.Moves.{WholeState, Lifts as LiftsFromShard, TakesIn as TakesInShard, spans_moved, whole_of as whole_of_shard, with_page, with_room as with_room_in, without_page}
-use Rattle.shard.specs.State.{ShardState, IsElsewhere as IsElsewhereInShard, Stands as StandsInShard}
+use Rattle.shard.specs.Group.{GroupState, IsSpanAt, spans_of as spans_in_shard, union_of, with_free}
+use Rattle.shard.specs.Moves.{IsBriefOf, WholeState, Lifts as LiftsFromShard, TakesIn as TakesInShard, spans_moved, whole_of as whole_of_shard, with_page, with_room as with_room_in, without_page}
+use Rattle.shard.specs.State.{ShardState, IsElsewhere as IsElsewhereInShard}
+use Rattle.shard.specs.declared.brief.Brief.{Brief}
 use Rattle.shard.specs.declared.shard.Found.{Found}
 use Rattle.shard.specs.declared.shard.Found.TheVariants.{Value, Gone, NotHere}
 use Rattle.shard.specs.declared.shard.Freed.{Freed}
@@ -26,6 +27,28 @@ Gets pool key (Gone at) =
     (index place : ℕ) × (group : PooledState) × (span : SpanState) × IsHere pool.groups key.span index place group span
     × (Holds span.log key.slot key.generation → ⊥) × (at ≡ length span.log)
 Gets pool key NotHere = IsElsewhere pool.groups key.span
+
+-- the group of the head, and what the brief tells of it; a group of the pool is never closed
+abbrev pub IsBriefHere : List PooledState → SpanId → Brief → Type 0
+IsBriefHere groups head brief = (index : ℕ) × (group : PooledState) × IsHeadOf groups head index group × IsBriefOf (spans_of group) (is_some group.page) false brief
+
+-- the span of this id stands at the place of the head's group
+abbrev pub IsMemberAt : List PooledState → SpanId → ℕ → SpanId → Type 0
+IsMemberAt groups head place id = (index : ℕ) × (group : PooledState) × IsHeadOf groups head index group × IsSpanAt (spans_of group) id place
+
+-- no group has the head, or its group has no such place
+abbrev pub HasNoMember : List PooledState → SpanId → ℕ → Type 0
+HasNoMember groups head place = (index : ℕ) (group : PooledState) → IsHeadOf groups head index group → length (spans_of group) ≤ place
+
+-- the table without the page of a group, if the group has one
+abbrev pub without_page_of : TableState → Option ℕ → TableState
+without_page_of table None = table
+without_page_of table (Some page) = without_page table page
+
+-- the group and the table after the group gives its page up, which it does where no slot is live
+pub record GivesUp (group : PooledState) (table : TableState) (group_now : PooledState) (table_now : TableState) : Type 0 where
+  pub emptied : union_of (spans_of group) ≡ set.empty → (group_now ≡ record group { page = None }) × (table_now ≡ without_page_of table group.page)
+  pub live : union_of (spans_of group) ≢ set.empty → (group_now ≡ group) × (table_now ≡ table)
 
 -- the pool with another group in the place of one; where the new one has no live slot, it has no page, and the old one's page goes
 pub record Leaves (old : PoolState) (index : ℕ) (group : PooledState) (new : PoolState) : Type 0 where
@@ -50,11 +73,6 @@ pub record IsPlaceFor (groups : List PooledState) (id : SpanId) (index : ℕ) : 
   pub before : (other : ℕ) (group : PooledState) → other < index → slice_get groups other ≡ Some group → rank group.head.id < rank id
   pub after : (other : ℕ) (group : PooledState) → index ≤ other → slice_get groups other ≡ Some group → rank id < rank group.head.id
 
--- the table without the page of a group, if the group has one
-abbrev pub without_page_of : TableState → Option ℕ → TableState
-without_page_of table None = table
-without_page_of table (Some page) = without_page table page
-
 -- the group of the head leaves the pool, with its page, if it has one, and its spans, and all else stays
 abbrev pub Lifts : PoolState → SpanId → Option WholeState → PoolState → Type 0
 Lifts old head None new = HasNoHead old.groups head × (new ≡ old)
@@ -65,6 +83,12 @@ Lifts old head (Some whole) new =
 -- the pool with reserved room for one group of so many spans
 abbrev pub with_room : PoolState → ℕ → PoolState
 with_room pool spans = record pool { table = record pool.table { page_room = 1; span_room = spans } }
+
+-- the pool may take the group in: its spans are not here, and there is room for it
+pub record MayTakeIn (pool : PoolState) (whole : WholeState) : Type 0 where
+  pub elsewhere : (place : ℕ) (span : SpanState) → slice_get (spans_moved whole) place ≡ Some span → IsElsewhere pool.groups span.id
+  pub page_room : 0 < pool.table.page_room
+  pub span_room : length (spans_moved whole) ≤ pool.table.span_room
 
 -- the table with one page and so many spans less of reserved room
 abbrev pub less_room : TableState → ℕ → TableState
@@ -94,21 +118,33 @@ pub record Receives (old : PoolState) (shard : ShardState) (new : PoolState) (en
   pub span_room : ℕ
   pub running : shard.ended ≡ false
   pub moved : TakesAll (with_rooms old page_room span_room) (map (whole_of_shard shard.table) shard.groups) new
-  pub after : ended ≡ record shard { ended = true; groups = []; table = record shard.table { spans = finite.empty; pages = finite.empty } }
+  pub after : ended ≡ record shard { ended = true; onto = None; groups = []; table = record shard.table { spans = finite.empty; pages = finite.empty } }
+
+-- one of the spans is among the groups already
+abbrev pub HasAny : List PooledState → List SpanState → Type 0
+HasAny groups spans = (place : ℕ) × (span : SpanState) × (slice_get spans place ≡ Some span) × (IsElsewhere groups span.id → ⊥)
 
 -- a span that would move is in the pool already
 abbrev pub IsInPool : PoolState → ShardState → Type 0
-IsInPool pool shard = (index place : ℕ) × (group : GroupState) × (span : SpanState) × StandsInShard shard.groups index place group span × (IsElsewhere pool.groups span.id → ⊥)
+IsInPool pool shard = (index : ℕ) × (group : GroupState) × (slice_get shard.groups index ≡ Some group) × HasAny pool.groups (spans_in_shard group)
 
--- the group of lowest head that has a page
-pub record IsLowestPaged (pool : PoolState) (index : ℕ) (group : PooledState) : Type 0 where
-  pub here : slice_get pool.groups index ≡ Some group
+-- the first of the groups that has a page
+pub record IsFirstPaged (groups : List PooledState) (index : ℕ) (group : PooledState) : Type 0 where
+  pub here : slice_get groups index ≡ Some group
   pub paged : IsSome group.page
-  pub lower : (other : ℕ) (before : PooledState) → other < index → slice_get pool.groups other ≡ Some before → before.page ≡ None
+  pub lower : (other : ℕ) (before : PooledState) → other < index → slice_get groups other ≡ Some before → before.page ≡ None
 
--- no group has a page
+-- the group of lowest head that has a page: groups stand by ascending head
+abbrev pub IsLowestPaged : PoolState → ℕ → PooledState → Type 0
+IsLowestPaged pool index group = IsFirstPaged pool.groups index group
+
+-- none of the groups has a page
+abbrev pub HasNoPage : List PooledState → Type 0
+HasNoPage groups = (index : ℕ) (group : PooledState) → slice_get groups index ≡ Some group → group.page ≡ None
+
+-- no group of the pool has a page
 abbrev pub HasNothingToAdopt : PoolState → Type 0
-HasNothingToAdopt pool = (index : ℕ) (group : PooledState) → slice_get pool.groups index ≡ Some group → group.page ≡ None
+HasNothingToAdopt pool = HasNoPage pool.groups
 
 -- an adoption: the pool's group of lowest head that has a page goes to the shard whole
 pub record Adopts (old : PoolState) (shard : ShardState) (head : SpanId) (new : PoolState) (adopter : ShardState) : Type 0 where
@@ -120,8 +156,10 @@ pub record Adopts (old : PoolState) (shard : ShardState) (head : SpanId) (new : 
   pub lifts : Lifts old head (Some whole) new
   pub takes_in : TakesInShard (with_room_in shard None (length (spans_moved whole))) whole adopter
 
+-- one of the spans is in the shard already, or bears its number
+abbrev pub HasDoubled : ShardState → List SpanState → Type 0
+HasDoubled shard spans = (place : ℕ) × (span : SpanState) × (slice_get spans place ≡ Some span) × ((span.id.shard ≡ shard.number) ⊎ (IsElsewhereInShard shard.groups span.id → ⊥))
+
 -- a span of the pool's lowest group that has a page is in the shard already, or bears its number
 abbrev pub IsDoubled : PoolState → ShardState → Type 0
-IsDoubled pool shard =
-    (index place : ℕ) × (group : PooledState) × (span : SpanState) × IsLowestPaged pool index group × (slice_get (spans_of group) place ≡ Some span)
-    × ((span.id.shard ≡ shard.number) ⊎ (IsElsewhereInShard shard.groups span.id → ⊥))
+IsDoubled pool shard = (index : ℕ) × (group : PooledState) × IsLowestPaged pool index group × HasDoubled shard (spans_of group)

@@ -1,5 +1,6 @@
 -- The plain map that the pool shows.
-use Rattle.std.specs.Prelude.{[]}
+use Rattle.std.specs.Prelude.{◌||◌, [], Option, None, Some}
+use Rattle.span.specs.Log.{Value}
 use Rattle.span.specs.PlainMap.{PlainMap}
 use Rattle.shard.specs.Shown.{issued_by, span_named, value_by}
 use Rattle.abandoned.specs.State.{PoolState, spans_in}
@@ -10,4 +11,17 @@ shown pool = record {
   is_issued = λ key. issued_by key (span_named (spans_in pool.groups) key.span);
   value_of = λ key. value_by pool.table key (span_named (spans_in pool.groups) key.span);
   pending = λ worker owner. [];
+}
+
+-- the first value, if there is one, and else the second
+abbrev pub first_of : Option Value → Option Value → Option Value
+first_of None other = other
+first_of (Some value) other = Some value
+
+-- what two owners show together, where no key is with both
+abbrev pub together : PlainMap → PlainMap → PlainMap
+together a b = record {
+  is_issued = λ key. a.is_issued key || b.is_issued key;
+  value_of = λ key. first_of (a.value_of key) (b.value_of key);
+  pending = a.pending;
 }

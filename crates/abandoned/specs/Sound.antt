@@ -9,7 +9,7 @@ use Rattle.span.specs.State.{SpanState}
 use Rattle.page_table.specs.State.{HasPage, TableState, is_page, words_of}
 use Rattle.shard.specs.Group.{AreApart, union_of}
 use Rattle.shard.specs.Moves.{IsSoundMoved}
-use Rattle.abandoned.specs.State.{PoolState, PooledState, Stands, paged_groups, spans_in, spans_of}
+use Rattle.abandoned.specs.State.{Ascend, PoolState, PooledState, Stands, paged_groups, spans_in, spans_of}
 
 -- the span is mapped to the page, its log is legal, and the word at each live slot is the log's value
 pub record IsSoundSpan (table : TableState) (page : ℕ) (span : SpanState) : Type 0 where
@@ -31,7 +31,7 @@ pub record IsSoundGroup (table : TableState) (group : PooledState) : Type 0 wher
 
 pub record IsSound (pool : PoolState) : Type 0 where
   -- groups stand by ascending head
-  pub ascending : (low high : ℕ) (a b : PooledState) → low < high → slice_get pool.groups low ≡ Some a → slice_get pool.groups high ≡ Some b → rank a.head.id < rank b.head.id
+  pub ascending : Ascend pool.groups
   pub groups : (index : ℕ) (group : PooledState) → slice_get pool.groups index ≡ Some group → IsSoundGroup pool.table group
   -- no span stands twice, and no page is that of two groups
   pub once : (id : SpanId) → count_by (λ span. same_span span.id id) (spans_in pool.groups) ≤ 1

@@ -6,7 +6,7 @@ use Rattle.span.specs.declared.id.SpanId.{SpanId}
 use Rattle.span.specs.Ids.{rank}
 use Rattle.span.specs.State.{SpanState}
 use Rattle.page_table.specs.State.{TableState, words_of}
-use Rattle.shard.specs.Group.{HasNoSpan, union_of}
+use Rattle.shard.specs.Group.{HasNoSpan, SpansState, union_of}
 use Rattle.shard.specs.Moves.{WholeState}
 use Rattle.shard.specs.State.{live_count}
 
@@ -20,6 +20,10 @@ pub record PooledState : Type 0 where
 pub record PoolState : Type 0 where
   pub groups : List PooledState
   pub table : TableState
+
+-- the group of the spans, on the page, if there is one
+abbrev pub group_of : SpansState → Option ℕ → PooledState
+group_of spans page = record { head = spans.head; guests = spans.guests; page = page }
 
 abbrev pub spans_of : PooledState → List SpanState
 spans_of group = group.head ∷ group.guests
@@ -55,6 +59,10 @@ pub record IsHeadOf (groups : List PooledState) (head : SpanId) (index : ℕ) (g
 -- no group has this head
 abbrev pub HasNoHead : List PooledState → SpanId → Type 0
 HasNoHead groups head = (index : ℕ) (group : PooledState) → IsHeadOf groups head index group → ⊥
+
+-- the heads ascend
+abbrev pub Ascend : List PooledState → Type 0
+Ascend groups = (low high : ℕ) (a b : PooledState) → low < high → slice_get groups low ≡ Some a → slice_get groups high ≡ Some b → rank a.head.id < rank b.head.id
 
 -- the groups that have a page
 abbrev pub paged_groups : PoolState → List PooledState

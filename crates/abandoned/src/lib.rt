@@ -23,3 +23,11 @@
 //! [`Pool::free`] answer and do what a map would (`shown` in `specs/Shown.antt`), and
 //! [`Pool::receive`] and [`Pool::adopt`] change nothing of what pool and shard show together.
 #![tactic(auto)]
+
+mod error;
+mod pool;
+mod pooled;
+mod search;
+
+pub use error::{AdoptError, ReceiveError};
+pub use pool::Pool;

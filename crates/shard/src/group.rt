@@ -3,7 +3,7 @@ ghost use Rattle.std.specs.Prelude.{[], ◌≡◌, ◌<◌, ◌≤◌, ◌+◌, 
 ghost use Rattle.std.specs.Bool.{OnTrue, OnFalse};
 ghost use Rattle.std.specs.FinSet as set;
 ghost use Rattle.span.specs.Log.{puts_of, Holds};
-ghost use Rattle.shard.specs.Group.{occupied, unusable, HasNoRoom, IsLowestUsable, IsSpanAt, HasNoSpan, spans_of, with_put, with_free, with_span, group_of};
+ghost use Rattle.shard.specs.Group.{spans_alone, occupied, unusable, HasNoRoom, IsLowestUsable, IsSpanAt, HasNoSpan, spans_of, with_put, with_free, with_span, group_of};
 ghost use Rattle.shard.specs.Moves.{IsBriefOf};
 ghost use Rattle.shard.specs.State.{live_count};
 ghost use Rattle.span.specs.State.{SpanState};
@@ -116,6 +116,13 @@ impl Group {
         ensures { result ≡ length (spans_of self.now) }
     {
         self.spans.len()
+    }
+
+    /// The head and its guests.
+    pub fn spans(&self) -> &Spans
+        ensures { result.now ≡ spans_alone self.now }
+    {
+        &self.spans
     }
 
     /// The spans, without their page.

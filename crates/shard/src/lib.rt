@@ -33,6 +33,7 @@
 mod brief;
 mod error;
 mod group;
+mod hints;
 mod rooms;
 mod shard;
 mod spans;
@@ -40,6 +41,7 @@ mod whole;
 
 pub use brief::Brief;
 pub use error::{Config, PutError};
-pub use shard::{Found, Freed, Shard};
+pub use hints::Hints;
+pub use shard::{Found, Freed, Shard, map_all};
 pub use spans::Spans;
 pub use whole::Whole;

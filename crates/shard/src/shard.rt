@@ -14,6 +14,7 @@ ghost use Rattle.shard.specs.Calls.{Ascend, Frees, Gets, IsFull, IsLowestRoom, I
 
 use crate::error::{Config, PutError};
 use crate::group::Group;
+use crate::hints::Hints;
 use crate::rooms::Rooms;
 use crate::spans::Spans;
 use bitmap::Bits256;
@@ -23,6 +24,7 @@ use std::alloc::{AllocError, Global};
 use std::marker::Model;
 
 mod moves;
+pub use moves::map_all;
 #[cfg(test)]
 mod tests;
 
@@ -61,6 +63,7 @@ pub struct Shard {
     ended: bool,
     groups: Vec<Group>,
     rooms: Rooms,
+    hints: Hints,
     table: Table,
     onto: Option<SpanId>,
 }
@@ -101,6 +104,7 @@ impl Shard {
             ended: false,
             groups: Vec::new(alloc),
             rooms: Rooms::empty(),
+            hints: Hints::new(alloc),
             table: Table::new(alloc),
             onto: None,
         })
@@ -115,7 +119,8 @@ impl Shard {
 
     /// Whether it has ended, and so takes no put.
     pub fn ended(&self) -> bool
-        ensures { result ≡ self.now.ended }
+        ensures ended { result ≡ self.now.ended }
+        ensures sound { IsSound self.now }
     {
         self.ended
     }
@@ -286,13 +291,16 @@ impl Shard {
     }
 
     // The index of a group that may have the span: its serial where the shard has all that it opened, and else
-    // where a group of this head would stand.
+    // the place of the head that a hint names for a guest, or of the span itself.
     fn guess(&self, id: SpanId) -> usize {
         let index = id.serial() as usize;
         if index < self.groups.len() && self.groups[index].head_id() == id {
             return index;
         }
-        lower_heads(self.groups.as_slice(), id)
+        match self.hints.head_of(id) {
+            Some(head) => lower_heads(self.groups.as_slice(), head),
+            None => lower_heads(self.groups.as_slice(), id),
+        }
     }
 
     // The place of the span in the group at the index, if it stands there.

@@ -1,9 +1,10 @@
 // Groups that come and go whole.
-ghost use Rattle.std.specs.Prelude.{◌≡◌, ◌<◌, ◌≤◌, ◌-◌, [], length, true, OnOk, OnErr, IfOk, MatchOption};
+ghost use Rattle.std.specs.Prelude.{◌≡◌, ◌<◌, ◌≤◌, ◌-◌, [], length, slice_get, true, IsTrue, None, Some, ◌↔◌, OnOk, OnErr, IfOk, MatchOption};
 ghost use Rattle.page_table.specs.State.{HasPage};
-ghost use Rattle.shard.specs.Group.{all_spans};
+ghost use Rattle.shard.specs.Group.{GroupState, all_spans, spans_alone};
 ghost use Rattle.shard.specs.Moves.{HasNoHead, HasNoMember, IsBriefHere, IsMemberAt, Lifts, MayTakeIn, TakesIn, head_among, with_mapped, with_room};
 ghost use Rattle.shard.specs.Sound.{IsSound};
+ghost use Rattle.shard.specs.State.{IsElsewhere};
 
 use super::{Shard, insert_reserved, lower_heads};
 use crate::brief::Brief;
@@ -41,13 +42,29 @@ impl Shard {
         Some(group.span_at(place).id())
     }
 
+    /// The spans of the group at the index, by ascending head.
+    pub fn spans_at(&self, index: usize) -> &Spans
+        requires { index < length self.now.groups }
+        ensures { (group : GroupState) → slice_get self.now.groups index ≡ Some group → result.now ≡ spans_alone group }
+    {
+        self.groups[index].spans()
+    }
+
+    /// Whether it has a span of this id.
+    pub fn has(&self, id: SpanId) -> bool
+        ensures { IsTrue result ↔ (IsElsewhere self.now.groups id → ⊥) }
+    {
+        self.find(id).is_some()
+    }
+
     /// Ends it: from now on it takes no put and no group. Its groups have left before.
     pub fn set_ended(&mut self)
         requires { self.old.groups ≡ [] }
-        ensures ended { self.new ≡ record self.old { ended = true } }
+        ensures ended { self.new ≡ record self.old { ended = true; onto = None } }
         ensures sound { IsSound self.new }
     {
         self.ended = true;
+        self.onto = None;
     }
 
     /// The group of the head leaves, with its guests and its page. `None` where the shard does not have it. It
@@ -61,9 +78,11 @@ impl Shard {
         };
         let group = self.groups.remove(index);
         let words = self.table.take_page(group.page());
+        let spans = group.into_spans();
+        self.hints.forget(&spans);
         self.rooms = Rooms::below(self.groups.len());
         self.onto = None;
-        Some(Whole::new(group.into_spans(), Some(words)))
+        Some(Whole::new(spans, Some(words)))
     }
 
     /// Makes room for one group of so many spans: as guests of the group of the head, where one is named that the
@@ -79,6 +98,7 @@ impl Shard {
     {
         let onto = self.reserve_guests(onto, spans)?;
         self.groups.reserve(1)?;
+        self.hints.reserve(spans)?;
         self.table.reserve(1, spans)?;
         self.onto = onto;
         Ok(())
@@ -119,6 +139,7 @@ impl Shard {
         };
         let page = self.table.give_page(words);
         map_all(&mut self.table, &spans, page);
+        self.hints.note(&spans);
         let index = lower_heads(self.groups.as_slice(), spans.head_id());
         insert_reserved(&mut self.groups, index, Group::of(spans, page));
         self.rooms = Rooms::below(self.groups.len());
@@ -126,8 +147,8 @@ impl Shard {
     }
 }
 
-// Maps the spans to the page, in reserved room.
-fn map_all(table: &mut Table, spans: &Spans, page: Page)
+/// Maps the spans to the page, in reserved room, which needs no memory.
+pub fn map_all(table: &mut Table, spans: &Spans, page: Page)
     requires page { HasPage table.old page }
     requires room { length (all_spans spans.now) ≤ table.old.span_room }
     ensures { table.new ≡ record table.old { spans = with_mapped table.old.spans (all_spans spans.now) page; span_room = table.old.span_room - length (all_spans spans.now) } }

@@ -11,7 +11,7 @@ use Rattle.shard.proofs.shard.Shard.lift.Goals as goal
 pub new-requires : goal.new-requires
 new-requires c =
     let head_here = head_read c.self.inside.groups.items c.args.self.now.groups (ap (λ (s : ShardState). s.groups) c.self.view_is) c.args.head c.in-Some.index c.in-Some.ensures.head c.remove-group.result c.remove-group.ensures.value in
-    rw (c.into_spans.ensures, c.take_page-words.ensures.words, c.page.ensures)
+    rw (c.into_spans-spans.ensures, c.take_page-words.ensures.words, c.page.ensures)
     (IsSoundWhole-lifted (state_of c.self.inside) c.self.invariant.sound c.in-Some.index c.remove-group.result head_here.here)
 
 pub invariant_of-self : goal.invariant_of-self
@@ -32,7 +32,7 @@ returns-clause-lifts c =
       c.in-Some.index,
       c.remove-group.result,
       subst (λ (s : ShardState). IsHeadOf s.groups c.args.head c.in-Some.index c.remove-group.result) c.self.view_is head_here,
-      c.new.ensures ∙ rw (← c.self.view_is, c.into_spans.ensures, c.take_page-words.ensures.words, c.page.ensures) refl,
+      c.new.ensures ∙ rw (← c.self.view_is, c.into_spans-spans.ensures, c.take_page-words.ensures.words, c.page.ensures) refl,
       rw (← c.self.view_is, c.remove-group.ensures.items, c.take_page-words.ensures.table, c.page.ensures) refl,
     )
 

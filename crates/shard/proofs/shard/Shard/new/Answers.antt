@@ -9,10 +9,10 @@ invariant_of-result c = record {
   number_fits = omega arith;
   pages_fit = omega arith;
   gens_fit = omega arith;
-  sound = rw (c.new.ensures.items, c.new-2.ensures) (IsSound-new c.args.number c.args.page_limit c.args.gens (omega arith));
+  sound = rw (c.new.ensures.items, c.new-3.ensures) (IsSound-new c.args.number c.args.page_limit c.args.gens (omega arith));
   rooms = rw (c.new.ensures.items, c.empty.ensures) HasRooms-empty;
-  room_for_groups = omega (arith, ap (λ (t : TableState). t.page_room) c.new-2.ensures, c.new.result.ok.1);
+  room_for_groups = omega (arith, ap (λ (t : TableState). t.page_room) c.new-3.ensures, c.new.result.ok.1);
 }
 
 pub returns-clause-sound : goal.returns-clause-sound
-returns-clause-sound c = rw (c.new.ensures.items, c.new-2.ensures) (IsSound-new c.args.number c.args.page_limit c.args.gens (omega arith))
+returns-clause-sound c = rw (c.new.ensures.items, c.new-3.ensures) (IsSound-new c.args.number c.args.page_limit c.args.gens (omega arith))

@@ -9,9 +9,9 @@ invariant_of-self-2 c = record {
   number_fits = c.self.invariant.number_fits;
   pages_fit = c.self.invariant.pages_fit;
   gens_fit = c.self.invariant.gens_fit;
-  sound = rw (c.in_ok-reserve.ensures.items, c.in_ok-reserve-2.ensures.ok) (IsSound-with_room (state_of c.self.inside) c.self.invariant.sound c.in_ok-onto.onto c.args.spans);
+  sound = rw (c.in_ok-reserve.ensures.items, c.in_ok-reserve-3.ensures.ok) (IsSound-with_room (state_of c.self.inside) c.self.invariant.sound c.in_ok-onto.onto c.args.spans);
   rooms = rw c.in_ok-reserve.ensures.items c.self.invariant.rooms;
-  room_for_groups = omega (arith, c.in_ok-reserve.ensures.len, c.in_ok-reserve.ensures.ok, ap (λ (t : TableState). t.page_room) c.in_ok-reserve-2.ensures.ok);
+  room_for_groups = omega (arith, c.in_ok-reserve.ensures.len, c.in_ok-reserve.ensures.ok, ap (λ (t : TableState). t.page_room) c.in_ok-reserve-3.ensures.ok);
 }
 
 pub returns-clause-sound : goal.returns-clause-sound

@@ -1,0 +1,196 @@
+-- A pool stays sound where it takes groups in.
+use Rattle.std.proofs.Common.{suc, ◌≡◌, ℕ, ◌+◌, ◌-◌, ◌<◌, ◌≤◌, ◌⊎◌, Bool, true, false, cond, eqb, ◌==◌, List, [], ◌∷◌, ◌++◌, length, Option, Some, None, MatchOption, is_some, slice_get, ap, sym, subst, ◌∙◌, refl, inl, inr, arith, eq-eqb}
+use Rattle.std.specs.Prelude.{◌≢◌, count_by, insert, unwrap_or}
+use Rattle.std.specs.Cmp.{nat_cmp_total, unsigned_tied}
+use Rattle.std.specs.FinMap as map
+use Rattle.std.specs.FinSet as set
+use Rattle.std.specs.Ordering.{nat_cmp}
+use Rattle.std.specs.List.{flat_map}
+use Rattle.std.specs.Option.{IsSome}
+use Rattle.bitmap.specs.Slots.{SlotSet}
+use Rattle.bitmap.specs.Words.{same_slots}
+use Rattle.span.specs.Ids.{rank, same_span}
+use Rattle.span.specs.State.{SpanState}
+use Rattle.span.specs.declared.id.SpanId.{SpanId}
+use Rattle.span.proofs.Ids.{same_id, same_id_from_test, test_from_same_id}
+use Rattle.page_table.specs.State.{TableState, is_page, words_of}
+use Rattle.shard.specs.Group.{union_of}
+use Rattle.shard.specs.Moves.{IsSoundMoved, IsSoundWhole, WholeState, spans_moved, with_page}
+use Rattle.shard.proofs.Lists.{count-append, count-none, count-some, same_some}
+use Rattle.shard.proofs.Standing.{same_rank}
+use Rattle.shard.proofs.Tables.{get-insert_other, get-insert_same}
+use Rattle.shard.proofs.Unions.{false_or_true}
+use Rattle.abandoned.specs.Calls.{IsPlaceFor, TakesAll, TakesIn, less_room, with_rooms}
+use Rattle.abandoned.specs.Sound.{IsSound, IsSoundGroup, IsSoundPaged}
+use Rattle.abandoned.specs.State.{IsElsewhere, PoolState, PooledState, spans_in, spans_of}
+use Rattle.abandoned.proofs.Inserted.{IsSound-inserted, IsTableWith}
+use Rattle.abandoned.proofs.Pages.{from-is_page, sound_paged}
+use Rattle.abandoned.proofs.Standing.{count-spans_insert, elsewhere-times, times}
+use Rattle.abandoned.proofs.Tables.{get-with_mapped_in, get-with_mapped_out, with_mapped-was}
+
+-- a set has no member, or some
+pub empty_or_not : (s : SlotSet) → (s ≡ set.empty) ⊎ (s ≢ set.empty)
+empty_or_not s = by_items (set.items s) (same_slots _ _ (λ q. set.contains-from_list nat_cmp_total (set.items s) q ∙ sym (set.contains-items s q)))
+  where
+    by_items : (ks : List ℕ) → set.from_list ks ≡ s → (s ≡ set.empty) ⊎ (s ≢ set.empty)
+    by_items [] is = inl (sym is)
+    by_items (k ∷ ks) is = inr (λ none.
+        let inside : set.contains (set.from_list {R = nat_cmp} (k ∷ ks)) k ≡ true = set.contains-insert nat_cmp_total (set.from_list ks) k k ∙ rw (unsigned_tied k k, eq-eqb k k refl) refl in
+        let e : true ≡ false = sym inside ∙ ap (λ x. set.contains x k) (is ∙ none) ∙ set.contains-empty nat_cmp k in
+        cc)
+
+-- the group as it stands in the pool
+abbrev pub pooled : WholeState → Option ℕ → PooledState
+pooled whole page = record { head = whole.head; guests = whole.guests; page = page }
+
+abbrev IsElsewhereWhole : PoolState → WholeState → Type 0
+IsElsewhereWhole pool whole = (place : ℕ) (span : SpanState) → slice_get (spans_moved whole) place ≡ Some span → IsElsewhere pool.groups span.id
+
+module _ (old : PoolState) (sound : IsSound old) (whole : WholeState) (fits : IsSoundWhole whole) (elsewhere : IsElsewhereWhole old whole) where
+  -- where no slot is live
+  table_without : union_of (spans_moved whole) ≡ set.empty → IsTableWith old (pooled whole None) (less_room old.table (length (spans_moved whole)))
+  table_without none = record {
+    here = record { apart = fits.apart; legal = fits.legal; page = none };
+    others = λ index other there. record { page = λ page is. refl; spans = λ page is place span at. refl };
+    own_page = λ page is. absurd cc;
+    only = λ number page is. inl is;
+    pages = omega arith;
+  }
+
+  -- where one is, on a page that no group has
+  module _ (live : union_of (spans_moved whole) ≢ set.empty) (words : List ℕ) (words_are : whole.words ≡ Some words) (page : ℕ) (fresh : map.get old.table.pages page ≡ None) where
+    abbrev table : TableState
+    table = with_page old.table (spans_moved whole) page words
+
+    none_has : {X : Type 0} {x : X} → None ≡ Some x → ⊥
+    none_has e = cc
+
+    -- no group had the page
+    not_of_group : (index : ℕ) (g : PooledState) → slice_get old.groups index ≡ Some g → g.page ≡ Some page → ⊥
+    not_of_group index g there is = let e : is_some (map.get old.table.pages page) ≡ true = (sound_paged old sound index g there page is).has_page in let f : false ≡ true = ap (λ (o : Option (List ℕ)). is_some o) (sym fresh) ∙ e in cc
+
+    words_here : (length words ≡ 256) × ((place : ℕ) (span : SpanState) → slice_get (spans_moved whole) place ≡ Some span → IsSoundMoved words span)
+    words_here = subst (λ (o : Option (List ℕ)). MatchOption o (union_of (spans_moved whole) ≡ set.empty) (λ ws. (length ws ≡ 256) × ((place : ℕ) (span : SpanState) → slice_get (spans_moved whole) place ≡ Some span → IsSoundMoved ws span))) words_are fits.words
+
+    get_page : map.get table.pages page ≡ Some words
+    get_page = get-insert_same old.table.pages page words
+
+    words_now : words_of table page ≡ words
+    words_now = ap (λ (o : Option (List ℕ)). unwrap_or o []) get_page
+
+    table_with : IsTableWith old (pooled whole (Some page)) table
+    table_with = record {
+      here = record {
+        apart = fits.apart;
+        legal = fits.legal;
+        page = record {
+          has_page = subst IsSome (sym get_page) refl;
+          whole = ap length words_now ∙ words_here.0;
+          spans = λ place span at. record { mapped = get-with_mapped_in (spans_moved whole) old.table.spans page place span at; kept = subst (λ ws. IsSoundMoved ws span) (sym words_now) (words_here.1 place span at) };
+          live = live;
+        };
+      };
+      others = λ index other there. record {
+        page = λ q is. get-insert_other old.table.pages page words q (λ same. not_of_group index other there (is ∙ ap Some same));
+        spans = λ q is place span at. get-with_mapped_out (spans_moved whole) old.table.spans page (rank span.id) (λ place' moved at' same.
+            let parts = same_rank moved.id span.id same in
+            elsewhere place' moved at' index other there place (span, at, same_id span.id moved.id (sym parts.0) (sym parts.1)));
+      };
+      own_page = λ q is. count-none (λ (g : PooledState). is_page g.page q) old.groups (λ index g there. false_or_true (is_page g.page q) (λ its. not_of_group index g there (from-is_page g.page q its ∙ sym is)));
+      only = λ number q is. elim (with_mapped-was (spans_moved whole) old.table.spans page number q is) [
+        | inl before ↦ inl before
+        | inr (same, place, span, at, named) ↦ inr (ap Some same, place, span, at, named)
+      ];
+      pages = map.len-insert nat_cmp_total old.table.pages page words ∙ ap (λ (o : Option (List ℕ)). cond (is_some o) (map.len old.table.pages) (map.len old.table.pages + 1)) fresh ∙ omega arith;
+    }
+
+  -- the group stands in the pool as one with a page or without
+  pub record IsIn (new : PoolState) (index : ℕ) (page : Option ℕ) : Type 0 where
+    pub sound_now : IsSound new
+    pub groups_are : new.groups ≡ insert old.groups index (pooled whole page)
+
+  pub is_in-TakesIn : (new : PoolState) (takes : TakesIn old whole new) → (page : Option ℕ) × IsIn new takes.index page
+  is_in-TakesIn new takes = elim (empty_or_not (union_of (spans_moved whole))) [
+    | inl none ↦
+        let is = takes.emptied none in (
+          None,
+          record {
+            sound_now = subst IsSound (sym is) (IsSound-inserted old sound (pooled whole None) takes.index takes.place (less_room old.table (length (spans_moved whole))) (table_without none) fits.once elsewhere);
+            groups_are = ap (λ (p : PoolState). p.groups) is;
+          },
+        )
+    | inr live ↦
+        let its = takes.live live in (
+          Some its.0,
+          record {
+            sound_now = subst IsSound (sym its.4)
+            (IsSound-inserted old sound (pooled whole (Some its.0)) takes.index takes.place (with_page old.table (spans_moved whole) its.0 its.1) (table_with live its.1 its.3 its.0 its.2) fits.once elsewhere);
+            groups_are = ap (λ (p : PoolState). p.groups) its.4;
+          },
+        )
+  ]
+
+pub IsSound-TakesIn : (old new : PoolState) (whole : WholeState) → IsSound old → IsSoundWhole whole → IsElsewhereWhole old whole → TakesIn old whole new → IsSound new
+IsSound-TakesIn old new whole sound fits elsewhere takes = (is_in-TakesIn old sound whole fits elsewhere new takes).1.sound_now
+
+-- each id stands as often as in the pool before and in the group
+pub times-TakesIn : (old new : PoolState) (whole : WholeState) → IsSound old → IsSoundWhole whole → IsElsewhereWhole old whole → TakesIn old whole new
+    → (id : SpanId) → times id (spans_in new.groups) ≡ times id (spans_moved whole) + times id (spans_in old.groups)
+times-TakesIn old new whole sound fits elsewhere takes id =
+    let its = is_in-TakesIn old sound whole fits elsewhere new takes in
+    ap (λ gs. times id (spans_in gs)) its.1.groups_are ∙ count-spans_insert (λ (s : SpanState). same_span s.id id) old.groups takes.index (pooled whole its.0)
+
+-- the pool is sound whatever room it has
+pub IsSound-with_rooms : (pool : PoolState) (pages spans : ℕ) → IsSound pool → IsSound (with_rooms pool pages spans)
+IsSound-with_rooms pool pages spans sound = record {
+  ascending = sound.ascending;
+  groups = λ index group there. same_group group (sound.groups index group there);
+  once = sound.once;
+  own_page = sound.own_page;
+  only = sound.only;
+  pages = sound.pages;
+}
+  where
+    same_group : (group : PooledState) → IsSoundGroup pool.table group → IsSoundGroup (with_rooms pool pages spans).table group
+    same_group group was = record { apart = was.apart; legal = was.legal; page = by_page group.page was.page }
+      where
+        by_page : (o : Option ℕ) → MatchOption o (union_of (spans_of group) ≡ set.empty) (IsSoundPaged pool.table group) → MatchOption o (union_of (spans_of group) ≡ set.empty) (IsSoundPaged (with_rooms pool pages spans).table group)
+        by_page None m = m
+        by_page (Some page) m = record { has_page = m.has_page; whole = m.whole; spans = λ place span here. let s = m.spans place span here in record { mapped = s.mapped; kept = s.kept }; live = m.live }
+
+-- several groups, one after another
+
+abbrev pub AreSound : List WholeState → Type 0
+AreSound wholes = (at : ℕ) (whole : WholeState) → slice_get wholes at ≡ Some whole → IsSoundWhole whole
+
+-- no span stands twice among the pool's and those of the groups
+abbrev pub AreOnce : PoolState → List WholeState → Type 0
+AreOnce pool wholes = (id : SpanId) → times id (flat_map spans_moved wholes) + times id (spans_in pool.groups) ≤ 1
+
+pub elsewhere_first : (pool : PoolState) (whole : WholeState) (wholes : List WholeState) → AreOnce pool (whole ∷ wholes) → IsElsewhereWhole pool whole
+elsewhere_first pool whole wholes once place span here = elsewhere-times pool.groups span.id (
+    let most = once span.id in
+    let both = count-append (λ (s : SpanState). same_span s.id span.id) (spans_moved whole) (flat_map spans_moved wholes) in
+    let some = count-some (λ (s : SpanState). same_span s.id span.id) (spans_moved whole) place span here (test_from_same_id span.id span.id refl) in
+    omega arith)
+
+pub once_after : (old mid : PoolState) (whole : WholeState) (wholes : List WholeState) → IsSound old → IsSoundWhole whole → AreOnce old (whole ∷ wholes) → TakesIn old whole mid → AreOnce mid wholes
+once_after old mid whole wholes sound fits once takes id =
+    let most = once id in
+    let both = count-append (λ (s : SpanState). same_span s.id id) (spans_moved whole) (flat_map spans_moved wholes) in
+    let now = times-TakesIn old mid whole sound fits (elsewhere_first old whole wholes once) takes id in
+    omega arith
+
+pub IsSound-TakesAll : (wholes : List WholeState) (old new : PoolState) → IsSound old → AreSound wholes → AreOnce old wholes → TakesAll old wholes new → IsSound new
+IsSound-TakesAll [] old new sound fits once same = subst IsSound (sym same) sound
+IsSound-TakesAll (whole ∷ wholes) old new sound fits once (mid, takes, rest) =
+    let first = fits 0 whole refl in
+    IsSound-TakesAll wholes mid new (IsSound-TakesIn old mid whole sound first (elsewhere_first old whole wholes once) takes) (λ at other there. fits (suc at) other there) (once_after old mid whole wholes sound first once takes) rest
+
+-- where a slot is live, the group came with a page
+pub words_if_live : (whole : WholeState) → IsSoundWhole whole → union_of (spans_moved whole) ≢ set.empty → IsSome whole.words
+words_if_live whole fits live = by_words whole.words fits.words
+  where
+    by_words : (o : Option (List ℕ)) → MatchOption o (union_of (spans_moved whole) ≡ set.empty) (λ words. (length words ≡ 256) × ((place : ℕ) (span : SpanState) → slice_get (spans_moved whole) place ≡ Some span → IsSoundMoved words span)) → IsSome o
+    by_words None none = absurd (live none)
+    by_words (Some words) its = refl

@@ -1,0 +1,254 @@
+-- What pool and shard show together stays as groups move between them.
+use Rattle.std.proofs.Common.{suc, ◌≡◌, ℕ, ◌+◌, ◌≤◌, ◌⊎◌, Bool, true, false, cond, ◌||◌, List, [], ◌∷◌, ◌++◌, append_assoc, Option, Some, None, map, ap, sym, subst, ◌∙◌, refl, inl, inr, arith}
+use Rattle.std.specs.Prelude.{count_by, find, insert, remove}
+use Rattle.std.specs.List.{flat_map}
+use Rattle.std.proofs.lemmas.Bool.{cases_eq}
+use Rattle.std.proofs.lemmas.Grind.{flat_map-append}
+use Rattle.span.specs.Ids.{same_span}
+use Rattle.span.specs.Log.{Value}
+use Rattle.span.specs.PlainMap.{PlainMap}
+use Rattle.span.specs.State.{SpanState}
+use Rattle.span.specs.declared.id.SpanId.{SpanId}
+use Rattle.span.specs.declared.key.Key.{Key}
+use Rattle.page_table.specs.State.{TableState}
+use Rattle.shard.specs.Group.{GroupState}
+use Rattle.shard.specs.Moves.{TakesIn as TakesInShard, WholeState, spans_moved, whole_of as whole_of_shard, with_room as with_room_in}
+use Rattle.shard.specs.Shown.{issued_by, shown as shown_by_shard, span_named}
+use Rattle.shard.specs.Sound.{IsSound as IsSoundShard}
+use Rattle.shard.specs.State.{ShardState, spans_in as spans_in_shard}
+use Rattle.shard.proofs.Lists.{count-append, find-none, part_at}
+use Rattle.shard.proofs.Logged.{logged, logged_by, same_plain_map}
+use Rattle.shard.proofs.MovedGroups.{spans_in-TakesIn}
+use Rattle.shard.proofs.ShownLogs.{shown-logged as shown-logged_shard}
+use Rattle.abandoned.specs.Calls.{Lifts, TakesAll, TakesIn, with_rooms}
+use Rattle.abandoned.specs.Shown.{first_of, shown, together}
+use Rattle.abandoned.specs.Sound.{IsSound}
+use Rattle.abandoned.specs.State.{PoolState, PooledState, spans_in, spans_of}
+use Rattle.abandoned.proofs.Removed.{cut_at}
+use Rattle.abandoned.proofs.ShownLogs.{nothing_pending, shown-logged}
+use Rattle.abandoned.proofs.Standing.{times}
+use Rattle.abandoned.proofs.TakenIn.{AreOnce, AreSound, IsSound-TakesAll, IsSound-TakesIn, elsewhere_first, is_in-TakesIn, once_after, pooled}
+
+-- the first span, if there is one, and else the second
+abbrev first_span : Option SpanState → Option SpanState → Option SpanState
+first_span None other = other
+first_span (Some span) other = Some span
+
+first_span-none : (o : Option SpanState) → first_span o None ≡ o
+first_span-none None = refl
+first_span-none (Some span) = refl
+
+named-append : (xs ys : List SpanState) (id : SpanId) → span_named (xs ++ ys) id ≡ first_span (span_named xs id) (span_named ys id)
+named-append [] ys id = refl
+named-append (x ∷ xs) ys id = by_test (same_span x.id id) (named-append xs ys id)
+  where
+    by_test : (b : Bool) → span_named (xs ++ ys) id ≡ first_span (span_named xs id) (span_named ys id) → cond b (Some x) (span_named (xs ++ ys) id) ≡ first_span (cond b (Some x) (span_named xs id)) (span_named ys id)
+    by_test true rest = refl
+    by_test false rest = rest
+
+none_named : (xs : List SpanState) (id : SpanId) → times id xs ≡ 0 → span_named xs id ≡ None
+none_named xs id none = find-none (λ (s : SpanState). same_span s.id id) xs none
+
+times-append : (id : SpanId) (xs ys : List SpanState) → times id (xs ++ ys) ≡ times id xs + times id ys
+times-append id xs ys = count-append (λ (s : SpanState). same_span s.id id) xs ys
+
+-- a span that is among those in the middle is found there, and one that is not is found without them
+module _ (left middle right : List SpanState) (id : SpanId) (once : times id (left ++ (middle ++ right)) ≤ 1) where
+  parts : times id (left ++ (middle ++ right)) ≡ times id left + (times id middle + times id right)
+  parts = times-append id left (middle ++ right) ∙ ap (λ n. times id left + n) (times-append id middle right)
+
+  pub named-without_middle : times id middle ≡ 0 → span_named (left ++ (middle ++ right)) id ≡ span_named (left ++ right) id
+  named-without_middle none =
+      named-append left (middle ++ right) id
+      ∙ ap (first_span (span_named left id)) (named-append middle right id ∙ ap (λ o. first_span o (span_named right id)) (none_named middle id none))
+      ∙ sym (named-append left right id)
+
+  pub named-middle : (times id middle ≡ 0 → ⊥) → (span_named (left ++ (middle ++ right)) id ≡ span_named middle id) × (span_named (left ++ right) id ≡ None)
+  named-middle some =
+      let whole = parts in
+      let no_left : span_named left id ≡ None = none_named left id (omega arith) in
+      let no_right : span_named right id ≡ None = none_named right id (omega arith) in (
+        named-append left (middle ++ right) id
+        ∙ ap (λ o. first_span o (span_named (middle ++ right) id)) no_left
+        ∙ named-append middle right id ∙ ap (first_span (span_named middle id)) no_right ∙ first_span-none (span_named middle id),
+        named-append left right id ∙ ap (λ o. first_span o (span_named right id)) no_left ∙ no_right,
+      )
+
+-- the lists find the same spans
+abbrev pub Alike : List SpanState → List SpanState → Type 0
+Alike xs ys = (id : SpanId) → span_named xs id ≡ span_named ys id
+
+Alike-after : (zs xs ys : List SpanState) → Alike xs ys → Alike (zs ++ xs) (zs ++ ys)
+Alike-after zs xs ys same id = named-append zs xs id ∙ ap (first_span (span_named zs id)) (same id) ∙ sym (named-append zs ys id)
+
+-- spans that stand once may be moved to the front
+Alike-front : (left middle right : List SpanState) → ((id : SpanId) → times id (left ++ (middle ++ right)) ≤ 1) → Alike (left ++ (middle ++ right)) (middle ++ (left ++ right))
+Alike-front left middle right once id = elim (cases_eq (times id middle) 0) [
+  | inl none ↦ named-without_middle left middle right id (once id) none ∙ sym (named-append middle (left ++ right) id ∙ ap (λ o. first_span o (span_named (left ++ right) id)) (none_named middle id none))
+  | inr some ↦
+      let found = named-middle left middle right id (once id) some in
+      found.0 ∙ sym (named-append middle (left ++ right) id ∙ ap (first_span (span_named middle id)) found.1 ∙ first_span-none (span_named middle id))
+]
+
+logged-alike : (xs ys : List SpanState) → Alike xs ys → logged xs nothing_pending ≡ logged ys nothing_pending
+logged-alike xs ys same = same_plain_map _ _ (λ key. ap (issued_by key) (same key.span)) (λ key. ap (logged_by key) (same key.span)) (λ worker owner. refl)
+
+or_false : (b : Bool) → (b || false) ≡ b
+or_false true = refl
+or_false false = refl
+
+first_of-none : (o : Option Value) → first_of o None ≡ o
+first_of-none None = refl
+first_of-none (Some value) = refl
+
+-- two lists show together what one after the other shows
+logged-together : (xs ys : List SpanState) → ((id : SpanId) → times id xs + times id ys ≤ 1) → together (logged xs nothing_pending) (logged ys nothing_pending) ≡ logged (xs ++ ys) nothing_pending
+logged-together xs ys once = same_plain_map _ _ (λ key. issued key) (λ key. value key) (λ worker owner. refl)
+  where
+    either : (id : SpanId) → (span_named xs id ≡ None) ⊎ (span_named ys id ≡ None)
+    either id = elim (cases_eq (times id xs) 0) [
+      | inl none ↦ inl (none_named xs id none)
+      | inr some ↦ inr (none_named ys id (let most = once id in omega arith))
+    ]
+
+    issued : (key : Key) → (issued_by key (span_named xs key.span) || issued_by key (span_named ys key.span)) ≡ issued_by key (span_named (xs ++ ys) key.span)
+    issued key = elim (either key.span) [
+      | inl none ↦ ap (λ o. issued_by key o || issued_by key (span_named ys key.span)) none ∙ ap (issued_by key) (sym (named-append xs ys key.span ∙ ap (λ o. first_span o (span_named ys key.span)) none))
+      | inr none ↦
+          ap (λ o. issued_by key (span_named xs key.span) || issued_by key o) none ∙ or_false _
+          ∙ ap (issued_by key) (sym (named-append xs ys key.span ∙ ap (first_span (span_named xs key.span)) none ∙ first_span-none (span_named xs key.span)))
+    ]
+
+    value : (key : Key) → first_of (logged_by key (span_named xs key.span)) (logged_by key (span_named ys key.span)) ≡ logged_by key (span_named (xs ++ ys) key.span)
+    value key = elim (either key.span) [
+      | inl none ↦ ap (λ o. first_of (logged_by key o) (logged_by key (span_named ys key.span))) none ∙ ap (logged_by key) (sym (named-append xs ys key.span ∙ ap (λ o. first_span o (span_named ys key.span)) none))
+      | inr none ↦
+          ap (λ o. first_of (logged_by key (span_named xs key.span)) (logged_by key o)) none ∙ first_of-none _
+          ∙ ap (logged_by key) (sym (named-append xs ys key.span ∙ ap (first_span (span_named xs key.span)) none ∙ first_span-none (span_named xs key.span)))
+    ]
+
+-- an adoption
+
+-- where spans move from one list to another, both show together what they showed
+module _ (left moved right fore aft : List SpanState) (once_here : (id : SpanId) → times id (left ++ (moved ++ right)) ≤ 1) (once_there : (id : SpanId) → times id (fore ++ (moved ++ aft)) ≤ 1) where
+  abbrev was_here : List SpanState
+  was_here = left ++ (moved ++ right)
+
+  abbrev is_there : List SpanState
+  is_there = fore ++ (moved ++ aft)
+
+  pub together-moved : together (logged (left ++ right) nothing_pending) (logged (fore ++ (moved ++ aft)) nothing_pending) ≡ together (logged (left ++ (moved ++ right)) nothing_pending) (logged (fore ++ aft) nothing_pending)
+  together-moved = same_plain_map _ _ (λ key. issued key) (λ key. value key) (λ worker owner. refl)
+    where
+      issued : (key : Key) → (issued_by key (span_named (left ++ right) key.span) || issued_by key (span_named is_there key.span)) ≡ (issued_by key (span_named was_here key.span) || issued_by key (span_named (fore ++ aft) key.span))
+      issued key = elim (cases_eq (times key.span moved) 0) [
+        | inl none ↦
+            ap (λ o. issued_by key o || issued_by key (span_named is_there key.span)) (sym (named-without_middle left moved right key.span (once_here key.span) none))
+            ∙ ap (λ o. issued_by key (span_named was_here key.span) || issued_by key o) (named-without_middle fore moved aft key.span (once_there key.span) none)
+        | inr some ↦
+            let here = named-middle left moved right key.span (once_here key.span) some in
+            let there = named-middle fore moved aft key.span (once_there key.span) some in
+            ap (λ o. issued_by key o || issued_by key (span_named is_there key.span)) here.1
+            ∙ ap (issued_by key) (there.0 ∙ sym here.0)
+            ∙ sym (ap (λ o. issued_by key (span_named was_here key.span) || issued_by key o) there.1 ∙ or_false _)
+      ]
+
+      value : (key : Key) → first_of (logged_by key (span_named (left ++ right) key.span)) (logged_by key (span_named is_there key.span)) ≡ first_of (logged_by key (span_named was_here key.span)) (logged_by key (span_named (fore ++ aft) key.span))
+      value key = elim (cases_eq (times key.span moved) 0) [
+        | inl none ↦
+            ap (λ o. first_of (logged_by key o) (logged_by key (span_named is_there key.span))) (sym (named-without_middle left moved right key.span (once_here key.span) none))
+            ∙ ap (λ o. first_of (logged_by key (span_named was_here key.span)) (logged_by key o)) (named-without_middle fore moved aft key.span (once_there key.span) none)
+        | inr some ↦
+            let here = named-middle left moved right key.span (once_here key.span) some in
+            let there = named-middle fore moved aft key.span (once_there key.span) some in
+            ap (λ o. first_of (logged_by key o) (logged_by key (span_named is_there key.span))) here.1
+            ∙ ap (logged_by key) (there.0 ∙ sym here.0)
+            ∙ sym (ap (λ o. first_of (logged_by key (span_named was_here key.span)) (logged_by key o)) there.1 ∙ first_of-none _)
+      ]
+
+-- after a lift the spans are the old ones without the group's
+pub spans_in-Lifts : (old new : PoolState) (head : SpanId) (whole : WholeState) → Lifts old head (Some whole) new
+    → (left : List SpanState) × (right : List SpanState) × (spans_in old.groups ≡ left ++ (spans_moved whole ++ right)) × (spans_in new.groups ≡ left ++ right)
+spans_in-Lifts old new head whole (index, group, at, whole_is, new_is) =
+    let cut = cut_at old.groups index group at.here in (
+      spans_in cut.left,
+      spans_in cut.right,
+      ap spans_in cut.whole ∙ flat_map-append spans_of cut.left (group ∷ cut.right) ∙ ap (λ (w : WholeState). spans_in cut.left ++ (spans_moved w ++ spans_in cut.right)) (sym whole_is),
+      ap (λ (p : PoolState). spans_in p.groups) new_is ∙ ap spans_in cut.rest ∙ flat_map-append spans_of cut.left cut.right,
+    )
+
+pub together-Adopts : (old new : PoolState) (shard adopter : ShardState) (head : SpanId) (whole : WholeState) (spans : ℕ) → IsSound old → IsSound new → IsSoundShard shard → IsSoundShard adopter
+    → Lifts old head (Some whole) new → TakesInShard (with_room_in shard None spans) whole adopter
+    → together (shown new) (shown_by_shard adopter) ≡ together (shown old) (shown_by_shard shard)
+together-Adopts old new shard adopter head whole spans sound sound_new sound_shard sound_adopter lifts takes =
+    let out = spans_in-Lifts old new head whole lifts in
+    let into = spans_in-TakesIn (with_room_in shard None spans) adopter whole takes in
+    let here : (id : SpanId) → times id (out.0 ++ (spans_moved whole ++ out.1)) ≤ 1 = λ id. subst (λ xs. times id xs ≤ 1) out.2 (sound.once id) in
+    let there : (id : SpanId) → times id (into.left ++ (spans_moved whole ++ into.right)) ≤ 1 = λ id. subst (λ xs. times id xs ≤ 1) into.with_is (sound_adopter.once id) in
+    ap (λ m. together m (shown_by_shard adopter)) (shown-logged new sound_new ∙ ap (λ xs. logged xs nothing_pending) out.3)
+    ∙ ap (together (logged (out.0 ++ out.1) nothing_pending)) (shown-logged_shard adopter sound_adopter ∙ ap (λ xs. logged xs nothing_pending) into.with_is)
+    ∙ together-moved out.0 (spans_moved whole) out.1 into.left into.right here there
+    ∙ sym (ap (λ m. together m (shown_by_shard shard)) (shown-logged old sound ∙ ap (λ xs. logged xs nothing_pending) out.2)
+    ∙ ap (together (logged (out.0 ++ (spans_moved whole ++ out.1)) nothing_pending)) (shown-logged_shard shard sound_shard ∙ ap (λ xs. logged xs nothing_pending) into.without_is))
+
+-- the end of a shard
+
+Alike-TakesIn : (old new : PoolState) (whole : WholeState) (wholes : List WholeState) → IsSound old → AreSound (whole ∷ wholes) → AreOnce old (whole ∷ wholes) → TakesIn old whole new → Alike (spans_in new.groups) (spans_moved whole ++ spans_in old.groups)
+Alike-TakesIn old new whole wholes sound fits once takes id =
+    let its = is_in-TakesIn old sound whole (fits 0 whole refl) (elsewhere_first old whole wholes once) new takes in
+    let part = part_at old.groups takes.index in
+    let was : spans_in old.groups ≡ spans_in part.left ++ spans_in part.right = ap spans_in part.whole ∙ flat_map-append spans_of part.left part.right in
+    let is : spans_in new.groups ≡ spans_in part.left ++ (spans_moved whole ++ spans_in part.right) =
+    ap spans_in (its.1.groups_are ∙ part.after_insert (pooled whole its.0)) ∙ flat_map-append spans_of part.left (pooled whole its.0 ∷ part.right) in
+    let now : (other : SpanId) → times other (spans_in part.left ++ (spans_moved whole ++ spans_in part.right)) ≤ 1 = λ other. subst (λ xs. times other xs ≤ 1) is (its.1.sound_now.once other) in
+    ap (λ xs. span_named xs id) is ∙ Alike-front (spans_in part.left) (spans_moved whole) (spans_in part.right) now id ∙ ap (λ xs. span_named (spans_moved whole ++ xs) id) (sym was)
+
+pub Alike-TakesAll : (wholes : List WholeState) (old new : PoolState) → IsSound old → AreSound wholes → AreOnce old wholes → TakesAll old wholes new → Alike (spans_in new.groups) (flat_map spans_moved wholes ++ spans_in old.groups)
+Alike-TakesAll [] old new sound fits once same id = ap (λ (p : PoolState). span_named (spans_in p.groups) id) same
+Alike-TakesAll (whole ∷ wholes) old new sound fits once (mid, takes, rest) id =
+    let first = fits 0 whole refl in
+    let others : List SpanState = flat_map spans_moved wholes in
+    let sound_mid = IsSound-TakesIn old mid whole sound first (elsewhere_first old whole wholes once) takes in
+    let later = Alike-TakesAll wholes mid new sound_mid (λ at other there. fits (suc at) other there) (once_after old mid whole wholes sound first once takes) rest in
+    let total : (other : SpanId) → times other (others ++ (spans_moved whole ++ spans_in old.groups)) ≤ 1 =
+    λ other. let most = once other in omega (arith, times-append other others (spans_moved whole ++ spans_in old.groups), times-append other (spans_moved whole) (spans_in old.groups), times-append other (spans_moved whole) others) in
+    later id
+    ∙ Alike-after others (spans_in mid.groups) (spans_moved whole ++ spans_in old.groups) (Alike-TakesIn old mid whole wholes sound fits once takes) id
+    ∙ Alike-front others (spans_moved whole) (spans_in old.groups) total id
+    ∙ ap (λ xs. span_named xs id) (sym (append_assoc (spans_moved whole) others (spans_in old.groups)))
+
+-- lists that have no span in common may change places
+Alike-swap : (xs ys : List SpanState) → ((id : SpanId) → times id xs + times id ys ≤ 1) → Alike (xs ++ ys) (ys ++ xs)
+Alike-swap xs ys once id = elim (cases_eq (times id ys) 0) [
+  | inl none ↦
+      let nothing = none_named ys id none in
+      named-append xs ys id ∙ ap (first_span (span_named xs id)) nothing ∙ first_span-none _ ∙ sym (named-append ys xs id ∙ ap (λ o. first_span o (span_named xs id)) nothing)
+  | inr some ↦
+      let nothing = none_named xs id (let most = once id in omega arith) in
+      named-append xs ys id ∙ ap (λ o. first_span o (span_named ys id)) nothing ∙ sym (named-append ys xs id ∙ ap (first_span (span_named ys id)) nothing ∙ first_span-none _)
+]
+
+-- the spans of the groups on their way are those of the shard
+pub flat_map-whole_of : (table : TableState) (groups : List GroupState) → flat_map spans_moved (map (whole_of_shard table) groups) ≡ spans_in_shard groups
+flat_map-whole_of table [] = refl
+flat_map-whole_of table (group ∷ groups) = ap (λ xs. (group.head ∷ group.guests) ++ xs) (flat_map-whole_of table groups)
+
+pub together-Receives : (old new : PoolState) (shard : ShardState) (pages spans : ℕ) → IsSound (with_rooms old pages spans) → IsSound old → IsSoundShard shard → AreSound (map (whole_of_shard shard.table) shard.groups)
+    → ((id : SpanId) → times id (spans_in old.groups) + times id (spans_in_shard shard.groups) ≤ 1)
+    → TakesAll (with_rooms old pages spans) (map (whole_of_shard shard.table) shard.groups) new
+    → shown new ≡ together (shown old) (shown_by_shard shard)
+together-Receives old new shard pages spans sound_room sound sound_shard fits once all =
+    let wholes : List WholeState = map (whole_of_shard shard.table) shard.groups in
+    let same = flat_map-whole_of shard.table shard.groups in
+    let once_all : AreOnce (with_rooms old pages spans) wholes = λ id. let most = once id in let count = ap (times id) same in omega arith in
+    let mine : List SpanState = spans_in old.groups in
+    let theirs : List SpanState = spans_in_shard shard.groups in
+    let sound_new = IsSound-TakesAll wholes (with_rooms old pages spans) new sound_room fits once_all all in
+    let alike : Alike (spans_in new.groups) (mine ++ theirs) = λ id.
+        Alike-TakesAll wholes (with_rooms old pages spans) new sound_room fits once_all all id
+        ∙ ap (λ xs. span_named (xs ++ mine) id) same
+        ∙ sym (Alike-swap mine theirs once id) in
+    shown-logged new sound_new ∙ logged-alike (spans_in new.groups) (mine ++ theirs) alike
+    ∙ sym (logged-together mine theirs once)
+    ∙ ap (λ m. together m (logged theirs nothing_pending)) (sym (shown-logged old sound))
+    ∙ ap (together (shown old)) (sym (shown-logged_shard shard sound_shard))

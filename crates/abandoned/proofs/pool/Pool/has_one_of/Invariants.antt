@@ -1,0 +1,7 @@
+use Rattle.std.proofs.Common.{◌≡◌, ◌<◌, ℕ, Some, slice_get}
+use Rattle.shard.specs.Group.{GroupState, spans_of}
+use Rattle.abandoned.specs.Calls.{HasAny}
+use Rattle.abandoned.proofs.pool.Pool.has_one_of.Given as goal
+
+abbrev pub invariant-loop-index : goal.invariant-loop-index
+invariant-loop-index l = (other : ℕ) (group : GroupState) → other < l.index → slice_get l.shard.groups other ≡ Some group → HasAny l.self.groups (spans_of group) → ⊥

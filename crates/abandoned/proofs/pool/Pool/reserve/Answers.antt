@@ -1,0 +1,16 @@
+use Rattle.std.proofs.Common.{ap, arith}
+use Rattle.page_table.specs.State.{TableState}
+use Rattle.abandoned.specs.Kept.{state_of}
+use Rattle.abandoned.proofs.TakenIn.{IsSound-with_rooms}
+use Rattle.abandoned.proofs.pool.Pool.reserve.Goals as goal
+
+pub invariant_of-self-2 : goal.invariant_of-self-2
+invariant_of-self-2 c = record {
+  sound = rw (c.in_ok-reserve.ensures.items, c.in_ok-reserve-3.ensures.ok) (IsSound-with_rooms (state_of c.self.inside) c.args.groups c.args.spans c.self.invariant.sound);
+  room_for_pages = omega (arith, ap (λ (t : TableState). t.page_room) c.in_ok-reserve-3.ensures.ok);
+  room_for_spans = omega (arith, ap (λ (t : TableState). t.span_room) c.in_ok-reserve-3.ensures.ok);
+  room_for_groups = omega (arith, c.in_ok-reserve.ensures.len, c.in_ok-reserve.ensures.ok);
+}
+
+pub returns-clause-sound : goal.returns-clause-sound
+returns-clause-sound c = (invariant_of-self-2 c).sound

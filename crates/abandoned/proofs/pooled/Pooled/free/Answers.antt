@@ -1,0 +1,12 @@
+use Rattle.std.proofs.Common.{◌≡◌, Some, subst, slice_get, true}
+use Rattle.std.specs.Prelude.{◌↔◌, IsTrue}
+use Rattle.span.specs.Log.{Holds}
+use Rattle.span.specs.State.{SpanState}
+use Rattle.abandoned.specs.State.{PooledState, spans_of}
+use Rattle.abandoned.proofs.pooled.Pooled.free.Goals as goal
+
+pub returns-clause-found : goal.returns-clause-found
+returns-clause-found c =
+    subst
+    (λ (g : PooledState). (span : SpanState) → slice_get (spans_of g) c.args.place ≡ Some span → (IsTrue true ↔ ((c.args.key.now.span ≡ span.id) × Holds span.log c.args.key.now.slot c.args.key.now.generation)))
+    c.self.view_is (c.if-not-free.ensures {u = tt}).found

@@ -1,0 +1,56 @@
+// Why the end of a shard was refused, and why an adoption was.
+ghost use Rattle.std.specs.Prelude.{◌≡◌};
+ghost use Rattle.abandoned.specs.declared.error.AdoptError.TheVariants as adopt;
+ghost use Rattle.abandoned.specs.declared.error.ReceiveError.TheVariants as receive;
+
+use std::alloc::AllocError;
+
+/// Why the end of a shard was refused. Pool and shard are as they were before.
+#[derive(Clone, Copy, PartialEq, Eq, Debug, thiserror::Error)]
+pub enum ReceiveError {
+    /// The list of groups or the table could not grow.
+    #[error("out of memory")]
+    OutOfMemory,
+    /// The shard has ended before.
+    #[error("the shard has ended")]
+    Ended,
+    /// A span of the shard is in the pool already.
+    #[error("a span of the shard is in the pool already")]
+    Doubled,
+}
+
+impl From<AllocError> for ReceiveError {
+    ghost from_gives = { λ _ e. e ≡ receive.OutOfMemory };
+
+    fn from(_: AllocError) -> ReceiveError {
+        ReceiveError::OutOfMemory
+    }
+}
+
+/// Why no group was adopted. Pool and shard are as they were before.
+#[derive(Clone, Copy, PartialEq, Eq, Debug, thiserror::Error)]
+pub enum AdoptError {
+    /// The shard's list of groups or its table could not grow.
+    #[error("out of memory")]
+    OutOfMemory,
+    /// The shard has all the pages that it may have.
+    #[error("the shard may have no more pages")]
+    PagesSpent,
+    /// The shard has ended.
+    #[error("the shard has ended")]
+    Ended,
+    /// A span of the group is in the shard already, or bears the shard's number.
+    #[error("a span of the group is in the shard already, or is one of its own")]
+    Doubled,
+    /// No group of the pool has a page.
+    #[error("no group has a page")]
+    NothingToAdopt,
+}
+
+impl From<AllocError> for AdoptError {
+    ghost from_gives = { λ _ e. e ≡ adopt.OutOfMemory };
+
+    fn from(_: AllocError) -> AdoptError {
+        AdoptError::OutOfMemory
+    }
+}

@@ -1,0 +1,186 @@
+// The pool and its calls on keys.
+ghost use Rattle.std.specs.Prelude.{◌≡◌, ◌<◌, ◌≤◌, ◌*◌, ◌↔◌, ℕ, [], map, length, IsTrue, IfOk, IfSome, MatchOption, if◌then◌else◌, is_some};
+ghost use Rattle.std.specs.List.Sorted.{IsStrictlyIncreasing};
+ghost use Rattle.span.specs.Ids.{rank};
+ghost use Rattle.span.specs.PlainMap as plain;
+ghost use Rattle.span.specs.State.{SpanState};
+ghost use Rattle.shard.specs.Calls.{value_found, was_freed};
+ghost use Rattle.shard.specs.State.{no_pages};
+ghost use Rattle.abandoned.specs.Calls.{Frees, Gets};
+ghost use Rattle.abandoned.specs.Shown.{shown};
+ghost use Rattle.abandoned.specs.Sound.{IsSound};
+ghost use Rattle.abandoned.specs.State.{HasNoHead, IsElsewhere, IsHeadOf, IsHere, PooledState, live_keys, paged_groups, summary};
+
+use crate::pooled::Pooled;
+use crate::search::{find_at, lower_heads, search};
+use bitmap::Bits256;
+use page_table::Table;
+use shard::{Found, Freed, Hints};
+use span::{Key, SpanId};
+use std::alloc::{AllocError, Global};
+use std::marker::Model;
+
+mod handover;
+mod moves;
+
+/// The groups of shards that have ended, by ascending head, and the pages of those that have a live slot.
+///
+/// It keeps the reserved room as numbers of its own, since a group that comes without a page uses room
+/// for one up too.
+#[derive(Drop)]
+pub struct Pool {
+    alloc: Global,
+    groups: Vec<Pooled>,
+    hints: Hints,
+    table: Table,
+    page_room: usize,
+    span_room: usize,
+}
+
+impl Model for Pool {
+    ghost use Rattle.abandoned.specs.State.{PoolState};
+    ghost use Rattle.std.specs.Coded.{codes};
+    ghost use Rattle.page_table.specs.State.{table_code};
+
+    ghost Value = { PoolState };
+
+    ghost coded = { Prim.hlevel (codes, table_code) };
+
+    ghost use Rattle.abandoned.specs.Kept.{state_of, IsKept};
+
+    ghost view = { state_of };
+
+    ghost invariant = { IsKept };
+}
+
+impl Pool {
+    /// A pool with no group. It takes no memory.
+    pub fn new(alloc: Global) -> Pool
+        ensures empty { result ≡ record { groups = []; table = no_pages } }
+        ensures sound { IsSound result }
+    {
+        Pool {
+            alloc,
+            groups: Vec::new(alloc),
+            hints: Hints::new(alloc),
+            table: Table::new(alloc),
+            page_room: 0,
+            span_room: 0,
+        }
+    }
+
+    /// How many pages it has: one for each group with a live slot.
+    pub fn pages(&self) -> usize
+        ensures { result ≡ length (paged_groups self.now) }
+    {
+        self.table.pages()
+    }
+
+    /// How many keys are live in it.
+    pub fn live(&self) -> usize
+        ensures live { result ≡ live_keys self.now }
+        ensures at_most { result ≤ 256 * length self.now.groups }
+        ensures groups { length self.now.groups ≤ 65536 }
+    {
+        let mut live = 0;
+        for group in &self.groups {
+            live += group.live();
+        }
+        live
+    }
+
+    /// The head of each group that has a page and the slots that are live in one of its spans, by ascending head.
+    ///
+    /// # Errors
+    ///
+    /// `AllocError` where the list could not grow.
+    pub fn groups(&self) -> Result<Vec<(SpanId, Bits256)>, AllocError>
+        ensures items { IfOk result (λ groups. groups.items ≡ map summary (paged_groups self.now)) }
+        ensures ascending { IsStrictlyIncreasing (map (λ group. rank group.head.id) (paged_groups self.now)) }
+    {
+        let mut groups = Vec::new(self.alloc);
+        for group in &self.groups {
+            if group.is_paged() {
+                groups.push((group.head_id(), group.occupied()))?;
+            }
+        }
+        Ok(groups)
+    }
+
+    /// Whether it has a span of this id.
+    pub fn has(&self, id: SpanId) -> bool
+        ensures { IsTrue result ↔ (IsElsewhere self.now.groups id → ⊥) }
+    {
+        self.find(id).is_some()
+    }
+
+    /// The word of the key, where it is live here. It is read in the page, which all spans of a group share.
+    pub fn get(&self, key: &Key) -> Found
+        ensures found { Gets self.now key.now result }
+        ensures plain { value_found result ≡ (shown self.now).value_of key.now }
+        ensures sound { IsSound self.now }
+    {
+        let Some((index, place)) = self.find(key.span()) else {
+            return Found::NotHere;
+        };
+        let group = &self.groups[index];
+        let span = group.span_at(place);
+        let at = span.log().len();
+        if !span.find(key) {
+            return Found::Gone(at);
+        }
+        let Some(page) = group.page() else {
+            unreachable!();
+        };
+        Found::Value(self.table.value_at(page, key.slot()), at)
+    }
+
+    /// Frees the key, where it is live here, and gives up the page of a group that it empties. It takes no memory.
+    pub fn free(&mut self, key: &Key) -> Freed
+        ensures step { Frees self.old key.now result self.new }
+        ensures found { was_freed result ≡ is_some ((shown self.old).value_of key.now) }
+        ensures plain { shown self.new ≡ (if was_freed result then plain.without (shown self.old) key.now else shown self.old) }
+        ensures sound { IsSound self.new }
+    {
+        let Some((index, place)) = self.find(key.span()) else {
+            return Freed::NotHere;
+        };
+        let group = &mut self.groups[index];
+        let at = group.span_at(place).log().len();
+        if !group.free(place, key, &mut self.table) {
+            return Freed::No(at);
+        }
+        Freed::Yes(at)
+    }
+
+    // Where the span of the id stands: its group, and its place there.
+    fn find(&self, id: SpanId) -> Option<(usize, usize)>
+        ensures sound { IsSound self.now }
+        ensures place { MatchOption result (IsElsewhere self.now.groups id) (λ at. (group : PooledState) × (span : SpanState) × IsHere self.now.groups id at.0 at.1 group span) }
+    {
+        let groups = self.groups.as_slice();
+        let head = self.hints.head_of(id).unwrap_or(id);
+        let guess = lower_heads(groups, head.rank());
+        if let Some(at) = find_at(groups, guess, id) {
+            return Some(at);
+        }
+        search(groups, id)
+    }
+
+    // Where the group of the head stands.
+    fn find_head(&self, head: SpanId) -> Option<usize>
+        ensures head { MatchOption result (HasNoHead self.now.groups head) (λ index. (group : PooledState) × IsHeadOf self.now.groups head index group) }
+        ensures within { IfSome result (λ index. index < length self.now.groups) }
+        ensures sound { IsSound self.now }
+    {
+        let index = lower_heads(self.groups.as_slice(), head.rank());
+        if index >= self.groups.len() {
+            return None;
+        }
+        if self.groups[index].head_id() == head {
+            Some(index)
+        } else {
+            None
+        }
+    }
+}

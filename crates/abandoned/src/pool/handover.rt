@@ -1,0 +1,214 @@
+// The end of a shard, and the adoption of a group by another.
+ghost use Rattle.std.specs.Prelude.{◌≡◌, ◌≢◌, ◌<◌, ◌+◌, ◌≤◌, ◌↔◌, ℕ, Err, IfOk, IfSome, IsOkUnless, IsSome, IsTrue, OnErr, OnOk, false, length, map, slice_get, true};
+ghost use Rattle.span.specs.declared.id.SpanId.{SpanId};
+ghost use Rattle.span.specs.State.{SpanState};
+ghost use Rattle.shard.specs.Group.{GroupState, all_spans};
+ghost use Rattle.shard.specs.Moves.{whole_of};
+ghost use Rattle.shard.specs.Shown.{shown as shown_by_shard};
+ghost use Rattle.shard.specs.Sound.{IsSound as IsSoundShard};
+ghost use Rattle.shard.specs.State.{spans_in as spans_in_shard};
+ghost use Rattle.abandoned.specs.Calls.{Adopts, HasAny, HasDoubled, HasNothingToAdopt, IsDoubled, IsInPool, IsLowestPaged, Receives, TakesAll};
+ghost use Rattle.abandoned.specs.Handover.{AreApart, HasRoomFor, IsEmptied};
+ghost use Rattle.abandoned.specs.Shown.{shown, together};
+ghost use Rattle.abandoned.specs.Sound.{IsSound};
+ghost use Rattle.abandoned.specs.State.{PooledState, spans_of};
+
+use super::Pool;
+use crate::error::{AdoptError, ReceiveError};
+use crate::search::first_paged;
+use shard::{Shard, Spans};
+use span::SpanId;
+
+impl Pool {
+    /// The end of a shard: all its groups come here whole, and those with no live slot give up their pages on the
+    /// way. The shard has ended then, and has no group.
+    ///
+    /// # Errors
+    ///
+    /// `Ended` exactly where the shard has ended before, `Doubled` exactly where it has not and one of its spans is
+    /// here already, and `OutOfMemory` where neither holds and a growth was refused; each growth stands before the
+    /// first change.
+    pub fn receive(&mut self, shard: &mut Shard) -> Result<(), ReceiveError>
+        ensures ok { OnOk result (Receives self.old shard.old self.new shard.new) }
+        ensures kept { OnOk result (shown self.new ≡ together (shown self.old) (shown_by_shard shard.old)) }
+        ensures ended { (result ≡ Err ReceiveError.Ended) ↔ (shard.old.ended ≡ true) }
+        ensures doubled { (result ≡ Err ReceiveError.Doubled) ↔ ((shard.old.ended ≡ false) × IsInPool self.old shard.old) }
+        ensures err { OnErr result (self.new ≡ self.old) }
+        ensures err_shard { OnErr result (shard.new ≡ shard.old) }
+        ensures sound { IsSound self.new }
+        ensures sound_shard { IsSoundShard shard.new }
+    {
+        let doubled = self.has_one_of(shard);
+        if shard.ended() {
+            return Err(ReceiveError::Ended);
+        }
+        if doubled {
+            return Err(ReceiveError::Doubled);
+        }
+        self.receive_all(shard)
+    }
+
+    // Makes room for all groups of the shard and takes them in.
+    fn receive_all(&mut self, shard: &mut Shard) -> Result<(), ReceiveError>
+        requires running { shard.old.ended ≡ false }
+        requires apart { IsInPool self.old shard.old → ⊥ }
+        requires sound { IsSound self.old }
+        requires sound_shard { IsSoundShard shard.old }
+        ensures ok { OnOk result (Receives self.old shard.old self.new shard.new) }
+        ensures kept { OnOk result (shown self.new ≡ together (shown self.old) (shown_by_shard shard.old)) }
+        ensures only { IsOkUnless result ReceiveError.OutOfMemory }
+        ensures err { OnErr result (self.new ≡ self.old) }
+        ensures err_shard { OnErr result (shard.new ≡ shard.old) }
+        ensures sound { IsSound self.new }
+        ensures sound_shard { IsSoundShard shard.new }
+    {
+        let Some(spans) = count_spans(shard) else {
+            return Err(ReceiveError::OutOfMemory);
+        };
+        self.reserve(shard.pages(), spans)?;
+        self.take_all(shard);
+        shard.set_ended();
+        Ok(())
+    }
+
+    // Takes in the groups of the shard, one after another, in reserved room.
+    fn take_all(&mut self, shard: &mut Shard)
+        requires sound { IsSound self.old }
+        requires sound_shard { IsSoundShard shard.old }
+        requires apart { AreApart self.old shard.old }
+        requires room { HasRoomFor self.old shard.old }
+        ensures moved { TakesAll self.old (map (whole_of shard.old.table) shard.old.groups) self.new }
+        ensures emptied { IsEmptied shard.old shard.new }
+        ensures sound { IsSound self.new }
+        ensures sound_shard { IsSoundShard shard.new }
+    {
+        while shard.pages() > 0 {
+            let head = shard.spans_at(0).head_id();
+            let Some(whole) = shard.lift(head) else {
+                unreachable!();
+            };
+            self.take_in(whole);
+        }
+    }
+
+    // Whether it has a span of the shard.
+    fn has_one_of(&self, shard: &Shard) -> bool
+        ensures has { IsTrue result ↔ IsInPool self.now shard.now }
+        ensures sound { IsSound self.now }
+    {
+        let _ = &self.groups;
+        for index in 0..shard.pages() {
+            if self.has_any(shard.spans_at(index)) {
+                return true;
+            }
+        }
+        false
+    }
+
+    // Whether it has one of the spans.
+    fn has_any(&self, spans: &Spans) -> bool
+        ensures { IsTrue result ↔ HasAny self.now.groups (all_spans spans.now) }
+    {
+        for place in 0..spans.len() {
+            if self.has(spans.span_at(place).id()) {
+                return true;
+            }
+        }
+        false
+    }
+
+    /// Moves the group of lowest head that has a page to the shard, whole, with its guests and its page, and gives
+    /// its head.
+    ///
+    /// # Errors
+    ///
+    /// The first of these that holds, exactly: `PagesSpent` where the shard has all the pages that it may have,
+    /// whatever the pool holds; `Ended` where the shard has ended; `Doubled` where a span of the group is in the
+    /// shard already or bears its number; `NothingToAdopt` where no group has a page. `OutOfMemory` where none
+    /// holds and a growth was refused; each growth stands before the first change.
+    pub fn adopt(&mut self, shard: &mut Shard) -> Result<SpanId, AdoptError>
+        ensures ok { IfOk result (λ head. Adopts self.old shard.old head self.new shard.new) }
+        ensures kept { OnOk result (together (shown self.new) (shown_by_shard shard.new) ≡ together (shown self.old) (shown_by_shard shard.old)) }
+        ensures spent { (result ≡ Err AdoptError.PagesSpent) ↔ (shard.old.page_limit ≡ length shard.old.groups) }
+        ensures ended { (result ≡ Err AdoptError.Ended) ↔ ((shard.old.page_limit ≢ length shard.old.groups) × (shard.old.ended ≡ true)) }
+        ensures doubled { (result ≡ Err AdoptError.Doubled) ↔ ((shard.old.page_limit ≢ length shard.old.groups) × (shard.old.ended ≡ false) × IsDoubled self.old shard.old) }
+        ensures nothing { (result ≡ Err AdoptError.NothingToAdopt) ↔ ((shard.old.page_limit ≢ length shard.old.groups) × (shard.old.ended ≡ false) × HasNothingToAdopt self.old) }
+        ensures err { OnErr result (self.new ≡ self.old) }
+        ensures err_shard { OnErr result (shard.new ≡ shard.old) }
+        ensures sound { IsSound self.new }
+        ensures sound_shard { IsSoundShard shard.new }
+    {
+        let lowest = first_paged(self.groups.as_slice());
+        let ended = shard.ended();
+        if shard.is_full() {
+            return Err(AdoptError::PagesSpent);
+        }
+        if ended {
+            return Err(AdoptError::Ended);
+        }
+        let Some(index) = lowest else {
+            return Err(AdoptError::NothingToAdopt);
+        };
+        if is_doubled(shard, self.groups[index].spans()) {
+            return Err(AdoptError::Doubled);
+        }
+        self.move_to(shard, index)
+    }
+
+    // Makes room in the shard and moves the group at the index there.
+    fn move_to(&mut self, shard: &mut Shard, index: usize) -> Result<SpanId, AdoptError>
+        requires lowest { (group : PooledState) × IsLowestPaged self.old index group × (HasDoubled shard.old (spans_of group) → ⊥) }
+        requires pages { shard.old.page_limit ≢ length shard.old.groups }
+        requires running { shard.old.ended ≡ false }
+        requires sound_shard { IsSoundShard shard.old }
+        ensures ok { IfOk result (λ head. Adopts self.old shard.old head self.new shard.new) }
+        ensures kept { OnOk result (together (shown self.new) (shown_by_shard shard.new) ≡ together (shown self.old) (shown_by_shard shard.old)) }
+        ensures only { IsOkUnless result AdoptError.OutOfMemory }
+        ensures err { OnErr result (self.new ≡ self.old) }
+        ensures err_shard { OnErr result (shard.new ≡ shard.old) }
+        ensures sound { IsSound self.new }
+        ensures sound_shard { IsSoundShard shard.new }
+    {
+        let (head, spans) = self.named_at(index);
+        shard.reserve_for(None, spans)?;
+        let Some(whole) = self.lift(head) else {
+            unreachable!();
+        };
+        shard.take_in(whole);
+        Ok(head)
+    }
+
+    // The head of the group at the index, and how many spans it has.
+    fn named_at(&self, index: usize) -> (SpanId, usize)
+        requires { index < length self.now.groups }
+        ensures named { (group : PooledState) → slice_get self.now.groups index ≡ Some group → (result.0 ≡ group.head.id) × (result.1 ≡ length (spans_of group)) }
+        ensures sound { IsSound self.now }
+    {
+        let group = &self.groups[index];
+        (group.head_id(), group.len())
+    }
+}
+
+// How many spans the shard has, if it is a number.
+fn count_spans(shard: &Shard) -> Option<usize>
+    ensures { IfSome result (λ spans. spans ≡ length (spans_in_shard shard.now.groups)) }
+{
+    let mut spans: usize = 0;
+    for index in 0..shard.pages() {
+        spans = spans.checked_add(shard.spans_at(index).len())?;
+    }
+    Some(spans)
+}
+
+// Whether one of the spans is in the shard already, or bears its number.
+fn is_doubled(shard: &Shard, spans: &Spans) -> bool
+    ensures { IsTrue result ↔ HasDoubled shard.now (all_spans spans.now) }
+{
+    for place in 0..spans.len() {
+        let id = spans.span_at(place).id();
+        if id.shard() == shard.number() || shard.has(id) {
+            return true;
+        }
+    }
+    false
+}

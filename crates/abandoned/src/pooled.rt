@@ -1,0 +1,154 @@
+// A group of the pool: a head and its guests, and their page, if they have one.
+ghost use Rattle.std.specs.Prelude.{◌≡◌, ◌<◌, ◌≤◌, ◌↔◌, IfSome, Some, IsTrue, MatchOption, false, is_some, length, slice_get};
+ghost use Rattle.std.specs.Bool.{OnTrue, OnFalse};
+ghost use Rattle.span.specs.Log.{Holds};
+ghost use Rattle.span.specs.State.{SpanState};
+ghost use Rattle.page_table.specs.State.{HasPage};
+ghost use Rattle.shard.specs.Group.{HasNoSpan, IsSpanAt, union_of, with_free};
+ghost use Rattle.shard.specs.Moves.{IsBriefOf};
+ghost use Rattle.shard.specs.State.{live_count};
+ghost use Rattle.abandoned.specs.Calls.{GivesUp};
+ghost use Rattle.abandoned.specs.State.{group_of, spans_of, with_span};
+
+use bitmap::Bits256;
+use page_table::{Page, Table};
+use shard::{Brief, Spans};
+use span::{Key, Span, SpanId};
+use std::marker::Model;
+
+/// A head and its guests, and their page, which they have exactly while one of their slots is live.
+#[derive(Drop)]
+pub(crate) struct Pooled {
+    spans: Spans,
+    page: Option<Page>,
+}
+
+impl Model for Pooled {
+    ghost use Rattle.abandoned.specs.State.{PooledState, group_of};
+
+    ghost Value = { PooledState };
+
+    ghost view = { λ g. group_of g.spans g.page };
+}
+
+impl Pooled {
+    /// The group of the spans, on the page, if there is one.
+    pub(crate) fn new(spans: Spans, page: Option<Page>) -> Pooled
+        ensures { result ≡ group_of spans page }
+    {
+        Pooled { spans, page }
+    }
+
+    /// The spans and the page.
+    pub(crate) fn into_parts(self) -> (Spans, Option<Page>)
+        ensures { self ≡ group_of result.0 result.1 }
+    {
+        (self.spans, self.page)
+    }
+
+    /// The head and its guests.
+    pub(crate) fn spans(&self) -> &Spans
+        ensures { result.now ≡ record { head = self.now.head; guests = self.now.guests } }
+    {
+        &self.spans
+    }
+
+    /// A look at it.
+    pub(crate) fn brief(&self) -> Brief
+        ensures { IsBriefOf (spans_of self.now) (is_some self.now.page) false result }
+    {
+        Brief {
+            spans: self.spans.len(),
+            occupied: self.spans.occupied(),
+            paged: self.page.is_some(),
+            closed: false,
+        }
+    }
+
+    /// The id of the head, which names the group.
+    pub(crate) fn head_id(&self) -> SpanId
+        ensures { result ≡ self.now.head.id }
+    {
+        self.spans.head_id()
+    }
+
+    /// The page of its spans.
+    pub(crate) fn page(&self) -> Option<Page>
+        ensures { result ≡ self.now.page }
+    {
+        self.page
+    }
+
+    /// Whether it has a page.
+    pub(crate) fn is_paged(&self) -> bool
+        ensures { result ≡ is_some self.now.page }
+    {
+        self.page.is_some()
+    }
+
+    /// How many spans it has, the head and its guests.
+    pub(crate) fn len(&self) -> usize
+        ensures { result ≡ length (spans_of self.now) }
+    {
+        self.spans.len()
+    }
+
+    /// The slots that are live in one of the spans.
+    pub(crate) fn occupied(&self) -> Bits256
+        ensures { result ≡ union_of (spans_of self.now) }
+    {
+        self.spans.occupied()
+    }
+
+    /// How many keys are live in the spans.
+    pub(crate) fn live(&self) -> usize
+        ensures live { result ≡ live_count (spans_of self.now) }
+        ensures at_most { result ≤ 256 }
+    {
+        self.spans.live()
+    }
+
+    /// Where the span is among the head and its guests; 0 is the head.
+    pub(crate) fn place_of(&self, id: SpanId) -> Option<usize>
+        ensures { MatchOption result (HasNoSpan (spans_of self.now) id) (IsSpanAt (spans_of self.now) id) }
+    {
+        self.spans.place_of(id)
+    }
+
+    /// The span at the place, 0 being the head.
+    pub(crate) fn span_at(&self, place: usize) -> &Span
+        requires { place < length (spans_of self.now) }
+        ensures { slice_get (spans_of self.now) place ≡ Some result.now }
+    {
+        self.spans.span_at(place)
+    }
+
+    /// Frees the key in the span at the place, where it is live there, and gives the page up where it was the
+    /// last that was live.
+    pub(crate) fn free(&mut self, place: usize, key: &Key, table: &mut Table) -> bool
+        requires place { place < length (spans_of self.old) }
+        requires page { IfSome self.old.page (HasPage table.old) }
+        ensures found { (span : SpanState) → slice_get (spans_of self.old) place ≡ Some span → (IsTrue result ↔ ((key.now.span ≡ span.id) × Holds span.log key.now.slot key.now.generation)) }
+        ensures freed { (span : SpanState) → slice_get (spans_of self.old) place ≡ Some span → OnTrue result (GivesUp (with_span self.old place (with_free span key.now)) table.old self.new table.new) }
+        ensures unknown { OnFalse result ((self.new ≡ self.old) × (table.new ≡ table.old)) }
+    {
+        if !self.spans.free(place, key) {
+            return false;
+        }
+        self.give_up_page(table);
+        true
+    }
+
+    // Gives its page up, if it has one, where no slot is live.
+    fn give_up_page(&mut self, table: &mut Table)
+        requires { IfSome self.old.page (HasPage table.old) }
+        ensures { GivesUp self.old table.old self.new table.new }
+    {
+        if self.spans.occupied().lowest().is_some() {
+            return;
+        }
+        if let Some(page) = self.page.take() {
+            table.release(page);
+        }
+    }
+}

@@ -1,0 +1,67 @@
+// Where spans and heads stand among the groups.
+ghost use Rattle.std.specs.Prelude.{◌≡◌, ◌<◌, ◌≤◌, ℕ, IfSome, MatchOption, Some, length, slice_get};
+ghost use Rattle.span.specs.Ids.{rank};
+ghost use Rattle.span.specs.State.{SpanState};
+ghost use Rattle.abandoned.specs.Calls.{HasNoPage, IsFirstPaged};
+ghost use Rattle.abandoned.specs.State.{Ascend, IsElsewhere, IsHere, PooledState};
+
+use crate::pooled::Pooled;
+use span::SpanId;
+
+/// How many heads are lower than the number of ranks, by halving.
+pub(crate) fn lower_heads(groups: &[Pooled], number: u32) -> usize
+    requires { Ascend groups.now }
+    ensures within { result ≤ length groups.now }
+    ensures lower { (other : ℕ) (group : PooledState) → other < result → slice_get groups.now other ≡ Some group → rank group.head.id < number }
+    ensures others { (other : ℕ) (group : PooledState) → result ≤ other → slice_get groups.now other ≡ Some group → number ≤ rank group.head.id }
+{
+    let mut low = 0;
+    let mut high = groups.len();
+    while low < high {
+        let middle = low + (high - low) / 2;
+        if groups[middle].head_id().rank() < number {
+            low = middle + 1;
+        } else {
+            high = middle;
+        }
+    }
+    low
+}
+
+/// Where the span of the id stands, if it is in the group at the index.
+pub(crate) fn find_at(groups: &[Pooled], index: usize, id: SpanId) -> Option<(usize, usize)>
+    ensures { IfSome result (λ at. (group : PooledState) × (span : SpanState) × IsHere groups.now id at.0 at.1 group span) }
+{
+    if index >= groups.len() {
+        return None;
+    }
+    match groups[index].place_of(id) {
+        Some(place) => Some((index, place)),
+        None => None,
+    }
+}
+
+/// Where the span of the id stands among the groups: the walk that decides where no guess was right.
+pub(crate) fn search(groups: &[Pooled], id: SpanId) -> Option<(usize, usize)>
+    ensures { MatchOption result (IsElsewhere groups.now id) (λ at. (group : PooledState) × (span : SpanState) × IsHere groups.now id at.0 at.1 group span) }
+{
+    for index in 0..groups.len() {
+        if let Some(place) = groups[index].place_of(id) {
+            return Some((index, place));
+        }
+    }
+    None
+}
+
+/// The first group that has a page.
+pub(crate) fn first_paged(groups: &[Pooled]) -> Option<usize>
+    ensures first { MatchOption result (HasNoPage groups.now) (λ index. (group : PooledState) × IsFirstPaged groups.now index group) }
+    ensures within { IfSome result (λ index. index < length groups.now) }
+{
+    for index in 0..groups.len() {
+        if groups[index].is_paged() {
+            return Some(index);
+        }
+    }
+    None
+}
