@@ -1,5 +1,5 @@
 -- The steps of a core, said of its fields.
-use Rattle.std.proofs.Common.{◌≡◌, ℕ, true, false, cond, List, None, Some, ◌≤◌, ap, ◌∙◌, is_some, length, refl, set, slice_get, subst, sym}
+use Rattle.std.proofs.Common.{◌≡◌, ◌≢◌, ℕ, true, false, cond, List, None, Some, ◌≤◌, ap, ◌∙◌, is_some, length, refl, set, slice_get, subst, sym}
 use Rattle.std.specs.Prelude.{Err, Ok, Result, ◌↔◌}
 use Rattle.span.specs.declared.id.SpanId.{SpanId}
 use Rattle.span.specs.declared.key.Key.{Key}
@@ -101,8 +101,8 @@ IsStep-adopt_fields c number head before after pool guesses kept read running ad
 -- an adoption that the pool refuses leaves the fields as they were
 pub CoreStep-adopt_refused_fields : (c : Inside) (number : ℕ) (before after : ShardState) (pool : PoolState) (guesses : Guesses) (error : AdoptError) (cause : Refusal) → IsSound (state_of c) → IsRead c number before → refusal_of_adoption error ≡ Some cause
     → (◌≡◌ {A = Result SpanId AdoptError} (Err error) (Err adopt_error.PagesSpent) ↔ (before.page_limit ≡ length before.groups))
-    → (◌≡◌ {A = Result SpanId AdoptError} (Err error) (Err adopt_error.Ended) ↔ ((before.page_limit ≡ length before.groups → ⊥) × (before.ended ≡ true)))
-    → (◌≡◌ {A = Result SpanId AdoptError} (Err error) (Err adopt_error.NothingToAdopt) ↔ ((before.page_limit ≡ length before.groups → ⊥) × (before.ended ≡ false) × HasNothingToAdopt c.pool))
+    → (◌≡◌ {A = Result SpanId AdoptError} (Err error) (Err adopt_error.Ended) ↔ ((before.page_limit ≢ length before.groups) × (before.ended ≡ true)))
+    → (◌≡◌ {A = Result SpanId AdoptError} (Err error) (Err adopt_error.NothingToAdopt) ↔ ((before.page_limit ≢ length before.groups) × (before.ended ≡ false) × HasNothingToAdopt c.pool))
     → after ≡ before → pool ≡ c.pool
     → CoreStep (state_of c) (Adopt number) (reply.Refused cause) (state_of (with_both_at c number after pool guesses))
 CoreStep-adopt_refused_fields c number before after pool guesses error cause kept read gives spent ended nothing same pool_is =

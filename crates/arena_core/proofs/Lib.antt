@@ -7,6 +7,7 @@ pub mod LiveKeys
 pub mod LiveKeysShown
 pub mod Logged
 pub mod Moves
+pub mod Owner
 pub mod Owners
 pub mod Runs
 pub mod Shown

@@ -68,10 +68,10 @@ CoreStep-end_refused old number shard receive_error.Doubled cause here gives end
 -- when an adoption is refused, and why
 pub record IsRefused (pool : PoolState) (shard : ShardState) (error : AdoptError) : Type 0 where
   pub spent : (error ≡ adopt_error.PagesSpent) ↔ (shard.page_limit ≡ length shard.groups)
-  pub ended : (error ≡ adopt_error.Ended) ↔ ((shard.page_limit ≡ length shard.groups → ⊥) × (shard.ended ≡ true))
-  pub nothing : (error ≡ adopt_error.NothingToAdopt) ↔ ((shard.page_limit ≡ length shard.groups → ⊥) × (shard.ended ≡ false) × HasNothingToAdopt pool)
+  pub ended : (error ≡ adopt_error.Ended) ↔ ((shard.page_limit ≢ length shard.groups) × (shard.ended ≡ true))
+  pub nothing : (error ≡ adopt_error.NothingToAdopt) ↔ ((shard.page_limit ≢ length shard.groups) × (shard.ended ≡ false) × HasNothingToAdopt pool)
 
-below_limit : (shard : ShardState) → IsSoundShard shard → (shard.page_limit ≡ length shard.groups → ⊥) → length shard.groups < shard.page_limit
+below_limit : (shard : ShardState) → IsSoundShard shard → (shard.page_limit ≢ length shard.groups) → length shard.groups < shard.page_limit
 below_limit shard sound room = by_case (cases_eq shard.page_limit (length shard.groups))
   where
     by_case : (shard.page_limit ≡ length shard.groups) ⊎ (shard.page_limit ≢ length shard.groups) → length shard.groups < shard.page_limit
@@ -83,7 +83,7 @@ pub CoreStep-adopt_refused : (old : CoreState) (number : ℕ) (shard : ShardStat
     → IsRefused old.pool shard error → CoreStep old (Adopt number) (reply.Refused cause) old
 CoreStep-adopt_refused old number shard adopt_error.OutOfMemory cause sound here gives why =
     let is : refusal.OutOfMemory ≡ cause = cc in
-    let room : (shard.page_limit ≡ length shard.groups → ⊥) = λ full. let no = why.spent.1 full in cc in
+    let room : (shard.page_limit ≢ length shard.groups) = λ full. let no = why.spent.1 full in cc in
     let running : shard.ended ≡ false = not_so shard.ended (λ e. let no = why.ended.1 (room, e) in cc) in
     subst (λ c. CoreStep old (Adopt number) (reply.Refused c) old) is
     ((shard, record { here = here; running = running }, below_limit shard sound room, λ nothing. let no = why.nothing.1 (room, running, nothing) in cc), refl)
@@ -101,9 +101,9 @@ CoreStep-adopt_refused old number shard adopt_error.NothingToAdopt cause sound h
     (λ other there. let same : shard ≡ other = (let both : Some shard ≡ Some other = sym here ∙ there in cc) in subst (λ (s : ShardState). (s.ended ≡ false) × (length s.groups < s.page_limit)) same (facts.1, below_limit shard sound facts.0),
     facts.2, refl)
 
--- an adoption that was done: the shard had not ended
-pub running-adopted : (shard : ShardState) → IsSoundShard shard → 1 ≤ shard.page_limit → (shard.page_limit ≡ length shard.groups → ⊥) → ((shard.page_limit ≡ length shard.groups → ⊥) × (shard.ended ≡ true) → ⊥) → shard.ended ≡ false
-running-adopted shard sound some room ended = not_so shard.ended (λ e. ended (room, e))
+-- a shard that adopts has not ended
+pub running-adopted : (shard : ShardState) → (shard.page_limit ≡ length shard.groups → ⊥) → ((shard.page_limit ≢ length shard.groups) × (shard.ended ≡ true) → ⊥) → shard.ended ≡ false
+running-adopted shard room ended = not_so shard.ended (λ e. ended (room, e))
 
 -- no group has a page, where so many have one
 

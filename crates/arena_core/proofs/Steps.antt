@@ -16,7 +16,7 @@ use Rattle.shard.specs.declared.shard.Found.{Found}
 use Rattle.shard.specs.declared.shard.Found.TheVariants as found
 use Rattle.shard.specs.declared.shard.Freed.{Freed}
 use Rattle.shard.specs.declared.shard.Freed.TheVariants as freed
-use Rattle.shard.proofs.ShownLogs.{span_named-here}
+use Rattle.shard.proofs.ShownLogs.{span_named-elsewhere, span_named-here}
 use Rattle.span.specs.State.{SpanState}
 use Rattle.abandoned.specs.Calls.{Adopts, Frees as FreesPooled, HasNothingToAdopt, IsDoubled, IsInPool, Receives}
 use Rattle.abandoned.specs.Shown.{shown as shown_by_pool}
@@ -60,6 +60,10 @@ pub record IsStep (old : CoreState) (event : Event) (answer : Reply) (new : Core
 pub has_span-here : (shard : ShardState) (id : SpanId) (index place : ℕ) (group : GroupState) (span : SpanState) → IsSoundShard shard → IsHere shard.groups id index place group span → has_span id shard ≡ true
 has_span-here shard id index place group span sound here = ap is_some (span_named-here shard sound id index place group span here)
 
+-- a span that does not stand there
+pub has_span-not : (shard : ShardState) (id : SpanId) → IsSoundShard shard → IsElsewhere shard.groups id → has_span id shard ≡ false
+has_span-not shard id sound elsewhere = ap is_some (span_named-elsewhere shard sound id elsewhere)
+
 pub elsewhere-has_span : (shard : ShardState) (id : SpanId) → IsSoundShard shard → has_span id shard ≡ false → IsElsewhere shard.groups id
 elsewhere-has_span shard id sound none index group at place its =
     absurd (let has : has_span id shard ≡ true = has_span-here shard id index place group its.0 sound (record { group_is = at; span_is = its.1; id_is = its.2 }) in cc)
@@ -92,7 +96,7 @@ module _ (core : CoreState) (sound : IsSound core) where
 
   pub value-nowhere : (key : Key) → IsNowhere core key.span → (shown core).value_of key ≡ None
   value-nowhere key nowhere =
-      ap (λ o. (shown_at core.pool o).value_of key) (find-none (has_span key.span) core.shards nowhere.shards)
+      ap (λ o. (shown_at core.pool o).value_of key) (find-none (has_span key.span) core.shards (λ number shard here. has_span-not shard key.span (sound.shards number shard here).sound (nowhere.shards number shard here)))
       ∙ value-unpooled core.pool key (times-elsewhere core.pool.groups key.span nowhere.pool)
 
   -- a span of a shard that the core does not have was never opened
@@ -105,12 +109,12 @@ module _ (core : CoreState) (sound : IsSound core) where
   -- no span that moves stands twice
 
   pub not_in_pool : (number : ℕ) (shard : ShardState) → slice_get core.shards number ≡ Some shard → IsInPool core.pool shard → ⊥
-  not_in_pool number shard here (index, place, group, span, stands, some) =
-      let one = times_in-found span.id shard (has_span-here shard span.id index place group span (sound.shards number shard here).sound (record { group_is = stands.0; span_is = stands.1; id_is = refl })) in
+  not_in_pool number shard here (index, group, at, (place, span, there, some)) =
+      let one = times_in-found span.id shard (has_span-here shard span.id index place group span (sound.shards number shard here).sound (record { group_is = at; span_is = there; id_is = refl })) in
       omega (arith, pooled-somewhere core.pool span.id some, times_in-le span.id core.shards number shard here, times-parts span.id core, at_most_once core sound span.id)
 
   pub not_doubled : (number : ℕ) (shard : ShardState) → slice_get core.shards number ≡ Some shard → shard.ended ≡ false → IsDoubled core.pool shard → ⊥
-  not_doubled number shard here running (index, place, group, span, lowest, there, either) =
+  not_doubled number shard here running (index, group, lowest, (place, span, there, either)) =
       let pooled : 1 ≤ times_pooled span.id core.pool = pooled-somewhere core.pool span.id (λ elsewhere. elsewhere index group lowest.here place (span, there, refl)) in
       let one : 1 ≤ times_in span.id shard = by_case pooled either in
       omega (arith, times_in-le span.id core.shards number shard here, times-parts span.id core, at_most_once core sound span.id)

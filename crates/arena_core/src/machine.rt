@@ -3,14 +3,14 @@ ghost use Rattle.std.specs.Prelude.{◌≡◌, ◌↔◌, ◌⊎◌, ◌<◌, �
 ghost use Rattle.std.specs.List.{range_with_len};
 ghost use Rattle.shard.specs.Calls.{value_found, was_freed};
 ghost use Rattle.shard.specs.Sound.{IsSound as IsSoundShard};
-ghost use Rattle.shard.specs.State.{ShardState};
+ghost use Rattle.shard.specs.State.{IsElsewhere, ShardState};
 ghost use Rattle.span.specs.PlainMap.{empty_map};
 ghost use Rattle.abandoned.specs.Calls.{Adopts, HasNothingToAdopt, IsDoubled, IsInPool, Receives};
 ghost use Rattle.abandoned.specs.Sound.{IsSound as IsSoundPool};
 ghost use Rattle.abandoned.specs.State.{PoolState};
 ghost use Rattle.arena_core.specs.Owner.{IsNowhere, StandsAt};
 ghost use Rattle.arena_core.specs.Sound.{IsSound};
-ghost use Rattle.arena_core.specs.State.{AreWithin, HasKeys, has_span, limits_of, live_keys, new_core, new_shard, pages, shown};
+ghost use Rattle.arena_core.specs.State.{AreWithin, HasKeys, limits_of, live_keys, new_core, new_shard, pages, shown};
 ghost use Rattle.arena_core.specs.Step.{Answers, CoreStep};
 ghost use Rattle.arena_core.specs.Plain.{ErasedStep, PlainStep};
 ghost use Rattle.arena_core.specs.declared.event.Event.TheVariants as event;
@@ -238,11 +238,11 @@ impl Core {
         let Some(shard) = self.shards.get_mut(key.span().shard() as usize) else {
             return false;
         };
-        match shard.free(key) {
-            Freed::Yes(_) => true,
-            Freed::No(_) => false,
-            Freed::NotHere => self.free_moved(key),
+        let freed = shard.free(key);
+        if matches!(freed, Freed::NotHere) {
+            return self.free_moved(key);
         }
+        was_done(freed)
     }
 
     // Frees the key, where it is live, whoever has its span.
@@ -288,9 +288,10 @@ impl Core {
             return Err(Refusal::Config);
         };
         match self.pool.receive(shard) {
-            Ok(()) => Ok(()),
-            Err(error) => Err(end_refusal(error)),
+            Ok(()) => {}
+            Err(error) => return Err(end_refusal(error)),
         }
+        Ok(())
     }
 
     // Moves the pool's group of lowest head that has a page to the shard of this number, and guesses from now on that its
@@ -303,19 +304,17 @@ impl Core {
         ensures sound { IsSound self.new }
     {
         let Some(shard) = self.shards.get_mut(number as usize) else {
-            return Err(if self.pool.pages() == 0 {
-                Refusal::NothingToAdopt
-            } else {
-                Refusal::Config
-            });
-        };
-        match self.pool.adopt(shard) {
-            Ok(head) => {
-                guess(&mut self.guesses, shard, head);
-                Ok(head)
+            if self.pool.pages() == 0 {
+                return Err(Refusal::NothingToAdopt);
             }
-            Err(error) => Err(adopt_refusal(error)),
-        }
+            return Err(Refusal::Config);
+        };
+        let head = match self.pool.adopt(shard) {
+            Ok(head) => head,
+            Err(error) => return Err(adopt_refusal(error)),
+        };
+        guess(&mut self.guesses, shard, head);
+        Ok(head)
     }
 }
 
@@ -352,7 +351,7 @@ fn was_done(freed: Freed) -> bool
 
 // Whether there is a shard of this number, and it has the span.
 fn has_at(shards: &[Shard], number: usize, id: SpanId) -> bool
-    ensures { IsTrue result ↔ ((shard : ShardState) × (slice_get shards.now number ≡ Some shard) × (has_span id shard ≡ true)) }
+    ensures { IsTrue result ↔ ((shard : ShardState) × (slice_get shards.now number ≡ Some shard) × (IsElsewhere shard.groups id → ⊥)) }
 {
     match shards.get(number) {
         Some(shard) => shard.has(id),
@@ -363,8 +362,8 @@ fn has_at(shards: &[Shard], number: usize, id: SpanId) -> bool
 // The number of the first shard that has the span.
 fn position(shards: &[Shard], id: SpanId) -> Option<usize>
     ensures { MatchOption result
-        ((number : ℕ) (shard : ShardState) → slice_get shards.now number ≡ Some shard → has_span id shard ≡ false)
-        (λ number. (shard : ShardState) × (slice_get shards.now number ≡ Some shard) × (has_span id shard ≡ true)) }
+        ((number : ℕ) (shard : ShardState) → slice_get shards.now number ≡ Some shard → IsElsewhere shard.groups id)
+        (λ number. (shard : ShardState) × (slice_get shards.now number ≡ Some shard) × (IsElsewhere shard.groups id → ⊥)) }
 {
     for (number, shard) in shards.iter().enumerate() {
         if shard.has(id) {

@@ -1,37 +1,24 @@
-use Rattle.std.proofs.Common.{rules, ◌≡◌, ◌↔◌, ◌⊎◌, ◌<◌, ◌≤◌, ℕ, IfOk, OnOk, OnErr, IsErrOf, IsTrue, MatchOption, MatchResult, Some, None, true, false, map, length, slice_get, slice_set, ◌+◌, ◌-◌, ◌*◌, ◌/◌, ◌%◌, Bool, nat_eq, nat_lt, List, [], ◌∷◌, ◌++◌, slice_index_or, bit_and, bit_or, Fits, w8, w32, w64, Bor, MutBor}
-use Rattle.std.specs.List.{range_with_len}
-use Rattle.shard.specs.Calls.{value_found, was_freed}
-use Rattle.shard.specs.Sound.{IsSound as IsSoundShard}
-use Rattle.shard.specs.State.{ShardState}
-use Rattle.span.specs.PlainMap.{empty_map}
-use Rattle.abandoned.specs.Calls.{Adopts, HasNothingToAdopt, IsDoubled, IsInPool, Receives}
-use Rattle.abandoned.specs.Sound.{IsSound as IsSoundPool}
-use Rattle.abandoned.specs.State.{PoolState}
-use Rattle.arena_core.specs.Owner.{IsNowhere, StandsAt}
+use Rattle.std.proofs.Common.{◌≡◌, ap, refl, subst, ◌∙◌}
+use Rattle.arena_core.specs.declared.event.Event.TheVariants.{End}
+use Rattle.arena_core.specs.declared.reply.Reply.TheVariants.{Refused, ShardEnded}
+use Rattle.arena_core.specs.Kept.{state_of}
 use Rattle.arena_core.specs.Sound.{IsSound}
-use Rattle.arena_core.specs.State.{AreWithin, HasKeys, has_span, limits_of, live_keys, new_core, new_shard, pages, shown}
-use Rattle.arena_core.specs.Step.{Answers, CoreStep}
-use Rattle.arena_core.specs.Plain.{ErasedStep, PlainStep}
-use Rattle.arena_core.specs.declared.event.Event.TheVariants as event
-use Rattle.arena_core.specs.declared.reply.Reply.TheVariants as reply
+use Rattle.arena_core.specs.State.{shown}
+use Rattle.arena_core.specs.Step.{CoreStep}
+use Rattle.arena_core.proofs.FieldSteps.{CoreStep-end_refused_fields, IsStep-end_fields, state_of-both_same}
+use Rattle.arena_core.proofs.Fields.{shard-read, with_both_at}
+use Rattle.arena_core.proofs.Steps.{IsStep, not_in_pool}
 use Rattle.arena_core.proofs.machine.Core.end.Goals as goal
 
--- src/machine.rt:292:31
+ended : (c : goal.After-receive) → IsStep c.args.self.now (End c.args.number) ShardEnded (state_of (with_both_at c.self.inside c.args.number c.receive.new.shard c.receive.new.self c.self.inside.guesses))
+ended c =
+    subst (λ old. IsStep old (End c.args.number) ShardEnded (state_of (with_both_at c.self.inside c.args.number c.receive.new.shard c.receive.new.self c.self.inside.guesses))) c.self.view_is
+    (IsStep-end_fields c.self.inside c.args.number c.in-Some.shard.now c.receive.new.shard c.receive.new.self c.self.inside.guesses c.self.invariant
+    (record { within = c.in-Some.ensures.variant.0 refl; value = c.in-Some.ensures.value })
+    c.in-Ok.ensures.ok c.receive.ensures.sound_shard c.receive.ensures.sound)
+
 pub end_refusal-requires : goal.end_refusal-requires
-end_refusal-requires c = ?
-
--- src/machine.rt:280:5
-pub invariant_of-self-2 : goal.invariant_of-self-2
-invariant_of-self-2 c = ?
-
--- src/machine.rt:280:5
-pub returns-clause-exact : goal.returns-clause-exact
-returns-clause-exact c = ?
-
--- src/machine.rt:280:5
-pub returns-clause-same : goal.returns-clause-same
-returns-clause-same c = ?
-
--- src/machine.rt:280:5
-pub returns-clause-sound : goal.returns-clause-sound
-returns-clause-sound c = ?
+end_refusal-requires c = λ e.
+    not_in_pool (state_of c.self.inside) c.self.invariant c.args.number c.in-Some.shard.now
+    (shard-read c.self.inside c.args.number c.in-Some.shard.now (record { within = c.in-Some.ensures.variant.0 refl; value = c.in-Some.ensures.value }))
+    (c.in-Err.ensures.doubled.0 (ap Err e)).1
