@@ -1,3 +1,4 @@
+pub mod Adopted
 pub mod Freed
 pub mod HeadPlaces
 pub mod Heads
@@ -8,8 +9,10 @@ pub mod Inserted
 pub mod Lifted
 pub mod Moving
 pub mod Pages
+pub mod Received
 pub mod Released
 pub mod Removed
+pub mod Searches
 pub mod ShownLogs
 pub mod Standing
 pub mod Started

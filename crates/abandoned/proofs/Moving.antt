@@ -1,5 +1,5 @@
 -- The groups of a shard on their way to the pool, one after another.
-use Rattle.std.proofs.Common.{zero, suc, ◌≡◌, ℕ, ◌+◌, ◌-◌, ◌<◌, ◌≤◌, Bool, List, [], ◌∷◌, length, Option, Some, None, map, slice_get, ap, sym, subst, ◌∙◌, refl, inl, inr, arith}
+use Rattle.std.proofs.Common.{zero, suc, ◌≡◌, ℕ, ◌+◌, ◌-◌, ◌<◌, ◌≤◌, Bool, cond, List, [], ◌∷◌, length, Option, Some, None, map, slice_get, ap, sym, subst, ◌∙◌, refl, inl, inr, arith}
 use Rattle.std.specs.Prelude.{remove, unwrap_or}
 use Rattle.std.proofs.lemmas.Bool.{cases_eq}
 use Rattle.std.proofs.lemmas.List.{length-append}
@@ -105,6 +105,9 @@ first_lifted old new whole head group sound here named (index, g, at, whole_is, 
           new_is = is.1 ∙ ap (λ gs. record old { onto = None; groups = remove gs 0; table = without_page old.table g.page }) e;
         }
 
+abbrev with_words : GroupState → List ℕ → WholeState
+with_words g ws = record { head = g.head; guests = g.guests; words = Some ws }
+
 module _ (pool₀ pool next : PoolState) (shard₀ shard left : ShardState) (whole : WholeState) (is : IsMoving pool₀ shard₀ pool shard) (lifted : IsFirstLifted shard left whole) (sound_left : IsSoundShard left) where
   count_first : (id : SpanId) → times id (spans_in_shard shard.groups) ≡ times id (spans_moved whole) + times id (spans_in_shard left.groups)
   count_first id =
@@ -142,10 +145,10 @@ module _ (pool₀ pool next : PoolState) (shard₀ shard left : ShardState) (who
     where
       same : (at : ℕ) (g : GroupState) → slice_get lifted.rest at ≡ Some g → whole_of (without_page shard.table lifted.first.page) g ≡ whole_of shard.table g
       same at g there =
-          let apart = other_page shard is.sound_shard (suc at) 0 g lifted.first (ap (λ gs. slice_get gs (suc at)) lifted.groups ∙ there) (ap (λ gs. slice_get gs 0) lifted.groups) (λ e. omega arith) in
+          let apart = other_page shard is.sound_shard (suc at) 0 g lifted.first (ap (λ (gs : List GroupState). slice_get gs (suc at)) lifted.groups ∙ there) (ap (λ (gs : List GroupState). slice_get gs 0) lifted.groups) (λ e. omega arith) in
           let words : words_of (without_page shard.table lifted.first.page) g.page ≡ words_of shard.table g.page =
-          ap (λ (o : Option (List ℕ)). unwrap_or o []) (get-remove shard.table.pages lifted.first.page g.page ∙ rw (ne_eqb g.page lifted.first.page apart) refl) in
-          ap (λ ws. record { head = g.head; guests = g.guests; words = Some ws }) words
+          ap (λ (o : Option (List ℕ)). unwrap_or o []) (get-remove shard.table.pages lifted.first.page g.page ∙ ap (λ (b : Bool). cond b None (finite.get shard.table.pages g.page)) (ne_eqb g.page lifted.first.page apart)) in
+          ap (λ (ws : List ℕ). with_words g ws) words
 
   module _ (fits : IsSoundWhole whole) (takes : TakesIn pool whole next) (sound_next : IsSound next) where
     pub IsMoving-next : IsMoving pool₀ shard₀ next left

@@ -1,5 +1,5 @@
 // The end of a shard, and the adoption of a group by another.
-ghost use Rattle.std.specs.Prelude.{◌≡◌, ◌≢◌, ◌<◌, ◌+◌, ◌≤◌, ◌↔◌, ℕ, Err, IfOk, IfSome, IsOkUnless, IsSome, IsTrue, OnErr, OnOk, false, length, map, slice_get, true};
+ghost use Rattle.std.specs.Prelude.{◌≡◌, ◌≢◌, ◌<◌, ◌+◌, ◌≤◌, ◌↔◌, ℕ, Err, IfOk, IfSome, IsOkUnless, IsTrue, MatchOption, OnErr, OnOk, false, length, map, slice_get, true};
 ghost use Rattle.span.specs.declared.id.SpanId.{SpanId};
 ghost use Rattle.span.specs.State.{SpanState};
 ghost use Rattle.shard.specs.Group.{GroupState, all_spans};
@@ -138,7 +138,7 @@ impl Pool {
         ensures sound { IsSound self.new }
         ensures sound_shard { IsSoundShard shard.new }
     {
-        let lowest = first_paged(self.groups.as_slice());
+        let lowest = self.lowest_paged();
         let ended = shard.ended();
         if shard.is_full() {
             return Err(AdoptError::PagesSpent);
@@ -149,15 +149,35 @@ impl Pool {
         let Some(index) = lowest else {
             return Err(AdoptError::NothingToAdopt);
         };
-        if is_doubled(shard, self.groups[index].spans()) {
+        if self.would_double(shard, index) {
             return Err(AdoptError::Doubled);
         }
         self.move_to(shard, index)
     }
 
+    // Where the group of lowest head that has a page stands.
+    fn lowest_paged(&self) -> Option<usize>
+        ensures lowest { MatchOption result (HasNothingToAdopt self.now) (λ index. (group : PooledState) × IsLowestPaged self.now index group) }
+        ensures within { IfSome result (λ index. index < length self.now.groups) }
+        ensures sound { IsSound self.now }
+    {
+        first_paged(self.groups.as_slice())
+    }
+
+    // Whether a span of the lowest group that has a page is in the shard already, or bears its number.
+    fn would_double(&self, shard: &Shard, index: usize) -> bool
+        requires lowest { (group : PooledState) × IsLowestPaged self.now index group }
+        requires within { index < length self.now.groups }
+        ensures { IsTrue result ↔ IsDoubled self.now shard.now }
+    {
+        is_doubled(shard, self.groups[index].spans())
+    }
+
     // Makes room in the shard and moves the group at the index there.
     fn move_to(&mut self, shard: &mut Shard, index: usize) -> Result<SpanId, AdoptError>
-        requires lowest { (group : PooledState) × IsLowestPaged self.old index group × (HasDoubled shard.old (spans_of group) → ⊥) }
+        requires lowest { (group : PooledState) × IsLowestPaged self.old index group }
+        requires within { index < length self.old.groups }
+        requires apart { IsDoubled self.old shard.old → ⊥ }
         requires pages { shard.old.page_limit ≢ length shard.old.groups }
         requires running { shard.old.ended ≡ false }
         requires sound_shard { IsSoundShard shard.old }
@@ -206,7 +226,10 @@ fn is_doubled(shard: &Shard, spans: &Spans) -> bool
 {
     for place in 0..spans.len() {
         let id = spans.span_at(place).id();
-        if id.shard() == shard.number() || shard.has(id) {
+        if id.shard() == shard.number() {
+            return true;
+        }
+        if shard.has(id) {
             return true;
         }
     }

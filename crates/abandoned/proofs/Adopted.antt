@@ -1,0 +1,81 @@
+-- An adoption: the lowest group that has a page, and what the shard asks of it.
+use Rattle.std.proofs.Common.{◌≡◌, ℕ, ◌<◌, ◌≤◌, ◌⊎◌, Bool, true, false, length, Option, Some, None, is_some, slice_get, ap, sym, subst, ◌∙◌, refl, inl, inr, arith}
+use Rattle.std.specs.Prelude.{◌≢◌, option_map}
+use Rattle.std.specs.Option.{IsSome}
+use Rattle.std.proofs.lemmas.Bool.{cases_eq, cases_lt}
+use Rattle.span.specs.Ids.{rank}
+use Rattle.span.specs.declared.id.SpanId.{SpanId}
+use Rattle.page_table.specs.State.{words_of}
+use Rattle.shard.specs.Moves.{MayTakeIn, TakesIn, WholeState, spans_moved, with_room}
+use Rattle.shard.specs.Sound.{IsSound as IsSoundShard}
+use Rattle.shard.specs.State.{ShardState}
+use Rattle.shard.proofs.Lists.{same_some}
+use Rattle.abandoned.specs.Calls.{Adopts, HasDoubled, IsDoubled, IsLowestPaged, Lifts}
+use Rattle.abandoned.specs.Sound.{IsSound}
+use Rattle.abandoned.specs.State.{IsHeadOf, PoolState, PooledState, spans_of, whole_of}
+
+some_page : (o : Option ℕ) → o ≡ None → IsSome o → ⊥
+some_page None is some = absurd cc
+some_page (Some page) is some = absurd cc
+
+-- one group is the lowest that has a page
+pub one_lowest : (pool : PoolState) (i j : ℕ) (a b : PooledState) → IsLowestPaged pool i a → IsLowestPaged pool j b → a ≡ b
+one_lowest pool i j a b one other = elim (cases_lt i j) [
+  | inl less ↦ absurd (some_page a.page (other.lower i a less one.here) one.paged)
+  | inr more ↦ elim (cases_eq i j) [
+    | inl same ↦ same_some (sym one.here ∙ ap (slice_get pool.groups) same ∙ other.here)
+    | inr apart ↦ absurd (some_page b.page (one.lower j b (omega arith) other.here) other.paged)
+  ]
+]
+
+pub IsDoubled-lowest : (pool : PoolState) (shard : ShardState) (index : ℕ) (group : PooledState) → IsLowestPaged pool index group → IsDoubled pool shard → HasDoubled shard (spans_of group)
+IsDoubled-lowest pool shard index group lowest (other, g, its, doubled) = subst (λ (x : PooledState). HasDoubled shard (spans_of x)) (one_lowest pool other index g group its lowest) doubled
+
+pub nothing_lowest : (pool : PoolState) (index : ℕ) (group : PooledState) → IsLowestPaged pool index group → ((other : ℕ) (g : PooledState) → slice_get pool.groups other ≡ Some g → g.page ≡ None) → ⊥
+nothing_lowest pool index group lowest none = some_page group.page (none index group lowest.here) lowest.paged
+
+-- one group has the head
+pub one_head : (pool : PoolState) → IsSound pool → (i j : ℕ) (a b : PooledState) → slice_get pool.groups i ≡ Some a → slice_get pool.groups j ≡ Some b → a.head.id ≡ b.head.id → a ≡ b
+one_head pool sound i j a b at_i at_j same =
+    let ranks : rank a.head.id ≡ rank b.head.id = ap rank same in
+    elim (cases_lt i j) [
+      | inl less ↦ absurd (let low = sound.ascending i j a b less at_i at_j in omega arith)
+      | inr more ↦ elim (cases_eq i j) [
+        | inl at ↦ same_some (sym at_i ∙ ap (slice_get pool.groups) at ∙ at_j)
+        | inr apart ↦ absurd (let low = sound.ascending j i b a (omega arith) at_j at_i in omega arith)
+      ]
+    ]
+
+still_some : {X : Type 0} (f : ℕ → X) (o : Option ℕ) → IsSome o → IsSome (option_map f o)
+still_some f None some = absurd cc
+still_some f (Some page) some = refl
+
+module _ (old new : PoolState) (sound : IsSound old) (shard : ShardState) (sound_shard : IsSoundShard shard) (index : ℕ) (group : PooledState) (lowest : IsLowestPaged old index group) (whole : WholeState) (lifts : Lifts old group.head.id (Some whole) new) where
+  whole_is : whole ≡ whole_of old.table group
+  whole_is = lifts.3 ∙ ap (whole_of old.table) (one_head old sound lifts.0 index lifts.1 group lifts.2.here lowest.here lifts.2.head_is)
+
+  spans_are : spans_moved whole ≡ spans_of group
+  spans_are = ap spans_moved whole_is
+
+  pub MayTakeIn-adopted : (IsDoubled old shard → ⊥) → shard.page_limit ≢ length shard.groups → shard.ended ≡ false → MayTakeIn (with_room shard None (length (spans_of group))) whole
+  MayTakeIn-adopted apart limit running = record {
+    paged = subst (λ (w : WholeState). IsSome w.words) (sym whole_is) (still_some (words_of old.table) group.page lowest.paged);
+    elsewhere = λ at span there other g here place found.
+        apart (index, group, lowest, (at, span, ap (λ xs. slice_get xs at) (sym spans_are) ∙ there, inr (λ away. away other g here place found)));
+    foreign = λ at span there same. apart (index, group, lowest, (at, span, ap (λ xs. slice_get xs at) (sym spans_are) ∙ there, inl same));
+    pages = let most = sound_shard.limit in omega arith;
+    running = running;
+    page_room = omega arith;
+    span_room = let same = ap length spans_are in omega arith;
+  }
+
+  pub Adopts-taken : (adopter : ShardState) → TakesIn (with_room shard None (length (spans_of group))) whole adopter → Adopts old shard group.head.id new adopter
+  Adopts-taken adopter takes = record {
+    whole = whole;
+    index = index;
+    group = group;
+    lowest = lowest;
+    head_is = refl;
+    lifts = lifts;
+    takes_in = subst (λ (n : ℕ). TakesIn (with_room shard None n) whole adopter) (ap length (sym spans_are)) takes;
+  }

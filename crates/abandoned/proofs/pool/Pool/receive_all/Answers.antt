@@ -1,0 +1,29 @@
+use Rattle.std.proofs.Common.{◌≡◌, ◌∙◌, map, subst, sym}
+use Rattle.shard.specs.Moves.{whole_of}
+use Rattle.abandoned.specs.Calls.{TakesAll}
+use Rattle.abandoned.specs.Handover.{AreApart}
+use Rattle.abandoned.specs.State.{PoolState}
+use Rattle.abandoned.proofs.Received.{AreApart-receiving, AreSound-groups, ended_after}
+use Rattle.abandoned.proofs.TakenIn.{IsSound-with_rooms}
+use Rattle.abandoned.proofs.Together.{together-Receives}
+use Rattle.abandoned.proofs.pool.Pool.receive_all.Goals as goal
+
+pub take_all-requires-clause-apart : goal.take_all-requires-clause-apart
+take_all-requires-clause-apart c =
+    subst (λ (p : PoolState). AreApart p c.args.shard.now) (sym (c.in_ok-reserve.ensures {u = tt}).ok) (AreApart-receiving c.args.self.now c.args.shard.now c.requires.sound c.requires.sound_shard c.requires.apart)
+
+pub returns-clause-ok : goal.returns-clause-ok
+returns-clause-ok c = record {
+  page_room = c.pages.result;
+  span_room = c.in-Some.spans;
+  running = c.requires.running;
+  moved = subst (λ (p : PoolState). TakesAll p (map (whole_of c.args.shard.now.table) c.args.shard.now.groups) c.take_all.new.self) (c.in_ok-reserve.ensures {u = tt}).ok c.take_all.ensures.moved;
+  after = c.set_ended.ensures.ended ∙ ended_after c.args.shard.now c.take_all.new.shard c.take_all.ensures.emptied c.take_all.ensures.sound_shard;
+}
+
+pub returns-clause-kept : goal.returns-clause-kept
+returns-clause-kept c =
+    together-Receives c.args.self.now c.take_all.new.self c.args.shard.now c.pages.result c.in-Some.spans
+    (IsSound-with_rooms c.args.self.now c.pages.result c.in-Some.spans c.requires.sound) c.requires.sound c.requires.sound_shard (AreSound-groups c.args.shard.now c.requires.sound_shard)
+    (AreApart-receiving c.args.self.now c.args.shard.now c.requires.sound c.requires.sound_shard c.requires.apart)
+    (subst (λ (p : PoolState). TakesAll p (map (whole_of c.args.shard.now.table) c.args.shard.now.groups) c.take_all.new.self) (c.in_ok-reserve.ensures {u = tt}).ok c.take_all.ensures.moved)

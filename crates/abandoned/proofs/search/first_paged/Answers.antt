@@ -1,0 +1,24 @@
+use Rattle.std.proofs.Common.{◌≡◌, ◌∙◌, None, Some, ap, refl, slice_get, subst, sym, arith, inl, inr}
+use Rattle.std.proofs.lemmas.Bool.{cases_eq}
+use Rattle.std.proofs.lemmas.Option.{slice_get_read}
+use Rattle.shard.proofs.Lists.{get_within, same_some}
+use Rattle.abandoned.specs.State.{PooledState}
+use Rattle.abandoned.proofs.Searches.{none_from}
+use Rattle.abandoned.proofs.search.first_paged.Goals as goal
+
+pub returns-then-is_paged-clause-first : goal.returns-then-is_paged-clause-first
+returns-then-is_paged-clause-first c = (
+  c.index-groups-index.result,
+  record { here = slice_get_read c.args.groups.now _ c.loop-index.index c.index-groups-index.result refl (omega arith) c.index-groups-index.is; paged = sym (c.if-is_paged.ensures {u = tt}); lower = c.loop-index.invariant },
+)
+
+pub loop-index-preserved : goal.loop-index-preserved
+loop-index-preserved c other group less there = elim (cases_eq other c.loop-index.index) [
+  | inl same ↦
+      let here = slice_get_read c.args.groups.now _ c.loop-index.index c.index-groups-index.result refl (omega arith) c.index-groups-index.is in
+      subst (λ (g : PooledState). g.page ≡ None) (same_some (sym here ∙ ap (slice_get c.args.groups.now) (sym same) ∙ there)) (none_from _ (sym (c.if-is_paged.ensures {u = tt})))
+  | inr apart ↦ c.loop-index.invariant other group (omega arith) there
+]
+
+pub returns-clause-first : goal.returns-clause-first
+returns-clause-first c index group there = c.loop-index.invariant index group (let low = get_within c.args.groups.now index group there in omega arith) there
