@@ -1,122 +1,52 @@
--- What a call of one shard does to the core: its spans, its soundness and where they stand.
-use Rattle.std.proofs.Common.{◌≡◌, ◌≢◌, ℕ, zero, suc, ◌+◌, ◌≤◌, true, false, cond, eqb, ltb, ◌&&◌, List, [], ◌∷◌, ◌⊎◌, inl, inr, refl, sym, ap, subst, ◌∙◌, arith, Some, set, slice_get, eq-eqb}
-use Rattle.std.specs.Prelude.{count_by, sum_by, insert}
+-- What a change of one shard, of the pool or of both does to the soundness of the core.
+use Rattle.std.proofs.Common.{◌≡◌, ◌≢◌, ℕ, zero, suc, ◌+◌, ◌<◌, ◌≤◌, true, false, cond, eqb, ltb, ◌&&◌, ◌⊎◌, inl, inr, refl, sym, ap, subst, ◌∙◌, arith, Some, set, slice_get, eq-eqb}
 use Rattle.std.proofs.Math.ListN.{length-set}
-use Rattle.std.proofs.lemmas.Bool.{cases_eq, ne_eqb}
+use Rattle.std.proofs.lemmas.Bool.{cases_eq, cases_lt, ne_eqb}
 use Rattle.std.proofs.lemmas.Bool.Decides.{nat_tests}
-use Rattle.std.proofs.lemmas.List.Sums.{sum_by-insert}
 use Rattle.span.specs.declared.id.SpanId.{SpanId}
-use Rattle.span.specs.declared.key.Key.{Key}
-use Rattle.span.specs.Ids.{same_span}
-use Rattle.span.specs.Log.{Value as Word}
 use Rattle.span.specs.State.{SpanState}
-use Rattle.shard.specs.Calls.{Puts, Frees, new_group}
-use Rattle.shard.specs.Group.{GroupState, spans_of, with_free, with_put, with_span}
 use Rattle.shard.specs.Sound.{IsSound as IsSoundShard}
-use Rattle.shard.specs.State.{ShardState, spans_in}
-use Rattle.shard.specs.declared.shard.Freed.TheVariants.{Yes}
-use Rattle.arena_core.specs.Kept.{AreHome, IsKept}
+use Rattle.shard.specs.State.{ShardState}
+use Rattle.abandoned.specs.Sound.{IsSound as IsSoundPool}
+use Rattle.abandoned.specs.State.{PoolState}
 use Rattle.arena_core.specs.Sound.{IsSound, IsSoundAt}
-use Rattle.arena_core.specs.State.{CoreState, has_span, opened_by, opened_of, with_shard}
-use Rattle.arena_core.proofs.Lists.{cond-le_one, count_by-cons, count_by-flat_map, count_by-set_at, each-set, slice_get-set_other, slice_get-set_same, sum_by-set_at}
-use Rattle.arena_core.proofs.Shown.{IsChange}
-use Rattle.arena_core.proofs.Spans.{has_span-uncounted, is_named, times, times_in, times-set, times_in-missed}
+use Rattle.arena_core.specs.State.{CoreState, all_spans, opened_by, opened_of, with_pool, with_shard}
+use Rattle.arena_core.proofs.Groups.{IsCall, IsMove, IsPoolCall, own, strays, strays-each, strays-none}
+use Rattle.arena_core.proofs.Lists.{cond-le_one, each-set, slice_get-set_other, slice_get-set_same}
+use Rattle.arena_core.proofs.Spans.{named, sum_all, sum_all-with_pool, sum_all-with_shard, sum_in, sum_pooled, times, times-parts, times_in, times_in-le}
 
--- whether the shard has opened the span, as a count
-abbrev pub own : SpanId → ShardState → ℕ
-own id shard = cond {A = ℕ} (eqb id.shard shard.number && ltb id.serial shard.opened) 1 0
+-- whether a serial is below a number, as a count
+abbrev pub indicator : ℕ → ℕ → ℕ
+indicator serial opened = cond {A = ℕ} (ltb serial opened) 1 0
 
--- the shard has the spans of before and those that it has opened since, each once more
-pub record IsCall (before after : ShardState) : Type 0 where
-  pub number_is : after.number ≡ before.number
-  pub page_limit_is : after.page_limit ≡ before.page_limit
-  pub gens_is : after.gens ≡ before.gens
-  pub opened_more : before.opened ≤ after.opened
-  pub spans : (id : SpanId) → times_in id after + own id before ≡ times_in id before + own id after
+pub below-indicator : (serial opened : ℕ) → serial < opened → indicator serial opened ≡ 1
+below-indicator serial opened below = grind (arith, nat_tests)
 
--- spans of a list of groups
+pub past-indicator : (serial opened : ℕ) → opened ≤ serial → indicator serial opened ≡ 0
+past-indicator serial opened past = grind (arith, nat_tests)
 
-abbrev count_in : SpanId → GroupState → ℕ
-count_in id group = count_by (is_named id) (spans_of group)
+pub at_most_once : (core : CoreState) → IsSound core → (id : SpanId) → times id core ≤ 1
+at_most_once core sound id = subst (λ n. n ≤ 1) (sym (sound.once id)) (cond-le_one _)
 
-spans-sum : (id : SpanId) (groups : List GroupState) → count_by (is_named id) (spans_in groups) ≡ sum_by (count_in id) groups
-spans-sum id groups = count_by-flat_map (is_named id) spans_of groups
+-- a span that stands anywhere was opened
+pub opened-somewhere : (core : CoreState) → IsSound core → (id : SpanId) → 1 ≤ times id core → id.serial < opened_by core.shards id.shard
+opened-somewhere core sound id some = by_order (cases_lt id.serial (opened_by core.shards id.shard))
+  where
+    by_order : (id.serial < opened_by core.shards id.shard) ⊎ (opened_by core.shards id.shard ≤ id.serial) → id.serial < opened_by core.shards id.shard
+    by_order (inl below) = below
+    by_order (inr past) = absurd (omega (arith, sound.once id, past-indicator id.serial (opened_by core.shards id.shard) past))
 
-spans-set : (id : SpanId) (groups : List GroupState) (index : ℕ) (group after : GroupState) → slice_get groups index ≡ Some group → count_in id after ≡ count_in id group
-    → count_by (is_named id) (spans_in (set groups index after)) ≡ count_by (is_named id) (spans_in groups)
-spans-set id groups index group after here same =
-    omega (arith, spans-sum id groups, spans-sum id (set groups index after), sum_by-set_at (count_in id) groups index group after here)
+no_strays : (core : CoreState) → IsSound core → sum_all (strays core.limits.gens) core ≡ 0
+no_strays core sound = strays-none core.limits.gens (all_spans core) sound.gens
 
-spans-insert : (id : SpanId) (groups : List GroupState) (index : ℕ) (group : GroupState) → count_by (is_named id) (spans_in (insert groups index group)) ≡ count_by (is_named id) (spans_in groups) + count_in id group
-spans-insert id groups index group =
-    omega (arith, spans-sum id groups, spans-sum id (insert groups index group), sum_by-insert (count_in id) groups index group)
+-- one shard changes
 
-head-count : (id : SpanId) (a b : SpanState) (guests : List SpanState) → a.id ≡ b.id → count_by (is_named id) (a ∷ guests) ≡ count_by (is_named id) (b ∷ guests)
-head-count id a b guests same =
-    count_by-cons (is_named id) a guests
-    ∙ ap (λ name. cond {A = ℕ} (same_span name id) 1 0 + count_by (is_named id) guests) same
-    ∙ sym (count_by-cons (is_named id) b guests)
-
--- a span of the group gives way to one of the same id
-count-with_span : (id : SpanId) (group : GroupState) (place : ℕ) (span after : SpanState) → slice_get (spans_of group) place ≡ Some span → after.id ≡ span.id
-    → count_in id (with_span group place after) ≡ count_in id group
-count-with_span id group zero span after here same =
-    let is : group.head ≡ span = cc in
-    head-count id after group.head group.guests (same ∙ ap (λ (s : SpanState). s.id) (sym is))
-count-with_span id group (suc place) span after here same =
-    count_by-cons (is_named id) group.head (set group.guests place after)
-    ∙ ap (λ n. cond {A = ℕ} (same_span group.head.id id) 1 0 + n) (count_by-set_at (is_named id) group.guests place span after here (ap (λ name. same_span name id) same))
-    ∙ sym (count_by-cons (is_named id) group.head group.guests)
-
--- the calls of a shard
-
-own-more : (a s n o : ℕ) → cond {A = ℕ} (eqb a n && ltb s (o + 1)) 1 0 ≡ cond {A = ℕ} (eqb a n && ltb s o) 1 0 + cond {A = ℕ} (eqb n a && eqb o s) 1 0
-own-more a s n o = grind (arith, nat_tests)
-
-pub IsCall-Puts : (before after : ShardState) (value : Word) (key : Key) (at : ℕ) → Puts before value key at after → IsCall before after
-IsCall-Puts before after value key at (running, inl (index, group, room, span_is, generation_is, at_is, after_is)) = record {
-  number_is = ap (λ (s : ShardState). s.number) after_is;
-  page_limit_is = ap (λ (s : ShardState). s.page_limit) after_is;
-  gens_is = ap (λ (s : ShardState). s.gens) after_is;
-  opened_more = omega (arith, ap (λ (s : ShardState). s.opened) after_is);
-  spans = λ id.
-      let same = spans-set id before.groups index group (record group { head = with_put group.head key.slot value }) room.here (head-count id (with_put group.head key.slot value) group.head group.guests refl) in
-      omega (arith, ap (times_in id) after_is, ap (own id) after_is, same);
-}
-IsCall-Puts before after value key at (running, inr (full, pages, spans, (shard_is, serial_is, slot_is, generation_is, at_is, (page, index, new_page, place, after_is)))) = record {
-  number_is = ap (λ (s : ShardState). s.number) after_is;
-  page_limit_is = ap (λ (s : ShardState). s.page_limit) after_is;
-  gens_is = ap (λ (s : ShardState). s.gens) after_is;
-  opened_more = omega (arith, ap (λ (s : ShardState). s.opened) after_is);
-  spans = λ id.
-      let one : count_in id (new_group key.span before.gens page value) ≡ cond {A = ℕ} (eqb before.number id.shard && eqb before.opened id.serial) 1 0 =
-      count_by-cons (is_named id) (new_group key.span before.gens page value).head []
-      ∙ rw (shard_is, serial_is) (omega arith) in
-      omega (arith, ap (times_in id) after_is, ap (own id) after_is, spans-insert id before.groups index (new_group key.span before.gens page value), one, own-more id.shard id.serial before.number before.opened);
-}
-
-pub IsCall-Frees : (before after : ShardState) (key : Key) (at : ℕ) → Frees before key (Yes at) after → IsCall before after
-IsCall-Frees before after key at (index, place, group, span, here, holds, at_is, after_is) = record {
-  number_is = ap (λ (s : ShardState). s.number) after_is;
-  page_limit_is = ap (λ (s : ShardState). s.page_limit) after_is;
-  gens_is = ap (λ (s : ShardState). s.gens) after_is;
-  opened_more = omega (arith, ap (λ (s : ShardState). s.opened) after_is);
-  spans = λ id.
-      let same = spans-set id before.groups index group (with_span group place (with_free span key)) here.group_is (count-with_span id group place span (with_free span key) here.span_is refl) in
-      omega (arith, ap (times_in id) after_is, ap (own id) after_is, same);
-}
-
--- the core after the call of one shard
-
-module _ (old : CoreState) (kept : IsKept old) (number : ℕ) (before after : ShardState) (here : slice_get old.shards number ≡ Some before) (call : IsCall before after) where
+module _ (old : CoreState) (sound : IsSound old) (number : ℕ) (before after : ShardState) (here : slice_get old.shards number ≡ Some before) (call : IsCall before after) where
   abbrev new : CoreState
   new = with_shard old number after
 
   abbrev was : IsSoundAt old.limits number before
-  was = kept.sound.shards number before here
-
-  abbrev indicator : ℕ → ℕ → ℕ
-  indicator serial opened = cond {A = ℕ} (ltb serial opened) 1 0
+  was = sound.shards number before here
 
   own-here : (id : SpanId) → id.shard ≡ number → (own id before ≡ indicator id.serial before.opened) × (own id after ≡ indicator id.serial after.opened)
   own-here id same =
@@ -130,57 +60,109 @@ module _ (old : CoreState) (kept : IsKept old) (number : ℕ) (before after : Sh
       let still : eqb id.shard after.number ≡ false = ne_eqb id.shard after.number (λ e. differ (e ∙ call.number_is ∙ was.number_is)) in
       (rw shard_is refl, rw still refl)
 
-  once_new : (id : SpanId) → (id.shard ≡ number) ⊎ (id.shard ≢ number) → times id new.shards ≡ indicator id.serial (opened_by new.shards id.shard)
+  once_new : (id : SpanId) → (id.shard ≡ number) ⊎ (id.shard ≢ number) → times id new ≡ indicator id.serial (opened_by new.shards id.shard)
   once_new id (inl same) =
       let opened_old : opened_by old.shards id.shard ≡ before.opened = ap (opened_by old.shards) same ∙ ap opened_of here in
       let opened_new : opened_by new.shards id.shard ≡ after.opened = ap (opened_by new.shards) same ∙ ap opened_of (slice_get-set_same old.shards number before after here) in
-      let once_old : times id old.shards ≡ indicator id.serial before.opened = kept.sound.once id ∙ ap (indicator id.serial) opened_old in
-      let total : times id new.shards ≡ indicator id.serial after.opened = omega (arith, once_old, times-set id old.shards number before after here, call.spans id, (own-here id same).0, (own-here id same).1) in
+      let once_old : times id old ≡ indicator id.serial before.opened = sound.once id ∙ ap (indicator id.serial) opened_old in
+      let total : times id new ≡ indicator id.serial after.opened = omega (arith, once_old, sum_all-with_shard (named id) old number before after here, call.spans id, (own-here id same).0, (own-here id same).1) in
       total ∙ ap (indicator id.serial) (sym opened_new)
   once_new id (inr differ) =
       let opened_same : opened_by new.shards id.shard ≡ opened_by old.shards id.shard = ap opened_of (slice_get-set_other old.shards number id.shard after differ) in
-      let total : times id new.shards ≡ times id old.shards = omega (arith, times-set id old.shards number before after here, call.spans id, (own-other id differ).0, (own-other id differ).1) in
-      total ∙ kept.sound.once id ∙ ap (indicator id.serial) (sym opened_same)
+      let total : times id new ≡ times id old = omega (arith, sum_all-with_shard (named id) old number before after here, call.spans id, (own-other id differ).0, (own-other id differ).1) in
+      total ∙ sound.once id ∙ ap (indicator id.serial) (sym opened_same)
+
+  strays_new : sum_all (strays old.limits.gens) new ≡ 0
+  strays_new =
+      let same : sum_in (strays old.limits.gens) after ≡ sum_in (strays old.limits.gens) before = subst (λ g. sum_in (strays g) after ≡ sum_in (strays g) before) was.gens_is call.strays_are in
+      omega (arith, no_strays old sound, sum_all-with_shard (strays old.limits.gens) old number before after here, same)
+
+  home-after : after.ended ≡ false → (id : SpanId) → id.shard ≡ number → id.serial < after.opened → times_in id after ≡ 1
+  home-after running id same below = by_order (cases_lt id.serial before.opened)
+    where
+      by_order : (id.serial < before.opened) ⊎ (before.opened ≤ id.serial) → times_in id after ≡ 1
+      by_order (inl old_one) =
+          omega (arith, was.home (sym call.ended_is ∙ running) id same old_one, call.spans id, (own-here id same).0, (own-here id same).1, below-indicator id.serial before.opened old_one, below-indicator id.serial after.opened below)
+      by_order (inr new_one) =
+          let opened_old : opened_by old.shards id.shard ≡ before.opened = ap (opened_by old.shards) same ∙ ap opened_of here in
+          let none : times id old ≡ 0 = sound.once id ∙ ap (indicator id.serial) opened_old ∙ past-indicator id.serial before.opened new_one in
+          omega (arith, none, times-parts id old, times_in-le id old.shards number before here, call.spans id, (own-here id same).0, (own-here id same).1,
+          past-indicator id.serial before.opened new_one, below-indicator id.serial after.opened below)
 
   pub IsSound-with_shard : IsSoundShard after → IsSound (with_shard old number after)
-  IsSound-with_shard sound = record {
-    within = kept.sound.within;
-    count = length-set old.shards number after ∙ kept.sound.count;
+  IsSound-with_shard sound_after = record {
+    within = sound.within;
+    count = length-set old.shards number after ∙ sound.count;
     shards = each-set (IsSoundAt old.limits) old.shards number after
         (record {
           number_is = call.number_is ∙ was.number_is;
           page_limit_is = call.page_limit_is ∙ was.page_limit_is;
           gens_is = call.gens_is ∙ was.gens_is;
-          sound = sound;
+          sound = sound_after;
+          home = home-after;
         })
-        kept.sound.shards;
+        sound.shards;
+    pool = sound.pool;
+    gens = strays-each old.limits.gens (all_spans new) strays_new;
     once = λ id. once_new id (cases_eq id.shard number);
   }
 
-  home-here : (id : SpanId) → id.shard ≢ number → has_span id after ≡ false
-  home-here id differ =
-      has_span-uncounted id after
-      (omega (arith, call.spans id, (own-other id differ).0, (own-other id differ).1, times_in-missed id before (kept.home number before id here differ)))
+-- the pool changes
 
-  pub AreHome-with_shard : AreHome (with_shard old number after)
-  AreHome-with_shard other shard id there differ =
-      each-set (λ n s. (name : SpanId) → name.shard ≢ n → has_span name s ≡ false) old.shards number after home-here
-      (λ n s at name. kept.home n s name at) other shard there id differ
+pub IsSound-with_pool : (old : CoreState) → IsSound old → (pool : PoolState) → IsPoolCall old.pool pool → IsSoundPool pool → IsSound (with_pool old pool)
+IsSound-with_pool old sound pool call sound_pool = record {
+  within = sound.within;
+  count = sound.count;
+  shards = sound.shards;
+  pool = sound_pool;
+  gens = strays-each old.limits.gens (all_spans (with_pool old pool))
+      (omega (arith, no_strays old sound, sum_all-with_pool (strays old.limits.gens) old pool, call.strays_are old.limits.gens));
+  once = λ id.
+      let same : times id (with_pool old pool) ≡ times id old = omega (arith, sum_all-with_pool (named id) old pool, call.spans id) in
+      same ∙ sound.once id;
+}
 
-  pub IsKept-with_shard : IsSoundShard after → IsKept (with_shard old number after)
-  IsKept-with_shard sound = record { sound = IsSound-with_shard sound; home = AreHome-with_shard }
+-- spans move between a shard and the pool
 
-  indicator-more : (s a b : ℕ) → a ≤ b → indicator s a ≤ indicator s b
-  indicator-more s a b more = grind (arith, nat_tests)
+module _ (old : CoreState) (sound : IsSound old) (number : ℕ) (before after : ShardState) (pool : PoolState) (here : slice_get old.shards number ≡ Some before) (move : IsMove before after old.pool pool) where
+  abbrev moved : CoreState
+  moved = with_pool (with_shard old number after) pool
 
-  own-kept : (id : SpanId) → (id.shard ≡ number) ⊎ (id.shard ≢ number) → own id before ≤ own id after
-  own-kept id (inl same) = omega (arith, (own-here id same).0, (own-here id same).1, indicator-more id.serial before.opened after.opened call.opened_more)
-  own-kept id (inr differ) = omega (arith, (own-other id differ).0, (own-other id differ).1)
+  abbrev was_there : IsSoundAt old.limits number before
+  was_there = sound.shards number before here
 
-  pub IsChange-with_shard : IsChange old.shards number before after
-  IsChange-with_shard = record {
-    here = here;
-    once = λ id. subst (λ n. n ≤ 1) (sym (kept.sound.once id)) (cond-le_one _);
-    once_after = λ id. subst (λ n. n ≤ 1) (sym (once_new id (cases_eq id.shard number))) (cond-le_one _);
-    kept = λ id. omega (arith, call.spans id, own-kept id (cases_eq id.shard number));
+  -- no span comes or goes
+  pub sum_all-moved : (w : SpanState → ℕ) → sum_all w (with_pool (with_shard old number after) pool) ≡ sum_all w old
+  sum_all-moved w = omega (arith, sum_all-with_shard w old number before after here, sum_all-with_pool w (with_shard old number after) pool, move.sums w)
+
+  opened_still : (id : SpanId) → (id.shard ≡ number) ⊎ (id.shard ≢ number) → opened_by moved.shards id.shard ≡ opened_by old.shards id.shard
+  opened_still id (inl same) =
+      ap (opened_by moved.shards) same ∙ ap opened_of (slice_get-set_same old.shards number before after here) ∙ move.opened_is
+      ∙ sym (ap opened_of here) ∙ sym (ap (opened_by old.shards) same)
+  opened_still id (inr differ) = ap opened_of (slice_get-set_other old.shards number id.shard after differ)
+
+  once_still : (id : SpanId) → times id moved ≡ indicator id.serial (opened_by moved.shards id.shard)
+  once_still id = sum_all-moved (named id) ∙ sound.once id ∙ ap (indicator id.serial) (sym (opened_still id (cases_eq id.shard number)))
+
+  home-moved : after.ended ≡ false → (id : SpanId) → id.shard ≡ number → id.serial < after.opened → times_in id after ≡ 1
+  home-moved running id same below =
+      let one : times_in id before ≡ 1 = was_there.home move.running id same (subst (λ n. id.serial < n) move.opened_is below) in
+      omega (arith, one, move.more running (named id), sum_all-moved (named id), at_most_once old sound id, times-parts id moved, times_in-le id moved.shards number after (slice_get-set_same old.shards number before after here))
+
+  pub IsSound-moved : IsSoundShard after → IsSoundPool pool → IsSound (with_pool (with_shard old number after) pool)
+  IsSound-moved sound_after sound_pool = record {
+    within = sound.within;
+    count = length-set old.shards number after ∙ sound.count;
+    shards = each-set (IsSoundAt old.limits) old.shards number after
+        (record {
+          number_is = move.number_is ∙ was_there.number_is;
+          page_limit_is = move.page_limit_is ∙ was_there.page_limit_is;
+          gens_is = move.gens_is ∙ was_there.gens_is;
+          sound = sound_after;
+          home = home-moved;
+        })
+        sound.shards;
+    pool = sound_pool;
+    gens = strays-each old.limits.gens (all_spans moved) (sum_all-moved (strays old.limits.gens) ∙ no_strays old sound);
+    once = once_still;
   }

@@ -1,8 +1,14 @@
 pub mod Changes
+pub mod FieldSteps
 pub mod Fields
+pub mod Groups
 pub mod Lists
 pub mod LiveKeys
 pub mod LiveKeysShown
+pub mod Logged
+pub mod Moves
+pub mod Owner
+pub mod Owners
 pub mod Runs
 pub mod Shown
 pub mod Spans

@@ -1,8 +1,8 @@
 -- Counts, sums and searches in lists.
-use Rattle.std.proofs.Common.{◌≡◌, ◌≢◌, ℕ, zero, suc, ◌+◌, ◌≤◌, Bool, true, false, cond, List, [], ◌∷◌, ◌++◌, refl, sym, ap, subst, ◌∙◌, arith, Option, Some, None, set, map, slice_get}
-use Rattle.std.specs.Prelude.{find, count_by, sum_by}
+use Rattle.std.proofs.Common.{◌≡◌, ◌≢◌, ℕ, zero, suc, ◌+◌, ◌≤◌, Bool, true, false, cond, List, [], ◌∷◌, ◌++◌, refl, sym, ap, subst, ◌∙◌, arith, Option, Some, None, set, map, slice_get, length}
+use Rattle.std.specs.Prelude.{find, filter, count_by, sum_by, insert, remove}
 use Rattle.std.specs.List.{AllByRecursion, flat_map}
-use Rattle.std.proofs.lemmas.List.Sums.{sum_by-append, sum_by-cons, sum_by-set}
+use Rattle.std.proofs.lemmas.List.Sums.{length-filter, sum_by-append, sum_by-cons, sum_by-insert, sum_by-remove, sum_by-set}
 use Rattle.std.proofs.lemmas.Option.{get_or_from_slice_get, slice_get_within}
 
 pub one_where : (b : Bool) → b ≡ true → cond {A = ℕ} b 1 0 ≡ 1
@@ -17,6 +17,13 @@ cond-le_one false = omega arith
 
 pub count_by-append : {X : Type 0} (p : X → Bool) (xs ys : List X) → count_by p (xs ++ ys) ≡ count_by p xs + count_by p ys
 count_by-append p xs ys = sum_by-append (λ x. cond (p x) 1 0) xs ys
+
+pub sum_by-flat_map : {X Y : Type 0} (w : Y → ℕ) (f : X → List Y) (xs : List X) → sum_by w (flat_map f xs) ≡ sum_by (λ x. sum_by w (f x)) xs
+sum_by-flat_map w f [] = refl
+sum_by-flat_map w f (x ∷ xs) =
+    sum_by-append w (f x) (flat_map f xs)
+    ∙ ap (λ n. sum_by w (f x) + n) (sum_by-flat_map w f xs)
+    ∙ sym (sum_by-cons (λ y. sum_by w (f y)) x xs)
 
 pub count_by-cons : {X : Type 0} (p : X → Bool) (x : X) (xs : List X) → count_by p (x ∷ xs) ≡ cond (p x) 1 0 + count_by p xs
 count_by-cons p x xs = sum_by-cons (λ y. cond (p y) 1 0) x xs
@@ -122,7 +129,7 @@ set-slice_get (z ∷ xs) (suc i) x here = ap (λ ys. z ∷ ys) (set-slice_get xs
 
 -- facts of each element of lists in a row
 
-each-append : {X : Type 0} (P : X → Type 0) (xs ys : List X) → AllByRecursion P xs → AllByRecursion P ys → AllByRecursion P (xs ++ ys)
+pub each-append : {X : Type 0} (P : X → Type 0) (xs ys : List X) → AllByRecursion P xs → AllByRecursion P ys → AllByRecursion P (xs ++ ys)
 each-append P [] ys left right = right
 each-append P (x ∷ xs) ys left right = (left.0, each-append P xs ys left.1 right)
 
@@ -141,3 +148,46 @@ each-found P p (y ∷ ys) x each found = by_test (p y) refl found (each-found P 
     by_test : (b : Bool) → p y ≡ b → cond b (Some y) (find p ys) ≡ Some x → (find p ys ≡ Some x → (p x ≡ true) × P x) → (p x ≡ true) × P x
     by_test true passes found rest = let same : y ≡ x = cc in subst (λ z. (p z ≡ true) × P z) same (passes, each.0)
     by_test false fails found rest = rest found
+
+-- what of the element that a search found, where it found one
+abbrev pub found_of : {X : Type 0} → (X → ℕ) → Option X → ℕ
+found_of f None = 0
+found_of f (Some x) = f x
+
+-- where one element passes at most, a sum over those that pass is that of the element found
+pub sum_by-passing : {X : Type 0} (p : X → Bool) (f : X → ℕ) (xs : List X) → count_by p xs ≤ 1 → sum_by (λ x. cond (p x) (f x) 0) xs ≡ found_of f (find p xs)
+sum_by-passing p f [] once = refl
+sum_by-passing p f (x ∷ xs) once = sum_by-cons (λ y. cond (p y) (f y) 0) x xs ∙ by_test (p x) refl (sum_by-passing p f xs)
+  where
+    by_test : (b : Bool) → p x ≡ b → (count_by p xs ≤ 1 → sum_by (λ y. cond (p y) (f y) 0) xs ≡ found_of f (find p xs))
+        → cond b (f x) 0 + sum_by (λ y. cond (p y) (f y) 0) xs ≡ found_of f (cond b (Some x) (find p xs))
+    by_test true passes rest =
+        let none : count_by p xs ≡ 0 = omega (arith, count_by-cons p x xs, one_where (p x) passes) in
+        omega (arith, rest (omega arith), ap (found_of f) (find-uncounted p xs none))
+    by_test false fails rest =
+        let few : count_by p xs ≤ 1 = omega (arith, count_by-cons p x xs) in
+        omega (arith, rest few)
+
+-- sums over lists of lists, after one list is changed, put in or taken out
+
+pub flat-set : {X Y : Type 0} (w : Y → ℕ) (f : X → List Y) (xs : List X) (i : ℕ) (x y : X) → slice_get xs i ≡ Some x → sum_by w (flat_map f (set xs i y)) + sum_by w (f x) ≡ sum_by w (flat_map f xs) + sum_by w (f y)
+flat-set w f xs i x y here = omega (arith, sum_by-flat_map w f xs, sum_by-flat_map w f (set xs i y), sum_by-set_at (λ z. sum_by w (f z)) xs i x y here)
+
+pub flat-insert : {X Y : Type 0} (w : Y → ℕ) (f : X → List Y) (xs : List X) (i : ℕ) (y : X) → sum_by w (flat_map f (insert xs i y)) ≡ sum_by w (flat_map f xs) + sum_by w (f y)
+flat-insert w f xs i y = omega (arith, sum_by-flat_map w f xs, sum_by-flat_map w f (insert xs i y), sum_by-insert (λ z. sum_by w (f z)) xs i y)
+
+pub flat-remove : {X Y : Type 0} (w : Y → ℕ) (f : X → List Y) (xs : List X) (i : ℕ) (x : X) → slice_get xs i ≡ Some x → sum_by w (flat_map f (remove xs i)) + sum_by w (f x) ≡ sum_by w (flat_map f xs)
+flat-remove w f xs i x here =
+    omega (arith, sum_by-flat_map w f xs, sum_by-flat_map w f (remove xs i), sum_by-remove (λ z. sum_by w (f z)) xs i x (slice_get_within xs i x here), ap (λ z. sum_by w (f z)) (get_or_from_slice_get xs i x x here))
+
+-- sums of what is the same of each element
+pub sum_by-same : {X : Type 0} (f g : X → ℕ) (xs : List X) → ((i : ℕ) (x : X) → slice_get xs i ≡ Some x → f x ≡ g x) → sum_by f xs ≡ sum_by g xs
+sum_by-same f g [] same = refl
+sum_by-same f g (x ∷ xs) same = omega (arith, sum_by-cons f x xs, sum_by-cons g x xs, same 0 x refl, sum_by-same f g xs (λ i y here. same (suc i) y here))
+
+pub length-filter_most : {X : Type 0} (p : X → Bool) (xs : List X) → length (filter p xs) ≤ length xs
+length-filter_most {X = X} p xs = omega (arith, length-filter p xs, most xs)
+  where
+    most : (ys : List X) → count_by p ys ≤ length ys
+    most [] = omega arith
+    most (y ∷ ys) = omega (arith, count_by-cons p y ys, cond-le_one (p y), most ys)

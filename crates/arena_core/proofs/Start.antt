@@ -1,21 +1,32 @@
 -- A core begins sound, and shows the empty map.
-use Rattle.std.proofs.Common.{◌≡◌, ℕ, zero, suc, ◌+◌, ◌<◌, cond, ltb, List, [], ◌∷◌, refl, sym, ap, subst, ◌∙◌, arith, None, Some, map, slice_get, length}
+use Rattle.std.proofs.Common.{◌≡◌, ℕ, zero, suc, ◌+◌, ◌<◌, ◌++◌, cond, ltb, List, [], ◌∷◌, refl, sym, ap, subst, ◌∙◌, arith, None, Some, map, slice_get, length, append-nil}
+use Rattle.std.specs.Prelude.{sum_by}
 use Rattle.std.specs.List.{range_with_len}
-use Rattle.std.proofs.lemmas.Bool.Decides.{nat_tests}
 use Rattle.std.proofs.lemmas.List.FromFn.{length-map-range_with_len}
 use Rattle.span.specs.declared.id.SpanId.{SpanId}
 use Rattle.span.specs.PlainMap.{empty_map}
+use Rattle.span.specs.State.{SpanState}
 use Rattle.shard.specs.Sound.{IsSound as IsSoundShard}
 use Rattle.shard.specs.State.{ShardState}
-use Rattle.arena_core.specs.Kept.{IsKept}
+use Rattle.abandoned.specs.State.{PoolState}
+use Rattle.abandoned.proofs.Started.{IsSound-new}
 use Rattle.arena_core.specs.Sound.{IsSound, IsSoundAt}
-use Rattle.arena_core.specs.State.{AreWithin, CoreState, Limits, has_span, issued_in, limits_of, new_core, new_shard, opened_by, shard_with, shown, value_in}
+use Rattle.arena_core.specs.State.{AreWithin, CoreState, Limits, all_spans, limits_of, new_core, new_pool, new_shard, opened_by, shard_spans, shard_with, shown, shown_at}
+use Rattle.arena_core.proofs.Changes.{indicator, past-indicator}
+use Rattle.arena_core.proofs.Groups.{strays, strays-each}
 use Rattle.arena_core.proofs.Shown.{same_plain_map}
-use Rattle.arena_core.proofs.Spans.{shard_with-nowhere, times}
+use Rattle.arena_core.proofs.Spans.{named, shard_with-nowhere, sum_all, sum_all-parts, times, times_owned}
 
-times-new : (id : SpanId) (limits : Limits) (numbers : List ℕ) → times id (map (new_shard limits.page_limit limits.gens) numbers) ≡ 0
-times-new id limits [] = refl
-times-new id limits (number ∷ numbers) = times-new id limits numbers
+sum-new : (w : SpanState → ℕ) (limits : Limits) (numbers : List ℕ) → sum_by w (shard_spans (map (new_shard limits.page_limit limits.gens) numbers)) ≡ 0
+sum-new w limits [] = refl
+sum-new w limits (number ∷ numbers) = sum-new w limits numbers
+
+sum_all-new : (w : SpanState → ℕ) (limits : Limits) → sum_all w (new_core limits) ≡ 0
+sum_all-new w limits =
+    sum_all-with_none w (shard_spans (new_core limits).shards) ∙ sum-new w limits (range_with_len 0 limits.shards)
+  where
+    sum_all-with_none : (w : SpanState → ℕ) (spans : List SpanState) → sum_by w (spans ++ []) ≡ sum_by w spans
+    sum_all-with_none w spans = ap (sum_by w) (append-nil spans)
 
 opened_by-new : (limits : Limits) (numbers : List ℕ) (number : ℕ) → opened_by (map (new_shard limits.page_limit limits.gens) numbers) number ≡ 0
 opened_by-new limits [] number = refl
@@ -39,33 +50,29 @@ IsSound-new_core limits within each = record {
   shards = λ number shard here.
       let at : (number < limits.shards) × (new_shard limits.page_limit limits.gens (0 + number) ≡ shard) = slice_get-range limits 0 limits.shards number shard here in
       let same : 0 + number ≡ number = omega arith in
-      subst (IsSoundAt limits number) (ap (new_shard limits.page_limit limits.gens) (sym same) ∙ at.1) (record { number_is = refl; page_limit_is = refl; gens_is = refl; sound = each number at.0 });
+      subst (IsSoundAt limits number) (ap (new_shard limits.page_limit limits.gens) (sym same) ∙ at.1)
+      (record { number_is = refl; page_limit_is = refl; gens_is = refl; sound = each number at.0; home = λ running id named_so below. absurd (omega arith) });
+  pool = IsSound-new;
+  gens = strays-each limits.gens (all_spans (new_core limits)) (sum_all-new (strays limits.gens) limits);
   once = λ id.
-      times-new id limits (range_with_len 0 limits.shards)
-      ∙ sym (ap (λ n. cond {A = ℕ} (ltb id.serial n) 1 0) (opened_by-new limits (range_with_len 0 limits.shards) id.shard) ∙ none_below id.serial);
-}
-  where
-    none_below : (n : ℕ) → cond {A = ℕ} (ltb n 0) 1 0 ≡ 0
-    none_below n = grind (arith, nat_tests)
-
-pub IsKept-new_core : (limits : Limits) → AreWithin limits → ((number : ℕ) → number < limits.shards → IsSoundShard (new_shard limits.page_limit limits.gens number)) → IsKept (new_core limits)
-IsKept-new_core limits within each = record {
-  sound = IsSound-new_core limits within each;
-  home = λ number shard id here differ. ap (has_span id) (sym (slice_get-range limits 0 limits.shards number shard here).1);
+      sum_all-new (named id) limits
+      ∙ sym (ap (indicator id.serial) (opened_by-new limits (range_with_len 0 limits.shards) id.shard) ∙ past-indicator id.serial 0 (omega arith));
 }
 
 pub shown-new_core : (limits : Limits) → shown (new_core limits) ≡ empty_map
-shown-new_core limits = same_plain_map _ _ (λ key. ap (issued_in key) (nowhere key.span)) (λ key. ap (value_in key) (nowhere key.span)) (λ worker owner. refl)
+shown-new_core limits =
+    same_plain_map _ _ (λ key. ap (λ o. (shown_at new_pool o).is_issued key) (nowhere key.span)) (λ key. ap (λ o. (shown_at new_pool o).value_of key) (nowhere key.span)) (λ worker owner. refl)
   where
     nowhere : (id : SpanId) → shard_with (new_core limits).shards id ≡ None
-    nowhere id = shard_with-nowhere id (new_core limits).shards (times-new id limits (range_with_len 0 limits.shards))
+    nowhere id = shard_with-nowhere id (new_core limits).shards (sum-new (named id) limits (range_with_len 0 limits.shards))
 
 abbrev with_count : Limits → ℕ → List ShardState → CoreState
-with_count limits count shards = record { limits = limits_of count limits.page_limit limits.ring_capacity limits.gens; shards = shards }
+with_count limits count shards = record { limits = limits_of count limits.page_limit limits.ring_capacity limits.gens; shards = shards; pool = new_pool }
 
 -- the fields of a new core show as the new core
-pub new_core-fields : (limits : Limits) (shards : List ShardState) → shards ≡ (new_core limits).shards
-    → ◌≡◌ {A = CoreState} (record { limits = limits_of (length shards) limits.page_limit limits.ring_capacity limits.gens; shards = shards }) (new_core limits)
-new_core-fields limits shards are =
-    ap (λ all. with_count limits (length all) all) are
+pub new_core-fields : (limits : Limits) (shards : List ShardState) (pool : PoolState) → shards ≡ (new_core limits).shards → pool ≡ new_pool
+    → ◌≡◌ {A = CoreState} (record { limits = limits_of (length shards) limits.page_limit limits.ring_capacity limits.gens; shards = shards; pool = pool }) (new_core limits)
+new_core-fields limits shards pool are empty =
+    ap (λ (p : PoolState). record (with_count limits (length shards) shards) { pool = p }) empty
+    ∙ ap (λ all. with_count limits (length all) all) are
     ∙ ap (λ n. with_count limits n (new_core limits).shards) (length-map-range_with_len (new_shard limits.page_limit limits.gens) 0 limits.shards)

@@ -1,48 +1,146 @@
--- Each call of one shard as a step of the core, exactly, and as a step of the plain map.
-use Rattle.std.proofs.Common.{◌≡◌, ℕ, ◌⊎◌, inl, inr, Bool, true, false, cond, refl, sym, ap, subst, ◌∙◌, Option, Some, None, set, slice_get, is_some}
-use Rattle.std.specs.Prelude.{◌↔◌}
+-- Each call of a shard or of the pool as a step of the core, exactly, and as a step of the plain map.
+use Rattle.std.proofs.Common.{◌≡◌, ℕ, zero, suc, ◌+◌, ◌<◌, ◌≤◌, ◌⊎◌, inl, inr, Bool, true, false, cond, length, refl, sym, ap, subst, ◌∙◌, arith, Option, Some, None, set, slice_get, is_some}
+use Rattle.std.specs.Prelude.{◌↔◌, find}
+use Rattle.span.specs.declared.id.SpanId.{SpanId}
 use Rattle.span.specs.declared.key.Key.{Key}
 use Rattle.span.specs.Log.{Value as Word}
-use Rattle.span.specs.PlainMap.{with_put, without}
-use Rattle.shard.specs.Calls.{Frees, IsSpent, Puts, value_found, was_freed}
-use Rattle.shard.specs.Shown.{shown as shown_by}
+use Rattle.span.specs.PlainMap.{PlainMap, with_put, without}
+use Rattle.shard.specs.Calls.{Frees, Gets, IsSpent, Puts, value_found, was_freed}
+use Rattle.shard.specs.Group.{GroupState}
+use Rattle.shard.specs.Shown.{shown as shown_by, span_named}
 use Rattle.shard.specs.Sound.{IsSound as IsSoundShard}
-use Rattle.shard.specs.State.{ShardState}
+use Rattle.shard.specs.State.{IsElsewhere, IsHere, ShardState, spans_in}
 use Rattle.shard.specs.declared.error.PutError.{PutError}
 use Rattle.shard.specs.declared.error.PutError.TheVariants as put_error
 use Rattle.shard.specs.declared.shard.Found.{Found}
-use Rattle.shard.specs.declared.shard.Found.TheVariants as shard_found
+use Rattle.shard.specs.declared.shard.Found.TheVariants as found
 use Rattle.shard.specs.declared.shard.Freed.{Freed}
-use Rattle.shard.specs.declared.shard.Freed.TheVariants as shard_freed
+use Rattle.shard.specs.declared.shard.Freed.TheVariants as freed
+use Rattle.shard.proofs.ShownLogs.{span_named-elsewhere, span_named-here}
+use Rattle.span.specs.State.{SpanState}
+use Rattle.abandoned.specs.Calls.{Adopts, Frees as FreesPooled, HasNothingToAdopt, IsDoubled, IsInPool, Receives}
+use Rattle.abandoned.specs.Shown.{shown as shown_by_pool}
+use Rattle.abandoned.specs.Sound.{IsSound as IsSoundPool}
+use Rattle.abandoned.specs.State.{IsElsewhere as IsElsewherePooled, PoolState, spans_in as pooled_spans}
+use Rattle.abandoned.specs.declared.error.AdoptError.{AdoptError}
+use Rattle.abandoned.specs.declared.error.AdoptError.TheVariants as adopt_error
+use Rattle.abandoned.specs.declared.error.ReceiveError.{ReceiveError}
+use Rattle.abandoned.specs.declared.error.ReceiveError.TheVariants as receive_error
+use Rattle.abandoned.proofs.Standing.{elsewhere-times, times-elsewhere}
 use Rattle.arena_core.specs.declared.event.Event.{Event}
-use Rattle.arena_core.specs.declared.event.Event.TheVariants.{Put, Free}
+use Rattle.arena_core.specs.declared.event.Event.TheVariants.{Put, Free, End, Adopt}
+use Rattle.arena_core.specs.declared.machine.Owner.{Owner}
+use Rattle.arena_core.specs.declared.machine.Owner.TheVariants as owner
+use Rattle.arena_core.specs.declared.reply.Refusal.{Refusal}
 use Rattle.arena_core.specs.declared.reply.Reply.{Reply}
 use Rattle.arena_core.specs.declared.reply.Reply.TheVariants as reply
-use Rattle.arena_core.specs.Kept.{AreHome, IsKept}
-use Rattle.arena_core.specs.State.{CoreState, has_span, shown, value_in, with_shard}
+use Rattle.arena_core.specs.Owner.{IsNowhere}
+use Rattle.arena_core.specs.Plain.{ErasedStep}
+use Rattle.arena_core.specs.Refusals.{refusal_of, refusal_of_adoption, refusal_of_end}
+use Rattle.arena_core.specs.Sound.{IsSound}
+use Rattle.arena_core.specs.State.{CoreState, has_span, opened_by, opened_of, shard_with, shown, shown_at, with_pool, with_shard}
 use Rattle.arena_core.specs.Step.{CoreStep}
-use Rattle.arena_core.specs.Plain.{PlainStep}
-use Rattle.arena_core.specs.Refusals.{refusal_of}
-use Rattle.arena_core.proofs.Changes.{IsCall-Frees, IsCall-Puts, IsChange-with_shard, IsKept-with_shard}
-use Rattle.arena_core.proofs.Lists.{find-only, set-slice_get, where_passes}
-use Rattle.arena_core.proofs.Shown.{fresh-put, shown-free, shown-put, value-missed}
+use Rattle.arena_core.proofs.Changes.{IsSound-moved, IsSound-with_pool, IsSound-with_shard, at_most_once, indicator, opened-somewhere, past-indicator, sum_all-moved}
+use Rattle.arena_core.proofs.Groups.{IsCall-Frees, IsCall-Puts, IsMove-Adopts, IsMove-Receives, IsPoolCall-Frees}
+use Rattle.arena_core.proofs.Lists.{find-none, set-slice_get}
+use Rattle.arena_core.proofs.Logged.{shown-same}
+use Rattle.arena_core.proofs.Owners.{value-unpooled}
+use Rattle.arena_core.proofs.Shown.{IsLocal-pool, IsLocal-shard, fresh-put, has_pooled, has_pooled-counted, shown-free, shown-put, value-before}
+use Rattle.arena_core.proofs.Spans.{has_span-counted, has_span-uncounted, named, shard_with-here, shard_with-nowhere, sum_all-with_pool, sum_all-with_shard, times, times-parts, times_in, times_in-found, times_in-le, times_owned, times_pooled}
 
--- what the core keeps, its own step, and that of the plain map
+-- what the core keeps, its own step, and that of the plain map, if the plain map knows the event
 pub record IsStep (old : CoreState) (event : Event) (answer : Reply) (new : CoreState) : Type 0 where
-  pub kept : IsKept new
+  pub kept : IsSound new
   pub exact : CoreStep old event answer new
-  pub plain : PlainStep (shown old) event answer (shown new)
+  pub plain : ErasedStep (shown old) event answer (shown new)
 
-pub IsStep-Puts : (old : CoreState) (number : ℕ) (value : Word) (key : Key) (at : ℕ) (before after : ShardState) → IsKept old → slice_get old.shards number ≡ Some before → Puts before value key at after
+-- where a span stands
+
+-- a span that stands in the shard
+pub has_span-here : (shard : ShardState) (id : SpanId) (index place : ℕ) (group : GroupState) (span : SpanState) → IsSoundShard shard → IsHere shard.groups id index place group span → has_span id shard ≡ true
+has_span-here shard id index place group span sound here = ap is_some (span_named-here shard sound id index place group span here)
+
+-- a span that does not stand there
+pub has_span-not : (shard : ShardState) (id : SpanId) → IsSoundShard shard → IsElsewhere shard.groups id → has_span id shard ≡ false
+has_span-not shard id sound elsewhere = ap is_some (span_named-elsewhere shard sound id elsewhere)
+
+pub elsewhere-has_span : (shard : ShardState) (id : SpanId) → IsSoundShard shard → has_span id shard ≡ false → IsElsewhere shard.groups id
+elsewhere-has_span shard id sound none index group at place its =
+    absurd (let has : has_span id shard ≡ true = has_span-here shard id index place group its.0 sound (record { group_is = at; span_is = its.1; id_is = its.2 }) in cc)
+
+pub has_span-elsewhere : (shard : ShardState) (id : SpanId) → IsSoundShard shard → (IsElsewhere shard.groups id → ⊥) → has_span id shard ≡ true
+has_span-elsewhere shard id sound some = by_test (has_span id shard) refl
+  where
+    by_test : (b : Bool) → has_span id shard ≡ b → b ≡ true
+    by_test true e = refl
+    by_test false e = absurd (some (elsewhere-has_span shard id sound e))
+
+pub pooled-somewhere : (pool : PoolState) (id : SpanId) → (IsElsewherePooled pool.groups id → ⊥) → 1 ≤ times_pooled id pool
+pooled-somewhere pool id some = by_count (times_pooled id pool) refl
+  where
+    by_count : (n : ℕ) → times_pooled id pool ≡ n → 1 ≤ n
+    by_count zero e = absurd (some (elsewhere-times pool.groups id e))
+    by_count (suc n) e = omega arith
+
+module _ (core : CoreState) (sound : IsSound core) where
+  owned-once : (id : SpanId) → times_owned id core.shards ≤ 1
+  owned-once id = omega (arith, times-parts id core, at_most_once core sound id)
+
+  -- the shard that has the key's span answers for the key
+  pub value-shard : (key : Key) (number : ℕ) (shard : ShardState) → slice_get core.shards number ≡ Some shard → has_span key.span shard ≡ true → (shown core).value_of key ≡ (shown_by shard).value_of key
+  value-shard key number shard here has = ap (λ o. (shown_at core.pool o).value_of key) (shard_with-here key.span core.shards number shard here has (owned-once key.span))
+
+  pub value-pool : (key : Key) → 1 ≤ times_pooled key.span core.pool → (shown core).value_of key ≡ (shown_by_pool core.pool).value_of key
+  value-pool key some =
+      ap (λ o. (shown_at core.pool o).value_of key) (shard_with-nowhere key.span core.shards (omega (arith, times-parts key.span core, at_most_once core sound key.span)))
+
+  pub value-nowhere : (key : Key) → IsNowhere core key.span → (shown core).value_of key ≡ None
+  value-nowhere key nowhere =
+      ap (λ o. (shown_at core.pool o).value_of key) (find-none (has_span key.span) core.shards (λ number shard here. has_span-not shard key.span (sound.shards number shard here).sound (nowhere.shards number shard here)))
+      ∙ value-unpooled core.pool key (times-elsewhere core.pool.groups key.span nowhere.pool)
+
+  -- a span of a shard that the core does not have was never opened
+  pub value-no_home : (key : Key) → slice_get core.shards key.span.shard ≡ None → (shown core).value_of key ≡ None
+  value-no_home key none =
+      let unopened : times key.span core ≡ 0 = sound.once key.span ∙ ap (λ o. indicator key.span.serial (opened_of o)) none ∙ past-indicator key.span.serial 0 (omega arith) in
+      ap (λ o. (shown_at core.pool o).value_of key) (shard_with-nowhere key.span core.shards (omega (arith, times-parts key.span core)))
+      ∙ value-unpooled core.pool key (omega (arith, times-parts key.span core))
+
+  -- no span that moves stands twice
+
+  pub not_in_pool : (number : ℕ) (shard : ShardState) → slice_get core.shards number ≡ Some shard → IsInPool core.pool shard → ⊥
+  not_in_pool number shard here (index, group, at, (place, span, there, some)) =
+      let one = times_in-found span.id shard (has_span-here shard span.id index place group span (sound.shards number shard here).sound (record { group_is = at; span_is = there; id_is = refl })) in
+      omega (arith, pooled-somewhere core.pool span.id some, times_in-le span.id core.shards number shard here, times-parts span.id core, at_most_once core sound span.id)
+
+  pub not_doubled : (number : ℕ) (shard : ShardState) → slice_get core.shards number ≡ Some shard → shard.ended ≡ false → IsDoubled core.pool shard → ⊥
+  not_doubled number shard here running (index, group, lowest, (place, span, there, either)) =
+      let pooled : 1 ≤ times_pooled span.id core.pool = pooled-somewhere core.pool span.id (λ elsewhere. elsewhere index group lowest.here place (span, there, refl)) in
+      let one : 1 ≤ times_in span.id shard = by_case pooled either in
+      omega (arith, times_in-le span.id core.shards number shard here, times-parts span.id core, at_most_once core sound span.id)
+    where
+      by_case : 1 ≤ times_pooled span.id core.pool → (span.id.shard ≡ shard.number) ⊎ (IsElsewhere shard.groups span.id → ⊥) → 1 ≤ times_in span.id shard
+      by_case pooled (inl same) =
+          let fine = sound.shards number shard here in
+          let named_so : span.id.shard ≡ number = same ∙ fine.number_is in
+          let opened : opened_by core.shards span.id.shard ≡ shard.opened = ap (opened_by core.shards) named_so ∙ ap opened_of here in
+          let below = opened-somewhere core sound span.id (omega (arith, times-parts span.id core)) in
+          omega (arith, fine.home running span.id named_so (omega arith))
+      by_case pooled (inr some) = times_in-found span.id shard (has_span-elsewhere shard span.id (sound.shards number shard here).sound some)
+
+-- puts
+
+pub IsStep-Puts : (old : CoreState) (number : ℕ) (value : Word) (key : Key) (at : ℕ) (before after : ShardState) → IsSound old → slice_get old.shards number ≡ Some before → Puts before value key at after
     → (shown_by before).is_issued key ≡ false → shown_by after ≡ with_put (shown_by before) key value → IsSoundShard after
     → IsStep old (Put number value) (reply.Issued key) (with_shard old number after)
-IsStep-Puts old number value key at before after kept here puts fresh plain sound =
+IsStep-Puts old number value key at before after sound here puts fresh plain sound_after =
     let call = IsCall-Puts before after value key at puts in
-    let change = IsChange-with_shard old kept number before after here call in
+    let sound_new = IsSound-with_shard old sound number before after here call sound_after in
+    let local = IsLocal-shard old (with_shard old number after) (at_most_once old sound) (at_most_once (with_shard old number after) sound_new) number before after here refl in
     record {
-      kept = IsKept-with_shard old kept number before after here call sound;
+      kept = sound_new;
       exact = record { before = before; after = after; at = at; here = here; puts = puts; rest = refl };
-      plain = (fresh-put old number before after change key value plain fresh, shown-put old number before after change key value plain);
+      plain = (fresh-put old (with_shard old number after) (shown_by before) (shown_by after) (λ id. has_span id after) local key value plain fresh, shown-put old (with_shard old number after) (shown_by before) (shown_by after) (λ id. has_span id after) local key value plain);
     }
 
 -- a put that its shard refuses
@@ -61,65 +159,67 @@ CoreStep-refused old number value shard put_error.PagesSpent here spent ended =
     ((shard, record { here = here; running = is.0 }, is.1), refl)
 CoreStep-refused old number value shard put_error.Ended here spent ended = ((shard, here, ended.0 refl), refl)
 
-value-passes : (key : Key) (o : Option ShardState) → value_in key (where_passes (has_span key.span) o) ≡ value_in key o
-value-passes key None = refl
-value-passes key (Some shard) = by_test (has_span key.span shard) refl
-  where
-    by_test : (b : Bool) → has_span key.span shard ≡ b → value_in key (cond b (Some shard) None) ≡ (shown_by shard).value_of key
-    by_test true has = refl
-    by_test false none = sym (value-missed shard key none)
-
--- each span stands in the shard that opened it, so that shard answers for the key
-pub value-home : (core : CoreState) (key : Key) → AreHome core → (shown core).value_of key ≡ value_in key (slice_get core.shards key.span.shard)
-value-home core key home =
-    ap (value_in key) (find-only (has_span key.span) core.shards key.span.shard (λ number shard here differ. home number shard key.span here differ))
-    ∙ value-passes key (slice_get core.shards key.span.shard)
-
--- the shard of the key's number answers for it, where there is one
-pub value-here : (core : CoreState) (key : Key) (shard : ShardState) → AreHome core → slice_get core.shards key.span.shard ≡ Some shard → (shown core).value_of key ≡ (shown_by shard).value_of key
-value-here core key shard home here = value-home core key home ∙ ap (value_in key) here
-
-pub value-nowhere : (core : CoreState) (key : Key) → AreHome core → slice_get core.shards key.span.shard ≡ None → (shown core).value_of key ≡ None
-value-nowhere core key home none = value-home core key home ∙ ap (value_in key) none
+-- frees
 
 none_from_is_some : {X : Type 0} (o : Option X) → is_some o ≡ false → o ≡ None
 none_from_is_some None e = refl
 none_from_is_some (Some x) e = absurd cc
 
--- a look-up that finds no value
-pub value_found-none : (found : Found) → ((at : ℕ) × (found ≡ shard_found.Gone at)) ⊎ (found ≡ shard_found.NotHere) → value_found found ≡ None
-value_found-none found (inl (at, is)) = ap value_found is
-value_found-none found (inr is) = ap value_found is
-
--- a free that was not done
-pub was_freed-false : (freed : Freed) → ((at : ℕ) × (freed ≡ shard_freed.No at)) ⊎ (freed ≡ shard_freed.NotHere) → was_freed freed ≡ false
-was_freed-false freed (inl (at, is)) = ap was_freed is
-was_freed-false freed (inr is) = ap was_freed is
-
 -- a key that is not live is not freed
-pub IsStep-dead : (old : CoreState) (key : Key) → IsKept old → (shown old).value_of key ≡ None → IsStep old (Free key) (reply.Freed false) old
-IsStep-dead old key kept none = record { kept = kept; exact = (none, refl); plain = (none, refl) }
+pub IsStep-dead : (old : CoreState) (key : Key) → IsSound old → (shown old).value_of key ≡ None → IsStep old (Free key) (reply.Freed false) old
+IsStep-dead old key sound none = record { kept = sound; exact = (none, refl); plain = (none, refl) }
 
-IsStep-unfreed : (old : CoreState) (key : Key) (before after : ShardState) → IsKept old → slice_get old.shards key.span.shard ≡ Some before → false ≡ is_some ((shown_by before).value_of key) → after ≡ before
-    → IsStep old (Free key) (reply.Freed false) (with_shard old key.span.shard after)
-IsStep-unfreed old key before after kept here found after_is =
-    let value : (shown old).value_of key ≡ None = value-here old key before kept.home here ∙ none_from_is_some _ (sym found) in
-    let shards : set old.shards key.span.shard after ≡ old.shards = ap (set old.shards key.span.shard) after_is ∙ set-slice_get old.shards key.span.shard before here in
-    let same : with_shard old key.span.shard after ≡ old = λ i. record { limits = old.limits; shards = shards i } in
-    subst (IsStep old (Free key) (reply.Freed false)) (sym same) (IsStep-dead old key kept value)
+with_shard-same : (old : CoreState) (number : ℕ) (before after : ShardState) → slice_get old.shards number ≡ Some before → after ≡ before → with_shard old number after ≡ old
+with_shard-same old number before after here same =
+    let shards : set old.shards number after ≡ old.shards = ap (set old.shards number) same ∙ set-slice_get old.shards number before here in
+    λ i. record { limits = old.limits; shards = shards i; pool = old.pool }
 
-pub IsStep-Frees : (old : CoreState) (key : Key) (before after : ShardState) (freed : Freed) → IsKept old → slice_get old.shards key.span.shard ≡ Some before → Frees before key freed after
-    → was_freed freed ≡ is_some ((shown_by before).value_of key) → shown_by after ≡ cond (was_freed freed) (without (shown_by before) key) (shown_by before) → IsSoundShard after
-    → IsStep old (Free key) (reply.Freed (was_freed freed)) (with_shard old key.span.shard after)
-IsStep-Frees old key before after (shard_freed.Yes at) kept here frees found plain sound =
+IsStep-unfreed : (old : CoreState) (key : Key) (number : ℕ) (before after : ShardState) → IsSound old → slice_get old.shards number ≡ Some before → has_span key.span before ≡ true → false ≡ is_some ((shown_by before).value_of key) → after ≡ before
+    → IsStep old (Free key) (reply.Freed false) (with_shard old number after)
+IsStep-unfreed old key number before after sound here has found same =
+    subst (IsStep old (Free key) (reply.Freed false)) (sym (with_shard-same old number before after here same))
+    (IsStep-dead old key sound (value-shard old sound key number before here has ∙ none_from_is_some _ (sym found)))
+
+pub IsStep-Frees : (old : CoreState) (key : Key) (number : ℕ) (before after : ShardState) (answer : Freed) → IsSound old → slice_get old.shards number ≡ Some before → has_span key.span before ≡ true → Frees before key answer after
+    → was_freed answer ≡ is_some ((shown_by before).value_of key) → shown_by after ≡ cond (was_freed answer) (without (shown_by before) key) (shown_by before) → IsSoundShard after
+    → IsStep old (Free key) (reply.Freed (was_freed answer)) (with_shard old number after)
+IsStep-Frees old key number before after (freed.Yes at) sound here has frees found plain sound_after =
     let call = IsCall-Frees before after key at frees in
-    let change = IsChange-with_shard old kept key.span.shard before after here call in
-    let value : (shown old).value_of key ≡ (shown_by before).value_of key = value-here old key before kept.home here in
+    let new = with_shard old number after in
+    let sound_new = IsSound-with_shard old sound number before after here call sound_after in
+    let local = IsLocal-shard old new (at_most_once old sound) (at_most_once new sound_new) number before after here refl in
+    let still : has_span key.span after ≡ true = has_span-counted key.span after (omega (arith, times_in-found key.span before has, call.none_lost key.span)) in
     record {
-      kept = IsKept-with_shard old kept key.span.shard before after here call sound;
-      exact = record { number = key.span.shard; before = before; after = after; at = at; here = here; frees = frees; rest = refl };
-      plain = (ap is_some value ∙ sym found, shown-free old key.span.shard before after change key (sym found) plain);
+      kept = sound_new;
+      exact = inl (record { number = number; before = before; after = after; at = at; here = here; frees = frees; rest = refl });
+      plain = (ap is_some (value-before old new (shown_by before) (shown_by after) (λ id. has_span id after) local key still plain) ∙ sym found, shown-free old new (shown_by before) (shown_by after) (λ id. has_span id after) local key still plain);
     }
-IsStep-Frees old key before after (shard_freed.No at) kept here (index, place, group, span, there, dead, at_is, after_is) found plain sound =
-    IsStep-unfreed old key before after kept here found after_is
-IsStep-Frees old key before after shard_freed.NotHere kept here frees found plain sound = IsStep-unfreed old key before after kept here found frees.1
+IsStep-Frees old key number before after (freed.No at) sound here has (index, place, group, span, there, dead, at_is, same) found plain sound_after =
+    IsStep-unfreed old key number before after sound here has found same
+IsStep-Frees old key number before after freed.NotHere sound here has frees found plain sound_after = IsStep-unfreed old key number before after sound here has found frees.1
+
+with_pool-same : (old : CoreState) (pool : PoolState) → pool ≡ old.pool → with_pool old pool ≡ old
+with_pool-same old pool same = λ i. record { limits = old.limits; shards = old.shards; pool = same i }
+
+IsStep-unfreed_pooled : (old : CoreState) (key : Key) (pool : PoolState) → IsSound old → 1 ≤ times_pooled key.span old.pool → false ≡ is_some ((shown_by_pool old.pool).value_of key) → pool ≡ old.pool → IsStep old (Free key) (reply.Freed false) (with_pool old pool)
+IsStep-unfreed_pooled old key pool sound some found same =
+    subst (IsStep old (Free key) (reply.Freed false)) (sym (with_pool-same old pool same))
+    (IsStep-dead old key sound (value-pool old sound key some ∙ none_from_is_some _ (sym found)))
+
+pub IsStep-FreesPooled : (old : CoreState) (key : Key) (pool : PoolState) (answer : Freed) → IsSound old → 1 ≤ times_pooled key.span old.pool → FreesPooled old.pool key answer pool
+    → was_freed answer ≡ is_some ((shown_by_pool old.pool).value_of key) → shown_by_pool pool ≡ cond (was_freed answer) (without (shown_by_pool old.pool) key) (shown_by_pool old.pool) → IsSoundPool pool
+    → IsStep old (Free key) (reply.Freed (was_freed answer)) (with_pool old pool)
+IsStep-FreesPooled old key pool (freed.Yes at) sound some frees found plain sound_pool =
+    let call = IsPoolCall-Frees old.pool pool key at sound.pool frees in
+    let new = with_pool old pool in
+    let sound_new = IsSound-with_pool old sound pool call sound_pool in
+    let local = IsLocal-pool old new (at_most_once old sound) (at_most_once new sound_new) pool refl in
+    let still : has_pooled key.span pool ≡ true = has_pooled-counted key.span pool (omega (arith, call.spans key.span)) in
+    record {
+      kept = sound_new;
+      exact = inr (record { after = pool; at = at; frees = frees; rest = refl });
+      plain = (ap is_some (value-before old new (shown_by_pool old.pool) (shown_by_pool pool) (λ id. has_pooled id pool) local key still plain) ∙ sym found,
+          shown-free old new (shown_by_pool old.pool) (shown_by_pool pool) (λ id. has_pooled id pool) local key still plain);
+    }
+IsStep-FreesPooled old key pool (freed.No at) sound some (index, place, group, span, there, dead, at_is, same) found plain sound_pool = IsStep-unfreed_pooled old key pool sound some found same
+IsStep-FreesPooled old key pool freed.NotHere sound some frees found plain sound_pool = IsStep-unfreed_pooled old key pool sound some found frees.1

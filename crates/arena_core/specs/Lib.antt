@@ -1,4 +1,5 @@
 pub mod Kept
+pub mod Owner
 pub mod Plain
 pub mod Refusals
 pub mod Sound

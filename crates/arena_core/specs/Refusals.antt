@@ -1,11 +1,30 @@
--- Why the core refuses a put, by why its shard does.
+-- Why the core refuses an event, by why its shard or its pool does.
+use Rattle.std.specs.Prelude.{Option, Some, None}
 use Rattle.shard.specs.declared.error.PutError.{PutError}
 use Rattle.shard.specs.declared.error.PutError.TheVariants as shard
+use Rattle.abandoned.specs.declared.error.AdoptError.{AdoptError}
+use Rattle.abandoned.specs.declared.error.AdoptError.TheVariants as adopt
+use Rattle.abandoned.specs.declared.error.ReceiveError.{ReceiveError}
+use Rattle.abandoned.specs.declared.error.ReceiveError.TheVariants as receive
 use Rattle.arena_core.specs.declared.reply.Refusal.{Refusal}
-use Rattle.arena_core.specs.declared.reply.Refusal.TheVariants.{OutOfMemory, PagesSpent, Ended}
+use Rattle.arena_core.specs.declared.reply.Refusal.TheVariants.{OutOfMemory, PagesSpent, Ended, NothingToAdopt}
 
 -- the core gives the shard's cause
 abbrev pub refusal_of : PutError → Refusal
 refusal_of shard.OutOfMemory = OutOfMemory
 refusal_of shard.PagesSpent = PagesSpent
 refusal_of shard.Ended = Ended
+
+-- the core gives the pool's cause, save that no span stands twice
+abbrev pub refusal_of_end : ReceiveError → Option Refusal
+refusal_of_end receive.OutOfMemory = Some OutOfMemory
+refusal_of_end receive.Ended = Some Ended
+refusal_of_end receive.Doubled = None
+
+-- the core gives the pool's cause, save that no span stands twice
+abbrev pub refusal_of_adoption : AdoptError → Option Refusal
+refusal_of_adoption adopt.OutOfMemory = Some OutOfMemory
+refusal_of_adoption adopt.PagesSpent = Some PagesSpent
+refusal_of_adoption adopt.Ended = Some Ended
+refusal_of_adoption adopt.Doubled = None
+refusal_of_adoption adopt.NothingToAdopt = Some NothingToAdopt

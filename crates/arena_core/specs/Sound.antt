@@ -1,9 +1,11 @@
 -- When a core is sound.
-use Rattle.std.specs.Prelude.{◌≡◌, ℕ, nat_lt, if◌then◌else◌, length, slice_get, Some, count_by}
+use Rattle.std.specs.Prelude.{◌≡◌, ℕ, ◌<◌, nat_lt, false, if◌then◌else◌, length, slice_get, Some, count_by}
 use Rattle.span.specs.declared.id.SpanId.{SpanId}
 use Rattle.span.specs.Ids.{same_span}
+use Rattle.span.specs.State.{SpanState}
 use Rattle.shard.specs.Sound.{IsSound as IsSoundShard}
-use Rattle.shard.specs.State.{ShardState}
+use Rattle.shard.specs.State.{ShardState, spans_in}
+use Rattle.abandoned.specs.Sound.{IsSound as IsSoundPool}
 use Rattle.arena_core.specs.State.{Limits, AreWithin, CoreState, all_spans, opened_by}
 
 -- the shard has this number and the limits of the core, and is sound
@@ -12,11 +14,16 @@ pub record IsSoundAt (limits : Limits) (number : ℕ) (shard : ShardState) : Typ
   pub page_limit_is : shard.page_limit ≡ limits.page_limit
   pub gens_is : shard.gens ≡ limits.gens
   pub sound : IsSoundShard shard
+  -- until it ends, each span that it opened stands in it once
+  pub home : shard.ended ≡ false → (id : SpanId) → id.shard ≡ number → id.serial < shard.opened → count_by (λ span. same_span span.id id) (spans_in shard.groups) ≡ 1
 
--- the numbers are within their ranges, and the shards are those of the numbers, each sound
+-- the numbers are within their ranges, the shards are those of the numbers, and each of them and the pool are sound
 pub record IsSound (core : CoreState) : Type 0 where
   pub within : AreWithin core.limits
   pub count : length core.shards ≡ core.limits.shards
   pub shards : (number : ℕ) (shard : ShardState) → slice_get core.shards number ≡ Some shard → IsSoundAt core.limits number shard
-  -- each opened span stands in exactly one group of one shard, and no other span stands anywhere
-  pub once : (id : SpanId) → count_by (λ span. same_span span.id id) (all_spans core.shards) ≡ (if nat_lt id.serial (opened_by core.shards id.shard) then 1 else 0)
+  pub pool : IsSoundPool core.pool
+  -- each slot of each span is given generations up to the core's greatest
+  pub gens : (place : ℕ) (span : SpanState) → slice_get (all_spans core) place ≡ Some span → span.gens ≡ core.limits.gens
+  -- each opened span stands in exactly one group, of one shard or of the pool, and no other span stands anywhere
+  pub once : (id : SpanId) → count_by (λ span. same_span span.id id) (all_spans core) ≡ (if nat_lt id.serial (opened_by core.shards id.shard) then 1 else 0)

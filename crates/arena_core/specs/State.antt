@@ -1,13 +1,14 @@
 -- What contracts see of a core, and the plain map that it shows.
-use Rattle.std.specs.Prelude.{◌≡◌, ℕ, ◌-◌, ◌^◌, ◌≤◌, Bool, false, List, [], map, length, find, is_some, slice_get, slice_set, count_by, sum_by, if◌then◌else◌, Option, Some, None}
+use Rattle.std.specs.Prelude.{◌≡◌, ℕ, ◌+◌, ◌-◌, ◌^◌, ◌≤◌, Bool, false, List, [], ◌++◌, map, length, find, is_some, slice_get, slice_set, count_by, sum_by, if◌then◌else◌, Option, Some, None}
 use Rattle.std.specs.List.{flat_map, range_with_len}
 use Rattle.span.specs.declared.id.SpanId.{SpanId}
 use Rattle.span.specs.declared.key.Key.{Key}
-use Rattle.span.specs.Log.{Value}
 use Rattle.span.specs.PlainMap.{PlainMap, same_key}
 use Rattle.span.specs.State.{SpanState}
 use Rattle.shard.specs.Shown.{shown as shown_by, span_named}
 use Rattle.shard.specs.State.{ShardState, no_pages, spans_in, live_keys as live_keys_of}
+use Rattle.abandoned.specs.Shown.{shown as shown_by_pool}
+use Rattle.abandoned.specs.State.{PoolState, paged_groups, spans_in as pooled_spans, live_keys as live_keys_pooled}
 
 -- the numbers of the product: how many shards, how many pages a shard may have, how many entries a ring holds, and the greatest generation
 pub record Limits : Type 0 where
@@ -27,26 +28,39 @@ pub record AreWithin (limits : Limits) : Type 0 where
   pub ring_capacity : (1 ≤ limits.ring_capacity) × (limits.ring_capacity ≤ 1024)
   pub gens : (1 ≤ limits.gens) × (limits.gens ≤ 2 ^ 32 - 1)
 
--- a core: the numbers of the product, and the shards by their numbers
+-- a core: the numbers of the product, the shards by their numbers, and the pool of the groups whose shards have ended
 pub record CoreState : Type 0 where
   pub limits : Limits
   pub shards : List ShardState
+  pub pool : PoolState
 
 -- a shard that has opened no span
 abbrev pub new_shard : ℕ → ℕ → ℕ → ShardState
 new_shard page_limit gens number = record { number = number; page_limit = page_limit; gens = gens; opened = 0; ended = false; groups = []; table = no_pages; onto = None }
 
--- a core of new shards, one for each number
+-- a pool with no group
+abbrev pub new_pool : PoolState
+new_pool = record { groups = []; table = no_pages }
+
+-- a core of new shards, one for each number, and an empty pool
 abbrev pub new_core : Limits → CoreState
-new_core limits = record { limits = limits; shards = map (new_shard limits.page_limit limits.gens) (range_with_len 0 limits.shards) }
+new_core limits = record { limits = limits; shards = map (new_shard limits.page_limit limits.gens) (range_with_len 0 limits.shards); pool = new_pool }
 
 -- the core with another shard at this number
 abbrev pub with_shard : CoreState → ℕ → ShardState → CoreState
 with_shard core number shard = record core { shards = slice_set core.shards number shard }
 
+-- the core with another pool
+abbrev pub with_pool : CoreState → PoolState → CoreState
+with_pool core pool = record core { pool = pool }
+
 -- the spans of all shards, in order
-abbrev pub all_spans : List ShardState → List SpanState
-all_spans shards = flat_map (λ shard. spans_in shard.groups) shards
+abbrev pub shard_spans : List ShardState → List SpanState
+shard_spans shards = flat_map (λ shard. spans_in shard.groups) shards
+
+-- the spans of all shards, and then those of the pool
+abbrev pub all_spans : CoreState → List SpanState
+all_spans core = shard_spans core.shards ++ pooled_spans core.pool.groups
 
 -- one of the shard's groups has the span
 abbrev pub has_span : SpanId → ShardState → Bool
@@ -65,31 +79,26 @@ opened_of (Some shard) = shard.opened
 abbrev pub opened_by : List ShardState → ℕ → ℕ
 opened_by shards number = opened_of (slice_get shards number)
 
--- a put of the shard gave the key out
-abbrev pub issued_in : Key → Option ShardState → Bool
-issued_in key None = false
-issued_in key (Some shard) = (shown_by shard).is_issued key
+-- the plain map of the shard, or where there is none, of the pool
+abbrev pub shown_at : PoolState → Option ShardState → PlainMap
+shown_at pool None = shown_by_pool pool
+shown_at pool (Some shard) = shown_by shard
 
--- the word that the shard has for the key, where it is live there
-abbrev pub value_in : Key → Option ShardState → Option Value
-value_in key None = None
-value_in key (Some shard) = (shown_by shard).value_of key
-
--- the plain map that the core shows: each key is that of the shard that has its span
+-- the plain map that the core shows: each key is that of the shard that has its span, or else of the pool
 abbrev pub shown : CoreState → PlainMap
 shown core = record {
-  is_issued = λ key. issued_in key (shard_with core.shards key.span);
-  value_of = λ key. value_in key (shard_with core.shards key.span);
+  is_issued = λ key. (shown_at core.pool (shard_with core.shards key.span)).is_issued key;
+  value_of = λ key. (shown_at core.pool (shard_with core.shards key.span)).value_of key;
   pending = λ worker owner. [];
 }
 
--- how many groups the shards have, each on a page of its own
+-- how many groups have a page: each group of the shards, on a page of its own, and some of the pool
 abbrev pub pages : CoreState → ℕ
-pages core = sum_by (λ shard. length shard.groups) core.shards
+pages core = sum_by (λ shard. length shard.groups) core.shards + length (paged_groups core.pool)
 
--- how many keys are live in the shards
+-- how many keys are live in the shards and the pool
 abbrev pub live_keys : CoreState → ℕ
-live_keys core = sum_by live_keys_of core.shards
+live_keys core = sum_by live_keys_of core.shards + live_keys_pooled core.pool
 
 -- these keys are those that have a value in the map, each once
 abbrev pub AreLive : List Key → PlainMap → Type 0

@@ -1,17 +1,21 @@
 -- The steps and runs of the core.
-use Rattle.std.specs.Prelude.{◌≡◌, ℕ, ◌≤◌, true, false, List, [], ◌∷◌, ◌++◌, length, slice_get, Some, None}
+use Rattle.std.specs.Prelude.{◌≡◌, ◌⊎◌, ℕ, ◌<◌, ◌≤◌, true, false, List, [], ◌∷◌, ◌++◌, length, slice_get, Some, None}
+use Rattle.span.specs.declared.id.SpanId.{SpanId}
 use Rattle.span.specs.declared.key.Key.{Key}
 use Rattle.span.specs.Log.{Value}
 use Rattle.shard.specs.Calls.{Puts, Frees, IsSpent}
 use Rattle.shard.specs.State.{ShardState}
 use Rattle.shard.specs.declared.shard.Freed.TheVariants.{Yes}
+use Rattle.abandoned.specs.Calls.{Adopts, Frees as FreesPooled, HasNothingToAdopt, Receives}
+use Rattle.abandoned.specs.State.{PoolState}
 use Rattle.arena_core.specs.declared.event.Event.{Event}
-use Rattle.arena_core.specs.declared.event.Event.TheVariants.{Put, Get, Free}
+use Rattle.arena_core.specs.declared.event.Event.TheVariants.{Put, Get, Free, End, Adopt}
 use Rattle.arena_core.specs.declared.reply.Reply.{Reply}
-use Rattle.arena_core.specs.declared.reply.Reply.TheVariants.{Issued, Found, Freed, Refused}
-use Rattle.arena_core.specs.declared.reply.Refusal.TheVariants.{OutOfMemory, PagesSpent, Ended, Config}
-use Rattle.arena_core.specs.State.{CoreState, shown, with_shard}
-use Rattle.arena_core.specs.Plain.{PlainRun}
+use Rattle.arena_core.specs.declared.reply.Reply.TheVariants.{Issued, Found, Freed, ShardEnded, Adopted, Refused}
+use Rattle.arena_core.specs.declared.reply.Refusal.TheVariants.{OutOfMemory, PagesSpent, Ended, NothingToAdopt, Config}
+use Rattle.arena_core.specs.Sound.{IsSound}
+use Rattle.arena_core.specs.State.{CoreState, shown, with_pool, with_shard}
+use Rattle.arena_core.specs.Plain.{PlainRun, erased}
 
 -- the shard of this number, which has not ended
 pub record IsRunning (core : CoreState) (number : ℕ) (shard : ShardState) : Type 0 where
@@ -26,11 +30,27 @@ HasEnded core number = (shard : ShardState) × (slice_get core.shards number ≡
 abbrev pub NeedsPage : CoreState → ℕ → Type 0
 NeedsPage core number = (shard : ShardState) × IsRunning core number shard × IsSpent shard
 
+-- the shard of this number has all the pages that it may have
+abbrev pub HasAllPages : CoreState → ℕ → Type 0
+HasAllPages core number = (shard : ShardState) × (slice_get core.shards number ≡ Some shard) × (shard.page_limit ≡ length shard.groups)
+
+-- the shard of this number, if there is one, has not ended and may have another page
+abbrev pub MayTake : CoreState → ℕ → Type 0
+MayTake core number = (shard : ShardState) → slice_get core.shards number ≡ Some shard → (shard.ended ≡ false) × (length shard.groups < shard.page_limit)
+
 -- nothing but want of memory refuses a put there
 abbrev pub MayPut : CoreState → ℕ → Type 0
 MayPut core number = (shard : ShardState) × IsRunning core number shard × (IsSpent shard → ⊥)
 
--- the shard of this number puts the value, and all other shards are as they were
+-- nothing but want of memory refuses an end there
+abbrev pub MayEnd : CoreState → ℕ → Type 0
+MayEnd core number = (shard : ShardState) × IsRunning core number shard
+
+-- nothing but want of memory refuses an adoption there
+abbrev pub MayAdopt : CoreState → ℕ → Type 0
+MayAdopt core number = (shard : ShardState) × IsRunning core number shard × (length shard.groups < shard.page_limit) × (HasNothingToAdopt core.pool → ⊥)
+
+-- the shard of this number puts the value, and all else is as it was
 pub record PutsInShard (old : CoreState) (number : ℕ) (value : Value) (key : Key) (new : CoreState) : Type 0 where
   pub before : ShardState
   pub after : ShardState
@@ -39,7 +59,7 @@ pub record PutsInShard (old : CoreState) (number : ℕ) (value : Value) (key : K
   pub puts : Puts before value key at after
   pub rest : new ≡ with_shard old number after
 
--- one shard, which has the key's span, frees the key, and all other shards are as they were
+-- one shard, which has the key's span, frees the key, and all else is as it was
 pub record FreesInShard (old : CoreState) (key : Key) (new : CoreState) : Type 0 where
   pub number : ℕ
   pub before : ShardState
@@ -49,6 +69,31 @@ pub record FreesInShard (old : CoreState) (key : Key) (new : CoreState) : Type 0
   pub frees : Frees before key (Yes at) after
   pub rest : new ≡ with_shard old number after
 
+-- the pool, which has the key's span, frees the key, and all else is as it was
+pub record FreesInPool (old : CoreState) (key : Key) (new : CoreState) : Type 0 where
+  pub after : PoolState
+  pub at : ℕ
+  pub frees : FreesPooled old.pool key (Yes at) after
+  pub rest : new ≡ with_pool old after
+
+-- the shard of this number ends, its groups are the pool's, and all other shards are as they were
+pub record Ends (old : CoreState) (number : ℕ) (new : CoreState) : Type 0 where
+  pub before : ShardState
+  pub after : ShardState
+  pub pool : PoolState
+  pub here : slice_get old.shards number ≡ Some before
+  pub receives : Receives old.pool before pool after
+  pub rest : new ≡ with_pool (with_shard old number after) pool
+
+-- the pool's group of lowest head that has a page goes to the shard of this number, and all other shards are as they were
+pub record AdoptsInShard (old : CoreState) (number : ℕ) (head : SpanId) (new : CoreState) : Type 0 where
+  pub before : ShardState
+  pub after : ShardState
+  pub pool : PoolState
+  pub here : slice_get old.shards number ≡ Some before
+  pub adopts : Adopts old.pool before head pool after
+  pub rest : new ≡ with_pool (with_shard old number after) pool
+
 -- from old, the core gives this reply to the event and goes on to new
 abbrev pub CoreStep : CoreState → Event → Reply → CoreState → Type 0
 CoreStep old (Put shard value) (Issued key) new = PutsInShard old shard value key new
@@ -57,21 +102,31 @@ CoreStep old (Put shard value) (Refused Ended) new = HasEnded old shard × (new 
 CoreStep old (Put shard value) (Refused PagesSpent) new = NeedsPage old shard × (new ≡ old)
 CoreStep old (Put shard value) (Refused OutOfMemory) new = MayPut old shard × (new ≡ old)
 CoreStep old (Get key) (Found value) new = (value ≡ (shown old).value_of key) × (new ≡ old)
-CoreStep old (Free key) (Freed true) new = FreesInShard old key new
+CoreStep old (Free key) (Freed true) new = FreesInShard old key new ⊎ FreesInPool old key new
 CoreStep old (Free key) (Freed false) new = ((shown old).value_of key ≡ None) × (new ≡ old)
+CoreStep old (End shard) ShardEnded new = Ends old shard new
+CoreStep old (End shard) (Refused Ended) new = HasEnded old shard × (new ≡ old)
+CoreStep old (End shard) (Refused Config) new = (old.limits.shards ≤ shard) × (new ≡ old)
+CoreStep old (End shard) (Refused OutOfMemory) new = MayEnd old shard × (new ≡ old)
+CoreStep old (Adopt shard) (Adopted head) new = AdoptsInShard old shard head new
+CoreStep old (Adopt shard) (Refused PagesSpent) new = HasAllPages old shard × (new ≡ old)
+CoreStep old (Adopt shard) (Refused Ended) new = HasEnded old shard × (new ≡ old)
+CoreStep old (Adopt shard) (Refused NothingToAdopt) new = MayTake old shard × HasNothingToAdopt old.pool × (new ≡ old)
+CoreStep old (Adopt shard) (Refused Config) new = (old.limits.shards ≤ shard) × (HasNothingToAdopt old.pool → ⊥) × (new ≡ old)
+CoreStep old (Adopt shard) (Refused OutOfMemory) new = MayAdopt old shard × (new ≡ old)
 -- no other pair comes
 CoreStep old event reply new = ⊥
 
--- the core gives these replies to these events, one after another
+-- the core gives these replies to these events, one after another, and each state on the way is sound
 abbrev pub CoreRun : CoreState → List Event → List Reply → CoreState → Type 0
 CoreRun old [] [] new = new ≡ old
-CoreRun old (event ∷ events) (reply ∷ replies) new = (mid : CoreState) × CoreStep old event reply mid × CoreRun mid events replies new
+CoreRun old (event ∷ events) (reply ∷ replies) new = (mid : CoreState) × CoreStep old event reply mid × IsSound mid × CoreRun mid events replies new
 CoreRun old events replies new = ⊥
 
--- the replies to the events are appended, one for each: they are those of the core's steps, and those of the plain map
+-- the replies to the events are appended, one for each: they are those of the core's steps, and without ends and adoptions those of the plain map
 pub record Answers (old : CoreState) (events : List Event) (replies replies_new : List Reply) (new : CoreState) : Type 0 where
   pub answers : List Reply
   pub appended : replies_new ≡ replies ++ answers
   pub each : length answers ≡ length events
   pub steps : CoreRun old events answers new
-  pub plain : PlainRun (shown old) events answers (shown new)
+  pub plain : PlainRun (shown old) (erased events answers) (shown new)

@@ -10,4 +10,8 @@ pub enum Event {
     Get { key: Key },
     /// Free the key.
     Free { key: Key },
+    /// End the shard of this number: its groups go to the pool, and it takes no further put.
+    End { shard: u32 },
+    /// Move the pool's group of lowest head that has a page to the shard of this number.
+    Adopt { shard: u32 },
 }

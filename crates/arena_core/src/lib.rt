@@ -22,6 +22,7 @@
 
 mod error;
 mod event;
+mod guesses;
 mod machine;
 mod reply;
 #[cfg(test)]

@@ -1,34 +1,45 @@
 // The core: all shards as one value that takes events.
-ghost use Rattle.std.specs.Prelude.{◌≡◌, ◌↔◌, ◌<◌, ◌≤◌, ℕ, IfOk, OnOk, OnErr, IsErrOf, IsTrue, MatchResult, map};
+ghost use Rattle.std.specs.Prelude.{◌≡◌, ◌↔◌, ◌⊎◌, ◌<◌, ◌≤◌, ℕ, IfOk, OnOk, OnErr, IsErrOf, IsTrue, MatchOption, MatchResult, Some, None, true, false, map, length, slice_get, slice_set};
 ghost use Rattle.std.specs.List.{range_with_len};
+ghost use Rattle.shard.specs.Calls.{value_found, was_freed};
 ghost use Rattle.shard.specs.Sound.{IsSound as IsSoundShard};
+ghost use Rattle.shard.specs.State.{IsElsewhere, ShardState};
 ghost use Rattle.span.specs.PlainMap.{empty_map};
+ghost use Rattle.abandoned.specs.Calls.{Adopts, HasNothingToAdopt, IsDoubled, IsInPool, Receives};
+ghost use Rattle.abandoned.specs.Sound.{IsSound as IsSoundPool};
+ghost use Rattle.abandoned.specs.State.{PoolState};
+ghost use Rattle.arena_core.specs.Owner.{IsNowhere, StandsAt};
 ghost use Rattle.arena_core.specs.Sound.{IsSound};
 ghost use Rattle.arena_core.specs.State.{AreWithin, HasKeys, limits_of, live_keys, new_core, new_shard, pages, shown};
 ghost use Rattle.arena_core.specs.Step.{Answers, CoreStep};
-ghost use Rattle.arena_core.specs.Plain.{PlainStep};
+ghost use Rattle.arena_core.specs.Plain.{ErasedStep, PlainStep};
 ghost use Rattle.arena_core.specs.declared.event.Event.TheVariants as event;
 ghost use Rattle.arena_core.specs.declared.reply.Reply.TheVariants as reply;
 
 use crate::error::CoreError;
 use crate::event::Event;
-use crate::reply::{Refusal, Reply};
+use crate::guesses::Guesses;
+use crate::reply::{adopt_refusal, end_refusal, Refusal, Reply};
 use crate::totals::Totals;
+use abandoned::Pool;
 use shard::{Found, Freed, Shard};
-use span::Key;
+use span::{Key, SpanId};
 use std::alloc::{AllocError, Global};
 use std::marker::Model;
 
-/// All shards as one value, which takes events one after another and answers replies.
+/// All shards and the pool as one value, which takes events one after another and answers replies.
 ///
-/// A call costs what the shard's own call costs: no call moves a span to another shard yet, so the
-/// shard of a key is the one whose number is in its span's id, and none is searched for.
+/// A put costs what the shard's own put costs. A look-up and a free ask the shard that opened the span first, which has
+/// it until it ends: they then cost what that shard's own call costs. A span whose shard has ended is asked for where it
+/// was adopted last, then in the pool, and at last in every shard.
 #[derive(Drop)]
 pub struct Core {
     page_limit: usize,
     ring_capacity: usize,
     gens: u32,
     shards: Vec<Shard>,
+    pool: Pool,
+    guesses: Guesses,
 }
 
 impl Model for Core {
@@ -40,15 +51,23 @@ impl Model for Core {
 
     ghost coded = { Prim.hlevel (codes, table_code) };
 
-    ghost use Rattle.arena_core.specs.Kept.{IsKept, state_of};
+    ghost use Rattle.arena_core.specs.Kept.{state_of};
+    ghost use Rattle.arena_core.specs.Sound.{IsSound};
 
     ghost view = { state_of };
 
-    ghost invariant = { λ c. IsKept (state_of c) };
+    ghost invariant = { λ c. IsSound (state_of c) };
+}
+
+/// Who has a span.
+#[derive(Clone, Copy)]
+enum Owner {
+    Shard(usize),
+    Pool,
 }
 
 impl Core {
-    /// A core of `shards` new shards, numbered from 0 on. A shard may have `page_limit` pages of
+    /// A core of `shards` new shards, numbered from 0 on, and an empty pool. A shard may have `page_limit` pages of
     /// 256 slots, a ring holds `ring_capacity` entries, and a slot is given the generations from 1
     /// to `gens`.
     ///
@@ -73,28 +92,38 @@ impl Core {
         if !are_within(shards, page_limit, ring_capacity, gens) {
             return Err(CoreError::Config);
         }
+        let guesses = Guesses::new(alloc, shards)?;
         let shards = new_shards(alloc, shards, page_limit, gens)?;
         Ok(Core {
             page_limit,
             ring_capacity,
             gens,
             shards,
+            pool: Pool::new(alloc),
+            guesses,
         })
     }
 
-    /// Takes the event and answers it. The reply is that of a plain map of keys.
+    /// Takes the event and answers it. Without ends and adoptions, the reply is that of a plain map of keys; an end and an
+    /// adoption leave the map that the core shows as it is.
     ///
-    /// A put is refused by [`Refusal::Config`] exactly where there is no shard of its number, by
-    /// [`Refusal::Ended`] exactly where that shard has ended, by [`Refusal::PagesSpent`] exactly
-    /// where it has not ended and needs a page that it may not have, and by
-    /// [`Refusal::OutOfMemory`] only where none of these holds. A refused put changes nothing. A
-    /// look-up and a free are never refused, and take no memory.
+    /// A refused event changes nothing. Of several causes that hold, the first of these is answered:
+    ///
+    /// | Refusal | Put | End | Adopt |
+    /// |---|---|---|---|
+    /// | [`Refusal::PagesSpent`] | the shard needs a page that it may not have | | the shard has all its pages |
+    /// | [`Refusal::Ended`] | the shard has ended | the shard has ended | the shard has ended |
+    /// | [`Refusal::NothingToAdopt`] | | | no group of the pool has a page |
+    /// | [`Refusal::Config`] | there is no such shard | there is no such shard | there is no such shard |
+    /// | [`Refusal::OutOfMemory`] | a growth was refused | a growth was refused | a growth was refused |
+    ///
+    /// A look-up and a free are never refused, and take no memory.
     // Inlined, an event and its reply stay in registers; a call passes them through memory, which
     // costs several times the shard's own look-up.
     #[inline(always)]
     pub fn step(&mut self, event: Event) -> Reply
         ensures exact { CoreStep self.old event result self.new }
-        ensures plain { PlainStep (shown self.old) event result (shown self.new) }
+        ensures plain { ErasedStep (shown self.old) event result (shown self.new) }
         ensures sound { IsSound self.new }
     {
         match event {
@@ -104,6 +133,14 @@ impl Core {
             },
             Event::Get { key } => Reply::Found(self.get(&key)),
             Event::Free { key } => Reply::Freed(self.free(&key)),
+            Event::End { shard } => match self.end(shard) {
+                Ok(()) => Reply::ShardEnded,
+                Err(refusal) => Reply::Refused(refusal),
+            },
+            Event::Adopt { shard } => match self.adopt(shard) {
+                Ok(head) => Reply::Adopted(head),
+                Err(refusal) => Reply::Refused(refusal),
+            },
         }
     }
 
@@ -128,14 +165,17 @@ impl Core {
         Ok(())
     }
 
-    /// How many pages the shards have, one a group, and how many keys are live: so many keys have a
-    /// value in the map that the core shows.
+    /// How many pages the shards and the pool have, one a group of a shard, and how many keys are live: so many keys have
+    /// a value in the map that the core shows.
     pub fn totals(&self) -> Totals
         ensures pages { result.pages ≡ pages self.now }
         ensures live { result.live ≡ live_keys self.now }
         ensures shown { HasKeys (shown self.now) result.live }
     {
-        let mut totals = Totals { pages: 0, live: 0 };
+        let mut totals = Totals {
+            pages: self.pool.pages(),
+            live: self.pool.live(),
+        };
         for shard in self.shards.iter() {
             totals.pages += shard.pages();
             totals.live += shard.live();
@@ -151,7 +191,7 @@ impl Core {
             (λ refusal. CoreStep self.old (event.Put number value) (reply.Refused refusal) self.new) }
         ensures plain { MatchResult result
             (λ key. PlainStep (shown self.old) (event.Put number value) (reply.Issued key) (shown self.new))
-            (λ refusal. self.new ≡ self.old) }
+            (λ refusal. PlainStep (shown self.old) (event.Put number value) (reply.Refused refusal) (shown self.new)) }
         ensures sound { IsSound self.new }
     {
         let Some(shard) = self.shards.get_mut(number as usize) else {
@@ -167,11 +207,23 @@ impl Core {
         ensures value { result ≡ (shown self.now).value_of key.now }
         ensures sound { IsSound self.now }
     {
-        match self.shards.get(key.span().shard() as usize) {
-            Some(shard) => match shard.get(key) {
-                Found::Value(value, _) => Some(value),
-                Found::Gone(_) | Found::NotHere => None,
-            },
+        let Some(shard) = self.shards.get(key.span().shard() as usize) else {
+            return None;
+        };
+        match shard.get(key) {
+            Found::Value(value, _) => Some(value),
+            Found::Gone(_) => None,
+            Found::NotHere => self.get_moved(key),
+        }
+    }
+
+    // The word of the key, where it is live, whoever has its span.
+    fn get_moved(&self, key: &Key) -> Option<u128>
+        ensures value { result ≡ (shown self.now).value_of key.now }
+    {
+        match self.owner_of(key.span()) {
+            Some(Owner::Shard(number)) => value_of(self.shards[number].get(key)),
+            Some(Owner::Pool) => value_of(self.pool.get(key)),
             None => None,
         }
     }
@@ -186,11 +238,139 @@ impl Core {
         let Some(shard) = self.shards.get_mut(key.span().shard() as usize) else {
             return false;
         };
-        match shard.free(key) {
-            Freed::Yes(_) => true,
-            Freed::No(_) | Freed::NotHere => false,
+        let freed = shard.free(key);
+        if matches!(freed, Freed::NotHere) {
+            return self.free_moved(key);
+        }
+        was_done(freed)
+    }
+
+    // Frees the key, where it is live, whoever has its span.
+    fn free_moved(&mut self, key: &Key) -> bool
+        ensures exact { CoreStep self.old (event.Free key.now) (reply.Freed result) self.new }
+        ensures plain { PlainStep (shown self.old) (event.Free key.now) (reply.Freed result) (shown self.new) }
+        ensures sound { IsSound self.new }
+    {
+        match self.owner_of(key.span()) {
+            Some(Owner::Shard(number)) => was_done(self.shards[number].free(key)),
+            Some(Owner::Pool) => was_done(self.pool.free(key)),
+            None => false,
         }
     }
+
+    // Who has the span: asked are the shard that is guessed, the pool, and then every shard.
+    fn owner_of(&self, id: SpanId) -> Option<Owner>
+        ensures { MatchOption result (IsNowhere self.now id) (StandsAt self.now id) }
+    {
+        if let Some(number) = self.guesses.shard_of(id) {
+            if has_at(self.shards.as_slice(), number, id) {
+                return Some(Owner::Shard(number));
+            }
+        }
+        if self.pool.has(id) {
+            return Some(Owner::Pool);
+        }
+        match position(self.shards.as_slice(), id) {
+            Some(number) => Some(Owner::Shard(number)),
+            None => None,
+        }
+    }
+
+    // Ends the shard of this number: its groups go to the pool.
+    fn end(&mut self, number: u32) -> Result<(), Refusal>
+        ensures exact { MatchResult result
+            (λ _. CoreStep self.old (event.End number) reply.ShardEnded self.new)
+            (λ refusal. CoreStep self.old (event.End number) (reply.Refused refusal) self.new) }
+        ensures same { shown self.new ≡ shown self.old }
+        ensures sound { IsSound self.new }
+    {
+        let Some(shard) = self.shards.get_mut(number as usize) else {
+            return Err(Refusal::Config);
+        };
+        match self.pool.receive(shard) {
+            Ok(()) => {}
+            Err(error) => return Err(end_refusal(error)),
+        }
+        Ok(())
+    }
+
+    // Moves the pool's group of lowest head that has a page to the shard of this number, and guesses from now on that its
+    // spans are there.
+    fn adopt(&mut self, number: u32) -> Result<SpanId, Refusal>
+        ensures exact { MatchResult result
+            (λ head. CoreStep self.old (event.Adopt number) (reply.Adopted head) self.new)
+            (λ refusal. CoreStep self.old (event.Adopt number) (reply.Refused refusal) self.new) }
+        ensures same { shown self.new ≡ shown self.old }
+        ensures sound { IsSound self.new }
+    {
+        let Some(shard) = self.shards.get_mut(number as usize) else {
+            if self.pool.pages() == 0 {
+                return Err(Refusal::NothingToAdopt);
+            }
+            return Err(Refusal::Config);
+        };
+        let head = match self.pool.adopt(shard) {
+            Ok(head) => head,
+            Err(error) => return Err(adopt_refusal(error)),
+        };
+        guess(&mut self.guesses, shard, head);
+        Ok(head)
+    }
+}
+
+// Guesses that the shard has the spans of the group of this head.
+fn guess(guesses: &mut Guesses, shard: &Shard, head: SpanId) {
+    if let Some(brief) = shard.brief(head) {
+        for place in 0..brief.spans {
+            if let Some(id) = shard.span_at(head, place) {
+                guesses.set(id, shard.number() as u8);
+            }
+        }
+    }
+}
+
+// The value that was found.
+fn value_of(found: Found) -> Option<u128>
+    ensures { result ≡ value_found found }
+{
+    match found {
+        Found::Value(value, _) => Some(value),
+        Found::Gone(_) | Found::NotHere => None,
+    }
+}
+
+// Whether the free was done.
+fn was_done(freed: Freed) -> bool
+    ensures { result ≡ was_freed freed }
+{
+    match freed {
+        Freed::Yes(_) => true,
+        Freed::No(_) | Freed::NotHere => false,
+    }
+}
+
+// Whether there is a shard of this number, and it has the span.
+fn has_at(shards: &[Shard], number: usize, id: SpanId) -> bool
+    ensures { IsTrue result ↔ ((shard : ShardState) × (slice_get shards.now number ≡ Some shard) × (IsElsewhere shard.groups id → ⊥)) }
+{
+    match shards.get(number) {
+        Some(shard) => shard.has(id),
+        None => false,
+    }
+}
+
+// The number of the first shard that has the span.
+fn position(shards: &[Shard], id: SpanId) -> Option<usize>
+    ensures { MatchOption result
+        ((number : ℕ) (shard : ShardState) → slice_get shards.now number ≡ Some shard → IsElsewhere shard.groups id)
+        (λ number. (shard : ShardState) × (slice_get shards.now number ≡ Some shard) × (IsElsewhere shard.groups id → ⊥)) }
+{
+    for (number, shard) in shards.iter().enumerate() {
+        if shard.has(id) {
+            return Some(number);
+        }
+    }
+    None
 }
 
 // Whether each number of the product is within its range.

@@ -1,9 +1,10 @@
 // What the core answers.
-ghost use Rattle.std.specs.Prelude.{◌≡◌};
-ghost use Rattle.arena_core.specs.Refusals.{refusal_of};
+ghost use Rattle.std.specs.Prelude.{◌≡◌, ◌≢◌, Some};
+ghost use Rattle.arena_core.specs.Refusals.{refusal_of, refusal_of_adoption, refusal_of_end};
 
+use abandoned::{AdoptError, ReceiveError};
 use shard::PutError;
-use span::Key;
+use span::{Key, SpanId};
 use thiserror::Error;
 
 /// What the core answers to one event.
@@ -15,6 +16,10 @@ pub enum Reply {
     Found(Option<u128>),
     /// Whether a free found its key live, and freed it.
     Freed(bool),
+    /// The shard has ended, and its groups are the pool's.
+    ShardEnded,
+    /// The head of the group that the shard has adopted.
+    Adopted(SpanId),
     /// The event was refused, and nothing has changed.
     Refused(Refusal),
 }
@@ -25,12 +30,16 @@ pub enum Refusal {
     /// Memory ran out, and no other cause holds: the event may be tried again.
     #[error("out of memory: free some and try again")]
     OutOfMemory,
-    /// No slot of the shard is usable, and it has all the pages that it may have, or has opened all its 1,024 spans.
-    #[error("the shard has no usable slot and may open no further page: free keys, or put into another shard")]
+    /// A put or an adoption needs a page, and the shard has all that it may have; or a put needs a new span, and the shard
+    /// has opened all its 1,024.
+    #[error("the shard may have no further page: free keys, or ask another shard")]
     PagesSpent,
     /// The shard has ended.
-    #[error("the shard has ended: put into another shard")]
+    #[error("the shard has ended: ask another shard")]
     Ended,
+    /// No group of the pool has a page.
+    #[error("no group of the pool has a page: there is nothing to adopt")]
+    NothingToAdopt,
     /// There is no shard of this number.
     #[error("there is no shard of this number: shards are numbered from 0 to one below their count")]
     Config,
@@ -45,5 +54,31 @@ impl From<PutError> for Refusal {
             PutError::PagesSpent => Refusal::PagesSpent,
             PutError::Ended => Refusal::Ended,
         }
+    }
+}
+
+// Why an end is refused, by why the pool does not receive the shard. No span stands twice in a core.
+pub fn end_refusal(error: ReceiveError) -> Refusal
+    requires { error ≢ ReceiveError.Doubled }
+    ensures { refusal_of_end error ≡ Some result }
+{
+    match error {
+        ReceiveError::OutOfMemory => Refusal::OutOfMemory,
+        ReceiveError::Ended => Refusal::Ended,
+        ReceiveError::Doubled => unreachable!(),
+    }
+}
+
+// Why an adoption is refused, by why the pool gives nothing. No span stands twice in a core.
+pub fn adopt_refusal(error: AdoptError) -> Refusal
+    requires { error ≢ AdoptError.Doubled }
+    ensures { refusal_of_adoption error ≡ Some result }
+{
+    match error {
+        AdoptError::OutOfMemory => Refusal::OutOfMemory,
+        AdoptError::PagesSpent => Refusal::PagesSpent,
+        AdoptError::Ended => Refusal::Ended,
+        AdoptError::Doubled => unreachable!(),
+        AdoptError::NothingToAdopt => Refusal::NothingToAdopt,
     }
 }

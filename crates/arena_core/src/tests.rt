@@ -114,6 +114,95 @@ fn shards_are_apart(rt: HostRuntime) -> Result<(), Fail> {
     Ok(())
 }
 
+// A core of three shards of so many pages, asked for again where a growth was refused.
+fn three_shards(alloc: Global, pages: usize) -> Result<Core, CoreError> {
+    match Core::new(alloc, 3, pages, 8, 9) {
+        Err(CoreError::OutOfMemory) => Core::new(alloc, 3, pages, 8, 9),
+        made => made,
+    }
+}
+
+// Whether each event is answered as wanted, one after another.
+fn are_answered(
+    core: &mut Core,
+    alloc: Global,
+    table: &[(Event, Reply)],
+) -> Result<bool, AllocError> {
+    for (event, wanted) in table {
+        if answer(core, alloc, *event)? != Some(*wanted) {
+            return Ok(false);
+        }
+    }
+    Ok(true)
+}
+
+#[test]
+fn a_group_moves_whole(rt: HostRuntime) -> Result<(), Fail> {
+    let head = SpanId::new(0, 0).ok_or("id")?;
+    let first = key(0, 0, 0, 1).ok_or("key")?;
+    let second = key(0, 0, 1, 1).ok_or("key")?;
+    let mut core = three_shards(rt.alloc(), 4)?;
+    let table = [
+        (Event::Put { shard: 0, value: 5 }, Reply::Issued(first)),
+        (Event::End { shard: 0 }, Reply::ShardEnded),
+        (Event::Get { key: first }, Reply::Found(Some(5))),
+        (Event::Adopt { shard: 1 }, Reply::Adopted(head)),
+        (Event::Get { key: first }, Reply::Found(Some(5))),
+        (Event::Put { shard: 1, value: 6 }, Reply::Issued(second)),
+        (Event::Free { key: first }, Reply::Freed(true)),
+        (Event::End { shard: 1 }, Reply::ShardEnded),
+        (Event::Adopt { shard: 2 }, Reply::Adopted(head)),
+        (Event::Get { key: second }, Reply::Found(Some(6))),
+        (Event::Get { key: first }, Reply::Found(None)),
+        (Event::Free { key: first }, Reply::Freed(false)),
+    ];
+    assert!(rt; are_answered(&mut core, rt.alloc(), table.as_slice())?);
+    assert_eq!(rt; core.totals(), Totals { pages: 1, live: 1 });
+    Ok(())
+}
+
+#[test]
+fn an_ended_shard_takes_nothing(rt: HostRuntime) -> Result<(), Fail> {
+    let first = key(0, 0, 0, 1).ok_or("key")?;
+    let ended = Reply::Refused(Refusal::Ended);
+    let mut core = three_shards(rt.alloc(), 4)?;
+    let table = [
+        (Event::Put { shard: 0, value: 5 }, Reply::Issued(first)),
+        (Event::End { shard: 0 }, Reply::ShardEnded),
+        (Event::Put { shard: 0, value: 6 }, ended),
+        (Event::End { shard: 0 }, ended),
+        (Event::Adopt { shard: 0 }, ended),
+        (Event::Free { key: first }, Reply::Freed(true)),
+        (Event::Get { key: first }, Reply::Found(None)),
+    ];
+    assert!(rt; are_answered(&mut core, rt.alloc(), table.as_slice())?);
+    assert_eq!(rt; core.totals(), Totals { pages: 0, live: 0 });
+    Ok(())
+}
+
+#[test]
+fn an_adoption_needs_a_page_on_each_side(rt: HostRuntime) -> Result<(), Fail> {
+    let here = key(0, 0, 0, 1).ok_or("key")?;
+    let there = key(1, 0, 0, 1).ok_or("key")?;
+    let refused = |cause| Reply::Refused(cause);
+    let mut core = three_shards(rt.alloc(), 1)?;
+    let table = [
+        (Event::Adopt { shard: 1 }, refused(Refusal::NothingToAdopt)),
+        (Event::Adopt { shard: 3 }, refused(Refusal::NothingToAdopt)),
+        (Event::End { shard: 3 }, refused(Refusal::Config)),
+        (Event::Put { shard: 0, value: 5 }, Reply::Issued(here)),
+        (Event::Put { shard: 1, value: 6 }, Reply::Issued(there)),
+        (Event::Adopt { shard: 1 }, refused(Refusal::PagesSpent)),
+        (Event::End { shard: 0 }, Reply::ShardEnded),
+        (Event::Adopt { shard: 3 }, refused(Refusal::Config)),
+        (Event::Adopt { shard: 1 }, refused(Refusal::PagesSpent)),
+        (Event::Get { key: here }, Reply::Found(Some(5))),
+    ];
+    assert!(rt; are_answered(&mut core, rt.alloc(), table.as_slice())?);
+    assert_eq!(rt; core.totals(), Totals { pages: 2, live: 2 });
+    Ok(())
+}
+
 #[test]
 fn numbers_out_of_range_make_no_core(rt: HostRuntime) {
     let table = [

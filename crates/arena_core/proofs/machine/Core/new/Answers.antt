@@ -1,26 +1,25 @@
 use Rattle.std.proofs.Common.{ap, subst, sym, ◌∙◌}
-use Rattle.arena_core.specs.Kept.{IsKept}
 use Rattle.arena_core.specs.Sound.{IsSound}
 use Rattle.arena_core.specs.State.{AreWithin, Limits, limits_of, shown}
-use Rattle.arena_core.proofs.Start.{new_core-fields, IsKept-new_core, shown-new_core}
+use Rattle.arena_core.proofs.Start.{new_core-fields, IsSound-new_core, shown-new_core}
 use Rattle.arena_core.proofs.machine.Core.new.Goals as goal
 
 pub invariant_of-result : goal.invariant_of-result
 invariant_of-result c =
     let limits : Limits = limits_of c.args.shards c.args.page_limit c.args.ring_capacity c.args.gens in
     let within : AreWithin limits = c.are_within.ensures.0 c.if-not-are_within.false in
-    subst IsKept (sym (new_core-fields limits c.in_ok-shards.shards.items c.in_ok-shards.ensures.shards)) (IsKept-new_core limits within c.in_ok-shards.ensures.sound)
+    subst IsSound (sym (new_core-fields limits c.in_ok-shards.shards.items c.new-2.result c.in_ok-shards.ensures.shards c.new-2.ensures.empty)) (IsSound-new_core limits within c.in_ok-shards.ensures.sound)
 
 pub returns-clause-ok : goal.returns-clause-ok
-returns-clause-ok c = new_core-fields (limits_of c.args.shards c.args.page_limit c.args.ring_capacity c.args.gens) c.in_ok-shards.shards.items c.in_ok-shards.ensures.shards
+returns-clause-ok c = new_core-fields (limits_of c.args.shards c.args.page_limit c.args.ring_capacity c.args.gens) c.in_ok-shards.shards.items c.new-2.result c.in_ok-shards.ensures.shards c.new-2.ensures.empty
 
 pub returns-clause-empty : goal.returns-clause-empty
 returns-clause-empty c =
     let limits : Limits = limits_of c.args.shards c.args.page_limit c.args.ring_capacity c.args.gens in
-    ap shown (new_core-fields limits c.in_ok-shards.shards.items c.in_ok-shards.ensures.shards) ∙ shown-new_core limits
+    ap shown (new_core-fields limits c.in_ok-shards.shards.items c.new-2.result c.in_ok-shards.ensures.shards c.new-2.ensures.empty) ∙ shown-new_core limits
 
 pub returns-clause-sound : goal.returns-clause-sound
 returns-clause-sound c =
     let limits : Limits = limits_of c.args.shards c.args.page_limit c.args.ring_capacity c.args.gens in
     let within : AreWithin limits = c.are_within.ensures.0 c.if-not-are_within.false in
-    subst IsSound (sym (new_core-fields limits c.in_ok-shards.shards.items c.in_ok-shards.ensures.shards)) (IsKept-new_core limits within c.in_ok-shards.ensures.sound).sound
+    subst IsSound (sym (new_core-fields limits c.in_ok-shards.shards.items c.new-2.result c.in_ok-shards.ensures.shards c.new-2.ensures.empty)) (IsSound-new_core limits within c.in_ok-shards.ensures.sound)

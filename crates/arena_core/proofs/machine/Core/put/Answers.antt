@@ -1,11 +1,13 @@
-use Rattle.std.proofs.Common.{refl, subst}
+use Rattle.std.proofs.Common.{ap, refl, subst, ◌∙◌}
 use Rattle.std.proofs.lemmas.Result.{err_from_is_err_and}
 use Rattle.arena_core.specs.declared.event.Event.TheVariants.{Put}
 use Rattle.arena_core.specs.declared.reply.Reply.TheVariants.{Issued, Refused}
 use Rattle.arena_core.specs.Kept.{state_of}
-use Rattle.arena_core.specs.Step.{CoreStep}
 use Rattle.arena_core.specs.Refusals.{refusal_of}
-use Rattle.arena_core.proofs.Fields.{IsStep-put_fields, CoreStep-refused_fields, with_shard_at}
+use Rattle.arena_core.specs.State.{shown}
+use Rattle.arena_core.specs.Step.{CoreStep}
+use Rattle.arena_core.proofs.FieldSteps.{CoreStep-refused_fields, IsStep-put_fields, PlainStep-refused, state_of-same}
+use Rattle.arena_core.proofs.Fields.{with_shard_at}
 use Rattle.arena_core.proofs.Steps.{IsStep}
 use Rattle.arena_core.proofs.machine.Core.put.Goals as goal
 
@@ -25,6 +27,13 @@ returns-in_err-key-clause-exact c =
     c.in_err-key.ensures.spent c.in_err-key.ensures.ended c.in_err-key.ensures.err) in
     rw (refused.1, refused.2) step
 
+pub returns-in_err-key-clause-plain : goal.returns-in_err-key-clause-plain
+returns-in_err-key-clause-plain c =
+    let refused = err_from_is_err_and c.from_residual.result c.from_residual.ensures.1 in
+    let same = state_of-same c.self.inside c.args.number c.in-Some.shard.now c.put.new.self (record { within = c.in-Some.ensures.variant.0 refl; value = c.in-Some.ensures.value }) c.in_err-key.ensures.err in
+    let step = PlainStep-refused (shown c.args.self.now) (shown (state_of (with_shard_at c.self.inside c.args.number c.put.new.self))) c.args.number c.args.value c.in_err-key.field-0.0 (ap shown (same ∙ c.self.view_is)) in
+    rw (refused.1, refused.2) step
+
 pub invariant_of-self-2 : goal.invariant_of-self-2
 invariant_of-self-2 c = (issued c).kept
 
@@ -35,4 +44,4 @@ pub returns-clause-plain : goal.returns-clause-plain
 returns-clause-plain c = (issued c).plain
 
 pub returns-clause-sound : goal.returns-clause-sound
-returns-clause-sound c = (issued c).kept.sound
+returns-clause-sound c = (issued c).kept

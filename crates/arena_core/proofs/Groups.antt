@@ -1,0 +1,227 @@
+-- What a call of a shard or of the pool does to the sums over its spans.
+use Rattle.std.proofs.Common.{◌≡◌, ◌≢◌, ℕ, zero, suc, ◌+◌, ◌≤◌, Bool, true, false, cond, eqb, ltb, ◌&&◌, List, [], ◌∷◌, ◌⊎◌, inl, inr, refl, sym, ap, ◌∙◌, arith, Some, set, slice_get, eq-eqb, eqb-true, map, length, Option, None}
+use Rattle.std.specs.Prelude.{count_by, sum_by, insert}
+use Rattle.std.specs.List.{flat_map}
+use Rattle.std.proofs.lemmas.Bool.Decides.{nat_tests}
+use Rattle.std.proofs.lemmas.List.Sums.{sum_by-append, sum_by-cons}
+use Rattle.span.specs.declared.id.SpanId.{SpanId}
+use Rattle.span.specs.declared.key.Key.{Key}
+use Rattle.span.specs.Log.{Value as Word}
+use Rattle.span.specs.State.{SpanState}
+use Rattle.shard.specs.Calls.{Puts, Frees, new_group, new_span}
+use Rattle.shard.specs.Group.{GroupState, spans_of, with_free, union_of, with_put, with_span}
+use Rattle.page_table.specs.State.{TableState}
+use Rattle.shard.specs.Moves.{TakesIn, WholeState, spans_moved, whole_of, with_room}
+use Rattle.shard.specs.State.{ShardState}
+use Rattle.shard.specs.declared.shard.Freed.TheVariants.{Yes}
+use Rattle.abandoned.specs.Calls.{Adopts, Frees as FreesPooled, Receives, TakesAll, TakesIn as TakesInPool, with_rooms}
+use Rattle.abandoned.specs.Sound.{IsSound as IsSoundPool}
+use Rattle.abandoned.specs.State.{PoolState, PooledState, spans_of as pooled_spans_of}
+use Rattle.abandoned.proofs.Freed.{groups-Leaves}
+use Rattle.abandoned.proofs.TakenIn.{empty_or_not}
+use Rattle.arena_core.proofs.Lists.{flat-insert, flat-remove, flat-set, sum_by-set_at}
+use Rattle.arena_core.proofs.Spans.{named, sum_in, sum_pooled, times_in, times_pooled}
+
+-- whether the shard has opened the span, as a count
+abbrev pub own : SpanId → ShardState → ℕ
+own id shard = cond {A = ℕ} (eqb id.shard shard.number && ltb id.serial shard.opened) 1 0
+
+-- whether the span has another greatest generation, as a count
+abbrev pub strays : ℕ → SpanState → ℕ
+strays gens span = cond {A = ℕ} (eqb span.gens gens) 0 1
+
+pub strays-none : (gens : ℕ) (spans : List SpanState) → ((place : ℕ) (span : SpanState) → slice_get spans place ≡ Some span → span.gens ≡ gens) → sum_by (strays gens) spans ≡ 0
+strays-none gens [] each = refl
+strays-none gens (span ∷ spans) each =
+    let same : eqb span.gens gens ≡ true = eq-eqb span.gens gens (each 0 span refl) in
+    omega (arith, sum_by-cons (strays gens) span spans, ap (λ b. cond {A = ℕ} b 0 1) same, strays-none gens spans (λ place other here. each (suc place) other here))
+
+pub strays-each : (gens : ℕ) (spans : List SpanState) → sum_by (strays gens) spans ≡ 0 → (place : ℕ) (span : SpanState) → slice_get spans place ≡ Some span → span.gens ≡ gens
+strays-each gens [] none place span here = absurd cc
+strays-each gens (first ∷ spans) none zero span here =
+    let same : first ≡ span = cc in
+    ap (λ (s : SpanState). s.gens) (sym same) ∙ by_test (eqb first.gens gens) refl
+  where
+    by_test : (b : Bool) → eqb first.gens gens ≡ b → first.gens ≡ gens
+    by_test true e = eqb-true first.gens gens e
+    by_test false e = absurd (omega (arith, sum_by-cons (strays gens) first spans, ap (λ b. cond {A = ℕ} b 0 1) e))
+strays-each gens (first ∷ spans) none (suc place) span here = strays-each gens spans (omega (arith, sum_by-cons (strays gens) first spans)) place span here
+
+-- the shard has the spans of before and those that it has opened since, each once more, and no span has another greatest generation
+pub record IsCall (before after : ShardState) : Type 0 where
+  pub number_is : after.number ≡ before.number
+  pub page_limit_is : after.page_limit ≡ before.page_limit
+  pub gens_is : after.gens ≡ before.gens
+  pub ended_is : after.ended ≡ before.ended
+  pub opened_more : before.opened ≤ after.opened
+  pub spans : (id : SpanId) → times_in id after + own id before ≡ times_in id before + own id after
+  pub strays_are : sum_in (strays before.gens) after ≡ sum_in (strays before.gens) before
+  pub none_lost : (id : SpanId) → times_in id before ≤ times_in id after
+
+-- the pool has the spans of before
+pub record IsPoolCall (before after : PoolState) : Type 0 where
+  pub spans : (id : SpanId) → times_pooled id after ≡ times_pooled id before
+  pub strays_are : (gens : ℕ) → sum_pooled (strays gens) after ≡ sum_pooled (strays gens) before
+
+spans_of-with_span : (group : GroupState) (place : ℕ) (after : SpanState) → spans_of (with_span group place after) ≡ set (spans_of group) place after
+spans_of-with_span group zero after = refl
+spans_of-with_span group (suc place) after = refl
+
+module _ (w : SpanState → ℕ) where
+  -- the head of a group gives way to a span of the same weight
+  sum_in-with_head : (before after : ShardState) (index : ℕ) (group : GroupState) (head : SpanState) → slice_get before.groups index ≡ Some group → w head ≡ w group.head → after.groups ≡ set before.groups index (record group { head = head })
+      → sum_in w after ≡ sum_in w before
+  sum_in-with_head before after index group head here same is =
+      omega (arith, ap (λ gs. sum_by w (flat_spans gs)) is, flat-set w spans_of before.groups index group (record group { head = head }) here, sum_by-cons w head group.guests, sum_by-cons w group.head group.guests)
+    where
+      flat_spans : List GroupState → List SpanState
+      flat_spans groups = flat_map spans_of groups
+
+  -- a span of a group gives way to one of the same weight
+  sum_in-with_span : (before after : ShardState) (index place : ℕ) (group : GroupState) (span changed : SpanState) → slice_get before.groups index ≡ Some group → slice_get (spans_of group) place ≡ Some span → w changed ≡ w span
+      → after.groups ≡ set before.groups index (with_span group place changed) → sum_in w after ≡ sum_in w before
+  sum_in-with_span before after index place group span changed here there same is =
+      omega (arith, ap (λ gs. sum_by w (flat_map spans_of gs)) is, flat-set w spans_of before.groups index group (with_span group place changed) here,
+      ap (sum_by w) (spans_of-with_span group place changed), sum_by-set_at w (spans_of group) place span changed there)
+
+  sum_pooled-with_span : (before after : PoolState) (index place : ℕ) (group : PooledState) (span changed : SpanState) (other : PooledState) → slice_get before.groups index ≡ Some group → slice_get (pooled_spans_of group) place ≡ Some span → w changed ≡ w span
+      → pooled_spans_of other ≡ set (pooled_spans_of group) place changed → after.groups ≡ set before.groups index other → sum_pooled w after ≡ sum_pooled w before
+  sum_pooled-with_span before after index place group span changed other here there same spans is =
+      omega (arith, ap (λ gs. sum_by w (flat_map pooled_spans_of gs)) is, flat-set w pooled_spans_of before.groups index group other here,
+      ap (sum_by w) spans, sum_by-set_at w (pooled_spans_of group) place span changed there)
+
+own-more : (a s n o : ℕ) → cond {A = ℕ} (eqb a n && ltb s (o + 1)) 1 0 ≡ cond {A = ℕ} (eqb a n && ltb s o) 1 0 + cond {A = ℕ} (eqb n a && eqb o s) 1 0
+own-more a s n o = grind (arith, nat_tests)
+
+pub IsCall-Puts : (before after : ShardState) (value : Word) (key : Key) (at : ℕ) → Puts before value key at after → IsCall before after
+IsCall-Puts before after value key at (running, inl (index, group, room, span_is, generation_is, at_is, after_is)) = record {
+  number_is = ap (λ (s : ShardState). s.number) after_is;
+  page_limit_is = ap (λ (s : ShardState). s.page_limit) after_is;
+  gens_is = ap (λ (s : ShardState). s.gens) after_is;
+  ended_is = ap (λ (s : ShardState). s.ended) after_is;
+  opened_more = omega (arith, ap (λ (s : ShardState). s.opened) after_is);
+  spans = λ id.
+      let same = sum_in-with_head (named id) before after index group (with_put group.head key.slot value) room.here refl (ap (λ (s : ShardState). s.groups) after_is) in
+      omega (arith, ap (own id) after_is, same);
+  strays_are = sum_in-with_head (strays before.gens) before after index group (with_put group.head key.slot value) room.here refl (ap (λ (s : ShardState). s.groups) after_is);
+  none_lost = λ id. omega (arith, sum_in-with_head (named id) before after index group (with_put group.head key.slot value) room.here refl (ap (λ (s : ShardState). s.groups) after_is));
+}
+IsCall-Puts before after value key at (running, inr (full, pages, spans, (shard_is, serial_is, slot_is, generation_is, at_is, (page, index, new_page, place, after_is)))) = record {
+  number_is = ap (λ (s : ShardState). s.number) after_is;
+  page_limit_is = ap (λ (s : ShardState). s.page_limit) after_is;
+  gens_is = ap (λ (s : ShardState). s.gens) after_is;
+  ended_is = ap (λ (s : ShardState). s.ended) after_is;
+  opened_more = omega (arith, ap (λ (s : ShardState). s.opened) after_is);
+  spans = λ id.
+      let one : sum_by (named id) (spans_of opened) ≡ cond {A = ℕ} (eqb before.number id.shard && eqb before.opened id.serial) 1 0 =
+      sum_by-cons (named id) opened.head [] ∙ rw (shard_is, serial_is) (omega arith) in
+      omega (arith, ap (λ (s : ShardState). sum_in (named id) s) after_is, ap (own id) after_is, flat-insert (named id) spans_of before.groups index opened, one, own-more id.shard id.serial before.number before.opened);
+  strays_are =
+      let none : sum_by (strays before.gens) (spans_of opened) ≡ 0 = strays-none before.gens (spans_of opened) alone in
+      omega (arith, ap (λ (s : ShardState). sum_in (strays before.gens) s) after_is, flat-insert (strays before.gens) spans_of before.groups index opened, none);
+  none_lost = λ id. omega (arith, ap (λ (s : ShardState). sum_in (named id) s) after_is, flat-insert (named id) spans_of before.groups index opened);
+}
+  where
+    opened : GroupState
+    opened = new_group key.span before.gens page value
+
+    alone : (place : ℕ) (span : SpanState) → slice_get (spans_of (new_group key.span before.gens page value)) place ≡ Some span → span.gens ≡ before.gens
+    alone zero span here = let same : with_put (new_span key.span before.gens) 0 value ≡ span = cc in ap (λ (s : SpanState). s.gens) (sym same)
+    alone (suc place) span here = absurd cc
+
+pub IsCall-Frees : (before after : ShardState) (key : Key) (at : ℕ) → Frees before key (Yes at) after → IsCall before after
+IsCall-Frees before after key at (index, place, group, span, here, holds, at_is, after_is) = record {
+  number_is = ap (λ (s : ShardState). s.number) after_is;
+  page_limit_is = ap (λ (s : ShardState). s.page_limit) after_is;
+  gens_is = ap (λ (s : ShardState). s.gens) after_is;
+  ended_is = ap (λ (s : ShardState). s.ended) after_is;
+  opened_more = omega (arith, ap (λ (s : ShardState). s.opened) after_is);
+  spans = λ id. omega (arith, ap (own id) after_is, kept (named id) refl);
+  strays_are = kept (strays before.gens) refl;
+  none_lost = λ id. omega (arith, kept (named id) refl);
+}
+  where
+    kept : (w : SpanState → ℕ) → w (with_free span key) ≡ w span → sum_in w after ≡ sum_in w before
+    kept w same = sum_in-with_span w before after index place group span (with_free span key) here.group_is here.span_is same (ap (λ (s : ShardState). s.groups) after_is)
+
+pub IsPoolCall-Frees : (before after : PoolState) (key : Key) (at : ℕ) → IsSoundPool before → FreesPooled before key (Yes at) after → IsPoolCall before after
+IsPoolCall-Frees before after key at sound (index, place, group, span, here, holds, at_is, leaves) = record {
+  spans = λ id. kept (named id) refl;
+  strays_are = λ gens. kept (strays gens) refl;
+}
+  where
+    changed : (now : PooledState) × (after.groups ≡ set before.groups index now) × (pooled_spans_of now ≡ set (pooled_spans_of group) place (with_free span key))
+    changed = groups-Leaves before sound index place group span key (here.group_is, here.span_is) holds after leaves
+
+    kept : (w : SpanState → ℕ) → w (with_free span key) ≡ w span → sum_pooled w after ≡ sum_pooled w before
+    kept w same = sum_pooled-with_span w before after index place group span (with_free span key) changed.0 here.group_is here.span_is same changed.2 changed.1
+
+-- groups that move
+
+-- a sum over the spans of the group that moves
+abbrev pub sum_moved : (SpanState → ℕ) → WholeState → ℕ
+sum_moved w whole = sum_by w (spans_moved whole)
+
+pub sum_in-TakesIn : (w : SpanState → ℕ) (old new : ShardState) (whole : WholeState) → TakesIn old whole new → sum_in w new ≡ sum_in w old + sum_moved w whole
+sum_in-TakesIn w old new whole takes =
+    ap (λ (s : ShardState). sum_in w s) takes.after
+    ∙ flat-insert w spans_of old.groups takes.index (record { head = whole.head; guests = whole.guests; page = takes.page; closed = false })
+
+pub sum_pooled-TakesIn : (w : SpanState → ℕ) (old new : PoolState) (whole : WholeState) → TakesInPool old whole new → sum_pooled w new ≡ sum_pooled w old + sum_moved w whole
+sum_pooled-TakesIn w old new whole takes = elim (empty_or_not (union_of (spans_moved whole))) [
+  | inl none ↦ ap (λ (p : PoolState). sum_pooled w p) (takes.emptied none) ∙ flat-insert w pooled_spans_of old.groups takes.index (record { head = whole.head; guests = whole.guests; page = None })
+  | inr live ↦ let its = takes.live live in ap (λ (p : PoolState). sum_pooled w p) its.4 ∙ flat-insert w pooled_spans_of old.groups takes.index (record { head = whole.head; guests = whole.guests; page = Some its.0 })
+]
+
+pub sum_pooled-TakesAll : (w : SpanState → ℕ) (wholes : List WholeState) (old new : PoolState) → TakesAll old wholes new → sum_pooled w new ≡ sum_pooled w old + sum_by (sum_moved w) wholes
+sum_pooled-TakesAll w [] old new same = omega (arith, ap (λ (p : PoolState). sum_pooled w p) same)
+sum_pooled-TakesAll w (whole ∷ wholes) old new (mid, first, rest) =
+    omega (arith, sum_pooled-TakesIn w old mid whole first, sum_pooled-TakesAll w wholes mid new rest, sum_by-cons (sum_moved w) whole wholes)
+
+sum_by-whole_of : (w : SpanState → ℕ) (table : TableState) (groups : List GroupState) → sum_by (sum_moved w) (map (whole_of table) groups) ≡ sum_by w (flat_map spans_of groups)
+sum_by-whole_of w table [] = refl
+sum_by-whole_of w table (group ∷ groups) =
+    omega (arith, sum_by-cons (sum_moved w) (whole_of table group) (map (whole_of table) groups), sum_by-whole_of w table groups, sum_by-append w (spans_of group) (flat_map spans_of groups))
+
+-- spans move between one shard and the pool, which have as many together as before
+pub record IsMove (before after : ShardState) (pool_before pool_after : PoolState) : Type 0 where
+  pub number_is : after.number ≡ before.number
+  pub page_limit_is : after.page_limit ≡ before.page_limit
+  pub gens_is : after.gens ≡ before.gens
+  pub opened_is : after.opened ≡ before.opened
+  pub running : before.ended ≡ false
+  pub sums : (w : SpanState → ℕ) → sum_in w after + sum_pooled w pool_after ≡ sum_in w before + sum_pooled w pool_before
+  -- the shard has lost none, unless it has ended
+  pub more : after.ended ≡ false → (w : SpanState → ℕ) → sum_in w before ≤ sum_in w after
+
+pub IsMove-Receives : (before after : ShardState) (pool_before pool_after : PoolState) → Receives pool_before before pool_after after → IsMove before after pool_before pool_after
+IsMove-Receives before after pool_before pool_after receives = record {
+  number_is = ap (λ (s : ShardState). s.number) receives.after;
+  page_limit_is = ap (λ (s : ShardState). s.page_limit) receives.after;
+  gens_is = ap (λ (s : ShardState). s.gens) receives.after;
+  opened_is = ap (λ (s : ShardState). s.opened) receives.after;
+  running = receives.running;
+  sums = λ w.
+      let all = sum_pooled-TakesAll w (map (whole_of before.table) before.groups) (with_rooms pool_before receives.page_room receives.span_room) pool_after receives.moved in
+      omega (arith, all, sum_by-whole_of w before.table before.groups, ap (λ (s : ShardState). sum_in w s) receives.after);
+  more = λ running w. absurd (let ended : false ≡ true = sym running ∙ ap (λ (s : ShardState). s.ended) receives.after in cc);
+}
+
+pub IsMove-Adopts : (before after : ShardState) (pool_before pool_after : PoolState) (head : SpanId) → before.ended ≡ false → Adopts pool_before before head pool_after after → IsMove before after pool_before pool_after
+IsMove-Adopts before after pool_before pool_after head running adopts = record {
+  number_is = ap (λ (s : ShardState). s.number) adopts.takes_in.after;
+  page_limit_is = ap (λ (s : ShardState). s.page_limit) adopts.takes_in.after;
+  gens_is = ap (λ (s : ShardState). s.gens) adopts.takes_in.after;
+  opened_is = ap (λ (s : ShardState). s.opened) adopts.takes_in.after;
+  running = running;
+  sums = λ w. omega (arith, came w, left w);
+  more = λ still w. omega (arith, came w);
+}
+  where
+    came : (w : SpanState → ℕ) → sum_in w after ≡ sum_in w before + sum_moved w adopts.whole
+    came w = sum_in-TakesIn w (with_room before None (length (spans_moved adopts.whole))) after adopts.whole adopts.takes_in
+
+    left : (w : SpanState → ℕ) → sum_pooled w pool_after + sum_moved w adopts.whole ≡ sum_pooled w pool_before
+    left w =
+        let (index, group, here, whole_is, after_is) = adopts.lifts in
+        omega (arith, ap (λ (p : PoolState). sum_pooled w p) after_is, flat-remove w pooled_spans_of pool_before.groups index group here.here, ap (λ (m : WholeState). sum_moved w m) whole_is)

@@ -1,0 +1,87 @@
+-- What a core shows under a key, as a sum over its shards and its pool: all but one show nothing.
+use Rattle.std.proofs.Common.{◌≡◌, ℕ, zero, suc, ◌+◌, ◌≤◌, Bool, true, false, cond, List, [], ◌∷◌, refl, sym, ap, ◌∙◌, arith, Option, Some, None, set, slice_get, is_some}
+use Rattle.std.specs.Prelude.{find, sum_by}
+use Rattle.std.proofs.lemmas.List.Sums.{sum_by-cons}
+use Rattle.span.specs.declared.id.SpanId.{SpanId}
+use Rattle.span.specs.declared.key.Key.{Key}
+use Rattle.span.specs.Log.{Value}
+use Rattle.span.specs.PlainMap.{PlainMap}
+use Rattle.shard.specs.Shown.{shown as shown_by, issued_by, value_by}
+use Rattle.shard.specs.State.{ShardState}
+use Rattle.abandoned.specs.Shown.{shown as shown_by_pool}
+use Rattle.abandoned.specs.State.{PoolState, spans_in as pooled_spans}
+use Rattle.arena_core.specs.State.{CoreState, has_span, shard_with, shown, shown_at, with_pool, with_shard}
+use Rattle.arena_core.proofs.Lists.{find-uncounted, sum_by-set_at}
+use Rattle.arena_core.proofs.Spans.{has_span-uncounted, is_named, span-missed, times, times-parts, times_in, times_in-found, times_in-missed, times_owned, times_owned-cons, times_pooled}
+
+-- a value as a number, none being 0
+abbrev pub code : Option Value → ℕ
+code None = 0
+code (Some value) = suc value
+
+pub code-injective : (a b : Option Value) → code a ≡ code b → a ≡ b
+code-injective None None e = refl
+code-injective None (Some value) e = absurd (omega arith)
+code-injective (Some value) None e = absurd (omega arith)
+code-injective (Some value) (Some other) e = let same : value ≡ other = omega arith in ap Some same
+
+abbrev pub bit : Bool → ℕ
+bit b = cond {A = ℕ} b 1 0
+
+pub bit-injective : (a b : Bool) → bit a ≡ bit b → a ≡ b
+bit-injective true true e = refl
+bit-injective true false e = absurd (omega arith)
+bit-injective false true e = absurd (omega arith)
+bit-injective false false e = refl
+
+-- what is read of a map of keys under an id is nothing where the id does not stand
+module _ (id : SpanId) (read : PlainMap → ℕ)
+    (missed : (shard : ShardState) → times_in id shard ≡ 0 → read (shown_by shard) ≡ 0) (missed_pooled : (pool : PoolState) → times_pooled id pool ≡ 0 → read (shown_by_pool pool) ≡ 0) where
+  none-owned : (shards : List ShardState) → times_owned id shards ≡ 0 → sum_by (λ shard. read (shown_by shard)) shards ≡ 0
+  none-owned [] none = refl
+  none-owned (shard ∷ shards) none =
+      omega (arith, times_owned-cons id shard shards, sum_by-cons (λ s. read (shown_by s)) shard shards, missed shard (omega (arith, times_owned-cons id shard shards)), none-owned shards (omega (arith, times_owned-cons id shard shards)))
+
+  pub read-shown_at : (pool : PoolState) (shards : List ShardState) → times_owned id shards + times_pooled id pool ≤ 1
+      → read (shown_at pool (shard_with shards id)) ≡ sum_by (λ shard. read (shown_by shard)) shards + read (shown_by_pool pool)
+  read-shown_at pool [] once = omega arith
+  read-shown_at pool (shard ∷ shards) once = by_test (has_span id shard) refl (read-shown_at pool shards)
+    where
+      by_test : (b : Bool) → has_span id shard ≡ b
+          → (times_owned id shards + times_pooled id pool ≤ 1 → read (shown_at pool (shard_with shards id)) ≡ sum_by (λ s. read (shown_by s)) shards + read (shown_by_pool pool))
+          → read (shown_at pool (cond b (Some shard) (shard_with shards id))) ≡ sum_by (λ s. read (shown_by s)) (shard ∷ shards) + read (shown_by_pool pool)
+      by_test true has rest =
+          let one = times_in-found id shard has in
+          omega (arith, sum_by-cons (λ s. read (shown_by s)) shard shards,
+          none-owned shards (omega (arith, times_owned-cons id shard shards)), missed_pooled pool (omega (arith, times_owned-cons id shard shards)))
+      by_test false none rest =
+          let zero_here = times_in-missed id shard none in
+          omega (arith, sum_by-cons (λ s. read (shown_by s)) shard shards, missed shard zero_here, rest (omega (arith, times_owned-cons id shard shards)))
+
+-- a shard or a pool that has no span of the key shows nothing of it
+
+pub issued-missed : (shard : ShardState) (key : Key) → times_in key.span shard ≡ 0 → (shown_by shard).is_issued key ≡ false
+issued-missed shard key none = ap (issued_by key) (span-missed key.span shard (has_span-uncounted key.span shard none))
+
+pub value-missed : (shard : ShardState) (key : Key) → times_in key.span shard ≡ 0 → (shown_by shard).value_of key ≡ None
+value-missed shard key none = ap (value_by shard.table key) (span-missed key.span shard (has_span-uncounted key.span shard none))
+
+pub issued-unpooled : (pool : PoolState) (key : Key) → times_pooled key.span pool ≡ 0 → (shown_by_pool pool).is_issued key ≡ false
+issued-unpooled pool key none = ap (issued_by key) (find-uncounted (is_named key.span) (pooled_spans pool.groups) none)
+
+pub value-unpooled : (pool : PoolState) (key : Key) → times_pooled key.span pool ≡ 0 → (shown_by_pool pool).value_of key ≡ None
+value-unpooled pool key none = ap (value_by pool.table key) (find-uncounted (is_named key.span) (pooled_spans pool.groups) none)
+
+-- the value and the issue of a key, as sums
+
+pub value-sum : (core : CoreState) (key : Key) → times key.span core ≤ 1
+    → code ((shown core).value_of key) ≡ sum_by (λ shard. code ((shown_by shard).value_of key)) core.shards + code ((shown_by_pool core.pool).value_of key)
+value-sum core key once =
+    read-shown_at key.span (λ plain. code (plain.value_of key)) (λ shard none. ap code (value-missed shard key none)) (λ pool none. ap code (value-unpooled pool key none)) core.pool core.shards
+    (omega (arith, times-parts key.span core))
+
+pub issued-sum : (core : CoreState) (key : Key) → times key.span core ≤ 1
+    → bit ((shown core).is_issued key) ≡ sum_by (λ shard. bit ((shown_by shard).is_issued key)) core.shards + bit ((shown_by_pool core.pool).is_issued key)
+issued-sum core key once =
+    read-shown_at key.span (λ plain. bit (plain.is_issued key)) (λ shard none. ap bit (issued-missed shard key none)) (λ pool none. ap bit (issued-unpooled pool key none)) core.pool core.shards
+    (omega (arith, times-parts key.span core))
