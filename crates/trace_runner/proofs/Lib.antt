@@ -4,12 +4,15 @@ pub mod Forms
 pub mod Lines
 pub mod Clips
 pub mod Bindings
+pub mod Knowing
 pub mod Texts
 pub mod Exclusion
 pub mod Taken
 pub mod Entered
 pub mod Refused
 pub mod Making
+pub mod Shards
+pub mod Barriers
 pub mod Recalling
 pub mod Progress
 pub mod Serving

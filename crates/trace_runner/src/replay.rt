@@ -9,13 +9,13 @@ ghost use Rattle.trace_runner.specs.declared.text.header.Header.{Header};
 ghost use Rattle.trace_runner.specs.declared.text.line.Line.{Line};
 ghost use Rattle.trace_runner.specs.Replay.{IsNoFault, IsReportOf, Stops, WritesReport, start_of};
 
-use arena_core::{Core, CoreError};
 use crate::fault::ReplayError;
 use crate::report::Ending;
 use crate::run::run_lines;
 use crate::sink::{Sink, give};
 use crate::text::{Header, Trace, parse};
 use crate::writing::report_text;
+use arena_core::{Core, CoreError};
 use std::alloc::{AllocError, Global};
 
 /// Replays a trace: reads the text whole, runs its calls one after another on a core of its own, and gives the report to
@@ -52,14 +52,14 @@ fn report(alloc: Global, trace: &Trace, replies: bool) -> Result<Vec<u8>, AllocE
     ensures { IfOk result (λ report. IsReportOf trace.now replies report.items) }
 {
     let core = core_of(alloc, &trace.header)?;
-    let (core, answers) = run_lines(alloc, trace, core)?;
-    let totals = core.totals();
+    let ran = run_lines(alloc, trace, core)?;
+    let totals = ran.core.totals();
     let ending = Ending {
         pages: totals.pages,
         live: totals.live,
-        calls: answers.len(),
+        calls: ran.calls,
     };
-    report_text(alloc, replies, answers.as_slice(), &ending)
+    report_text(alloc, replies, ran.answers.as_slice(), &ending)
 }
 
 /// The core that the header asks for.
