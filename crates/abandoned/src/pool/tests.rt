@@ -13,6 +13,11 @@ fn id(shard: u32, serial: u32) -> Result<SpanId, Fail> {
     Ok(SpanId::new(shard, serial).ok_or("a shard has fewer spans")?)
 }
 
+// Pages and live keys of pool and shard.
+fn counts(pool: &Pool, shard: &Shard) -> (usize, usize, usize, usize) {
+    (pool.pages(), pool.live(), shard.pages(), shard.live())
+}
+
 // Puts. Where memory was refused, it puts a second time.
 fn put(shard: &mut Shard, value: u128) -> Result<Key, Fail> {
     let made = match shard.put(value) {
@@ -29,13 +34,13 @@ fn receive(
     shard: &mut Shard,
     key: &Key,
 ) -> Result<(), ReceiveError> {
-    let before = (pool.pages(), pool.live(), shard.pages(), shard.live());
+    let before = counts(pool, shard);
     let found = (pool.get(key), shard.get(key));
     let result = pool.receive(shard);
     if result != Err(ReceiveError::OutOfMemory) {
         return result;
     }
-    assert_eq!(rt; (pool.pages(), pool.live(), shard.pages(), shard.live()), before);
+    assert_eq!(rt; counts(pool, shard), before);
     assert_eq!(rt; (pool.get(key), shard.get(key)), found);
     assert!(rt; !shard.ended());
     pool.receive(shard)
@@ -48,13 +53,13 @@ fn adopt(
     shard: &mut Shard,
     key: &Key,
 ) -> Result<SpanId, AdoptError> {
-    let before = (pool.pages(), pool.live(), shard.pages(), shard.live());
+    let before = counts(pool, shard);
     let found = (pool.get(key), shard.get(key));
     let result = pool.adopt(shard);
     if result != Err(AdoptError::OutOfMemory) {
         return result;
     }
-    assert_eq!(rt; (pool.pages(), pool.live(), shard.pages(), shard.live()), before);
+    assert_eq!(rt; counts(pool, shard), before);
     assert_eq!(rt; (pool.get(key), shard.get(key)), found);
     pool.adopt(shard)
 }
@@ -131,19 +136,29 @@ fn moves_a_group_by_hand(rt: HostRuntime) -> Result<(), Fail> {
     let key = put(&mut ending, 9)?;
     assert_eq!(rt; receive(&rt, &mut pool, &mut ending, &key), Ok(()));
     let head = id(1, 0)?;
-    let brief = pool.brief(head).ok_or("the group is here")?;
-    assert_eq!(rt; (brief.spans, brief.occupied.count(), brief.paged, brief.closed), (1, 1, true, false));
     assert_eq!(rt; (pool.span_at(head, 0), pool.span_at(head, 1)), (Some(head), None));
+    let whole = pool.lift(head).ok_or("the group is here")?;
+    assert_eq!(rt; (whole.head_id(), pool.pages(), pool.has(head)), (head, 0, false));
+    Ok(())
+}
+
+#[test]
+fn looks_at_its_groups(rt: HostRuntime) -> Result<(), Fail> {
+    let mut pool = Pool::new(rt.alloc());
+    let mut ending = shard(rt.alloc(), 1, 4)?;
+    let key = put(&mut ending, 9)?;
+    assert_eq!(rt; receive(&rt, &mut pool, &mut ending, &key), Ok(()));
+    let brief = pool.brief(id(1, 0)?).ok_or("the group is here")?;
+    assert_eq!(rt; (brief.spans, brief.occupied.count()), (1, 1));
+    assert_eq!(rt; (brief.paged, brief.closed), (true, false));
     let groups = match pool.groups() {
         Err(_) => pool.groups()?,
         Ok(groups) => groups,
     };
-    assert_eq!(rt; (groups.len(), groups[0].0), (1, head));
-    let whole = pool.lift(head).ok_or("the group is here")?;
-    assert_eq!(rt; (whole.head_id(), pool.pages(), pool.has(head)), (head, 0, false));
-    let mut next = Pool::new(rt.alloc());
-    if next.reserve_for(None, 1).is_err() {
-        next.reserve_for(None, 1)?;
+    assert_eq!(rt; groups.len(), 1);
+    if pool.reserve_for(None, 1).is_err() {
+        pool.reserve_for(None, 1)?;
     }
+    assert_eq!(rt; (pool.pages(), pool.live()), (1, 1));
     Ok(())
 }
