@@ -160,21 +160,30 @@ fn tells_of_a_group(rt: HostRuntime) -> Result<(), Fail> {
 #[test]
 fn lets_a_group_go(rt: HostRuntime) -> Result<(), Fail> {
     let mut shard = shard(rt.alloc(), 2, 1)?;
+    put(&rt, &mut shard, 5)?;
+    put(&rt, &mut shard, 6)?;
+    let head = key(0, 0, 1)?.span();
+    let whole = shard.lift(head).ok_or("the group is here")?;
+    assert_eq!(rt; (whole.head_id(), whole.has_page()), (head, true));
+    assert_eq!(rt; (whole.spans().len(), whole.spans().live()), (1, 2));
+    let (_, words) = whole.into_parts();
+    let words = words.ok_or("the group has a page")?;
+    assert_eq!(rt; (words.value_at(0), words.value_at(1)), (5, 6));
+    Ok(())
+}
+
+#[test]
+fn keeps_the_other_groups(rt: HostRuntime) -> Result<(), Fail> {
+    let mut shard = shard(rt.alloc(), 2, 1)?;
     for value in 0..257 {
         put(&rt, &mut shard, value)?;
     }
     let head = key(0, 0, 1)?.span();
-    let whole = shard.lift(head).ok_or("the group is here")?;
-    assert_eq!(rt; (whole.head_id(), whole.has_page()), (head, true));
-    assert_eq!(rt; (whole.spans().len(), whole.spans().live()), (1, 256));
+    assert!(rt; shard.lift(head).is_some());
     assert!(rt; shard.lift(head).is_none());
     assert_eq!(rt; (shard.pages(), shard.live()), (1, 1));
-    assert_eq!(rt; shard.get(&key(0, 7, 1)?), Found::NotHere);
     assert_eq!(rt; shard.get(&key(1, 0, 1)?), Found::Value(256, 1));
     assert_eq!(rt; put(&rt, &mut shard, 3), Ok((key(1, 1, 1)?, 1)));
-    let (_, words) = whole.into_parts();
-    let words = words.ok_or("the group has a page")?;
-    assert_eq!(rt; (words.value_at(0), words.value_at(255)), (0, 255));
     Ok(())
 }
 
