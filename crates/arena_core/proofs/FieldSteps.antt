@@ -12,6 +12,7 @@ use Rattle.shard.specs.State.{ShardState}
 use Rattle.shard.specs.declared.error.PutError.{PutError}
 use Rattle.shard.specs.declared.error.PutError.TheVariants as put_error
 use Rattle.shard.specs.declared.shard.Freed.{Freed}
+use Rattle.shard.specs.declared.shard.Freed.TheVariants as freed
 use Rattle.abandoned.specs.Calls.{Adopts, HasNothingToAdopt, Receives}
 use Rattle.abandoned.specs.Sound.{IsSound as IsSoundPool}
 use Rattle.abandoned.specs.State.{PoolState}
@@ -33,6 +34,7 @@ use Rattle.arena_core.specs.Step.{CoreStep}
 use Rattle.arena_core.proofs.Fields.{IsRead, shard-read, state_of-with_both_at, state_of-with_shard_at, with_both_at, with_shard_at}
 use Rattle.arena_core.proofs.Lists.{set-slice_get}
 use Rattle.arena_core.proofs.Moves.{CoreStep-adopt_refused, CoreStep-end_refused, IsRefused, IsStep-Adopts, IsStep-Receives}
+use Rattle.arena_core.proofs.Owner.{has_span-Frees}
 use Rattle.arena_core.proofs.Steps.{CoreStep-refused, IsStep, IsStep-Frees, IsStep-Puts}
 
 -- a shard that is as it was leaves the fields as they were
@@ -113,3 +115,11 @@ CoreStep-adopt_refused_fields c number before after pool guesses error cause kep
   where
     at_error : (other : AdoptError) (P : Type 0) → (◌≡◌ {A = Result SpanId AdoptError} (Err error) (Err other) ↔ P) → ((error ≡ other) ↔ P)
     at_error other P comes = (λ e. comes.0 (ap Err e), λ p. let e = comes.1 p in cc)
+
+-- a free that the shard which was asked first decides
+pub IsStep-free_home : (c : Inside) (now : CoreState) (number : ℕ) (key : Key) (before after : ShardState) (answer : Freed) → state_of c ≡ now → IsSound (state_of c) → IsRead c number before → (answer ≡ freed.NotHere → ⊥) → Frees before key answer after
+    → was_freed answer ≡ is_some ((shown_by before).value_of key) → shown_by after ≡ cond (was_freed answer) (without (shown_by before) key) (shown_by before) → IsSoundShard after
+    → IsStep now (Free key) (reply.Freed (was_freed answer)) (state_of (with_shard_at c number after))
+IsStep-free_home c now number key before after answer now_is kept read here frees found plain sound =
+    subst (λ old. IsStep old (Free key) (reply.Freed (was_freed answer)) (state_of (with_shard_at c number after))) now_is
+    (IsStep-free_fields c number key before after answer kept read (has_span-Frees before after key answer (kept.shards number before (shard-read c number before read)).sound here frees) frees found plain sound)

@@ -2,6 +2,7 @@
 use Rattle.std.proofs.Common.{◌≡◌, ◌≢◌, ℕ, zero, suc, ◌+◌, ◌<◌, ◌≤◌, ◌⊎◌, inl, inr, Bool, true, false, cond, List, [], ◌∷◌, length, refl, sym, ap, subst, ◌∙◌, arith, Option, Some, None, set, slice_get, is_some}
 use Rattle.std.specs.Prelude.{◌↔◌, filter}
 use Rattle.std.proofs.lemmas.Bool.{cases_eq}
+use Rattle.std.proofs.lemmas.Option.{slice_get_past}
 use Rattle.span.specs.declared.id.SpanId.{SpanId}
 use Rattle.span.specs.State.{SpanState}
 use Rattle.shard.specs.Sound.{IsSound as IsSoundShard}
@@ -20,7 +21,7 @@ use Rattle.arena_core.specs.declared.reply.Reply.TheVariants as reply
 use Rattle.arena_core.specs.Refusals.{refusal_of_adoption, refusal_of_end}
 use Rattle.arena_core.specs.Sound.{IsSound}
 use Rattle.arena_core.specs.State.{CoreState, with_pool, with_shard}
-use Rattle.arena_core.specs.Step.{CoreStep}
+use Rattle.arena_core.specs.Step.{CoreStep, MayTake}
 use Rattle.arena_core.proofs.Changes.{IsSound-moved, sum_all-moved}
 use Rattle.arena_core.proofs.Groups.{IsMove-Adopts, IsMove-Receives}
 use Rattle.arena_core.proofs.Logged.{shown-same}
@@ -104,6 +105,10 @@ CoreStep-adopt_refused old number shard adopt_error.NothingToAdopt cause sound h
 -- a shard that adopts has not ended
 pub running-adopted : (shard : ShardState) → (shard.page_limit ≡ length shard.groups → ⊥) → ((shard.page_limit ≢ length shard.groups) × (shard.ended ≡ true) → ⊥) → shard.ended ≡ false
 running-adopted shard room ended = not_so shard.ended (λ e. ended (room, e))
+
+-- no shard of this number stands in the way
+pub may_take-nowhere : (core : CoreState) (number : ℕ) → length core.shards ≤ number → MayTake core number
+may_take-nowhere core number past shard here = absurd (let none : None ≡ Some shard = sym (slice_get_past core.shards number past) ∙ here in cc)
 
 -- no group has a page, where so many have one
 

@@ -313,17 +313,17 @@ impl Core {
             Ok(head) => head,
             Err(error) => return Err(adopt_refusal(error)),
         };
-        guess(&mut self.guesses, shard, head);
+        guess(&mut self.guesses, number as u8, shard, head);
         Ok(head)
     }
 }
 
-// Guesses that the shard has the spans of the group of this head.
-fn guess(guesses: &mut Guesses, shard: &Shard, head: SpanId) {
+// Guesses that the shard of this number has the spans of the group of this head.
+fn guess(guesses: &mut Guesses, number: u8, shard: &Shard, head: SpanId) {
     if let Some(brief) = shard.brief(head) {
         for place in 0..brief.spans {
             if let Some(id) = shard.span_at(head, place) {
-                guesses.set(id, shard.number() as u8);
+                guesses.set(id, number);
             }
         }
     }

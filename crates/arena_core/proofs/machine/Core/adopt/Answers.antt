@@ -1,10 +1,13 @@
-use Rattle.std.proofs.Common.{◌≡◌, ap, refl, subst, ◌∙◌}
+use Rattle.std.proofs.Common.{◌≡◌, ◌≤◌, Err, Ok, Some, true, false, ap, refl, subst, sym, ◌∙◌, length}
 use Rattle.arena_core.specs.declared.event.Event.TheVariants.{Adopt}
 use Rattle.arena_core.specs.declared.reply.Reply.TheVariants.{Adopted, Refused}
 use Rattle.arena_core.specs.Kept.{state_of}
-use Rattle.arena_core.proofs.FieldSteps.{CoreStep-adopt_refused_fields, IsStep-adopt_fields, state_of-both_same}
-use Rattle.arena_core.proofs.Fields.{shard-read, with_both_at}
-use Rattle.arena_core.proofs.Moves.{running-adopted}
+use Rattle.abandoned.specs.Calls.{HasNothingToAdopt}
+use Rattle.arena_core.specs.State.{CoreState}
+use Rattle.arena_core.specs.Step.{CoreStep, MayTake}
+use Rattle.arena_core.proofs.FieldSteps.{CoreStep-adopt_refused_fields, IsStep-adopt_fields}
+use Rattle.arena_core.proofs.Fields.{no_read, shard-read, with_both_at}
+use Rattle.arena_core.proofs.Moves.{HasNothingToAdopt-unpaged, may_take-nowhere, running-adopted, unpaged-HasNothingToAdopt}
 use Rattle.arena_core.proofs.Steps.{IsStep, not_doubled}
 use Rattle.arena_core.proofs.machine.Core.adopt.Goals as goal
 
@@ -14,3 +17,41 @@ adopt_refusal-requires c = λ e.
     not_doubled (state_of c.self.inside) c.self.invariant c.args.number c.in-Some.shard.now
     (shard-read c.self.inside c.args.number c.in-Some.shard.now (record { within = c.in-Some.ensures.variant.0 refl; value = c.in-Some.ensures.value }))
     facts.1 facts.2
+
+pub returns-in-Err-clause-exact : goal.returns-in-Err-clause-exact
+returns-in-Err-clause-exact c =
+    subst (λ old. CoreStep old (Adopt c.args.number) (Refused c.adopt_refusal.result) (state_of (with_both_at c.self.inside c.args.number c.adopt.new.shard c.adopt.new.self c.self.inside.guesses))) c.self.view_is
+    (CoreStep-adopt_refused_fields c.self.inside c.args.number c.in-Some.shard.now c.adopt.new.shard c.adopt.new.self c.self.inside.guesses c.in-Err.error c.adopt_refusal.result c.self.invariant
+    (record { within = c.in-Some.ensures.variant.0 refl; value = c.in-Some.ensures.value }) c.adopt_refusal.ensures c.in-Err.ensures.spent c.in-Err.ensures.ended c.in-Err.ensures.nothing c.in-Err.ensures.err_shard c.in-Err.ensures.err)
+
+adopted : (c : goal.After-self-2-1) → IsStep c.args.self.now (Adopt c.args.number) (Adopted c.in-Ok.head) (state_of (with_both_at c.self.inside c.args.number c.adopt.new.shard c.adopt.new.self c.guess.new.guesses))
+adopted c =
+    subst (λ old. IsStep old (Adopt c.args.number) (Adopted c.in-Ok.head) (state_of (with_both_at c.self.inside c.args.number c.adopt.new.shard c.adopt.new.self c.guess.new.guesses))) c.self.view_is
+    (IsStep-adopt_fields c.self.inside c.args.number c.in-Ok.head c.in-Some.shard.now c.adopt.new.shard c.adopt.new.self c.guess.new.guesses c.self.invariant
+    (record { within = c.in-Some.ensures.variant.0 refl; value = c.in-Some.ensures.value })
+    (running-adopted c.in-Some.shard.now (λ full. let never = c.in-Ok.ensures.spent.1 full in cc) (λ both. let never = c.in-Ok.ensures.ended.1 both in cc))
+    c.in-Ok.ensures.ok c.adopt.ensures.sound_shard c.adopt.ensures.sound)
+
+pub invariant_of-self-2 : goal.invariant_of-self-2
+invariant_of-self-2 c = (adopted c).kept
+
+pub returns-clause-exact : goal.returns-clause-exact
+returns-clause-exact c = (adopted c).exact
+
+pub returns-clause-same : goal.returns-clause-same
+returns-clause-same c = (adopted c).plain
+
+pub returns-clause-sound : goal.returns-clause-sound
+returns-clause-sound c = (adopted c).kept
+
+pub returns-then-pages-eq0-clause-exact : goal.returns-then-pages-eq0-clause-exact
+returns-then-pages-eq0-clause-exact c =
+    (subst (λ (s : CoreState). MayTake s c.args.number) c.self.view_is (may_take-nowhere (state_of c.self.inside) c.args.number (no_read c.self.inside c.args.number c.in_default.ensures.variant.1)),
+    subst (λ (s : CoreState). HasNothingToAdopt s.pool) c.self.view_is (HasNothingToAdopt-unpaged c.self.inside.pool (sym c.pages.ensures ∙ c.if-pages-eq0.true)),
+    c.self.view_is)
+
+pub returns-in_default-clause-exact : goal.returns-in_default-clause-exact
+returns-in_default-clause-exact c =
+    (subst (λ (s : CoreState). s.limits.shards ≤ c.args.number) c.self.view_is (no_read c.self.inside c.args.number c.in_default.ensures.variant.1),
+    subst (λ (s : CoreState). HasNothingToAdopt s.pool → ⊥) c.self.view_is (λ nothing. c.if-pages-eq0.false (c.pages.ensures ∙ unpaged-HasNothingToAdopt c.self.inside.pool nothing)),
+    c.self.view_is)
