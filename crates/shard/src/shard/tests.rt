@@ -173,21 +173,6 @@ fn lets_a_group_go(rt: HostRuntime) -> Result<(), Fail> {
 }
 
 #[test]
-fn keeps_the_other_groups(rt: HostRuntime) -> Result<(), Fail> {
-    let mut shard = shard(rt.alloc(), 2, 1)?;
-    for value in 0..257 {
-        put(&rt, &mut shard, value)?;
-    }
-    let head = key(0, 0, 1)?.span();
-    assert!(rt; shard.lift(head).is_some());
-    assert!(rt; shard.lift(head).is_none());
-    assert_eq!(rt; (shard.pages(), shard.live()), (1, 1));
-    assert_eq!(rt; shard.get(&key(1, 0, 1)?), Found::Value(256, 1));
-    assert_eq!(rt; put(&rt, &mut shard, 3), Ok((key(1, 1, 1)?, 1)));
-    Ok(())
-}
-
-#[test]
 fn puts_where_a_group_has_left(rt: HostRuntime) -> Result<(), Fail> {
     let mut shard = shard(rt.alloc(), 1, 1)?;
     let first = put(&rt, &mut shard, 5)?.0;
