@@ -8,9 +8,9 @@
 //! ```text
 //!                 owned    3.0 {1}   3.1 {0}   4.0 {}
 //!   abandoned
-//!   0.0 {0}                   1         .        1       row 0: the word 0b101
-//!   0.1 {1}                   .         1        1       row 1: the word 0b110
-//!   1.0 {0, 1}                .         .        1       row 2: the word 0b100
+//!   0.0 {0}                   1         .        1       the word 0b101
+//!   0.1 {1}                   .         1        1       the word 0b110
+//!   1.0 {0, 1}                .         .        1       the word 0b100
 //! ```
 //!
 //! Contracts see a snapshot as its two lists, and a graph as the snapshot that it was built from.
