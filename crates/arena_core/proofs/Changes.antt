@@ -1,5 +1,5 @@
 -- What a change of one shard, of the pool or of both does to the soundness of the core.
-use Rattle.std.proofs.Common.{◌≡◌, ◌≢◌, ℕ, zero, suc, ◌+◌, ◌<◌, ◌≤◌, true, false, cond, eqb, ltb, ◌&&◌, ◌⊎◌, inl, inr, refl, sym, ap, subst, ◌∙◌, arith, Some, set, slice_get, eq-eqb}
+use Rattle.std.proofs.Common.{◌≡◌, ◌≢◌, ℕ, ◌<◌, ◌≤◌, true, false, cond, eqb, ltb, ◌⊎◌, inl, inr, refl, sym, ap, subst, ◌∙◌, arith, Some, slice_get, eq-eqb}
 use Rattle.std.proofs.Math.ListN.{length-set}
 use Rattle.std.proofs.lemmas.Bool.{cases_eq, cases_lt, ne_eqb}
 use Rattle.std.proofs.lemmas.Bool.Decides.{nat_tests}
@@ -13,7 +13,7 @@ use Rattle.arena_core.specs.Sound.{IsSound, IsSoundAt}
 use Rattle.arena_core.specs.State.{CoreState, all_spans, opened_by, opened_of, with_pool, with_shard}
 use Rattle.arena_core.proofs.Groups.{IsCall, IsMove, IsPoolCall, own, strays, strays-each, strays-none}
 use Rattle.arena_core.proofs.Lists.{cond-le_one, each-set, slice_get-set_other, slice_get-set_same}
-use Rattle.arena_core.proofs.Spans.{named, sum_all, sum_all-with_pool, sum_all-with_shard, sum_in, sum_pooled, times, times-parts, times_in, times_in-le}
+use Rattle.arena_core.proofs.Spans.{named, sum_all, sum_all-with_pool, sum_all-with_shard, sum_in, times, times-parts, times_in, times_in-le}
 
 -- whether a serial is below a number, as a count
 abbrev pub indicator : ℕ → ℕ → ℕ
@@ -86,8 +86,17 @@ module _ (old : CoreState) (sound : IsSound old) (number : ℕ) (before after : 
       by_order (inr new_one) =
           let opened_old : opened_by old.shards id.shard ≡ before.opened = ap (opened_by old.shards) same ∙ ap opened_of here in
           let none : times id old ≡ 0 = sound.once id ∙ ap (indicator id.serial) opened_old ∙ past-indicator id.serial before.opened new_one in
-          omega (arith, none, times-parts id old, times_in-le id old.shards number before here, call.spans id, (own-here id same).0, (own-here id same).1,
-          past-indicator id.serial before.opened new_one, below-indicator id.serial after.opened below)
+          omega (
+            arith,
+            none,
+            times-parts id old,
+            times_in-le id old.shards number before here,
+            call.spans id,
+            (own-here id same).0,
+            (own-here id same).1,
+            past-indicator id.serial before.opened new_one,
+            below-indicator id.serial after.opened below,
+          )
 
   pub IsSound-with_shard : IsSoundShard after → IsSound (with_shard old number after)
   IsSound-with_shard sound_after = record {

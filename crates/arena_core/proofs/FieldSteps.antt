@@ -1,6 +1,6 @@
 -- The steps of a core, said of its fields.
-use Rattle.std.proofs.Common.{◌≡◌, ◌≢◌, ℕ, true, false, cond, List, None, Some, ◌≤◌, ap, ◌∙◌, is_some, length, refl, set, slice_get, subst, sym}
-use Rattle.std.specs.Prelude.{Err, Ok, Result, ◌↔◌}
+use Rattle.std.proofs.Common.{◌≡◌, ◌≢◌, ℕ, true, false, cond, Some, ap, ◌∙◌, is_some, length, set, subst, sym}
+use Rattle.std.specs.Prelude.{Err, Result, ◌↔◌}
 use Rattle.span.specs.declared.id.SpanId.{SpanId}
 use Rattle.span.specs.declared.key.Key.{Key}
 use Rattle.span.specs.Log.{Value as Word}
@@ -29,11 +29,11 @@ use Rattle.arena_core.specs.Kept.{state_of}
 use Rattle.arena_core.specs.Plain.{PlainStep}
 use Rattle.arena_core.specs.Refusals.{refusal_of, refusal_of_adoption, refusal_of_end}
 use Rattle.arena_core.specs.Sound.{IsSound}
-use Rattle.arena_core.specs.State.{CoreState, has_span, shown, with_pool, with_shard}
+use Rattle.arena_core.specs.State.{CoreState, has_span}
 use Rattle.arena_core.specs.Step.{CoreStep}
 use Rattle.arena_core.proofs.Fields.{IsRead, shard-read, state_of-with_both_at, state_of-with_shard_at, with_both_at, with_shard_at}
 use Rattle.arena_core.proofs.Lists.{set-slice_get}
-use Rattle.arena_core.proofs.Moves.{CoreStep-adopt_refused, CoreStep-end_refused, IsRefused, IsStep-Adopts, IsStep-Receives}
+use Rattle.arena_core.proofs.Moves.{CoreStep-adopt_refused, CoreStep-end_refused, IsStep-Adopts, IsStep-Receives}
 use Rattle.arena_core.proofs.Owner.{has_span-Frees}
 use Rattle.arena_core.proofs.Steps.{CoreStep-refused, IsStep, IsStep-Frees, IsStep-Puts}
 

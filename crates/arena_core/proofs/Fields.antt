@@ -1,9 +1,9 @@
 -- The steps of a core whose shards and pool stand in its fields.
-use Rattle.std.proofs.Common.{◌≡◌, ℕ, ◌<◌, true, false, ◌⊎◌, inl, inr, arith, cond, List, None, Some, ◌≤◌, Bor, get_or, ap, ◌∙◌, is_some, length, refl, set, slice_get, subst, sym}
-use Rattle.std.specs.Prelude.{Err, Result, vec_len, ◌↔◌}
+use Rattle.std.proofs.Common.{◌≡◌, ℕ, ◌<◌, true, false, ◌⊎◌, inl, inr, arith, List, Some, ◌≤◌, Bor, get_or, ap, ◌∙◌, length, refl, set, slice_get, sym}
+use Rattle.std.specs.Prelude.{vec_len}
 use Rattle.std.proofs.Math.ListN.{length-set}
 use Rattle.std.proofs.lemmas.Bool.{cases_lt}
-use Rattle.std.proofs.lemmas.Option.{slice_get_past, slice_get_read}
+use Rattle.std.proofs.lemmas.Option.{slice_get_read}
 use Rattle.std.specs.Slice.{IsItemAt}
 use Rattle.std.specs.Vec.{with_item}
 use Rattle.shard.specs.State.{ShardState}

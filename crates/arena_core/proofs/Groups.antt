@@ -1,6 +1,6 @@
 -- What a call of a shard or of the pool does to the sums over its spans.
-use Rattle.std.proofs.Common.{◌≡◌, ◌≢◌, ℕ, zero, suc, ◌+◌, ◌≤◌, Bool, true, false, cond, eqb, ltb, ◌&&◌, List, [], ◌∷◌, ◌⊎◌, inl, inr, refl, sym, ap, ◌∙◌, arith, Some, set, slice_get, eq-eqb, eqb-true, map, length, Option, None}
-use Rattle.std.specs.Prelude.{count_by, sum_by, insert}
+use Rattle.std.proofs.Common.{◌≡◌, ℕ, zero, suc, ◌+◌, ◌≤◌, Bool, true, false, cond, eqb, ltb, ◌&&◌, List, [], ◌∷◌, inl, inr, refl, sym, ap, ◌∙◌, arith, Some, set, slice_get, eq-eqb, eqb-true, map, length, None}
+use Rattle.std.specs.Prelude.{sum_by}
 use Rattle.std.specs.List.{flat_map}
 use Rattle.std.proofs.lemmas.Bool.Decides.{nat_tests}
 use Rattle.std.proofs.lemmas.List.Sums.{sum_by-append, sum_by-cons}
@@ -81,14 +81,24 @@ module _ (w : SpanState → ℕ) where
   sum_in-with_span : (before after : ShardState) (index place : ℕ) (group : GroupState) (span changed : SpanState) → slice_get before.groups index ≡ Some group → slice_get (spans_of group) place ≡ Some span → w changed ≡ w span
       → after.groups ≡ set before.groups index (with_span group place changed) → sum_in w after ≡ sum_in w before
   sum_in-with_span before after index place group span changed here there same is =
-      omega (arith, ap (λ gs. sum_by w (flat_map spans_of gs)) is, flat-set w spans_of before.groups index group (with_span group place changed) here,
-      ap (sum_by w) (spans_of-with_span group place changed), sum_by-set_at w (spans_of group) place span changed there)
+      omega (
+        arith,
+        ap (λ gs. sum_by w (flat_map spans_of gs)) is,
+        flat-set w spans_of before.groups index group (with_span group place changed) here,
+        ap (sum_by w) (spans_of-with_span group place changed),
+        sum_by-set_at w (spans_of group) place span changed there,
+      )
 
   sum_pooled-with_span : (before after : PoolState) (index place : ℕ) (group : PooledState) (span changed : SpanState) (other : PooledState) → slice_get before.groups index ≡ Some group → slice_get (pooled_spans_of group) place ≡ Some span → w changed ≡ w span
       → pooled_spans_of other ≡ set (pooled_spans_of group) place changed → after.groups ≡ set before.groups index other → sum_pooled w after ≡ sum_pooled w before
   sum_pooled-with_span before after index place group span changed other here there same spans is =
-      omega (arith, ap (λ gs. sum_by w (flat_map pooled_spans_of gs)) is, flat-set w pooled_spans_of before.groups index group other here,
-      ap (sum_by w) spans, sum_by-set_at w (pooled_spans_of group) place span changed there)
+      omega (
+        arith,
+        ap (λ gs. sum_by w (flat_map pooled_spans_of gs)) is,
+        flat-set w pooled_spans_of before.groups index group other here,
+        ap (sum_by w) spans,
+        sum_by-set_at w (pooled_spans_of group) place span changed there,
+      )
 
 own-more : (a s n o : ℕ) → cond {A = ℕ} (eqb a n && ltb s (o + 1)) 1 0 ≡ cond {A = ℕ} (eqb a n && ltb s o) 1 0 + cond {A = ℕ} (eqb n a && eqb o s) 1 0
 own-more a s n o = grind (arith, nat_tests)

@@ -1,5 +1,5 @@
 -- The live keys of a sound core are the keys that have a value in the map that it shows.
-use Rattle.std.proofs.Common.{◌≡◌, ℕ, ◌+◌, ◌≤◌, Bool, true, false, cond, List, [], ◌∷◌, ◌++◌, refl, sym, ap, ◌∙◌, Option, Some, None, slice_get, is_some}
+use Rattle.std.proofs.Common.{◌≡◌, ℕ, cond, refl, sym, ap, ◌∙◌, Option, Some, None, is_some}
 use Rattle.std.specs.Prelude.{count_by, find}
 use Rattle.std.specs.FinSet as finset
 use Rattle.std.specs.List.{AllByRecursion}

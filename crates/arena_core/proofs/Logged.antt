@@ -1,19 +1,16 @@
 -- A sound core shows what the logs of all its spans say, whoever has them.
-use Rattle.std.proofs.Common.{◌≡◌, ℕ, ◌+◌, ◌≤◌, Bool, true, false, cond, List, refl, sym, ap, ◌∙◌, arith, Option, Some, None, slice_get, is_some}
+use Rattle.std.proofs.Common.{◌≡◌, ℕ, ◌≤◌, cond, List, refl, sym, ap, ◌∙◌, arith, Option, Some, None}
 use Rattle.std.specs.Prelude.{count_by, find, sum_by}
-use Rattle.span.specs.declared.id.SpanId.{SpanId}
 use Rattle.span.specs.declared.key.Key.{Key}
-use Rattle.span.specs.Log.{Value, value_in, was_issued}
+use Rattle.span.specs.Log.{value_in, was_issued}
 use Rattle.span.specs.PlainMap.{PlainMap}
 use Rattle.span.specs.State.{SpanState}
 use Rattle.shard.specs.Shown.{issued_by, shown as shown_by, span_named}
-use Rattle.shard.specs.Sound.{IsSound as IsSoundShard}
-use Rattle.shard.specs.State.{ShardState, spans_in}
+use Rattle.shard.specs.State.{spans_in}
 use Rattle.shard.proofs.Logged.{logged_by}
 use Rattle.shard.proofs.ShownLogs.{shown-logged}
 use Rattle.abandoned.specs.Shown.{shown as shown_by_pool}
-use Rattle.abandoned.specs.Sound.{IsSound as IsSoundPool}
-use Rattle.abandoned.specs.State.{PoolState, spans_in as pooled_spans}
+use Rattle.abandoned.specs.State.{spans_in as pooled_spans}
 use Rattle.abandoned.proofs.ShownLogs.{shown-logged as shown_by_pool-logged}
 use Rattle.arena_core.specs.Sound.{IsSound}
 use Rattle.arena_core.specs.State.{CoreState, all_spans, shown}

@@ -1,10 +1,9 @@
 -- An end and an adoption as steps of the core, and their refusals.
-use Rattle.std.proofs.Common.{◌≡◌, ◌≢◌, ℕ, zero, suc, ◌+◌, ◌<◌, ◌≤◌, ◌⊎◌, inl, inr, Bool, true, false, cond, List, [], ◌∷◌, length, refl, sym, ap, subst, ◌∙◌, arith, Option, Some, None, set, slice_get, is_some}
+use Rattle.std.proofs.Common.{◌≡◌, ◌≢◌, ℕ, zero, suc, ◌<◌, ◌≤◌, ◌⊎◌, inl, inr, Bool, true, false, cond, List, [], ◌∷◌, length, refl, sym, ap, subst, ◌∙◌, arith, Option, Some, None, slice_get, is_some}
 use Rattle.std.specs.Prelude.{◌↔◌, filter}
 use Rattle.std.proofs.lemmas.Bool.{cases_eq}
 use Rattle.std.proofs.lemmas.Option.{slice_get_past}
 use Rattle.span.specs.declared.id.SpanId.{SpanId}
-use Rattle.span.specs.State.{SpanState}
 use Rattle.shard.specs.Sound.{IsSound as IsSoundShard}
 use Rattle.shard.specs.State.{ShardState}
 use Rattle.abandoned.specs.Calls.{Adopts, HasNothingToAdopt, Receives}
@@ -98,9 +97,11 @@ CoreStep-adopt_refused old number shard adopt_error.Doubled cause sound here giv
 CoreStep-adopt_refused old number shard adopt_error.NothingToAdopt cause sound here gives why =
     let is : refusal.NothingToAdopt ≡ cause = cc in
     let facts = why.nothing.0 refl in
-    subst (λ c. CoreStep old (Adopt number) (reply.Refused c) old) is
-    (λ other there. let same : shard ≡ other = (let both : Some shard ≡ Some other = sym here ∙ there in cc) in subst (λ (s : ShardState). (s.ended ≡ false) × (length s.groups < s.page_limit)) same (facts.1, below_limit shard sound facts.0),
-    facts.2, refl)
+    subst (λ c. CoreStep old (Adopt number) (reply.Refused c) old) is (
+      λ other there. let same : shard ≡ other = (let both : Some shard ≡ Some other = sym here ∙ there in cc) in subst (λ (s : ShardState). (s.ended ≡ false) × (length s.groups < s.page_limit)) same (facts.1, below_limit shard sound facts.0),
+      facts.2,
+      refl,
+    )
 
 -- a shard that adopts has not ended
 pub running-adopted : (shard : ShardState) → (shard.page_limit ≡ length shard.groups → ⊥) → ((shard.page_limit ≢ length shard.groups) × (shard.ended ≡ true) → ⊥) → shard.ended ≡ false

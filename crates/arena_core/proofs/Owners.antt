@@ -1,6 +1,6 @@
 -- What a core shows under a key, as a sum over its shards and its pool: all but one show nothing.
-use Rattle.std.proofs.Common.{◌≡◌, ℕ, zero, suc, ◌+◌, ◌≤◌, Bool, true, false, cond, List, [], ◌∷◌, refl, sym, ap, ◌∙◌, arith, Option, Some, None, set, slice_get, is_some}
-use Rattle.std.specs.Prelude.{find, sum_by}
+use Rattle.std.proofs.Common.{◌≡◌, ℕ, suc, ◌+◌, ◌≤◌, Bool, true, false, cond, List, [], ◌∷◌, refl, ap, arith, Option, Some, None}
+use Rattle.std.specs.Prelude.{sum_by}
 use Rattle.std.proofs.lemmas.List.Sums.{sum_by-cons}
 use Rattle.span.specs.declared.id.SpanId.{SpanId}
 use Rattle.span.specs.declared.key.Key.{Key}
@@ -10,8 +10,8 @@ use Rattle.shard.specs.Shown.{shown as shown_by, issued_by, value_by}
 use Rattle.shard.specs.State.{ShardState}
 use Rattle.abandoned.specs.Shown.{shown as shown_by_pool}
 use Rattle.abandoned.specs.State.{PoolState, spans_in as pooled_spans}
-use Rattle.arena_core.specs.State.{CoreState, has_span, shard_with, shown, shown_at, with_pool, with_shard}
-use Rattle.arena_core.proofs.Lists.{find-uncounted, sum_by-set_at}
+use Rattle.arena_core.specs.State.{CoreState, has_span, shard_with, shown, shown_at}
+use Rattle.arena_core.proofs.Lists.{find-uncounted}
 use Rattle.arena_core.proofs.Spans.{has_span-uncounted, is_named, span-missed, times, times-parts, times_in, times_in-found, times_in-missed, times_owned, times_owned-cons, times_pooled}
 
 -- a value as a number, none being 0
@@ -52,8 +52,12 @@ module _ (id : SpanId) (read : PlainMap → ℕ)
           → read (shown_at pool (cond b (Some shard) (shard_with shards id))) ≡ sum_by (λ s. read (shown_by s)) (shard ∷ shards) + read (shown_by_pool pool)
       by_test true has rest =
           let one = times_in-found id shard has in
-          omega (arith, sum_by-cons (λ s. read (shown_by s)) shard shards,
-          none-owned shards (omega (arith, times_owned-cons id shard shards)), missed_pooled pool (omega (arith, times_owned-cons id shard shards)))
+          omega (
+            arith,
+            sum_by-cons (λ s. read (shown_by s)) shard shards,
+            none-owned shards (omega (arith, times_owned-cons id shard shards)),
+            missed_pooled pool (omega (arith, times_owned-cons id shard shards)),
+          )
       by_test false none rest =
           let zero_here = times_in-missed id shard none in
           omega (arith, sum_by-cons (λ s. read (shown_by s)) shard shards, missed shard zero_here, rest (omega (arith, times_owned-cons id shard shards)))

@@ -1,5 +1,5 @@
 -- The plain map that a core shows, after a change of one of its owners: a shard or the pool.
-use Rattle.std.proofs.Common.{◌≡◌, ℕ, zero, suc, ◌+◌, ◌≤◌, Bool, true, false, cond, ◌&&◌, ◌||◌, List, refl, sym, ap, ◌∙◌, arith, Option, Some, None, set, slice_get, is_some, eq-eqb}
+use Rattle.std.proofs.Common.{◌≡◌, ℕ, zero, suc, ◌+◌, ◌≤◌, Bool, true, false, cond, ◌&&◌, ◌||◌, refl, sym, ap, ◌∙◌, arith, Option, Some, None, slice_get, is_some, eq-eqb}
 use Rattle.std.specs.Prelude.{sum_by}
 use Rattle.span.specs.declared.id.SpanId.{SpanId}
 use Rattle.span.specs.declared.key.Key.{Key}
@@ -13,7 +13,7 @@ use Rattle.abandoned.specs.State.{PoolState, spans_in as pooled_spans}
 use Rattle.arena_core.specs.State.{CoreState, has_span, shard_with, shown, shown_at, with_pool, with_shard}
 use Rattle.arena_core.proofs.Lists.{count_by-missed, find-uncounted, slice_get-set_same, sum_by-set_at}
 use Rattle.arena_core.proofs.Owners.{bit, bit-injective, code, code-injective, issued-missed, issued-sum, issued-unpooled, value-missed, value-sum, value-unpooled}
-use Rattle.arena_core.proofs.Spans.{find-same, is_named, same_span-self, shard_with-here, shard_with-nowhere, times, times-parts, times_in-missed, times_owned, times_pooled}
+use Rattle.arena_core.proofs.Spans.{find-same, is_named, same_span-self, shard_with-here, shard_with-nowhere, times, times-parts, times_in-missed, times_pooled}
 
 -- plain maps that answer alike are equal
 pub same_plain_map : (a b : PlainMap) → ((key : Key) → a.is_issued key ≡ b.is_issued key) → ((key : Key) → a.value_of key ≡ b.value_of key)
@@ -122,11 +122,21 @@ module _ (old new : CoreState) (once : (id : SpanId) → times id old ≤ 1) (on
   IsLocal-shard number before after here is = record {
     alike = λ x y same. ap is_some (find-same x y (spans_in after.groups) same);
     value = λ key.
-        omega (arith, value-sum old key (once key.span), value-sum new key (once_new key.span), ap (λ (c : CoreState). sum_by (λ s. code ((shown_by s).value_of key)) c.shards + code ((shown_by_pool c.pool).value_of key)) is,
-        sum_by-set_at (λ s. code ((shown_by s).value_of key)) old.shards number before after here);
+        omega (
+          arith,
+          value-sum old key (once key.span),
+          value-sum new key (once_new key.span),
+          ap (λ (c : CoreState). sum_by (λ s. code ((shown_by s).value_of key)) c.shards + code ((shown_by_pool c.pool).value_of key)) is,
+          sum_by-set_at (λ s. code ((shown_by s).value_of key)) old.shards number before after here,
+        );
     issued = λ key.
-        omega (arith, issued-sum old key (once key.span), issued-sum new key (once_new key.span), ap (λ (c : CoreState). sum_by (λ s. bit ((shown_by s).is_issued key)) c.shards + bit ((shown_by_pool c.pool).is_issued key)) is,
-        sum_by-set_at (λ s. bit ((shown_by s).is_issued key)) old.shards number before after here);
+        omega (
+          arith,
+          issued-sum old key (once key.span),
+          issued-sum new key (once_new key.span),
+          ap (λ (c : CoreState). sum_by (λ s. bit ((shown_by s).is_issued key)) c.shards + bit ((shown_by_pool c.pool).is_issued key)) is,
+          sum_by-set_at (λ s. bit ((shown_by s).is_issued key)) old.shards number before after here,
+        );
     value_here = λ key has. ap (λ o. (shown_at new.pool o).value_of key) (found key.span has);
     issued_here = λ key has. ap (λ o. (shown_at new.pool o).is_issued key) (found key.span has);
     value_only = λ key none. value-missed after key (times_in-missed key.span after none);

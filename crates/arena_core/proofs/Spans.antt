@@ -1,5 +1,5 @@
 -- Sums over the spans of a shard, of the pool and of a core, and how often a span stands there.
-use Rattle.std.proofs.Common.{◌≡◌, ℕ, zero, suc, ◌+◌, ◌≤◌, Bool, true, false, cond, eqb, ◌&&◌, List, [], ◌∷◌, refl, ap, ◌∙◌, arith, Option, Some, None, set, slice_get, is_some, eq-eqb, eqb-true}
+use Rattle.std.proofs.Common.{◌≡◌, ℕ, zero, suc, ◌+◌, ◌≤◌, Bool, true, false, cond, eqb, ◌&&◌, List, [], ◌∷◌, refl, ap, ◌∙◌, arith, Option, Some, None, slice_get, is_some, eq-eqb, eqb-true}
 use Rattle.std.specs.Prelude.{find, count_by, sum_by}
 use Rattle.std.proofs.lemmas.List.Sums.{sum_by-append}
 use Rattle.span.specs.declared.id.SpanId.{SpanId}

@@ -1,5 +1,5 @@
 -- A core begins sound, and shows the empty map.
-use Rattle.std.proofs.Common.{◌≡◌, ℕ, zero, suc, ◌+◌, ◌<◌, ◌++◌, cond, ltb, List, [], ◌∷◌, refl, sym, ap, subst, ◌∙◌, arith, None, Some, map, slice_get, length, append-nil}
+use Rattle.std.proofs.Common.{◌≡◌, ℕ, zero, suc, ◌+◌, ◌<◌, ◌++◌, List, [], ◌∷◌, refl, sym, ap, subst, ◌∙◌, arith, None, Some, map, slice_get, length, append-nil}
 use Rattle.std.specs.Prelude.{sum_by}
 use Rattle.std.specs.List.{range_with_len}
 use Rattle.std.proofs.lemmas.List.FromFn.{length-map-range_with_len}
@@ -15,7 +15,7 @@ use Rattle.arena_core.specs.State.{AreWithin, CoreState, Limits, all_spans, limi
 use Rattle.arena_core.proofs.Changes.{indicator, past-indicator}
 use Rattle.arena_core.proofs.Groups.{strays, strays-each}
 use Rattle.arena_core.proofs.Shown.{same_plain_map}
-use Rattle.arena_core.proofs.Spans.{named, shard_with-nowhere, sum_all, sum_all-parts, times, times_owned}
+use Rattle.arena_core.proofs.Spans.{named, shard_with-nowhere, sum_all}
 
 sum-new : (w : SpanState → ℕ) (limits : Limits) (numbers : List ℕ) → sum_by w (shard_spans (map (new_shard limits.page_limit limits.gens) numbers)) ≡ 0
 sum-new w limits [] = refl

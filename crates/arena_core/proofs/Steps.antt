@@ -1,52 +1,42 @@
 -- Each call of a shard or of the pool as a step of the core, exactly, and as a step of the plain map.
-use Rattle.std.proofs.Common.{◌≡◌, ℕ, zero, suc, ◌+◌, ◌<◌, ◌≤◌, ◌⊎◌, inl, inr, Bool, true, false, cond, length, refl, sym, ap, subst, ◌∙◌, arith, Option, Some, None, set, slice_get, is_some}
-use Rattle.std.specs.Prelude.{◌↔◌, find}
+use Rattle.std.proofs.Common.{◌≡◌, ℕ, zero, suc, ◌≤◌, ◌⊎◌, inl, inr, Bool, true, false, cond, refl, sym, ap, subst, ◌∙◌, arith, Option, Some, None, set, slice_get, is_some}
+use Rattle.std.specs.Prelude.{◌↔◌}
 use Rattle.span.specs.declared.id.SpanId.{SpanId}
 use Rattle.span.specs.declared.key.Key.{Key}
 use Rattle.span.specs.Log.{Value as Word}
-use Rattle.span.specs.PlainMap.{PlainMap, with_put, without}
-use Rattle.shard.specs.Calls.{Frees, Gets, IsSpent, Puts, value_found, was_freed}
+use Rattle.span.specs.PlainMap.{with_put, without}
+use Rattle.shard.specs.Calls.{Frees, IsSpent, Puts, was_freed}
 use Rattle.shard.specs.Group.{GroupState}
-use Rattle.shard.specs.Shown.{shown as shown_by, span_named}
+use Rattle.shard.specs.Shown.{shown as shown_by}
 use Rattle.shard.specs.Sound.{IsSound as IsSoundShard}
-use Rattle.shard.specs.State.{IsElsewhere, IsHere, ShardState, spans_in}
+use Rattle.shard.specs.State.{IsElsewhere, IsHere, ShardState}
 use Rattle.shard.specs.declared.error.PutError.{PutError}
 use Rattle.shard.specs.declared.error.PutError.TheVariants as put_error
-use Rattle.shard.specs.declared.shard.Found.{Found}
-use Rattle.shard.specs.declared.shard.Found.TheVariants as found
 use Rattle.shard.specs.declared.shard.Freed.{Freed}
 use Rattle.shard.specs.declared.shard.Freed.TheVariants as freed
 use Rattle.shard.proofs.ShownLogs.{span_named-elsewhere, span_named-here}
 use Rattle.span.specs.State.{SpanState}
-use Rattle.abandoned.specs.Calls.{Adopts, Frees as FreesPooled, HasNothingToAdopt, IsDoubled, IsInPool, Receives}
+use Rattle.abandoned.specs.Calls.{Frees as FreesPooled, IsDoubled, IsInPool}
 use Rattle.abandoned.specs.Shown.{shown as shown_by_pool}
 use Rattle.abandoned.specs.Sound.{IsSound as IsSoundPool}
-use Rattle.abandoned.specs.State.{IsElsewhere as IsElsewherePooled, PoolState, spans_in as pooled_spans}
-use Rattle.abandoned.specs.declared.error.AdoptError.{AdoptError}
-use Rattle.abandoned.specs.declared.error.AdoptError.TheVariants as adopt_error
-use Rattle.abandoned.specs.declared.error.ReceiveError.{ReceiveError}
-use Rattle.abandoned.specs.declared.error.ReceiveError.TheVariants as receive_error
+use Rattle.abandoned.specs.State.{IsElsewhere as IsElsewherePooled, PoolState}
 use Rattle.abandoned.proofs.Standing.{elsewhere-times, times-elsewhere}
 use Rattle.arena_core.specs.declared.event.Event.{Event}
-use Rattle.arena_core.specs.declared.event.Event.TheVariants.{Put, Free, End, Adopt}
-use Rattle.arena_core.specs.declared.machine.Owner.{Owner}
-use Rattle.arena_core.specs.declared.machine.Owner.TheVariants as owner
-use Rattle.arena_core.specs.declared.reply.Refusal.{Refusal}
+use Rattle.arena_core.specs.declared.event.Event.TheVariants.{Put, Free}
 use Rattle.arena_core.specs.declared.reply.Reply.{Reply}
 use Rattle.arena_core.specs.declared.reply.Reply.TheVariants as reply
 use Rattle.arena_core.specs.Owner.{IsNowhere}
 use Rattle.arena_core.specs.Plain.{ErasedStep}
-use Rattle.arena_core.specs.Refusals.{refusal_of, refusal_of_adoption, refusal_of_end}
+use Rattle.arena_core.specs.Refusals.{refusal_of}
 use Rattle.arena_core.specs.Sound.{IsSound}
-use Rattle.arena_core.specs.State.{CoreState, has_span, opened_by, opened_of, shard_with, shown, shown_at, with_pool, with_shard}
+use Rattle.arena_core.specs.State.{CoreState, has_span, opened_by, opened_of, shown, shown_at, with_pool, with_shard}
 use Rattle.arena_core.specs.Step.{CoreStep}
-use Rattle.arena_core.proofs.Changes.{IsSound-moved, IsSound-with_pool, IsSound-with_shard, at_most_once, indicator, opened-somewhere, past-indicator, sum_all-moved}
-use Rattle.arena_core.proofs.Groups.{IsCall-Frees, IsCall-Puts, IsMove-Adopts, IsMove-Receives, IsPoolCall-Frees}
+use Rattle.arena_core.proofs.Changes.{IsSound-with_pool, IsSound-with_shard, at_most_once, indicator, opened-somewhere, past-indicator}
+use Rattle.arena_core.proofs.Groups.{IsCall-Frees, IsCall-Puts, IsPoolCall-Frees}
 use Rattle.arena_core.proofs.Lists.{find-none, set-slice_get}
-use Rattle.arena_core.proofs.Logged.{shown-same}
 use Rattle.arena_core.proofs.Owners.{value-unpooled}
 use Rattle.arena_core.proofs.Shown.{IsLocal-pool, IsLocal-shard, fresh-put, has_pooled, has_pooled-counted, shown-free, shown-put, value-before}
-use Rattle.arena_core.proofs.Spans.{has_span-counted, has_span-uncounted, named, shard_with-here, shard_with-nowhere, sum_all-with_pool, sum_all-with_shard, times, times-parts, times_in, times_in-found, times_in-le, times_owned, times_pooled}
+use Rattle.arena_core.proofs.Spans.{has_span-counted, shard_with-here, shard_with-nowhere, times, times-parts, times_in, times_in-found, times_in-le, times_owned, times_pooled}
 
 -- what the core keeps, its own step, and that of the plain map, if the plain map knows the event
 pub record IsStep (old : CoreState) (event : Event) (answer : Reply) (new : CoreState) : Type 0 where
@@ -218,8 +208,10 @@ IsStep-FreesPooled old key pool (freed.Yes at) sound some frees found plain soun
     record {
       kept = sound_new;
       exact = inr (record { after = pool; at = at; frees = frees; rest = refl });
-      plain = (ap is_some (value-before old new (shown_by_pool old.pool) (shown_by_pool pool) (λ id. has_pooled id pool) local key still plain) ∙ sym found,
-          shown-free old new (shown_by_pool old.pool) (shown_by_pool pool) (λ id. has_pooled id pool) local key still plain);
+      plain = (
+        ap is_some (value-before old new (shown_by_pool old.pool) (shown_by_pool pool) (λ id. has_pooled id pool) local key still plain) ∙ sym found,
+        shown-free old new (shown_by_pool old.pool) (shown_by_pool pool) (λ id. has_pooled id pool) local key still plain,
+      );
     }
 IsStep-FreesPooled old key pool (freed.No at) sound some (index, place, group, span, there, dead, at_is, same) found plain sound_pool = IsStep-unfreed_pooled old key pool sound some found same
 IsStep-FreesPooled old key pool freed.NotHere sound some frees found plain sound_pool = IsStep-unfreed_pooled old key pool sound some found frees.1

@@ -19,7 +19,7 @@ ghost use Rattle.arena_core.specs.declared.reply.Reply.TheVariants as reply;
 use crate::error::CoreError;
 use crate::event::Event;
 use crate::guesses::Guesses;
-use crate::reply::{adopt_refusal, end_refusal, Refusal, Reply};
+use crate::reply::{Refusal, Reply, adopt_refusal, end_refusal};
 use crate::totals::Totals;
 use abandoned::Pool;
 use shard::{Found, Freed, Shard};

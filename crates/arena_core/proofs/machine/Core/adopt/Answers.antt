@@ -1,4 +1,4 @@
-use Rattle.std.proofs.Common.{◌≡◌, ◌≤◌, Err, Ok, Some, true, false, ap, refl, subst, sym, ◌∙◌, length}
+use Rattle.std.proofs.Common.{◌≤◌, Err, ap, refl, subst, sym, ◌∙◌}
 use Rattle.arena_core.specs.declared.event.Event.TheVariants.{Adopt}
 use Rattle.arena_core.specs.declared.reply.Reply.TheVariants.{Adopted, Refused}
 use Rattle.arena_core.specs.Kept.{state_of}
@@ -45,13 +45,15 @@ pub returns-clause-sound : goal.returns-clause-sound
 returns-clause-sound c = (adopted c).kept
 
 pub returns-then-pages-eq0-clause-exact : goal.returns-then-pages-eq0-clause-exact
-returns-then-pages-eq0-clause-exact c =
-    (subst (λ (s : CoreState). MayTake s c.args.number) c.self.view_is (may_take-nowhere (state_of c.self.inside) c.args.number (no_read c.self.inside c.args.number c.in_default.ensures.variant.1)),
-    subst (λ (s : CoreState). HasNothingToAdopt s.pool) c.self.view_is (HasNothingToAdopt-unpaged c.self.inside.pool (sym c.pages.ensures ∙ c.if-pages-eq0.true)),
-    c.self.view_is)
+returns-then-pages-eq0-clause-exact c = (
+  subst (λ (s : CoreState). MayTake s c.args.number) c.self.view_is (may_take-nowhere (state_of c.self.inside) c.args.number (no_read c.self.inside c.args.number c.in_default.ensures.variant.1)),
+  subst (λ (s : CoreState). HasNothingToAdopt s.pool) c.self.view_is (HasNothingToAdopt-unpaged c.self.inside.pool (sym c.pages.ensures ∙ c.if-pages-eq0.true)),
+  c.self.view_is,
+)
 
 pub returns-in_default-clause-exact : goal.returns-in_default-clause-exact
-returns-in_default-clause-exact c =
-    (subst (λ (s : CoreState). s.limits.shards ≤ c.args.number) c.self.view_is (no_read c.self.inside c.args.number c.in_default.ensures.variant.1),
-    subst (λ (s : CoreState). HasNothingToAdopt s.pool → ⊥) c.self.view_is (λ nothing. c.if-pages-eq0.false (c.pages.ensures ∙ unpaged-HasNothingToAdopt c.self.inside.pool nothing)),
-    c.self.view_is)
+returns-in_default-clause-exact c = (
+  subst (λ (s : CoreState). s.limits.shards ≤ c.args.number) c.self.view_is (no_read c.self.inside c.args.number c.in_default.ensures.variant.1),
+  subst (λ (s : CoreState). HasNothingToAdopt s.pool → ⊥) c.self.view_is (λ nothing. c.if-pages-eq0.false (c.pages.ensures ∙ unpaged-HasNothingToAdopt c.self.inside.pool nothing)),
+  c.self.view_is,
+)

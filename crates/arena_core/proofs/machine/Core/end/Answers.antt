@@ -1,4 +1,4 @@
-use Rattle.std.proofs.Common.{◌≡◌, Err, ap, refl, subst, ◌∙◌}
+use Rattle.std.proofs.Common.{Err, ap, refl, subst}
 use Rattle.arena_core.specs.declared.event.Event.TheVariants.{End}
 use Rattle.arena_core.specs.declared.reply.Reply.TheVariants.{Refused, ShardEnded}
 use Rattle.arena_core.specs.Kept.{state_of}

@@ -2,7 +2,6 @@ use Rattle.std.proofs.Common.{◌≡◌, true, false, ap, refl, slice_get, subst
 use Rattle.std.proofs.lemmas.Option.{slice_get_past}
 use Rattle.span.specs.declared.id.SpanId.{SpanId}
 use Rattle.shard.specs.Calls.{was_freed}
-use Rattle.shard.specs.declared.shard.Freed.TheVariants as freed
 use Rattle.arena_core.specs.declared.event.Event.TheVariants.{Free}
 use Rattle.arena_core.specs.declared.reply.Reply.TheVariants.{Freed}
 use Rattle.arena_core.specs.Kept.{state_of}
@@ -32,7 +31,7 @@ home c =
     IsStep-free_home c.self.inside c.args.self.now c.shard.result c.args.key.now c.in-Some.shard.now c.free-freed.new.self c.free-freed.result c.self.view_is c.self.invariant
     (record { within = c.in-Some.ensures.variant.0 refl; value = c.in-Some.ensures.value })
     (elim c.match-matches.branch [
-      in-NotHere w ↦ (λ e. let both : true ≡ false = sym w.matches-is ∙ c.if-matches.false in cc)
+      | in-NotHere w ↦ (λ e. let both : true ≡ false = sym w.matches-is ∙ c.if-matches.false in cc)
       | in_default-matches w ↦ w.in_default-matches.not-NotHere
     ])
     c.free-freed.ensures.step c.free-freed.ensures.found c.free-freed.ensures.plain c.free-freed.ensures.sound
@@ -43,7 +42,7 @@ done c =
     (IsStep-free_home c.self.inside c.args.self.now c.shard.result c.args.key.now c.in-Some.shard.now c.free-freed.new.self c.free-freed.result c.self.view_is c.self.invariant
     (record { within = c.in-Some.ensures.variant.0 refl; value = c.in-Some.ensures.value })
     (elim c.match-matches.branch [
-      in-NotHere w ↦ (λ e. let both : true ≡ false = sym w.matches-is ∙ c.if-matches.false in cc)
+      | in-NotHere w ↦ (λ e. let both : true ≡ false = sym w.matches-is ∙ c.if-matches.false in cc)
       | in_default-matches w ↦ w.in_default-matches.not-NotHere
     ])
     c.free-freed.ensures.step c.free-freed.ensures.found c.free-freed.ensures.plain c.free-freed.ensures.sound)

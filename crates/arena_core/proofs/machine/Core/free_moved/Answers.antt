@@ -1,11 +1,11 @@
-use Rattle.std.proofs.Common.{◌≡◌, false, subst, sym}
+use Rattle.std.proofs.Common.{false, subst, sym}
 use Rattle.shard.specs.Calls.{was_freed}
 use Rattle.arena_core.specs.declared.event.Event.TheVariants.{Free}
 use Rattle.arena_core.specs.declared.reply.Reply.TheVariants.{Freed}
 use Rattle.arena_core.specs.Kept.{state_of}
 use Rattle.arena_core.specs.Owner.{IsNowhere, StandsAt}
 use Rattle.arena_core.specs.Sound.{IsSound}
-use Rattle.arena_core.specs.State.{CoreState, shown, with_pool}
+use Rattle.arena_core.specs.State.{CoreState, with_pool}
 use Rattle.arena_core.proofs.Fields.{state_of-with_shard_at, with_shard_at}
 use Rattle.arena_core.proofs.Owner.{pooled-there, shard-there}
 use Rattle.arena_core.proofs.Steps.{IsStep, IsStep-Frees, IsStep-FreesPooled, IsStep-dead, value-nowhere}

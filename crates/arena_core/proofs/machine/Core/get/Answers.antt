@@ -1,4 +1,4 @@
-use Rattle.std.proofs.Common.{◌≡◌, ap, sym, subst, slice_get, Some, None, ◌∙◌}
+use Rattle.std.proofs.Common.{ap, sym, subst, slice_get, ◌∙◌}
 use Rattle.std.proofs.lemmas.Option.{slice_get_past}
 use Rattle.span.specs.declared.id.SpanId.{SpanId}
 use Rattle.shard.specs.declared.shard.Found.TheVariants as found

@@ -1,8 +1,6 @@
-use Rattle.std.proofs.Common.{◌≡◌, Some, true, false, refl, sym, subst, ap, ◌∙◌, slice_get}
-use Rattle.shard.specs.State.{ShardState}
+use Rattle.std.proofs.Common.{◌≡◌, true, false, refl, sym, subst, ap, ◌∙◌, slice_get}
 use Rattle.abandoned.specs.State.{IsElsewhere}
 use Rattle.arena_core.specs.declared.machine.Owner.TheVariants as owner
-use Rattle.arena_core.specs.Kept.{state_of}
 use Rattle.arena_core.specs.Owner.{IsNowhere, StandsAt}
 use Rattle.arena_core.specs.State.{CoreState}
 use Rattle.arena_core.proofs.Owner.{elsewhere-pooled}

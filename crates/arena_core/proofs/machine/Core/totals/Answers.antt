@@ -1,13 +1,13 @@
-use Rattle.std.proofs.Common.{◌≡◌, ◌≤◌, ◌+◌, ap, arith, is_some, length, subst, sym, take, ◌∙◌}
+use Rattle.std.proofs.Common.{◌≡◌, ap, arith, is_some, length, subst, sym, take, ◌∙◌}
 use Rattle.std.specs.Prelude.{sum_by}
 use Rattle.std.proofs.lemmas.List.{take_all}
 use Rattle.std.proofs.lemmas.List.Sums.{sum_by_more}
 use Rattle.shard.specs.State.{ShardState, live_keys}
-use Rattle.abandoned.specs.State.{PooledState, live_keys as live_keys_pooled, paged_groups}
+use Rattle.abandoned.specs.State.{PooledState}
 use Rattle.arena_core.proofs.Fields.{IsFew, IsFew-fields}
 use Rattle.arena_core.proofs.Lists.{length-filter_most}
 use Rattle.arena_core.specs.Sound.{IsSound}
-use Rattle.arena_core.specs.State.{HasKeys, live_keys as core_keys, pages as core_pages, shown}
+use Rattle.arena_core.specs.State.{HasKeys, live_keys as core_keys, shown}
 use Rattle.arena_core.proofs.LiveKeysShown.{HasKeys-live_keys}
 use Rattle.arena_core.proofs.machine.Core.totals.Goals as goal
 
