@@ -75,10 +75,10 @@ module _ (old : PoolState) (sound : IsSound old) (index : ℕ) (group : PooledSt
   -- what left is no longer there
   pub elsewhere-left_over : (place : ℕ) (span : SpanState) → slice_get (spans_of group) place ≡ Some span → IsElsewhere left_over.groups span.id
   elsewhere-left_over place span at = elsewhere-times (remove old.groups index) span.id (
-    let most = sound.once span.id in
-    let less = count-spans_remove (λ (s : SpanState). same_span s.id span.id) old.groups index group here in
-    let some = count-some (λ (s : SpanState). same_span s.id span.id) (spans_of group) place span at (test_from_same_id span.id span.id refl) in
-    omega arith)
+      let most = sound.once span.id in
+      let less = count-spans_remove (λ (s : SpanState). same_span s.id span.id) old.groups index group here in
+      let some = count-some (λ (s : SpanState). same_span s.id span.id) (spans_of group) place span at (test_from_same_id span.id span.id refl) in
+      omega arith)
 
   pub IsSoundWhole-whole_of : IsSoundWhole (whole_of old.table group)
   IsSoundWhole-whole_of = record { apart = its.apart; once = once_in_group; legal = its.legal; words = by_page group.page its.page }

@@ -59,7 +59,14 @@ IsMoving-first pool shard sound sound_shard apart room = record {
 
 pub IsEmptied-IsMoving : (pool₀ pool : PoolState) (shard₀ shard : ShardState) → IsMoving pool₀ shard₀ pool shard → shard.groups ≡ [] → IsEmptied shard₀ shard
 IsEmptied-IsMoving pool₀ pool shard₀ shard is none = record {
-  groups = none; number = is.number; page_limit = is.page_limit; gens = is.gens; opened = is.opened; ended = is.ended; page_room = is.page_room; span_room = is.span_room;
+  groups = none;
+  number = is.number;
+  page_limit = is.page_limit;
+  gens = is.gens;
+  opened = is.opened;
+  ended = is.ended;
+  page_room = is.page_room;
+  span_room = is.span_room;
 }
 
 pub TakesAll-IsMoving : (pool₀ pool : PoolState) (shard₀ shard : ShardState) → IsMoving pool₀ shard₀ pool shard → shard.groups ≡ [] → TakesAll pool₀ (map (whole_of shard₀.table) shard₀.groups) pool

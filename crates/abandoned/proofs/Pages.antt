@@ -54,7 +54,7 @@ module _ (pool : PoolState) (sound : IsSound pool) (index : ℕ) (group : Pooled
       its = ap (λ o. is_page o page) is ∙ is_page-same page
 
       order : (low high : ℕ) → ((low ≡ high → ⊥)) → (low < high) ⊎ (high < low)
-      order low high apart = elim (cases_lt low high) [ | inl less ↦ inl less | inr above ↦ inr (omega arith) ]
+      order low high apart = elim (cases_lt low high) [ inl less ↦ inl less | inr above ↦ inr (omega arith) ]
 
       by_test : (b : Bool) → is_page group.page page ≡ b → is_page group.page page ≡ false
       by_test false e = e

@@ -31,8 +31,18 @@ AreApart-receiving pool shard sound sound_shard apart id = elim (cases_eq (times
   | inr some ↦
       let most = sound.once id in
       let none = count-spans_in (λ (s : SpanState). same_span s.id id) shard.groups (λ index place group span stands. false_or_true (same_span span.id id) (λ same.
-          apart (index, group, stands.0, (place, span, stands.1, (λ elsewhere.
-            some (times-elsewhere pool.groups id (subst (IsElsewhere pool.groups) (same_id_from_test span.id id same) elsewhere))))))) in
+      apart (
+        index,
+        group,
+        stands.0,
+        (
+          place,
+          span,
+          stands.1,
+          (λ elsewhere.
+              some (times-elsewhere pool.groups id (subst (IsElsewhere pool.groups) (same_id_from_test span.id id same) elsewhere))),
+        ),
+      ))) in
       omega arith
 ]
 

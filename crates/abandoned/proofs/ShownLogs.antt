@@ -68,9 +68,9 @@ module _ (pool : PoolState) (sound : IsSound pool) where
   not_live index place group span slot here there none =
       sym (contains-live_slots span.log slot)
       ∙ false_or_true (set_of.contains (live_slots span.log) slot) (λ live.
-          let inside = member_of_union (spans_of group) place span slot there live in
-          let e : true ≡ false = sym inside ∙ ap (λ s. set_of.contains s slot) (none_live pool sound index group here none) ∙ set_of.contains-empty nat_cmp slot in
-          cc)
+      let inside = member_of_union (spans_of group) place span slot there live in
+      let e : true ≡ false = sym inside ∙ ap (λ s. set_of.contains s slot) (none_live pool sound index group here none) ∙ set_of.contains-empty nat_cmp slot in
+      cc)
 
   value_by-logged : (key : Key) (o : Option SpanState) → span_named (spans_in pool.groups) key.span ≡ o → value_by pool.table key o ≡ logged_by key o
   value_by-logged key None e = refl

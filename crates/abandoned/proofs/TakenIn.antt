@@ -124,7 +124,7 @@ module _ (old : PoolState) (sound : IsSound old) (whole : WholeState) (fits : Is
           Some its.0,
           record {
             sound_now = subst IsSound (sym its.4)
-            (IsSound-inserted old sound (pooled whole (Some its.0)) takes.index takes.place (with_page old.table (spans_moved whole) its.0 its.1) (table_with live its.1 its.3 its.0 its.2) fits.once elsewhere);
+                (IsSound-inserted old sound (pooled whole (Some its.0)) takes.index takes.place (with_page old.table (spans_moved whole) its.0 its.1) (table_with live its.1 its.3 its.0 its.2) fits.once elsewhere);
             groups_are = ap (λ (p : PoolState). p.groups) its.4;
           },
         )

@@ -69,8 +69,8 @@ module _ (left middle right : List SpanState) (id : SpanId) (once : times id (le
       let no_left : span_named left id ≡ None = none_named left id (omega arith) in
       let no_right : span_named right id ≡ None = none_named right id (omega arith) in (
         named-append left (middle ++ right) id
-        ∙ ap (λ o. first_span o (span_named (middle ++ right) id)) no_left
-        ∙ named-append middle right id ∙ ap (first_span (span_named middle id)) no_right ∙ first_span-none (span_named middle id),
+            ∙ ap (λ o. first_span o (span_named (middle ++ right) id)) no_left
+            ∙ named-append middle right id ∙ ap (first_span (span_named middle id)) no_right ∙ first_span-none (span_named middle id),
         named-append left right id ∙ ap (λ o. first_span o (span_named right id)) no_left ∙ no_right,
       )
 
@@ -245,9 +245,9 @@ together-Receives old new shard pages spans sound_room sound sound_shard fits on
     let theirs : List SpanState = spans_in_shard shard.groups in
     let sound_new = IsSound-TakesAll wholes (with_rooms old pages spans) new sound_room fits once_all all in
     let alike : Alike (spans_in new.groups) (mine ++ theirs) = λ id.
-        Alike-TakesAll wholes (with_rooms old pages spans) new sound_room fits once_all all id
-        ∙ ap (λ xs. span_named (xs ++ mine) id) same
-        ∙ sym (Alike-swap mine theirs once id) in
+    Alike-TakesAll wholes (with_rooms old pages spans) new sound_room fits once_all all id
+    ∙ ap (λ xs. span_named (xs ++ mine) id) same
+    ∙ sym (Alike-swap mine theirs once id) in
     shown-logged new sound_new ∙ logged-alike (spans_in new.groups) (mine ++ theirs) alike
     ∙ sym (logged-together mine theirs once)
     ∙ ap (λ m. together m (logged theirs nothing_pending)) (sym (shown-logged old sound))

@@ -24,7 +24,9 @@ use std::alloc::{AllocError, Global};
 use std::marker::Model;
 
 mod moves;
+
 pub use moves::map_all;
+
 #[cfg(test)]
 mod tests;
 

@@ -90,9 +90,18 @@ fn refuses_a_span_that_is_here(rt: HostRuntime) -> Result<(), Fail> {
     let key = put(&mut first, 7)?;
     put(&mut second, 8)?;
     assert_eq!(rt; receive(&rt, &mut pool, &mut first, &key), Ok(()));
-    assert_eq!(rt; receive(&rt, &mut pool, &mut second, &key), Err(ReceiveError::Doubled));
-    assert_eq!(rt; adopt(&rt, &mut pool, &mut third, &key), Err(AdoptError::Doubled));
-    assert_eq!(rt; receive(&rt, &mut pool, &mut first, &key), Err(ReceiveError::Ended));
+    assert_eq!(rt;
+        receive(&rt, &mut pool, &mut second, &key),
+        Err(ReceiveError::Doubled)
+    );
+    assert_eq!(rt;
+        adopt(&rt, &mut pool, &mut third, &key),
+        Err(AdoptError::Doubled)
+    );
+    assert_eq!(rt;
+        receive(&rt, &mut pool, &mut first, &key),
+        Err(ReceiveError::Ended)
+    );
     assert_eq!(rt; counts(&pool, &second), (1, 1, 1, 1));
     assert_eq!(rt; counts(&pool, &third), (1, 1, 0, 0));
     Ok(())
@@ -122,10 +131,16 @@ fn frees_the_last_key_of_a_group(rt: HostRuntime) -> Result<(), Fail> {
     let key = put(&mut ending, 5)?;
     assert_eq!(rt; receive(&rt, &mut pool, &mut ending, &key), Ok(()));
     assert_eq!(rt; free(&mut pool, &key), Freed::Yes(1));
-    assert_eq!(rt; (free(&mut pool, &key), get(&pool, &key)), (Freed::No(2), Found::Gone(2)));
+    assert_eq!(rt;
+        (free(&mut pool, &key), get(&pool, &key)),
+        (Freed::No(2), Found::Gone(2))
+    );
     let mut next = shard(rt.alloc(), 3, 4)?;
     assert_eq!(rt; counts(&pool, &next), (0, 0, 0, 0));
-    assert_eq!(rt; adopt(&rt, &mut pool, &mut next, &key), Err(AdoptError::NothingToAdopt));
+    assert_eq!(rt;
+        adopt(&rt, &mut pool, &mut next, &key),
+        Err(AdoptError::NothingToAdopt)
+    );
     Ok(())
 }
 
@@ -140,9 +155,18 @@ fn adopts_the_lowest(rt: HostRuntime) -> Result<(), Fail> {
     assert_eq!(rt; receive(&rt, &mut pool, &mut low, &key), Ok(()));
     let mut next = shard(rt.alloc(), 6, 1)?;
     assert_eq!(rt; adopt(&rt, &mut pool, &mut next, &key), Ok(id(4, 0)?));
-    assert_eq!(rt; found(&pool, &next, &key), (Found::NotHere, Found::Value(40, 1)));
-    assert_eq!(rt; adopt(&rt, &mut pool, &mut next, &key), Err(AdoptError::PagesSpent));
-    assert_eq!(rt; adopt(&rt, &mut pool, &mut low, &key), Err(AdoptError::Ended));
+    assert_eq!(rt;
+        found(&pool, &next, &key),
+        (Found::NotHere, Found::Value(40, 1))
+    );
+    assert_eq!(rt;
+        adopt(&rt, &mut pool, &mut next, &key),
+        Err(AdoptError::PagesSpent)
+    );
+    assert_eq!(rt;
+        adopt(&rt, &mut pool, &mut low, &key),
+        Err(AdoptError::Ended)
+    );
     Ok(())
 }
 
@@ -153,9 +177,15 @@ fn moves_a_group_by_hand(rt: HostRuntime) -> Result<(), Fail> {
     let key = put(&mut ending, 9)?;
     assert_eq!(rt; receive(&rt, &mut pool, &mut ending, &key), Ok(()));
     let head = id(1, 0)?;
-    assert_eq!(rt; (pool.span_at(head, 0), pool.span_at(head, 1)), (Some(head), None));
+    assert_eq!(rt;
+        (pool.span_at(head, 0), pool.span_at(head, 1)),
+        (Some(head), None)
+    );
     let whole = pool.lift(head).ok_or("the group is here")?;
-    assert_eq!(rt; (whole.head_id(), pool.pages(), pool.has(head)), (head, 0, false));
+    assert_eq!(rt;
+        (whole.head_id(), pool.pages(), pool.has(head)),
+        (head, 0, false)
+    );
     Ok(())
 }
 

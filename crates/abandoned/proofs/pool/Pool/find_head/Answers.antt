@@ -11,12 +11,11 @@ use Rattle.abandoned.proofs.pool.Pool.find_head.Goals as goal
 pub returns-then-eq-clause-head : goal.returns-then-eq-clause-head
 returns-then-eq-clause-head c =
     let within : c.lower_heads-index.result < length c.self.inside.groups.items = omega (arith, c.self.inside.groups.ok.0) in
-    let here = slice_get_read c.self.inside.groups.items _ c.lower_heads-index.result c.index.result.now refl within c.index.ensures in
-    (
-  c.index.result.now,
-  subst (λ (s : PoolState). IsHeadOf s.groups c.args.head c.lower_heads-index.result c.index.result.now) c.self.view_is
-      (record { here = here; head_is = sym c.head_id.ensures ∙ same_id_from_test c.head_id.result c.args.head (sym (c.if-eq.ensures {u = tt})) }),
-)
+    let here = slice_get_read c.self.inside.groups.items _ c.lower_heads-index.result c.index.result.now refl within c.index.ensures in (
+      c.index.result.now,
+      subst (λ (s : PoolState). IsHeadOf s.groups c.args.head c.lower_heads-index.result c.index.result.now) c.self.view_is
+          (record { here = here; head_is = sym c.head_id.ensures ∙ same_id_from_test c.head_id.result c.args.head (sym (c.if-eq.ensures {u = tt})) }),
+    )
 
 pub returns-else-eq-clause-head : goal.returns-else-eq-clause-head
 returns-else-eq-clause-head c =

@@ -60,8 +60,7 @@ value_at-requires c =
 pub returns-clause-found : goal.returns-clause-found
 returns-clause-found c =
     let found = found_in c.args.self.now.groups c.self.inside.groups.items _ c.args.key.now.span c.in-Some.index c.in-Some.place (ap (λ (s : PoolState). s.groups) (sym c.self.view_is)) c.span.ensures c.in-Some.ensures.place in
-    let here = here_read _ _ _ _ found.0 found.1 found.2 c.index-group.result.now c.index-group.ensures c.span_at-span.result.now c.span_at-span.ensures in
-    (
+    let here = here_read _ _ _ _ found.0 found.1 found.2 c.index-group.result.now c.index-group.ensures c.span_at-span.result.now c.span_at-span.ensures in (
       c.in-Some.index,
       c.in-Some.place,
       c.in-Some-page.page,
@@ -71,7 +70,7 @@ returns-clause-found c =
       sym c.page.ensures ∙ c.in-Some-page.is,
       (c.if-not-find.ensures.0 refl).1,
       c.value_at.ensures ∙ ap (slice_index (words_of c.self.inside.table c.in-Some-page.page)) c.slot.ensures
-      ∙ ap (λ (s : PoolState). slice_index (words_of s.table c.in-Some-page.page) c.args.key.now.slot) c.self.view_is,
+          ∙ ap (λ (s : PoolState). slice_index (words_of s.table c.in-Some-page.page) c.args.key.now.slot) c.self.view_is,
       ap length c.log-at.ensures.changes,
     )
 

@@ -53,7 +53,7 @@ returns-clause-lifts c =
         groups = c.remove-group.ensures.items i;
         table = (ap (λ (t : TableState). record t { page_room = c.self.inside.page_room; span_room = c.self.inside.span_room }) table_is ∙ with_rooms-without c.self.inside.table c.remove-group.result.page c.self.inside.page_room c.self.inside.span_room) i;
       })
-      ∙ ap (λ (s : PoolState). record { groups = remove s.groups c.in-Some.index; table = without_page_of s.table c.remove-group.result.page }) c.self.view_is,
+          ∙ ap (λ (s : PoolState). record { groups = remove s.groups c.in-Some.index; table = without_page_of s.table c.remove-group.result.page }) c.self.view_is,
     )
 
 pub returns-clause-sound : goal.returns-clause-sound
