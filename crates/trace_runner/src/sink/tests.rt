@@ -1,5 +1,7 @@
 use super::*;
+use std::alloc::Global;
 use std::io;
+use std::io::Write;
 
 const TEXT: &[u8] = b"end pages 0 live 0 calls 0\n";
 
