@@ -14,7 +14,7 @@ use Rattle.trace_runner.specs.Causes.{bound_name, read_name, has_key, has_range,
 use Rattle.trace_runner.specs.declared.text.header.Header.{Header}
 use Rattle.trace_runner.specs.declared.text.name.Reference.{Reference}
 use Rattle.trace_runner.specs.declared.text.line.Call.{Call}
-use Rattle.trace_runner.specs.declared.text.line.Call.TheVariants.{Put, Fill, Get, Free, Sweep}
+use Rattle.trace_runner.specs.declared.text.line.Call.TheVariants.{Put, Fill, Get, Free, Sweep, End}
 use Rattle.trace_runner.specs.declared.text.line.Line.{Line}
 use Rattle.trace_runner.specs.declared.text.line.Line.TheVariants as line
 use Rattle.trace_runner.specs.declared.text.line.Keys.{Keys}
@@ -25,10 +25,10 @@ use Rattle.trace_runner.specs.declared.text.cause.Cause.TheVariants as cause
 
 -- ---- numbers
 
-clip-thread : (shards t : ℕ) → IsInRange 1 1 shards → nat_le shards (clip t) ≡ nat_le shards t
+clip-thread : (shards t : ℕ) → IsInRange 1 64 shards → nat_le shards (clip t) ≡ nat_le shards t
 clip-thread shards t range = grind (arith, nat_tests, range.1)
 
-clip-near : (shards t : ℕ) → IsInRange 1 1 shards → nat_le shards t ≡ false → clip t ≡ t
+clip-near : (shards t : ℕ) → IsInRange 1 64 shards → nat_le shards t ≡ false → clip t ≡ t
 clip-near shards t range near = grind (arith, nat_tests, range.1)
 
 clip-index : (i n : ℕ) → n ≤ 262144 → nat_lt (clip i) n ≡ nat_lt i n
@@ -61,6 +61,7 @@ has_keys-clip (Fill name n v) keys few = refl
 has_keys-clip (Get key) keys few = has_key-clip key.index keys few
 has_keys-clip (Free key) keys few = has_key-clip key.index keys few
 has_keys-clip (Sweep name from to) keys few = has_range-clip from to keys few
+has_keys-clip End keys few = refl
 
 read_name-clip : (c : Call) → read_name (clip_call c) ≡ read_name c
 read_name-clip (Put name v) = refl
@@ -68,6 +69,7 @@ read_name-clip (Fill name n v) = refl
 read_name-clip (Get key) = refl
 read_name-clip (Free key) = refl
 read_name-clip (Sweep name from to) = refl
+read_name-clip End = refl
 
 bound_name-clip : (c : Call) → bound_name (clip_call c) ≡ bound_name c
 bound_name-clip (Put name v) = refl
@@ -75,6 +77,7 @@ bound_name-clip (Fill name n v) = refl
 bound_name-clip (Get key) = refl
 bound_name-clip (Free key) = refl
 bound_name-clip (Sweep name from to) = refl
+bound_name-clip End = refl
 
 over-clip : (c : Call) → is_call_over (clip_call c) ≡ is_call_over c
 over-clip (Put name v) = refl
@@ -82,6 +85,7 @@ over-clip (Fill name n v) = refl
 over-clip (Get key) = refl
 over-clip (Free key) = refl
 over-clip (Sweep name from to) = refl
+over-clip End = refl
 
 -- ---- causes
 
@@ -98,8 +102,11 @@ holds-clip h before t c few cause.Header = refl
 holds-clip h before t c few cause.Form = refl
 holds-clip h before t c few cause.Limit = over-clip c
 holds-clip h before t c few cause.Thread = refl
+holds-clip h before t c few cause.Ended = refl
+holds-clip h before t c few cause.Adopt = refl
 holds-clip h before t c few cause.Bound = rw (bound_name-clip c) refl
 holds-clip h before t c few cause.Unknown = rw (read_name-clip c) (same_unknown before c (read_name c) few)
+holds-clip h before t c few cause.Early = rw (read_name-clip c) refl
 
 find_same : (p q : Cause → Bool) → ((k : Cause) → p k ≡ q k) → (ks : List Cause) → find p ks ≡ find q ks
 find_same p q same [] = refl
@@ -108,9 +115,14 @@ find_same p q same (k ∷ ks) = rw (same k, find_same p q same ks) refl
 -- what is wrong with a line that was clipped is what is wrong with the line
 pub order_cause-clip : (h : Header) (before : List Line) (w : Line) → IsWithinLimits h → Few before → order_cause h before (clip_line w) ≡ order_cause h before w
 order_cause-clip h before line.Silent within few = refl
+order_cause-clip h before line.Mark within few = refl
+order_cause-clip h before (line.Adopt s) within few = elim (either (nat_le h.shards s)) [
+  | inl far ↦ rw (clip-thread h.shards s within.shards, far) refl
+  | inr near ↦ rw (clip-near h.shards s within.shards near) refl
+]
 order_cause-clip h before (line.Call t c) within few = elim (either (nat_le h.shards t)) [
   | inl far ↦ rw (clip-thread h.shards t within.shards, far) refl
-  | inr near ↦ rw (clip-near h.shards t within.shards near) (find_same (holds h before (line.Call t (clip_call c))) (holds h before (line.Call t c)) (holds-clip h before t c few) (cause.Thread ∷ cause.Bound ∷ cause.Unknown ∷ []))
+  | inr near ↦ rw (clip-near h.shards t within.shards near) (find_same (holds h before (line.Call t (clip_call c))) (holds h before (line.Call t c)) (holds-clip h before t c few) (cause.Thread ∷ cause.Ended ∷ cause.Adopt ∷ cause.Bound ∷ cause.Unknown ∷ cause.Early ∷ []))
 ]
 
 -- ---- a line that is not refused was not clipped
@@ -125,16 +137,19 @@ none_found p k ks none = elim (chosen (p k) (Some k) (find p ks) None none) [
 -- no cause holds of the line
 pub record AllFine (h : Header) (before : List Line) (w : Line) : Type 0 where
   pub thread : holds h before w cause.Thread ≡ false
+  pub ended : holds h before w cause.Ended ≡ false
   pub bound : holds h before w cause.Bound ≡ false
   pub known : holds h before w cause.Unknown ≡ false
 
 pub all_fine : (h : Header) (before : List Line) (w : Line) → order_cause h before w ≡ None → AllFine h before w
 all_fine h before w none =
     let p = holds h before w in
-    let thread = none_found p cause.Thread (cause.Bound ∷ cause.Unknown ∷ []) none in
-    let bound = none_found p cause.Bound (cause.Unknown ∷ []) thread.1 in
-    let unknown = none_found p cause.Unknown [] bound.1 in
-    record { thread = thread.0; bound = bound.0; known = unknown.0 }
+    let thread = none_found p cause.Thread (cause.Ended ∷ cause.Adopt ∷ cause.Bound ∷ cause.Unknown ∷ cause.Early ∷ []) none in
+    let ended = none_found p cause.Ended (cause.Adopt ∷ cause.Bound ∷ cause.Unknown ∷ cause.Early ∷ []) thread.1 in
+    let adopt = none_found p cause.Adopt (cause.Bound ∷ cause.Unknown ∷ cause.Early ∷ []) ended.1 in
+    let bound = none_found p cause.Bound (cause.Unknown ∷ cause.Early ∷ []) adopt.1 in
+    let unknown = none_found p cause.Unknown (cause.Early ∷ []) bound.1 in
+    record { thread = thread.0; ended = ended.0; bound = bound.0; known = unknown.0 }
 
 key_near : (i : Option ℕ) (keys : Keys) → IsFew keys → has_key (option_map clip i) keys ≡ true → option_map clip i ≡ i
 key_near None keys few has = refl
@@ -167,10 +182,15 @@ call_known before (Put name v) few known = refl
 call_known before (Fill name n v) few known = refl
 call_known before (Get key) few known = ap Get (same_reference key (key_known key.index (binding_of key.name before) (few key.name) known))
 call_known before (Free key) few known = ap Free (same_reference key (key_known key.index (binding_of key.name before) (few key.name) known))
+call_known before End few known = refl
 call_known before (Sweep name from to) few known = let near = range_known from to (binding_of name before) (few name) known in ap₂ (λ a b. Sweep name a b) near.0 near.1
 
 pub clip_line-fine : (h : Header) (before : List Line) (w : Line) → IsWithinLimits h → Few before → order_cause h before (clip_line w) ≡ None → clip_line w ≡ w
 clip_line-fine h before line.Silent within few fine = refl
+clip_line-fine h before line.Mark within few fine = refl
+clip_line-fine h before (line.Adopt s) within few fine =
+    let thread = (all_fine h before (line.Adopt (clip s)) fine).thread in
+    ap (λ x. line.Adopt x) (clip-near h.shards s within.shards (sym (clip-thread h.shards s within.shards) ∙ thread))
 clip_line-fine h before (line.Call t c) within few fine =
     let all = all_fine h before (line.Call (clip t) (clip_call c)) fine in
     ap₂ (λ x y. line.Call x y) (clip-near h.shards t within.shards (sym (clip-thread h.shards t within.shards) ∙ all.thread)) (call_known before c few all.known)

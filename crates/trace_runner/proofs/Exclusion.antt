@@ -1,5 +1,5 @@
 -- A text that spells a trace has no fault, and spells no other trace.
-use Rattle.std.proofs.Common.{◌≡◌, ℕ, List, [], ◌∷◌, ◌++◌, drop, Some, None, Result, Ok, Err, IfOk, IfErr, refl, sym, ap, ◌∙◌, inl, inr, subst, append_assoc, append-nil}
+use Rattle.std.proofs.Common.{◌≡◌, ℕ, true, false, List, [], ◌∷◌, ◌++◌, drop, Some, None, Result, Ok, Err, IfOk, IfErr, refl, sym, ap, ◌∙◌, inl, inr, subst, append_assoc, append-nil}
 use Rattle.trace_runner.specs.declared.text.header.Header.{Header}
 use Rattle.trace_runner.specs.declared.text.line.Line.{Line}
 use Rattle.trace_runner.specs.declared.text.cause.Cause.{Cause}
@@ -7,7 +7,7 @@ use Rattle.trace_runner.specs.declared.text.cause.ParseError.{ParseError}
 use Rattle.trace_runner.specs.declared.text.cause.ParseError.TheVariants.{OutOfMemory, BadTrace}
 use Rattle.trace_runner.specs.declared.text.trace.Trace.{Trace}
 use Rattle.trace_runner.specs.Form.{HasForm}
-use Rattle.trace_runner.specs.Causes.{HasCause, IsNextLine, Reads, first_cause}
+use Rattle.trace_runner.specs.Causes.{BeginsAtFault, HasCause, IsNextLine, Reads, awaits_mark, first_cause}
 use Rattle.trace_runner.specs.Words.{lines_of}
 use Rattle.trace_runner.specs.Trace.{Spells, IsTrace, IsFault, IsFaultAt, IsReadAs}
 use Rattle.trace_runner.proofs.Lines.{form_again}
@@ -23,18 +23,22 @@ next_or_fault h before bytes l c next (inr (w, form, first)) =
     let one : w ≡ l = same_line bytes w l form next.0 in
     let clash : Some c ≡ None = sym first ∙ ap (first_cause h before) one ∙ next.1 in cc
 
--- lines of which none is at fault, and of which one is at fault
-read_or_fault : (h : Header) (before : List Line) (above : List (List ℕ)) (bytes : List ℕ) (below : List (List ℕ)) (ls ms : List Line) (c : Cause)
-    → Reads h before (above ++ bytes ∷ below) ls → Reads h before above ms → HasCause h (before ++ ms) bytes c → ⊥
-read_or_fault h before [] bytes below [] ms c all fine fault = absurd all
-read_or_fault h before [] bytes below (l ∷ ls) [] c all fine fault = next_or_fault h before bytes l c all.0 (rw append-nil at fault)
-read_or_fault h before [] bytes below (l ∷ ls) (m ∷ ms) c all fine fault = absurd fine
-read_or_fault h before (t ∷ ts) bytes below [] ms c all fine fault = absurd all
-read_or_fault h before (t ∷ ts) bytes below (l ∷ ls) [] c all fine fault = absurd fine
-read_or_fault h before (t ∷ ts) bytes below (l ∷ ls) (m ∷ ms) c all fine fault =
+-- lines of which neither one nor the end is at fault, and of which one is, or the end
+read_or_fault : (h : Header) (before : List Line) (above rest : List (List ℕ)) (ls ms : List Line) (c : Cause)
+    → Reads h before (above ++ rest) ls → awaits_mark (before ++ ls) ≡ false → Reads h before above ms → BeginsAtFault h (before ++ ms) rest c → ⊥
+read_or_fault h before [] [] [] [] c all settled fine fault = let clash : true ≡ false = sym fault.1 ∙ settled in cc
+read_or_fault h before [] [] (l ∷ ls) ms c all settled fine fault = absurd all
+read_or_fault h before [] [] [] (m ∷ ms) c all settled fine fault = absurd fine
+read_or_fault h before [] (bytes ∷ below) [] ms c all settled fine fault = absurd all
+read_or_fault h before [] (bytes ∷ below) (l ∷ ls) [] c all settled fine fault = next_or_fault h before bytes l c all.0 (rw append-nil at fault)
+read_or_fault h before [] (bytes ∷ below) (l ∷ ls) (m ∷ ms) c all settled fine fault = absurd fine
+read_or_fault h before (t ∷ ts) rest [] ms c all settled fine fault = absurd all
+read_or_fault h before (t ∷ ts) rest (l ∷ ls) [] c all settled fine fault = absurd fine
+read_or_fault h before (t ∷ ts) rest (l ∷ ls) (m ∷ ms) c all settled fine fault =
     let one : l ≡ m = same_line t l m all.0.0 fine.0.0 in
-    let P : Line → Type 0 = λ x. Reads h (before ++ x ∷ []) (ts ++ bytes ∷ below) ls in
-    read_or_fault h (before ++ m ∷ []) ts bytes below ls ms c (subst P one all.1) fine.1 (rw append_assoc fault)
+    let P : Line → Type 0 = λ x. Reads h (before ++ x ∷ []) (ts ++ rest) ls in
+    let Q : Line → Type 0 = λ x. awaits_mark (before ++ x ∷ ls) ≡ false in
+    read_or_fault h (before ++ m ∷ []) ts rest ls ms c (subst P one all.1) (rw append_assoc (subst Q one settled)) fine.1 (rw append_assoc fault)
 
 -- a text that spells a trace has no first fault
 pub spelled_has_no_fault : (text : List ℕ) (h : Header) (lines : List Line) (n : ℕ) (c : Cause) → Spells text h lines → IsFaultAt text n c → ⊥
@@ -43,7 +47,7 @@ spelled_has_no_fault text h lines n c spelled (inr (g, header, fault)) =
     let same : h ≡ g = let e = sym spelled.head ∙ header in cc in
     let P : Header → Type 0 = λ x. Reads x [] (drop 5 (lines_of text)) lines in
     let all = subst P same spelled.below in
-    read_or_fault g [] fault.above fault.bytes fault.below lines fault.lines c (rw fault.split at all) fault.fine fault.fault
+    read_or_fault g [] fault.above fault.rest lines fault.lines c (rw fault.split at all) spelled.settled fault.fine fault.fault
 
 -- texts are read as one list of lines
 same_lines : (h : Header) (before : List Line) (texts : List (List ℕ)) (ls ms : List Line) → Reads h before texts ls → Reads h before texts ms → ls ≡ ms

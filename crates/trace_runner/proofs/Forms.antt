@@ -3,11 +3,9 @@ use Rattle.std.proofs.Common.{◌≡◌, ℕ, ◌<◌, List, [], ◌∷◌, leng
 use Rattle.trace_runner.specs.Words.{contents_of}
 use Rattle.trace_runner.specs.Form.{counted_call, form_of_words, thread_line, value_call}
 
-pub form_of_words-few : (words : List (List ℕ)) → length words < 3 → form_of_words words ≡ None
-form_of_words-few [] few = refl
-form_of_words-few (a ∷ []) few = refl
-form_of_words-few (a ∷ b ∷ []) few = refl
-form_of_words-few (a ∷ b ∷ c ∷ more) few = absurd (omega arith)
+pub form_of_words-none : (words : List (List ℕ)) → length words < 1 → form_of_words words ≡ None
+form_of_words-none [] few = refl
+form_of_words-none (a ∷ more) few = absurd (omega arith)
 
 pub form_of_words-four : (words : List (Bor (List ℕ))) (p q r s : Bor (List ℕ)) → length words ≡ 4
     → thread_line (get_or words 0 p).now (value_call (get_or words 1 q).now (get_or words 2 r).now (get_or words 3 s).now) ≡ form_of_words (contents_of words)

@@ -4,6 +4,7 @@ pub mod Forms
 pub mod Lines
 pub mod Clips
 pub mod Bindings
+pub mod Knowing
 pub mod Texts
 pub mod Exclusion
 pub mod Taken

@@ -11,14 +11,14 @@ use Rattle.std.proofs.lemmas.Option.{cond_some, option_and_then_some}
 use Rattle.std.proofs.lemmas.Slice.Eq.{bytes_eq-Decides}
 use Rattle.trace_runner.specs.declared.text.name.Reference.{Reference}
 use Rattle.trace_runner.specs.declared.text.line.Call.{Call}
-use Rattle.trace_runner.specs.declared.text.line.Call.TheVariants.{Put, Fill, Get, Free, Sweep}
+use Rattle.trace_runner.specs.declared.text.line.Call.TheVariants.{Put, Fill, Get, Free, Sweep, End}
 use Rattle.trace_runner.specs.declared.text.line.Line.{Line}
 use Rattle.trace_runner.specs.declared.text.line.Line.TheVariants as line
 use Rattle.trace_runner.specs.Number.{number_in, is_numeral}
 use Rattle.trace_runner.specs.Name.{is_name}
 use Rattle.trace_runner.specs.Reference.{reference_in}
 use Rattle.trace_runner.specs.Words.{words_of}
-use Rattle.trace_runner.specs.Form.{Word, Verb, Number, Named, Refers, IsWord, AreWords, HasForm, words_of_call, key_call, with_name, value_call, with_two, counted_call, thread_line, form_of_words, form_of}
+use Rattle.trace_runner.specs.Form.{Word, Verb, Number, Named, Refers, IsWord, AreWords, SaysLine, HasForm, words_of_call, bare_call, key_call, with_name, value_call, with_two, counted_call, thread_line, one_word, two_words, form_of_words, form_of}
 
 -- which way a test went
 pub chosen : {X : Type 0} (b : Bool) (x y z : X) → cond b x y ≡ z → ((b ≡ true) × (x ≡ z)) ⊎ ((b ≡ false) × (y ≡ z))
@@ -40,12 +40,13 @@ mapped f (Some a) b e = (a, refl, cc)
 abbrev SaysCall : List (List ℕ) → Call → Type 0
 SaysCall words call = AreWords words (words_of_call call)
 
--- the words say the line
-abbrev SaysLine : Line → List (List ℕ) → Type 0
-SaysLine line.Silent words = ⊥
-SaysLine (line.Call thread call) words = AreWords words (Number thread ∷ words_of_call call)
-
 -- ---- what is read has that form
+
+bare_found : (verb : List ℕ) (w : Call) → bare_call verb ≡ Some w → SaysCall (verb ∷ []) w
+bare_found verb w e = elim (chosen (bytes_eq verb (codes "end")) _ _ (Some w) e) [
+  | inl p ↦ let is : End ≡ w = cc p.1 in subst (SaysCall (verb ∷ [])) is (same_bytes verb (codes "end") p.0, tt)
+  | inr p ↦ cc
+]
 
 -- a call on a key, by its verb
 one_key : (call : Reference → Call) (verb key text : List ℕ) (w : Call) → ((k : Reference) → words_of_call (call k) ≡ Verb text ∷ Refers k ∷ []) → verb ≡ text → option_map call (reference_in key) ≡ Some w → SaysCall (verb ∷ key ∷ []) w
@@ -92,10 +93,23 @@ thread_found thread call more w e found = option_and_then_some (λ t. option_map
     let P : Line → Type 0 = λ v. SaysLine v (thread ∷ more) in
     subst P parts.2 (is, found parts.0 parts.1))
 
+one_found : (word : List ℕ) (w : Line) → one_word word ≡ Some w → SaysLine w (word ∷ [])
+one_found word w e = elim (chosen (bytes_eq word (codes "mark")) _ _ (Some w) e) [
+  | inl p ↦ let is : line.Mark ≡ w = cc p.1 in let P : Line → Type 0 = λ v. SaysLine v (word ∷ []) in subst P is (same_bytes word (codes "mark") p.0, tt)
+  | inr p ↦ cc
+]
+
+two_words_found : (first second : List ℕ) (w : Line) → two_words first second ≡ Some w → SaysLine w (first ∷ second ∷ [])
+two_words_found first second w e = elim (chosen (bytes_eq first (codes "adopt")) _ _ (Some w) e) [
+  | inl p ↦ let parts = mapped (λ s. line.Adopt s) (number_in second) w p.1 in
+      let P : Line → Type 0 = λ v. SaysLine v (first ∷ second ∷ []) in subst P parts.2 (same_bytes first (codes "adopt") p.0, (parts.1, tt))
+  | inr p ↦ thread_found first (bare_call second) (second ∷ []) w p.1 (bare_found second)
+]
+
 words_found : (words : List (List ℕ)) (w : Line) → form_of_words words ≡ Some w → SaysLine w words
 words_found [] w e = cc
-words_found (a ∷ []) w e = cc
-words_found (a ∷ b ∷ []) w e = cc
+words_found (a ∷ []) w e = one_found a w e
+words_found (a ∷ b ∷ []) w e = two_words_found a b w e
 words_found (a ∷ b ∷ c ∷ []) w e = thread_found a (key_call b c) (b ∷ c ∷ []) w e (key_found b c)
 words_found (a ∷ b ∷ c ∷ d ∷ []) w e = thread_found a (value_call b c d) (b ∷ c ∷ d ∷ []) w e (value_found b c d)
 words_found (a ∷ b ∷ c ∷ d ∷ f ∷ []) w e = thread_found a (counted_call b c d f) (b ∷ c ∷ d ∷ f ∷ []) w e (counted_found b c d f)
@@ -104,6 +118,8 @@ words_found (a ∷ b ∷ c ∷ d ∷ f ∷ g ∷ more) w e = cc
 says_form : (bytes : List ℕ) (w : Line) → SaysLine w (words_of bytes) → HasForm w bytes
 says_form bytes line.Silent says = absurd says
 says_form bytes (line.Call t c) says = says
+says_form bytes (line.Adopt s) says = says
+says_form bytes line.Mark says = says
 
 silent_found : (bytes : List ℕ) (w : Line) → (bytes ≡ []) ⊎ ((remark : List ℕ) × (bytes ≡ 35 ∷ remark)) → Some line.Silent ≡ Some w → HasForm w bytes
 silent_found bytes w is e = let same : line.Silent ≡ w = cc in let P : Line → Type 0 = λ v. HasForm v bytes in subst P same is
@@ -145,6 +161,11 @@ two (a ∷ []) p q says = absurd says.1
 two (a ∷ b ∷ []) p q says = (a, b, refl, says.0, says.1.0)
 two (a ∷ b ∷ c ∷ more) p q says = absurd says.1.1
 
+one : (words : List (List ℕ)) (p : Word) → AreWords words (p ∷ []) → (a : List ℕ) × (words ≡ a ∷ []) × IsWord a p
+one [] p says = absurd says
+one (a ∷ []) p says = (a, refl, says.0)
+one (a ∷ b ∷ more) p says = absurd says.1
+
 -- a number begins with a digit
 first_of_number : (word : List ℕ) (n : ℕ) → number_in word ≡ Some n → (0 < length word) × (48 ≤ slice_index word 0) × (slice_index word 0 < 58)
 first_of_number [] n e = cc
@@ -155,6 +176,15 @@ first_of_number (c ∷ cs) n e =
     let first = both (is_ascii_digit c) (list_all is_ascii_digit cs) digits.1 in
     let range = is_digit-range c first.0 in
     (omega arith, range.0, omega (arith, range.1))
+
+-- so it is no `adopt`
+not_adopt : (word : List ℕ) (n : ℕ) → number_in word ≡ Some n → bytes_eq word (codes "adopt") ≡ false
+not_adopt word n is = elim (either (bytes_eq word (codes "adopt"))) [
+  | inl same ↦ let first = first_of_number word n is in
+      let large : slice_index word 0 ≡ 97 = rw (same_bytes word (codes "adopt") same) refl in
+      absurd (omega (arith, first.2, large))
+  | inr other ↦ other
+]
 
 thread_again : (thread : List ℕ) (t : ℕ) (call : Option Call) (c : Call) → number_in thread ≡ Some t → call ≡ Some c → thread_line thread call ≡ Some (line.Call t c)
 thread_again thread t call c is said = rw (is, said) refl
@@ -180,10 +210,23 @@ call_again words t (Get key) says = let w = one_more words (Number t) _ says in 
     rw (w.2, u.2, u.3) (thread_again w.0 t _ _ w.3 (rw u.4 refl))
 call_again words t (Free key) says = let w = one_more words (Number t) _ says in let u = two w.1 _ _ w.4 in
     rw (w.2, u.2, u.3) (thread_again w.0 t _ _ w.3 (rw u.4 refl))
+call_again words t End says = let w = one_more words (Number t) _ says in let u = one w.1 _ w.4 in
+    rw (w.2, u.1, u.2, not_adopt w.0 t w.3) (thread_again w.0 t _ _ w.3 refl)
+
+adopt_again : (words : List (List ℕ)) (a b : List ℕ) (s : ℕ) → words ≡ a ∷ b ∷ [] → a ≡ codes "adopt" → number_in b ≡ Some s → form_of_words words ≡ Some (line.Adopt s)
+adopt_again words a b s split is number = rw (split, is, number) refl
+
+mark_again : (words : List (List ℕ)) (a : List ℕ) → words ≡ a ∷ [] → a ≡ codes "mark" → form_of_words words ≡ Some line.Mark
+mark_again words a split is = rw (split, is) refl
 
 -- the first byte of a line of words is no `#`
-words_again : (words : List (List ℕ)) (t : ℕ) (c : Call) → SaysLine (line.Call t c) words → (form_of_words words ≡ Some (line.Call t c)) × (first : List ℕ) × (more : List (List ℕ)) × (words ≡ first ∷ more) × (0 < length first) × (35 < slice_index first 0)
-words_again words t c says = let w = one_more words (Number t) _ says in let first = first_of_number w.0 t w.3 in
+words_again : (words : List (List ℕ)) (w : Line) → SaysLine w words → (form_of_words words ≡ Some w) × (first : List ℕ) × (more : List (List ℕ)) × (words ≡ first ∷ more) × (0 < length first) × (35 < slice_index first 0)
+words_again words line.Silent says = absurd says
+words_again words (line.Adopt s) says = let u = two words _ _ says in
+    (adopt_again words u.0 u.1 s u.2 u.3 u.4, u.0, u.1 ∷ [], u.2, rw u.3 (omega arith), rw u.3 (omega arith))
+words_again words line.Mark says = let u = one words _ says in
+    (mark_again words u.0 u.1 u.2, u.0, [], u.1, rw u.2 (omega arith), rw u.2 (omega arith))
+words_again words (line.Call t c) says = let w = one_more words (Number t) _ says in let first = first_of_number w.0 t w.3 in
     (call_again words t c says, w.0, w.1, w.2, first.0, omega (arith, first.1))
 
 first_word : (b : ℕ) (parts : List (List ℕ)) (word : List ℕ) (words : List (List ℕ)) → onto_first b parts ≡ word ∷ words → slice_index word 0 ≡ b
@@ -201,14 +244,16 @@ no_remark b bs word words e some above =
       | inr p ↦ above_remark b (omega (arith, above, first_word b (slice_split (λ c. c == 32) bs) word words p.1))
     ]
 
-bytes_again : (bytes : List ℕ) (t : ℕ) (c : Call) → SaysLine (line.Call t c) (words_of bytes) → form_of bytes ≡ Some (line.Call t c)
-bytes_again [] t c says = let again = words_again (words_of []) t c says in
+bytes_again : (bytes : List ℕ) (w : Line) → SaysLine w (words_of bytes) → form_of bytes ≡ Some w
+bytes_again [] w says = let again = words_again (words_of []) w says in
     let empty : [] ≡ again.1 = let e : [] ∷ [] ≡ again.1 ∷ again.2 = again.3 in cc in let none = rw (← empty) at again.4 in absurd (omega (arith, none))
-bytes_again (b ∷ bs) t c says = let again = words_again (words_of (b ∷ bs)) t c says in
+bytes_again (b ∷ bs) w says = let again = words_again (words_of (b ∷ bs)) w says in
     rw (no_remark b bs again.1 again.2 again.3 again.4 again.5) again.0
 
 -- what has a form is read as that line
 pub form_again : (w : Line) (bytes : List ℕ) → HasForm w bytes → form_of bytes ≡ Some w
 form_again line.Silent bytes (inl e) = rw e refl
 form_again line.Silent bytes (inr (remark, e)) = rw e refl
-form_again (line.Call t c) bytes says = bytes_again bytes t c says
+form_again (line.Call t c) bytes says = bytes_again bytes (line.Call t c) says
+form_again (line.Adopt s) bytes says = bytes_again bytes (line.Adopt s) says
+form_again line.Mark bytes says = bytes_again bytes line.Mark says

@@ -11,7 +11,7 @@ use Rattle.trace_runner.specs.Form.{form_of, HasForm}
 use Rattle.trace_runner.specs.Within.{clip_line, order_cause, within}
 use Rattle.trace_runner.specs.Header.{IsWithinLimits}
 use Rattle.trace_runner.specs.Earlier.{Few}
-use Rattle.trace_runner.specs.Causes.{is_call, is_call_over, HasCause, IsNextLine, IsSound, Reads, first_cause, IsFirstFault}
+use Rattle.trace_runner.specs.Causes.{awaits_mark, is_call, is_call_over, HasCause, IsNextLine, IsSound, Reads, first_cause, IsFirstFault}
 use Rattle.trace_runner.proofs.Lines.{chosen, form_found, form_again}
 use Rattle.trace_runner.proofs.Clips.{order_cause-clip, clip_line-fine}
 
@@ -73,13 +73,31 @@ first_cause-none h before l fine = elim (chosen (is_call is_call_over l) (Some c
 pub first_fault_at : (h : Header) (texts : List (Bor (List ℕ))) (before : List Line) (d : Bor (List ℕ)) (i n : ℕ) (c : Cause) → i < length texts → n ≡ i + 6 → Reads h [] (map (λ t. t.now) (take i texts)) before → HasCause h before (get_or texts i d).now c → IsFirstFault h (map (λ t. t.now) texts) n c
 first_fault_at h texts before d i n c there place fine fault = record {
   above = map (λ t. t.now) (take i texts);
-  bytes = (get_or texts i d).now;
-  below = map (λ t. t.now) (drop (suc i) texts);
+  rest = (get_or texts i d).now ∷ map (λ t. t.now) (drop (suc i) texts);
   split = ap (map (λ (t : Bor (List ℕ)). t.now)) (split_at texts i d there) ∙ map-append (λ (t : Bor (List ℕ)). t.now) (take i texts) (get_or texts i d ∷ drop (suc i) texts);
   place = omega (arith, length-map (take i texts) (λ (t : Bor (List ℕ)). t.now), length-take-le i texts (omega arith));
   lines = before;
   fine = fine;
   fault = fault;
+}
+
+-- as many lines are read as there are texts
+pub Reads-length : (h : Header) (before : List Line) (texts : List (List ℕ)) (lines : List Line) → Reads h before texts lines → length lines ≡ length texts
+Reads-length h before [] [] all = refl
+Reads-length h before (b ∷ bs) (m ∷ ms) all = omega (arith, Reads-length h (before ++ m ∷ []) bs ms all.1)
+Reads-length h before [] (m ∷ ms) all = absurd all
+Reads-length h before (b ∷ bs) [] all = absurd all
+
+-- the end of the text at fault
+pub end_fault : (h : Header) (texts : List (List ℕ)) (lines : List Line) (n : ℕ) → Reads h [] texts lines → awaits_mark lines ≡ true → n ≡ length texts + 6 → IsFirstFault h texts n cause.Adopt
+end_fault h texts lines n fine awaits place = record {
+  above = texts;
+  rest = [];
+  split = sym (append-nil texts);
+  place = place;
+  lines = lines;
+  fine = fine;
+  fault = (refl, awaits);
 }
 
 -- one line more is read

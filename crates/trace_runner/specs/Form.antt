@@ -7,7 +7,7 @@ use Rattle.trace_runner.specs.Reference.{reference_in}
 use Rattle.trace_runner.specs.Words.{words_of}
 use Rattle.trace_runner.specs.declared.text.name.Reference.{Reference}
 use Rattle.trace_runner.specs.declared.text.line.Call.{Call}
-use Rattle.trace_runner.specs.declared.text.line.Call.TheVariants.{Put, Fill, Get, Free, Sweep}
+use Rattle.trace_runner.specs.declared.text.line.Call.TheVariants.{Put, Fill, Get, Free, Sweep, End}
 use Rattle.trace_runner.specs.declared.text.line.Line.{Line}
 use Rattle.trace_runner.specs.declared.text.line.Line.TheVariants as line
 
@@ -25,6 +25,7 @@ words_of_call (Fill name count value) = Verb (codes "fill") ∷ Named name ∷ N
 words_of_call (Get key) = Verb (codes "get") ∷ Refers key ∷ []
 words_of_call (Free key) = Verb (codes "free") ∷ Refers key ∷ []
 words_of_call (Sweep name from to) = Verb (codes "sweep") ∷ Named name ∷ Number from ∷ Number to ∷ []
+words_of_call End = Verb (codes "end") ∷ []
 
 -- the bytes are a word that says this
 abbrev pub IsWord : List ℕ → Word → Type 0
@@ -39,16 +40,27 @@ AreWords [] [] = Unit {0}
 AreWords (bytes ∷ more) (word ∷ words) = IsWord bytes word × AreWords more words
 AreWords _ _ = ⊥
 
--- the bytes have the form of this line, whose numbers may be of any size: nothing, a `#` and any bytes, or the words of a thread's call
+-- the words say this line, which is no empty line and no remark
+abbrev pub SaysLine : Line → List (List ℕ) → Type 0
+SaysLine line.Silent words = ⊥
+SaysLine (line.Call thread call) words = AreWords words (Number thread ∷ words_of_call call)
+SaysLine (line.Adopt shard) words = AreWords words (Verb (codes "adopt") ∷ Number shard ∷ [])
+SaysLine line.Mark words = AreWords words (Verb (codes "mark") ∷ [])
+
+-- the bytes have the form of this line, whose numbers may be of any size: nothing, a `#` and any bytes, or the words of a thread's call, of an adoption or of a mark
 abbrev pub HasForm : Line → List ℕ → Type 0
 HasForm line.Silent bytes = (bytes ≡ []) ⊎ ((remark : List ℕ) × (bytes ≡ codes "#" ++ remark))
-HasForm (line.Call thread call) bytes = AreWords (words_of bytes) (Number thread ∷ words_of_call call)
+HasForm line bytes = SaysLine line (words_of bytes)
 
 -- ---- the same as a function of the words
 
 -- a call of this name, where the bytes are a name
 abbrev pub with_name : (List ℕ → Call) → List ℕ → Option Call
 with_name call name = if is_name name then Some (call name) else None
+
+-- a call with no more words than its verb
+abbrev pub bare_call : List ℕ → Option Call
+bare_call verb = if bytes_eq verb (codes "end") then Some End else None
 
 -- a call on a key
 abbrev pub key_call : List ℕ → List ℕ → Option Call
@@ -74,8 +86,24 @@ counted_call verb name first second =
 abbrev pub thread_line : List ℕ → Option Call → Option Line
 thread_line thread call = option_and_then (λ t. option_map (λ c. line.Call t c) call) (number_in thread)
 
+-- the line of one word
+abbrev pub one_word : List ℕ → Option Line
+one_word word = if bytes_eq word (codes "mark") then Some line.Mark else None
+
+-- the line of a shard that adopts
+abbrev pub adopt_line : List ℕ → Option Line
+adopt_line shard = option_map (λ s. line.Adopt s) (number_in shard)
+
+-- the line of two words
+abbrev pub two_words : List ℕ → List ℕ → Option Line
+two_words first second =
+    if bytes_eq first (codes "adopt") then adopt_line second
+    else thread_line first (bare_call second)
+
 -- the line of these words
 abbrev pub form_of_words : List (List ℕ) → Option Line
+form_of_words (word ∷ []) = one_word word
+form_of_words (first ∷ second ∷ []) = two_words first second
 form_of_words (thread ∷ verb ∷ key ∷ []) = thread_line thread (key_call verb key)
 form_of_words (thread ∷ verb ∷ name ∷ value ∷ []) = thread_line thread (value_call verb name value)
 form_of_words (thread ∷ verb ∷ name ∷ first ∷ second ∷ []) = thread_line thread (counted_call verb name first second)

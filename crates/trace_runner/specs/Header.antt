@@ -43,7 +43,7 @@ has_opening (first ∷ more) = bytes_eq first (codes "mesh 1")
 -- the numbers of lines 2 to 5, or the first of these lines at fault
 abbrev pub sizes_of : List (List ℕ) → Result Header ParseError
 sizes_of lines = do
-  shards ← number_at lines 1 (codes "shards") 1
+  shards ← number_at lines 1 (codes "shards") 64
   pages ← number_at lines 2 (codes "pages") 1024
   ring ← number_at lines 3 (codes "ring") 1024
   gens ← number_at lines 4 (codes "gens") 4294967295
@@ -55,7 +55,7 @@ header_of lines = if has_opening lines then sizes_of lines else Err (BadTrace 1 
 
 -- each size is in its range
 pub record IsWithinLimits (h : Header) : Type 0 where
-  pub shards : IsInRange 1 1 h.shards
+  pub shards : IsInRange 1 64 h.shards
   pub pages : IsInRange 1 1024 h.pages
   pub ring : IsInRange 1 1024 h.ring
   pub gens : IsInRange 1 4294967295 h.gens

@@ -15,7 +15,7 @@ use Rattle.trace_runner.specs.declared.report.Answer.{Answer}
 use Rattle.trace_runner.specs.declared.report.Answer.TheVariants as answer
 use Rattle.trace_runner.specs.declared.report.LineAnswer.{LineAnswer}
 use Rattle.trace_runner.specs.declared.text.line.Call.{Call}
-use Rattle.trace_runner.specs.declared.text.line.Call.TheVariants.{Put, Fill, Get, Free, Sweep}
+use Rattle.trace_runner.specs.declared.text.line.Call.TheVariants.{Put, Fill, Get, Free, Sweep, End}
 use Rattle.trace_runner.specs.declared.text.line.Line.{Line}
 use Rattle.trace_runner.specs.declared.text.line.Line.TheVariants as line
 use Rattle.trace_runner.specs.declared.text.name.Reference.{Reference}
@@ -47,10 +47,11 @@ events_asked lines done thread (Fill name count value) = map (λ i. Some (event.
 events_asked lines done thread (Get key) = option_map event.Get (key_of lines done key) ∷ []
 events_asked lines done thread (Free key) = option_map event.Free (key_of lines done key) ∷ []
 events_asked lines done thread (Sweep name from to) = map (λ place. option_map event.Free (key_at lines done name place)) (range_with_len from (to - from))
+events_asked lines done thread End = []
 
 abbrev pub events_of_line : List Line → List (List Made) → Line → List (Option Event)
-events_of_line lines done line.Silent = []
 events_of_line lines done (line.Call thread call) = events_asked lines done thread call
+events_of_line lines done _ = []
 
 -- ---- what a line did
 

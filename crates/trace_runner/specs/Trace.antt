@@ -1,8 +1,8 @@
 -- The texts that are traces.
-use Rattle.std.specs.Prelude.{◌≡◌, ◌⊎◌, ℕ, List, [], drop, Result, Ok, Err}
+use Rattle.std.specs.Prelude.{◌≡◌, ◌⊎◌, ℕ, false, List, [], drop, Result, Ok, Err}
 use Rattle.trace_runner.specs.Words.{lines_of}
 use Rattle.trace_runner.specs.Header.{header_of}
-use Rattle.trace_runner.specs.Causes.{Reads, IsFirstFault}
+use Rattle.trace_runner.specs.Causes.{Reads, IsFirstFault, awaits_mark}
 use Rattle.trace_runner.specs.declared.text.header.Header.{Header}
 use Rattle.trace_runner.specs.declared.text.line.Line.{Line}
 use Rattle.trace_runner.specs.declared.text.trace.Trace.{Trace}
@@ -10,16 +10,17 @@ use Rattle.trace_runner.specs.declared.text.cause.Cause.{Cause}
 use Rattle.trace_runner.specs.declared.text.cause.ParseError.{ParseError}
 use Rattle.trace_runner.specs.declared.text.cause.ParseError.TheVariants.{OutOfMemory, BadTrace}
 
--- the text spells this header and, below it, these lines
+-- the text spells this header and, below it, these lines, and no adoption lacks its mark
 pub record Spells (text : List ℕ) (header : Header) (lines : List Line) : Type 0 where
   pub head : header_of (lines_of text) ≡ Ok header
   pub below : Reads header [] (drop 5 (lines_of text)) lines
+  pub settled : awaits_mark lines ≡ false
 
 -- the text spells this trace
 abbrev pub IsTrace : List ℕ → Trace → Type 0
 IsTrace text trace = Spells text trace.header trace.lines.items
 
--- the first line at fault is this one, of the header or, below a header, of the further lines
+-- the first line at fault is this one, of the header or, below a header, of the further lines and the end of the text
 abbrev pub IsFaultAt : List ℕ → ℕ → Cause → Type 0
 IsFaultAt text line c = (header_of (lines_of text) ≡ Err (BadTrace line c))
     ⊎ ((header : Header) × (header_of (lines_of text) ≡ Ok header) × IsFirstFault header (drop 5 (lines_of text)) line c)

@@ -209,6 +209,7 @@ impl<'t> Run<'t> {
             Call::Get { key } => self.get(number, key),
             Call::Free { key } => self.free(number, &key.name, key.index.unwrap_or(0)),
             Call::Sweep { name, from, to } => self.sweep(number, name, *from, *to),
+            Call::End => Ok(()),
         }
     }
 
@@ -225,7 +226,7 @@ impl<'t> Run<'t> {
         ensures trace { self.new.trace.now ≡ self.old.trace.now }
     {
         match line {
-            Line::Silent => Ok(()),
+            Line::Silent | Line::Adopt { .. } | Line::Mark => Ok(()),
             Line::Call { thread, call } => self.thread_call(place + 6, *thread, call),
         }
     }

@@ -188,9 +188,9 @@ fn fills_of_many_pages(rt: HostRuntime) -> Result<(), Fail> {
 fn a_broken_trace_writes_nothing(rt: HostRuntime) -> Result<(), Fail> {
     for (text, line, cause) in [
         ("", 1, Cause::Header),
-        ("mesh 1\nshards 1", 3, Cause::Header),
+        ("mesh 1\nshards 2", 3, Cause::Header),
         (
-            "mesh 1\nshards 2\npages 4\nring 4\ngens 9\n",
+            "mesh 1\nshards 65\npages 4\nring 4\ngens 9\n",
             2,
             Cause::Limit,
         ),

@@ -22,11 +22,14 @@ fn bad_trace(line: usize, cause: Cause) -> Fault {
 
 #[test]
 fn messages(rt: HostRuntime) -> Result<(), Fail> {
-    let cases: [(Fault, u8, &[u8]); 9] = [
+    let cases: [(Fault, u8, &[u8]); 12] = [
         (bad_trace(1, Cause::Header), 1, b"line 1: header\n"),
         (bad_trace(6, Cause::Form), 1, b"line 6: form\n"),
         (bad_trace(5, Cause::Limit), 1, b"line 5: limit\n"),
         (bad_trace(7, Cause::Thread), 1, b"line 7: thread\n"),
+        (bad_trace(8, Cause::Ended), 1, b"line 8: ended\n"),
+        (bad_trace(9, Cause::Adopt), 1, b"line 9: adopt\n"),
+        (bad_trace(10, Cause::Early), 1, b"line 10: early\n"),
         (
             bad_trace(18_446_744_073_709_551_615, Cause::Bound),
             1,

@@ -16,12 +16,18 @@ pub enum Cause {
     Form,
     /// A number is outside its range.
     Limit,
-    /// The header has no thread of this number.
+    /// The header has no thread of this number, or no shard.
     Thread,
+    /// An earlier line ends the thread, or the thread of the shard that adopts.
+    Ended,
+    /// An adoption stands above, and no mark follows it before this line or the end of the text.
+    Adopt,
     /// An earlier line binds the name.
     Bound,
     /// No earlier line binds the name, or the one that does gives it no such keys.
     Unknown,
+    /// Another thread binds the name, and no mark stands between the two lines.
+    Early,
 }
 
 impl Cause {
@@ -37,8 +43,11 @@ impl Cause {
             Cause::Form => "form",
             Cause::Limit => "limit",
             Cause::Thread => "thread",
+            Cause::Ended => "ended",
+            Cause::Adopt => "adopt",
             Cause::Bound => "bound",
             Cause::Unknown => "unknown",
+            Cause::Early => "early",
         }
     }
 }

@@ -14,7 +14,7 @@ use super::words::words;
 const OPENING: &[u8] = b"mesh 1";
 
 /// The greatest number of shards.
-const MOST_SHARDS: u32 = 1;
+const MOST_SHARDS: u32 = 64;
 
 /// The greatest number of pages a shard.
 const MOST_PAGES: u32 = 1024;
@@ -25,7 +25,7 @@ const MOST_PLACES: u32 = 1024;
 /// The sizes that a trace is run with.
 #[derive(Clone, Copy, Debug, PartialEq, Eq)]
 pub struct Header {
-    /// How many shards there are, each with one thread: 1.
+    /// How many shards there are, each with one thread: 1 to 64.
     pub shards: u32,
     /// How many pages a shard may have: 1 to 1,024.
     pub pages: u32,

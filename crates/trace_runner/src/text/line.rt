@@ -15,6 +15,8 @@ pub enum Call {
     Free { key: Reference },
     /// Frees the keys of the name from `from` up to, and without, `to`.
     Sweep { name: Name, from: u32, to: u32 },
+    /// Ends the thread. Its shard is abandoned at the next barrier.
+    End,
 }
 
 /// A line below the header.
@@ -24,6 +26,10 @@ pub enum Line {
     Silent,
     /// A call of the thread of that number, counted from 0.
     Call { thread: u32, call: Call },
+    /// At the mark that follows, the shard of that number adopts.
+    Adopt { shard: u32 },
+    /// The barrier: all calls above it are made before any below it.
+    Mark,
 }
 
 /// The keys that a name is bound to.
@@ -40,6 +46,10 @@ pub enum Keys {
 pub struct Binding {
     /// The keys that it stands for.
     pub keys: Keys,
+    /// The thread whose line binds it.
+    pub thread: u32,
+    /// How many marks stand above that line.
+    pub section: usize,
     /// The place of the line that binds it among the lines below the header, from 0.
     pub line: usize,
 }

@@ -76,6 +76,12 @@ fn trace_of(alloc: Global, text: &[u8]) -> Result<Trace, ParseError>
     let texts = lines(alloc, text)?;
     let header = read_header(texts.as_slice())?;
     let (lines, earlier) = body(alloc, &header, below_header(texts.as_slice()))?;
+    if earlier.awaits_mark() {
+        return Err(ParseError::BadTrace {
+            line: lines.len() + HEADER_LINES + 1,
+            cause: Cause::Adopt,
+        });
+    }
     Ok(Trace {
         header,
         lines,
@@ -88,7 +94,8 @@ fn trace_of(alloc: Global, text: &[u8]) -> Result<Trace, ParseError>
 /// # Errors
 ///
 /// `BadTrace` where the text is no trace, with the first line at fault, counted from 1, and its
-/// first cause. `OutOfMemory` where memory runs out.
+/// first cause; the end of the text has the number of a line that would follow. `OutOfMemory` where
+/// memory runs out.
 pub fn parse(alloc: Global, text: &[u8]) -> Result<Trace, ParseError>
     // What is read is a trace that the text spells.
     ensures trace { IfOk result (IsTrace text.now) }

@@ -1,7 +1,7 @@
 //! Reads lines.
 
 ghost use Rattle.std.specs.Prelude.{◌≡◌, Option};
-ghost use Rattle.trace_runner.specs.Form.{counted_call, form_of, form_of_words, key_call, thread_line, value_call, with_two};
+ghost use Rattle.trace_runner.specs.Form.{adopt_line, bare_call, counted_call, form_of, form_of_words, key_call, one_word, thread_line, two_words, value_call, with_two};
 ghost use Rattle.trace_runner.specs.Words.{contents_of};
 ghost use Rattle.trace_runner.specs.Within.{within, within_call};
 ghost use Rattle.trace_runner.specs.declared.text.line.Call.{Call};
@@ -15,6 +15,16 @@ use super::words::words;
 
 /// The greatest count of a fill.
 const MOST_KEYS: u128 = 262_144;
+
+/// A call with no more words than its verb.
+fn bare_call(verb: &[u8]) -> Result<Call, Cause>
+    ensures { result ≡ within_call (bare_call verb.now) }
+{
+    match verb {
+        b"end" => Ok(Call::End),
+        _ => Err(Cause::Form),
+    }
+}
 
 /// A call on a key.
 fn key_call(verb: &[u8], key: &[u8]) -> Result<Call, Cause>
@@ -92,11 +102,41 @@ fn thread_line(thread: &[u8], call: Result<Call, Cause>) -> Result<Line, Cause>
     Ok(Line::Call { thread, call })
 }
 
+/// A line of one word.
+fn one_word(word: &[u8]) -> Result<Line, Cause>
+    ensures { result ≡ within (one_word word.now) }
+{
+    match word {
+        b"mark" => Ok(Line::Mark),
+        _ => Err(Cause::Form),
+    }
+}
+
+/// The line of a shard that adopts. A number that does not fit is kept as a thread's is.
+fn adopt_line(shard: &[u8]) -> Result<Line, Cause>
+    ensures { result ≡ within (adopt_line shard.now) }
+{
+    let shard = clipped_number(shard).ok_or(Cause::Form)?;
+    Ok(Line::Adopt { shard })
+}
+
+/// A line of two words.
+fn two_words(first: &[u8], second: &[u8]) -> Result<Line, Cause>
+    ensures { result ≡ within (two_words first.now second.now) }
+{
+    match first {
+        b"adopt" => adopt_line(second),
+        _ => thread_line(first, bare_call(second)),
+    }
+}
+
 /// A line of these words.
 fn line_of_words(words: &[&[u8]]) -> Result<Line, Cause>
     ensures { result ≡ within (form_of_words (contents_of words.now)) }
 {
     match words {
+        [word] => one_word(word),
+        [first, second] => two_words(first, second),
         [thread, verb, key] => thread_line(thread, key_call(verb, key)),
         [thread, verb, name, value] => thread_line(thread, value_call(verb, name, value)),
         [thread, verb, name, first, second] => {

@@ -1,7 +1,7 @@
 //! A whole trace.
 
-ghost use Rattle.std.specs.Prelude.{◌≡◌};
-ghost use Rattle.trace_runner.specs.Causes.{IsSound, binding_of};
+ghost use Rattle.std.specs.Prelude.{◌≡◌, false};
+ghost use Rattle.trace_runner.specs.Causes.{IsSound, awaits_mark, binding_of};
 ghost use Rattle.trace_runner.specs.Earlier.{Knows};
 ghost use Rattle.trace_runner.specs.Header.{IsWithinLimits};
 
@@ -10,7 +10,7 @@ use super::header::Header;
 use super::line::{Binding, Line};
 use super::name::Name;
 
-/// A trace: its sizes are within their ranges, and no cause holds of any of its lines.
+/// A trace: its sizes are within their ranges, and no cause holds of any of its lines or of its end.
 #[derive(Drop)]
 pub struct Trace {
     /// The sizes that it is run with.
@@ -21,6 +21,7 @@ pub struct Trace {
     pub(super) earlier: Earlier,
     ghost within: { IsWithinLimits header },
     ghost sound: { IsSound header lines.items },
+    ghost settled: { awaits_mark lines.items ≡ false },
     ghost known: { Knows lines.items earlier },
 }
 
