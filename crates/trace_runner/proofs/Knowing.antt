@@ -34,7 +34,7 @@ or_swap true false = refl
 or_swap false true = refl
 or_swap false false = refl
 
-has_ended-push : (t : ℕ) (ls : List Line) (l : Line) → has_ended (ls ++ l ∷ []) t ≡ (ends t l || has_ended ls t)
+pub has_ended-push : (t : ℕ) (ls : List Line) (l : Line) → has_ended (ls ++ l ∷ []) t ≡ (ends t l || has_ended ls t)
 has_ended-push t ls l = list_any-append (ends t) ls (l ∷ []) ∙ or_swap (list_any (ends t) ls) (list_any (ends t) (l ∷ [])) ∙ ap (λ b. b || list_any (ends t) ls) (or_false (ends t l))
 
 awaits_mark-push : (ls : List Line) (l : Line) → awaits_mark (ls ++ l ∷ []) ≡ awaits_after (awaits_mark ls) l

@@ -11,6 +11,8 @@ pub mod Taken
 pub mod Entered
 pub mod Refused
 pub mod Making
+pub mod Shards
+pub mod Barriers
 pub mod Recalling
 pub mod Progress
 pub mod Serving

@@ -1,26 +1,123 @@
 -- One more line is run.
-use Rattle.std.proofs.Common.{◌≡◌, ℕ, ◌+◌, ◌≤◌, List, [], ◌∷◌, ◌++◌, map, length, take, get_or, Some, slice_get, sym, ap, subst, ◌∙◌, arith, inl, inr}
+use Rattle.std.proofs.Common.{◌≡◌, ℕ, ◌+◌, ◌<◌, ◌≤◌, ◌&&◌, ◌||◌, ◌==◌, nat_lt, nat_le, not, Bool, true, false, cond, filter, List, [], ◌∷◌, ◌++◌, map, length, take, get_or, Some, None, slice_get, refl, sym, ap, ap₂, subst, ◌∙◌, arith, inl, inr, append_assoc, length-append, add-zero}
 use Rattle.std.proofs.Math.Seq.{get_or-append_seam, take-length}
+use Rattle.std.specs.List.{range_with_len}
+use Rattle.std.specs.Option.{option_map_or}
 use Rattle.std.proofs.lemmas.Bool.{cases_lt}
+use Rattle.std.proofs.lemmas.Bool.Decides.{nat_tests}
 use Rattle.std.proofs.lemmas.Grind.{flat_map-append}
-use Rattle.std.proofs.lemmas.List.{append-nil, get_or_append_left, length_push, take-append-le}
+use Rattle.std.proofs.lemmas.List.Elements.{filter-append}
+use Rattle.std.proofs.lemmas.List.{append-nil, get_or_append_left, length-map, length_push, take-append-le}
 use Rattle.arena_core.specs.State.{CoreState}
-use Rattle.trace_runner.specs.Recalls.{HasCome, Makes, Recalls}
-use Rattle.trace_runner.specs.Runs.{DoLines, Made, all_made, answers_from, event_made, events_of_line, on_line}
+use Rattle.trace_runner.specs.Barrier.{is_barrier, leavers, open_lines}
+use Rattle.trace_runner.specs.Causes.{ends, has_ended, first_cause, is_adopt, thread_of}
+use Rattle.trace_runner.specs.Recalls.{Abandons, CanLeave, EndsBelow, HasCome, IsReady, MakesLine, Recalls, Serves}
+use Rattle.trace_runner.specs.Runs.{Did, DoLines, Does, IsRun, abandoned_at, all_made, answers_from, asked_by, asked_of, calls_at, calls_in, ends_asked, made_by, on_line}
 use Rattle.trace_runner.specs.declared.report.LineAnswer.{LineAnswer}
+use Rattle.trace_runner.specs.declared.text.header.Header.{Header}
+use Rattle.trace_runner.specs.declared.text.line.Call.TheVariants.{Put, Fill, Get, Free, Sweep, End}
 use Rattle.trace_runner.specs.declared.text.line.Line.{Line}
-use Rattle.trace_runner.proofs.Making.{IsAnswered-append}
+use Rattle.trace_runner.specs.declared.text.line.Line.TheVariants as line
+use Rattle.trace_runner.proofs.Barriers.{has_ended-open, has_ended-open-push}
+use Rattle.trace_runner.proofs.Clips.{AllFine, all_fine}
+use Rattle.trace_runner.proofs.Knowing.{has_ended-push}
+use Rattle.trace_runner.proofs.Lines.{either}
+use Rattle.trace_runner.proofs.Making.{IsAnswered-append, IsAnswered-none}
 use Rattle.trace_runner.proofs.Recalling.{answers_from-append, take_line}
+use Rattle.trace_runner.proofs.Texts.{first_cause-none}
 
-DoLines-push : (all lines : List Line) (line : Line) (done after : List (List Made)) (made : List Made) → DoLines all lines done after → map event_made made ≡ events_of_line all after line
-    → DoLines all (lines ++ line ∷ []) done (after ++ made ∷ [])
-DoLines-push all [] line done after made is asks = (made, rw (← is) asks, ap (λ d. d ++ made ∷ []) is)
-DoLines-push all (first ∷ lines) line done after made (here, asks_here, later) asks = (here, asks_here, DoLines-push all lines line (done ++ here ∷ []) after made later asks)
+DoLines-push : (shards : ℕ) (all lines : List Line) (line : Line) (done after : List Did) (did : Did) → DoLines shards all lines done after → Does shards all after line did
+    → DoLines shards all (lines ++ line ∷ []) done (after ++ did ∷ [])
+DoLines-push shards all [] line done after did is does = (did, subst (λ (d : List Did). Does shards all d line did) is does, ap (λ d. d ++ did ∷ []) is)
+DoLines-push shards all (first ∷ lines) line done after did (here, does_here, later) does = (here, does_here, DoLines-push shards all lines line (done ++ here ∷ []) after did later does)
 
-all_made-push : (done : List (List Made)) (made : List Made) → all_made (done ++ made ∷ []) ≡ all_made done ++ made
-all_made-push done made = flat_map-append (λ (m : List Made). m) done (made ∷ []) ∙ ap (λ l. all_made done ++ l) (append-nil made)
+all_made-push : (done : List Did) (did : Did) → all_made (done ++ did ∷ []) ≡ all_made done ++ made_by did
+all_made-push done did = flat_map-append made_by done (did ∷ []) ∙ ap (λ l. all_made done ++ l) (append-nil (made_by did))
 
-module _ (lines : List Line) (count : ℕ) (old core : CoreState) (answers : List LineAnswer) (starts : List ℕ) (come : HasCome lines count old core answers starts) where
+-- the shards to abandon, by the threads that leave
+abbrev pub leaving_at : (shards : ℕ) (leaving : ℕ → Bool) → Line → List ℕ
+leaving_at shards leaving line = cond (is_barrier line) (filter leaving (range_with_len 0 shards)) []
+
+and_false : (b : Bool) → (b && not true) ≡ false
+and_false true = refl
+and_false false = refl
+
+-- a shard has ended where its thread ended above and does not wait, one line later
+flags : (above waits ends barrier : Bool) → (barrier ≡ true → ends ≡ false) → (waits ≡ true → above ≡ true) → (ends ≡ true → above ≡ false)
+    → ((barrier && waits) || (above && not waits)) ≡ ((ends || above) && not (not barrier && (ends || waits)))
+flags true true true true bound waiting fresh = let bad = bound refl in cc
+flags true true true false bound waiting fresh = let bad = fresh refl in cc
+flags true true false true bound waiting fresh = refl
+flags true true false false bound waiting fresh = refl
+flags true false true true bound waiting fresh = let bad = bound refl in cc
+flags true false true false bound waiting fresh = let bad = fresh refl in cc
+flags true false false true bound waiting fresh = refl
+flags true false false false bound waiting fresh = refl
+flags false true true true bound waiting fresh = let bad = bound refl in cc
+flags false true true false bound waiting fresh = let bad = waiting refl in cc
+flags false true false true bound waiting fresh = let bad = waiting refl in cc
+flags false true false false bound waiting fresh = let bad = waiting refl in cc
+flags false false true true bound waiting fresh = let bad = bound refl in cc
+flags false false true false bound waiting fresh = refl
+flags false false false true bound waiting fresh = refl
+flags false false false false bound waiting fresh = refl
+
+-- a line of a barrier ends no thread
+ends-barrier : (l : Line) (t : ℕ) → is_barrier l ≡ true → ends t l ≡ false
+ends-barrier line.Silent t e = refl
+ends-barrier (line.Call thread call) t e = cc
+ends-barrier (line.Adopt s) t e = refl
+ends-barrier line.Mark t e = refl
+
+module _ (h : Header) (above : List Line) (l : Line) (fine : first_cause h above l ≡ None) where
+  fine_of : AllFine h above l
+  fine_of = all_fine h above l (first_cause-none h above l fine).1
+
+  -- the thread of a line has not ended above it, and is one of the header's
+  running_above : (t : ℕ) → thread_of l ≡ Some t → has_ended above t ≡ false
+  running_above t is = sym (ap (λ o. option_map_or (has_ended above) o false) is) ∙ fine_of.ended
+
+  thread_below : (t : ℕ) → thread_of l ≡ Some t → t < h.shards
+  thread_below t is = let e : nat_le h.shards t ≡ false = sym (ap (λ o. option_map_or (nat_le h.shards) o false) is) ∙ fine_of.thread in grind (arith, nat_tests)
+
+same_number : (m n : ℕ) → (m == n) ≡ true → m ≡ n
+same_number m n e = grind (arith, nat_tests)
+
+-- a thread that a line ends is the line's
+ends-thread : (l : Line) (t : ℕ) → ends t l ≡ true → thread_of l ≡ Some t
+ends-thread line.Silent t e = cc
+ends-thread (line.Call thread (Put name v)) t e = cc
+ends-thread (line.Call thread (Fill name n v)) t e = cc
+ends-thread (line.Call thread (Get key)) t e = cc
+ends-thread (line.Call thread (Free key)) t e = cc
+ends-thread (line.Call thread (Sweep name from to)) t e = cc
+ends-thread (line.Call thread End) t e = ap Some (same_number thread t e)
+ends-thread (line.Adopt s) t e = cc
+ends-thread line.Mark t e = cc
+
+-- the answers of a line, as many as it is a thread's and one more for an adoption
+calls_of_line : (shards : ℕ) (all : List Line) (done : List Did) (l : Line) (did : Did) → Does shards all done l did → length did.calls ≡ calls_at l did + length (filter is_adopt (l ∷ []))
+calls_of_line shards all done l did does = by_line l (sym (length-map did.calls asked_of) ∙ ap length does.calls)
+  where
+    by_line : (l : Line) → length did.calls ≡ length (asked_by all done l) → length did.calls ≡ calls_at l did + length (filter is_adopt (l ∷ []))
+    by_line line.Silent e = e
+    by_line (line.Call t c) e = sym (add-zero (length did.calls))
+    by_line (line.Adopt s) e = e
+    by_line line.Mark e = e
+
+adopts-cons : (l : Line) (ls : List Line) → length (filter is_adopt (l ∷ ls)) ≡ length (filter is_adopt (l ∷ [])) + length (filter is_adopt ls)
+adopts-cons l ls = ap length (filter-append is_adopt (l ∷ []) ls) ∙ length-append (filter is_adopt (l ∷ [])) (filter is_adopt ls)
+
+DoLines-rest : (shards : ℕ) (all lines : List Line) (done after : List Did) → DoLines shards all lines done after
+    → (rest : List Did) × (after ≡ done ++ rest) × ((number : ℕ) → length (answers_from number rest) ≡ calls_in lines rest + length (filter is_adopt lines))
+DoLines-rest shards all [] done after is = ([], is ∙ sym (append-nil done), λ number. refl)
+DoLines-rest shards all (l ∷ ls) done after (did, does, later) =
+    let more = DoLines-rest shards all ls (done ++ did ∷ []) after later in
+    (did ∷ more.0, more.1 ∙ append_assoc done (did ∷ []) more.0,
+    λ number. length-append (map (on_line number) did.calls) (answers_from (number + 1) more.0)
+    ∙ omega (arith, length-map did.calls (on_line number), more.2 (number + 1), calls_of_line shards all done l did does, adopts-cons l ls))
+
+module _ (h : Header) (lines : List Line) (count : ℕ) (old core : CoreState) (answers : List LineAnswer) (starts : List ℕ) (leaving : ℕ → Bool) (come : HasCome h.shards lines count old core answers starts leaving) where
   -- once the start of the next line is kept
   pub HasCome-recalls : Recalls come.done answers (starts ++ length answers ∷ [])
   HasCome-recalls = record {
@@ -37,21 +134,104 @@ module _ (lines : List Line) (count : ℕ) (old core : CoreState) (answers : Lis
     ];
   }
 
-  -- once the next line has made its calls
-  pub HasCome-more : (line : Line) (new : CoreState) (after : List LineAnswer) → slice_get lines count ≡ Some line
-      → Makes (count + 6) (events_of_line lines come.done line) core answers new after → HasCome lines (count + 1) old new after (starts ++ length answers ∷ [])
-  HasCome-more line new after here (made, asks, answered, more) = record {
-    done = come.done ++ made ∷ [];
-    count_is = length_push come.done made ∙ ap (λ n. n + 1) come.count_is;
-    lines_do = subst (λ (some : List Line). DoLines lines some [] (come.done ++ made ∷ [])) (sym (take_line lines count line here).0) (DoLines-push lines (take count lines) line [] come.done made come.lines_do asks);
-    answered = rw all_made-push (IsAnswered-append old core new (all_made come.done) made come.answered answered);
-    answers_are =
-        let number : 6 + length come.done ≡ count + 6 = omega (arith, come.count_is) in
-        more ∙ ap (λ l. l ++ map (on_line (count + 6)) made) come.answers_are
-        ∙ sym (answers_from-append 6 come.done (made ∷ []) ∙ ap (λ n. answers_from 6 come.done ++ (map (on_line n) made ++ [])) number
-        ∙ ap (λ l. answers_from 6 come.done ++ l) (append-nil (map (on_line (count + 6)) made)));
-    long = length_push starts (length answers) ∙ ap (λ n. n + 1) come.long;
-    starts_are = λ place less.
-        let within : place ≤ length come.done = omega (arith, come.count_is) in
-        HasCome-recalls.starts_are place within ∙ ap (λ d. length (answers_from 6 d)) (sym (take-append-le place come.done (made ∷ []) within));
+  waiting_ended : (t : ℕ) → has_ended (open_lines (take count lines)) t ≡ true → has_ended (take count lines) t ≡ true
+  waiting_ended t = has_ended-open (take count lines) t
+
+  HasCome-CanLeave : CanLeave h.shards core leaving
+  HasCome-CanLeave t below leaves = record {
+    within = omega (arith, below, come.enough);
+    running = come.ended_are t below ∙ rw (sym (come.leaving_are t) ∙ leaves) (and_false (has_ended (take count lines) t));
   }
+
+  -- the next line may be run
+  pub HasCome-IsReady : (l : Line) → first_cause h (take count lines) l ≡ None → IsReady h.shards core leaving l
+  HasCome-IsReady l fine = record {
+    within = (first_cause-none h (take count lines) l fine).0;
+    running = λ t is. record {
+      within = omega (arith, thread_below h (take count lines) l fine t is, come.enough);
+      running = come.ended_are t (thread_below h (take count lines) l fine t is) ∙ rw (running_above h (take count lines) l fine t is) refl;
+    };
+    stays = λ t is. elim (either (leaving t)) [
+      | inl leaves ↦
+          let bad : true ≡ false = sym (waiting_ended t (sym (come.leaving_are t) ∙ leaves)) ∙ running_above h (take count lines) l fine t is in cc
+      | inr stays ↦ stays
+    ];
+    leavers = HasCome-CanLeave;
+  }
+
+  leaving_is : leaving ≡ has_ended (open_lines (take count lines))
+  leaving_is = λ i t. come.leaving_are t i
+
+  -- once the next line was run
+  pub HasCome-more : (l : Line) (new : CoreState) (after : List LineAnswer) (now : ℕ → Bool) → slice_get lines count ≡ Some l → first_cause h (take count lines) l ≡ None
+      → MakesLine (count + 6) (leaving_at h.shards leaving l) (asked_by lines come.done l) core answers new after
+      → EndsBelow core h.shards (λ t. is_barrier l && leaving t) new → ((t : ℕ) → now t ≡ (not (is_barrier l) && (ends t l || leaving t)))
+      → HasCome h.shards lines (count + 1) old new after (starts ++ length answers ∷ []) now
+  HasCome-more l new after now here fine (mid, (abandoned, asks_ends, answered_ends), (made, asks, answered, more)) ended left =
+      let did : Did = record { ends = abandoned; calls = made } in
+      let next = take_line lines count l here in
+      let above : take (length come.done) lines ≡ take count lines = ap (λ n. take n lines) come.count_is in
+      let does : Does h.shards lines come.done l did = record {
+        ends = asks_ends ∙ ap (λ (f : ℕ → Bool). ends_asked (leaving_at h.shards f l)) leaving_is ∙ ap (λ ls. ends_asked (abandoned_at h.shards ls l)) (sym above);
+        calls = asks;
+      } in
+      let waits : (t : ℕ) → has_ended (open_lines (take (count + 1) lines)) t ≡ (not (is_barrier l) && (ends t l || has_ended (open_lines (take count lines)) t)) =
+      λ t. ap (λ ls. has_ended (open_lines ls) t) next.0 ∙ has_ended-open-push (take count lines) l t in
+      record {
+        done = come.done ++ did ∷ [];
+        count_is = length_push come.done did ∙ ap (λ n. n + 1) come.count_is;
+        lines_do = subst (λ (some : List Line). DoLines h.shards lines some [] (come.done ++ did ∷ [])) (sym next.0) (DoLines-push h.shards lines (take count lines) l [] come.done did come.lines_do does);
+        answered = rw all_made-push (IsAnswered-append old core new (all_made come.done) (made_by did) come.answered (IsAnswered-append core mid new abandoned made answered_ends answered));
+        answers_are =
+            let number : 6 + length come.done ≡ count + 6 = omega (arith, come.count_is) in
+            more ∙ ap (λ ls. ls ++ map (on_line (count + 6)) made) come.answers_are
+            ∙ sym (answers_from-append 6 come.done (did ∷ []) ∙ ap (λ n. answers_from 6 come.done ++ (map (on_line n) made ++ [])) number
+            ∙ ap (λ ls. answers_from 6 come.done ++ ls) (append-nil (map (on_line (count + 6)) made)));
+        long = length_push starts (length answers) ∙ ap (λ n. n + 1) come.long;
+        starts_are = λ place less.
+            let within : place ≤ length come.done = omega (arith, come.count_is) in
+            HasCome-recalls.starts_are place within ∙ ap (λ d. length (answers_from 6 d)) (sym (take-append-le place come.done (did ∷ []) within));
+        enough = rw ended.limits come.enough;
+        leaving_are = λ t. left t ∙ ap (λ b. not (is_barrier l) && (ends t l || b)) (come.leaving_are t) ∙ sym (waits t);
+        ended_are = λ t below.
+            let less : nat_lt t h.shards ≡ true = grind (arith, nat_tests, below) in
+            ended.ended t ∙ rw less (ap₂ (λ a b. (is_barrier l && a) || b) (come.leaving_are t) (come.ended_are t below))
+            ∙ flags (has_ended (take count lines) t) (has_ended (open_lines (take count lines)) t) (ends t l) (is_barrier l)
+            (ends-barrier l t) (waiting_ended t) (λ ends_here. running_above h (take count lines) l fine t (ends-thread l t ends_here))
+            ∙ ap₂ (λ a b. a && not b) (sym (ap (λ ls. has_ended ls t) next.0 ∙ has_ended-push t (take count lines) l)) (sym (waits t));
+      }
+
+  -- how many of the answers are those of threads' lines
+  pub HasCome-calls : count ≡ length lines → length answers ≡ calls_in lines come.done + length (filter is_adopt lines)
+  HasCome-calls all =
+      let whole : take count lines ≡ lines = ap (λ n. take n lines) all ∙ take-length lines in
+      let rest = DoLines-rest h.shards lines lines [] come.done (subst (λ (some : List Line). DoLines h.shards lines some [] come.done) whole come.lines_do) in
+      ap length come.answers_are ∙ subst (λ (d : List Did). length (answers_from 6 d) ≡ calls_in lines d + length (filter is_adopt lines)) (sym rest.1) (rest.2 6)
+
+  -- once the shards of the threads that still leave are abandoned, the run is whole
+  pub HasCome-IsRun : (new : CoreState) (calls : ℕ) → count ≡ length lines → Abandons (filter leaving (range_with_len 0 h.shards)) core new → calls ≡ calls_in lines come.done → IsRun h.shards lines old new answers calls
+  HasCome-IsRun new calls all (made, asks, answered) calls_are =
+      let whole : take count lines ≡ lines = ap (λ n. take n lines) all ∙ take-length lines in record {
+        done = come.done;
+        last = made;
+        lines_do = subst (λ (some : List Line). DoLines h.shards lines some [] come.done) whole come.lines_do;
+        ends = asks ∙ ap (λ (f : ℕ → Bool). ends_asked (filter f (range_with_len 0 h.shards))) leaving_is ∙ ap (λ ls. ends_asked (leavers h.shards ls)) whole;
+        answered = IsAnswered-append old core new (all_made come.done) made come.answered answered;
+        answers_are = come.answers_are;
+        calls_are = calls_are;
+      }
+
+-- before the first line
+pub HasCome-start : (h : Header) (lines : List Line) (core : CoreState) (leaving : ℕ → Bool) → Serves h.shards core → ((t : ℕ) → leaving t ≡ false) → HasCome h.shards lines 0 core core [] [] leaving
+HasCome-start h lines core leaving serves none = record {
+  done = [];
+  count_is = refl;
+  lines_do = refl;
+  answered = IsAnswered-none core;
+  answers_are = refl;
+  long = refl;
+  starts_are = λ place less. absurd (omega (arith, less));
+  enough = serves.enough;
+  leaving_are = none;
+  ended_are = serves.running;
+}

@@ -1,18 +1,67 @@
--- Shards that are there and have not ended stay so.
-use Rattle.std.proofs.Common.{◌≡◌, ℕ, true, false, Some, sym, ap, subst, ◌∙◌, arith, inl, inr, slice_get}
+-- Which shards have ended, one step later.
+use Rattle.std.proofs.Common.{◌≡◌, ◌==◌, ◌||◌, ℕ, zero, suc, Bool, true, false, cond, List, [], ◌∷◌, Some, None, refl, sym, ap, subst, ◌∙◌, arith, inl, inr, slice_get, set}
+use Rattle.std.specs.Option.{option_map_or}
+use Rattle.std.proofs.lemmas.Bool.Decides.{nat_tests}
 use Rattle.shard.specs.State.{ShardState}
 use Rattle.shard.specs.Calls.{Puts, Frees}
 use Rattle.shard.specs.declared.shard.Freed.TheVariants.{Yes}
 use Rattle.span.specs.declared.key.Key.{Key}
-use Rattle.shard.proofs.Lists.{cases-set}
 use Rattle.arena_core.specs.State.{CoreState, with_shard}
 use Rattle.arena_core.specs.Step.{CoreStep}
-use Rattle.trace_runner.specs.Recalls.{IsFor, IsServed, Serves}
+use Rattle.trace_runner.specs.Recalls.{EndsOne, IsOpen, IsServed, KeepsShards, MayCall, ended_at}
+use Rattle.trace_runner.proofs.Lines.{either}
 use Rattle.arena_core.specs.declared.event.Event.{Event}
-use Rattle.arena_core.specs.declared.event.Event.TheVariants.{Put, Get, Free}
+use Rattle.arena_core.specs.declared.event.Event.TheVariants.{Put, Get, Free, End, Adopt}
 use Rattle.arena_core.specs.declared.reply.Reply.{Reply}
-use Rattle.arena_core.specs.declared.reply.Reply.TheVariants.{Issued, Found, Freed, Refused}
-use Rattle.arena_core.specs.declared.reply.Refusal.TheVariants.{OutOfMemory, PagesSpent, Ended, Config}
+use Rattle.arena_core.specs.declared.reply.Reply.TheVariants.{Issued, Found, Freed, Adopted, Refused}
+use Rattle.arena_core.specs.declared.reply.Reply.TheVariants as reply
+use Rattle.arena_core.specs.declared.reply.Refusal.TheVariants.{OutOfMemory, PagesSpent, Ended, NothingToAdopt, Config}
+
+-- the shard of this number is there and has ended
+abbrev ended_in : List ShardState → ℕ → Bool
+ended_in shards number = option_map_or (λ shard. shard.ended) (slice_get shards number) false
+
+zero_other : (other : ℕ) → (zero == suc other) ≡ false
+zero_other other = grind (arith, nat_tests)
+
+other_zero : (number : ℕ) → (suc number == zero) ≡ false
+other_zero number = grind (arith, nat_tests)
+
+ended_in-set : (shards : List ShardState) (number : ℕ) (before after : ShardState) → slice_get shards number ≡ Some before → (other : ℕ) → ended_in (set shards number after) other ≡ cond (number == other) after.ended (ended_in shards other)
+ended_in-set [] number before after here other = cc here
+ended_in-set (shard ∷ shards) zero before after here zero = refl
+ended_in-set (shard ∷ shards) zero before after here (suc other) = ap (λ b. cond b after.ended (ended_in shards other)) (sym (zero_other other))
+ended_in-set (shard ∷ shards) (suc number) before after here zero = ap (λ b. cond b after.ended shard.ended) (sym (other_zero number))
+ended_in-set (shard ∷ shards) (suc number) before after here (suc other) =
+    let same : (suc number == suc other) ≡ (number == other) = grind (arith, nat_tests) in
+    ended_in-set shards number before after here other ∙ ap (λ b. cond b after.ended (ended_in shards other)) (sym same)
+
+same_number : (m n : ℕ) → (m == n) ≡ true → m ≡ n
+same_number m n e = grind (arith, nat_tests)
+
+module _ (old : CoreState) (number : ℕ) (before after : ShardState) (here : slice_get old.shards number ≡ Some before) where
+  KeepsShards-with_shard : after.ended ≡ before.ended → KeepsShards old (with_shard old number after)
+  KeepsShards-with_shard same = record {
+    limits = refl;
+    ended = λ other. ended_in-set old.shards number before after here other ∙ elim (either (number == other)) [
+      | inl is ↦
+          let at : ended_at old other ≡ before.ended = ap (ended_at old) (sym (same_number number other is)) ∙ ap (λ o. option_map_or (λ (shard : ShardState). shard.ended) o false) here in
+          rw is (same ∙ sym at)
+      | inr differs ↦ rw differs refl
+    ];
+  }
+
+  EndsOne-with_shard : after.ended ≡ true → EndsOne old number (with_shard old number after)
+  EndsOne-with_shard ended = record {
+    limits = refl;
+    ended = λ other. ended_in-set old.shards number before after here other ∙ elim (either (number == other)) [
+      | inl is ↦ rw is ended
+      | inr differs ↦ rw differs refl
+    ];
+  }
+
+KeepsShards-same : (old new : CoreState) → new ≡ old → KeepsShards old new
+KeepsShards-same old new same = record { limits = ap (λ (c : CoreState). c.limits) same; ended = λ number. ap (λ c. ended_at c number) same }
 
 ended-Puts : (old new : ShardState) (value : ℕ) (key : Key) (at : ℕ) → Puts old value key at new → new.ended ≡ old.ended
 ended-Puts old new value key at (running, inl (index, group, room, span, generation, count, is)) = ap (λ (s : ShardState). s.ended) is
@@ -21,35 +70,61 @@ ended-Puts old new value key at (running, inr (full, pages, opened, (shard, seri
 ended-Frees : (old new : ShardState) (key : Key) (at : ℕ) → Frees old key (Yes at) new → new.ended ≡ old.ended
 ended-Frees old new key at (index, place, group, span, here, holds, count, is) = ap (λ (s : ShardState). s.ended) is
 
-with_shard_serves : (shards : ℕ) (old : CoreState) (number : ℕ) (before after : ShardState) → Serves shards old → slice_get old.shards number ≡ Some before → after.ended ≡ before.ended → Serves shards (with_shard old number after)
-with_shard_serves shards old number before after serves here same = record {
-  enough = serves.enough;
-  running = λ other shard at. elim (cases-set old.shards number after other shard at) [
-    | inl (place, new) ↦ ap (λ (s : ShardState). s.ended) (sym new) ∙ same ∙ serves.running number before here
-    | inr (differ, kept) ↦ serves.running other shard kept
-  ];
-}
+-- a call of a line ends no shard
+pub KeepsShards-step : (old new : CoreState) (event : Event) (reply : Reply) → MayCall old event → CoreStep old event reply new → KeepsShards old new
+KeepsShards-step old new (Put shard value) (Issued key) may step = subst (KeepsShards old) (sym step.rest) (KeepsShards-with_shard old shard step.before step.after step.here (ended-Puts step.before step.after value key step.at step.puts))
+KeepsShards-step old new (Put shard value) (Refused Config) may step = KeepsShards-same old new step.1
+KeepsShards-step old new (Put shard value) (Refused Ended) may step = KeepsShards-same old new step.1
+KeepsShards-step old new (Put shard value) (Refused PagesSpent) may step = KeepsShards-same old new step.1
+KeepsShards-step old new (Put shard value) (Refused OutOfMemory) may step = KeepsShards-same old new step.1
+KeepsShards-step old new (Get key) (Found value) may step = KeepsShards-same old new step.1
+KeepsShards-step old new (Free key) (Freed true) may step = subst (KeepsShards old) (sym step.rest) (KeepsShards-with_shard old step.number step.before step.after step.here (ended-Frees step.before step.after key step.at step.frees))
+KeepsShards-step old new (Free key) (Freed false) may step = KeepsShards-same old new step.1
+KeepsShards-step old new (End shard) reply may step = absurd may
+KeepsShards-step old new (Adopt shard) (Adopted head) may step = subst (KeepsShards old) (sym step.rest) (KeepsShards-with_shard old shard step.before step.after step.here.here (step.running ∙ sym step.here.running))
+KeepsShards-step old new (Adopt shard) (Refused Config) may step = KeepsShards-same old new step.1
+KeepsShards-step old new (Adopt shard) (Refused Ended) may step = KeepsShards-same old new step.1
+KeepsShards-step old new (Adopt shard) (Refused PagesSpent) may step = KeepsShards-same old new step
+KeepsShards-step old new (Adopt shard) (Refused NothingToAdopt) may step = KeepsShards-same old new step
+KeepsShards-step old new (Adopt shard) (Refused OutOfMemory) may step = KeepsShards-same old new step
+KeepsShards-step old new event reply may step = absurd step
 
-pub Serves-step : (shards : ℕ) (old new : CoreState) (event : Event) (reply : Reply) → Serves shards old → CoreStep old event reply new → Serves shards new
-Serves-step shards old new (Put shard value) (Issued key) serves step = subst (Serves shards) (sym step.rest) (with_shard_serves shards old shard step.before step.after serves step.here (ended-Puts step.before step.after value key step.at step.puts))
-Serves-step shards old new (Put shard value) (Refused Config) serves step = subst (Serves shards) (sym step.1) serves
-Serves-step shards old new (Put shard value) (Refused Ended) serves step = subst (Serves shards) (sym step.1) serves
-Serves-step shards old new (Put shard value) (Refused PagesSpent) serves step = subst (Serves shards) (sym step.1) serves
-Serves-step shards old new (Put shard value) (Refused OutOfMemory) serves step = subst (Serves shards) (sym step.1) serves
-Serves-step shards old new (Get key) (Found value) serves step = subst (Serves shards) (sym step.1) serves
-Serves-step shards old new (Free key) (Freed true) serves step = subst (Serves shards) (sym step.rest) (with_shard_serves shards old step.number step.before step.after serves step.here (ended-Frees step.before step.after key step.at step.frees))
-Serves-step shards old new (Free key) (Freed false) serves step = subst (Serves shards) (sym step.1) serves
-Serves-step shards old new event reply serves step = absurd step
+-- the end of a shard is its own alone
+pub EndsOne-step : (old new : CoreState) (shard : ℕ) → CoreStep old (End shard) reply.Ended new → EndsOne old shard new
+EndsOne-step old new shard step = subst (EndsOne old shard) (sym step.rest) (EndsOne-with_shard old shard step.before step.after step.here.here step.ended)
 
 clash : true ≡ false → ⊥
 clash e = cc
 
-pub IsServed-step : (shards : ℕ) (old new : CoreState) (event : Event) (reply : Reply) → Serves shards old → IsFor shards event → CoreStep old event reply new → IsServed reply
-IsServed-step shards old new (Put shard value) (Refused Config) serves for step = omega (arith, for, step.0, serves.enough)
-IsServed-step shards old new (Put shard value) (Refused Ended) serves for step = clash (sym step.0.2 ∙ serves.running shard step.0.0 step.0.1)
-IsServed-step shards old new (Put shard value) (Refused PagesSpent) serves for step = tt
-IsServed-step shards old new (Put shard value) (Refused OutOfMemory) serves for step = tt
-IsServed-step shards old new (Put shard value) (Issued key) serves for step = tt
-IsServed-step shards old new (Get key) (Found value) serves for step = tt
-IsServed-step shards old new (Free key) (Freed freed) serves for step = tt
-IsServed-step shards old new event reply serves for step = absurd step
+has_ended-clash : (core : CoreState) (number : ℕ) (shard : ShardState) → IsOpen core number → slice_get core.shards number ≡ Some shard → shard.ended ≡ true → ⊥
+has_ended-clash core number shard is_open here ended = clash (sym ended ∙ sym (ap (λ o. option_map_or (λ (s : ShardState). s.ended) o false) here) ∙ is_open.running)
+
+pub IsServed-step : (old new : CoreState) (event : Event) (reply : Reply) → MayCall old event → CoreStep old event reply new → IsServed reply
+IsServed-step old new (Put shard value) (Refused Config) may step = omega (arith, may.within, step.0)
+IsServed-step old new (Put shard value) (Refused Ended) may step = has_ended-clash old shard step.0.0 may step.0.1 step.0.2
+IsServed-step old new (Put shard value) (Refused PagesSpent) may step = tt
+IsServed-step old new (Put shard value) (Refused OutOfMemory) may step = tt
+IsServed-step old new (Put shard value) (Issued key) may step = tt
+IsServed-step old new (Get key) (Found value) may step = tt
+IsServed-step old new (Free key) (Freed freed) may step = tt
+IsServed-step old new (End shard) reply may step = absurd may
+IsServed-step old new (Adopt shard) (Refused Config) may step = omega (arith, may.within, step.0)
+IsServed-step old new (Adopt shard) (Refused Ended) may step = has_ended-clash old shard step.0.0 may step.0.1 step.0.2
+IsServed-step old new (Adopt shard) (Refused PagesSpent) may step = tt
+IsServed-step old new (Adopt shard) (Refused NothingToAdopt) may step = tt
+IsServed-step old new (Adopt shard) (Refused OutOfMemory) may step = tt
+IsServed-step old new (Adopt shard) (Adopted head) may step = tt
+IsServed-step old new event reply may step = absurd step
+
+-- what an open shard answers to its end
+abbrev pub EndsOrNoMemory : Reply → Type 0
+EndsOrNoMemory reply.Ended = Unit {0}
+EndsOrNoMemory (Refused OutOfMemory) = Unit {0}
+EndsOrNoMemory reply = ⊥
+
+pub EndsOrNoMemory-step : (old new : CoreState) (shard : ℕ) (reply : Reply) → IsOpen old shard → CoreStep old (End shard) reply new → EndsOrNoMemory reply
+EndsOrNoMemory-step old new shard reply.Ended is_open step = tt
+EndsOrNoMemory-step old new shard (Refused OutOfMemory) is_open step = tt
+EndsOrNoMemory-step old new shard (Refused Config) is_open step = absurd (omega (arith, is_open.within, step.0))
+EndsOrNoMemory-step old new shard (Refused Ended) is_open step = absurd (has_ended-clash old shard step.0.0 is_open step.0.1 step.0.2)
+EndsOrNoMemory-step old new shard reply is_open step = absurd step

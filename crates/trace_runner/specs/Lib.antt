@@ -12,6 +12,7 @@ pub mod Sink
 pub mod Report
 pub mod Job
 pub mod Telling
+pub mod Barrier
 pub mod Runs
 pub mod Recalls
 pub mod Replay

@@ -1,70 +1,130 @@
 -- What a run keeps of what its lines did.
-use Rattle.std.specs.Prelude.{◌≡◌, ◌<◌, ◌≤◌, ◌+◌, ◌++◌, ℕ, false, List, [], length, map, take, slice_get, slice_index, Option, Some, None, option_and_then}
+use Rattle.std.specs.Prelude.{◌≡◌, ◌<◌, ◌≤◌, ◌+◌, ◌++◌, ◌&&◌, ◌||◌, ◌==◌, nat_eq, nat_lt, ℕ, Bool, true, false, not, List, [], length, map, take, slice_get, slice_index, Option, Some, None, option_and_then}
+use Rattle.std.specs.HashSet as bag
+use Rattle.std.specs.HashSet.{HashSet}
+use Rattle.std.specs.Option.{option_map_or}
 use Rattle.span.specs.declared.key.Key.{Key}
 use Rattle.shard.specs.State.{ShardState}
-use Rattle.trace_runner.specs.Causes.{first_cause}
+use Rattle.trace_runner.specs.Barrier.{open_lines}
+use Rattle.trace_runner.specs.Causes.{has_ended, is_call, is_call_over, thread_of}
 use Rattle.arena_core.specs.State.{CoreState}
-use Rattle.trace_runner.specs.Runs.{DoLines, IsAnswered, Made, all_made, answers_from, event_made, key_made, on_line}
+use Rattle.trace_runner.specs.Runs.{Asked, Did, DoLines, IsAnswered, Made, all_made, answers_from, asked_of, ends_asked, key_made, on_line}
 use Rattle.arena_core.specs.declared.event.Event.{Event}
-use Rattle.arena_core.specs.declared.event.Event.TheVariants.{Put}
+use Rattle.arena_core.specs.declared.event.Event.TheVariants.{Put, End, Adopt}
 use Rattle.arena_core.specs.declared.reply.Reply.{Reply}
 use Rattle.arena_core.specs.declared.reply.Reply.TheVariants.{Refused}
 use Rattle.arena_core.specs.declared.reply.Refusal.TheVariants.{Ended, Config}
 use Rattle.trace_runner.specs.declared.report.LineAnswer.{LineAnswer}
-use Rattle.trace_runner.specs.declared.text.header.Header.{Header}
 use Rattle.trace_runner.specs.declared.text.line.Line.{Line}
 
+-- ---- the answers
+
 -- the answers of the lines that were run stand first, each line's from its start on; then come those of the line that runs
-pub record Recalls (done : List (List Made)) (answers : List LineAnswer) (starts : List ℕ) : Type 0 where
+pub record Recalls (done : List Did) (answers : List LineAnswer) (starts : List ℕ) : Type 0 where
   pub running : List LineAnswer
   pub answers_are : answers ≡ answers_from 6 done ++ running
   pub long : length starts ≡ length done + 1
   pub starts_are : (place : ℕ) → place ≤ length done → slice_index starts place ≡ length (answers_from 6 (take place done))
 
 -- the answers of a line that did this, or none, where no such line was run
-abbrev pub answers_if_run : ℕ → Option (List Made) → List LineAnswer
+abbrev pub answers_if_run : ℕ → Option Did → List LineAnswer
 answers_if_run number None = []
-answers_if_run number (Some made) = map (on_line number) made
+answers_if_run number (Some did) = map (on_line number) did.calls
 
 -- the key that a put of a line gave out
-abbrev pub key_if_run : ℕ → Option (List Made) → Option Key
+abbrev pub key_if_run : ℕ → Option Did → Option Key
 key_if_run place None = None
-key_if_run place (Some made) = option_and_then key_made (slice_get made place)
+key_if_run place (Some did) = option_and_then key_made (slice_get did.calls place)
 
 -- some lines were run so
 abbrev pub IsRunning : List LineAnswer → List ℕ → Type 0
-IsRunning answers starts = (done : List (List Made)) × Recalls done answers starts
+IsRunning answers starts = (done : List Did) × Recalls done answers starts
 
--- the calls that the line of that number asks for were made, from one core to the other, and their answers stand behind the earlier ones
-abbrev pub Makes : ℕ → List (Option Event) → CoreState → List LineAnswer → CoreState → List LineAnswer → Type 0
-Makes number asked old before new after = (made : List Made) × (map event_made made ≡ asked) × IsAnswered old made new × (after ≡ before ++ map (on_line number) made)
+-- what the line of that number asks for was done, from one core to the other, and the answers stand behind the earlier ones
+abbrev pub Makes : ℕ → List Asked → CoreState → List LineAnswer → CoreState → List LineAnswer → Type 0
+Makes number asked old before new after = (made : List Made) × (map asked_of made ≡ asked) × IsAnswered old made new × (after ≡ before ++ map (on_line number) made)
 
--- so many lines of the trace were run to their end
-pub record HasCome (lines : List Line) (count : ℕ) (old core : CoreState) (answers : List LineAnswer) (starts : List ℕ) : Type 0 where
-  pub done : List (List Made)
-  pub count_is : length done ≡ count
-  pub lines_do : DoLines lines (take count lines) [] done
-  pub answered : IsAnswered old (all_made done) core
-  pub answers_are : answers ≡ answers_from 6 done
-  pub long : length starts ≡ count
-  pub starts_are : (place : ℕ) → place < count → slice_index starts place ≡ length (answers_from 6 (take place done))
+-- the shards of these threads were abandoned, from one core to the other
+abbrev pub Abandons : List ℕ → CoreState → CoreState → Type 0
+Abandons threads old new = (made : List Made) × (map asked_of made ≡ ends_asked threads) × IsAnswered old made new
 
--- no cause holds of the line, after some lines above it
-abbrev pub IsFine : Header → Line → Type 0
-IsFine header line = (above : List Line) × (first_cause header above line ≡ None)
+-- first these shards were abandoned, then the calls of the line were made
+abbrev pub MakesLine : ℕ → List ℕ → List Asked → CoreState → List LineAnswer → CoreState → List LineAnswer → Type 0
+MakesLine number threads asked old before new after = (mid : CoreState) × Abandons threads old mid × Makes number asked mid before new after
 
--- the core has so many shards, and none of them has ended
-pub record Serves (shards : ℕ) (core : CoreState) : Type 0 where
-  pub enough : shards ≤ core.limits.shards
-  pub running : (number : ℕ) (shard : ShardState) → slice_get core.shards number ≡ Some shard → shard.ended ≡ false
+-- ---- the shards that have ended
 
--- the event is for one of so many shards
-abbrev pub IsFor : ℕ → Event → Type 0
-IsFor shards (Put shard value) = shard < shards
-IsFor shards event = Unit {0}
+-- the shard of this number is there and has ended
+abbrev pub ended_at : CoreState → ℕ → Bool
+ended_at core number = option_map_or (λ shard. shard.ended) (slice_get core.shards number) false
+
+-- the shard of this number is one of the core's, and has not ended
+pub record IsOpen (core : CoreState) (number : ℕ) : Type 0 where
+  pub within : number < core.limits.shards
+  pub running : ended_at core number ≡ false
+
+-- no shard came, and none ended
+pub record KeepsShards (old new : CoreState) : Type 0 where
+  pub limits : new.limits ≡ old.limits
+  pub ended : (number : ℕ) → ended_at new number ≡ ended_at old number
+
+-- of the shards, that of this number ended
+pub record EndsOne (old : CoreState) (ending : ℕ) (new : CoreState) : Type 0 where
+  pub limits : new.limits ≡ old.limits
+  pub ended : (number : ℕ) → ended_at new number ≡ (ending == number || ended_at old number)
+
+-- of the shards below a number, those that pass the test ended
+pub record EndsBelow (old : CoreState) (bound : ℕ) (test : ℕ → Bool) (new : CoreState) : Type 0 where
+  pub limits : new.limits ≡ old.limits
+  pub ended : (number : ℕ) → ended_at new number ≡ ((nat_lt number bound && test number) || ended_at old number)
+
+-- the event may be called for a line: its shard is open; the barrier alone ends shards
+abbrev pub MayCall : CoreState → Event → Type 0
+MayCall core (Put shard value) = IsOpen core shard
+MayCall core (Adopt shard) = IsOpen core shard
+MayCall core (End shard) = ⊥
+MayCall core event = Unit {0}
 
 -- the shard that was asked for is there and has not ended
 abbrev pub IsServed : Reply → Type 0
 IsServed (Refused Ended) = ⊥
 IsServed (Refused Config) = ⊥
 IsServed reply = Unit {0}
+
+-- ---- the threads that leave
+
+-- the set has the thread
+abbrev pub has : {S : Type 0} → HashSet ℕ S → ℕ → Bool
+has set thread = bag.contains nat_eq set thread
+
+-- the shards of the threads that leave are open
+abbrev pub CanLeave : (shards : ℕ) → CoreState → (leaving : ℕ → Bool) → Type 0
+CanLeave shards core leaving = (thread : ℕ) → thread < shards → leaving thread ≡ true → IsOpen core thread
+
+-- the line may be run: its numbers are within their ranges, and its thread or shard is open and does not leave
+pub record IsReady (shards : ℕ) (core : CoreState) (leaving : ℕ → Bool) (line : Line) : Type 0 where
+  pub within : is_call is_call_over line ≡ false
+  pub running : (thread : ℕ) → thread_of line ≡ Some thread → IsOpen core thread
+  pub stays : (thread : ℕ) → thread_of line ≡ Some thread → leaving thread ≡ false
+  pub leavers : CanLeave shards core leaving
+
+-- ---- how far a run has come
+
+-- so many lines of the trace were run to their end
+pub record HasCome (shards : ℕ) (lines : List Line) (count : ℕ) (old core : CoreState) (answers : List LineAnswer) (starts : List ℕ) (leaving : ℕ → Bool) : Type 0 where
+  pub done : List Did
+  pub count_is : length done ≡ count
+  pub lines_do : DoLines shards lines (take count lines) [] done
+  pub answered : IsAnswered old (all_made done) core
+  pub answers_are : answers ≡ answers_from 6 done
+  pub long : length starts ≡ count
+  pub starts_are : (place : ℕ) → place < count → slice_index starts place ≡ length (answers_from 6 (take place done))
+  pub enough : shards ≤ core.limits.shards
+  -- the threads that leave are those that ended behind the last barrier, and the shards of those that ended above it have ended
+  pub leaving_are : (thread : ℕ) → leaving thread ≡ has_ended (open_lines (take count lines)) thread
+  pub ended_are : (thread : ℕ) → thread < shards → ended_at core thread ≡ (has_ended (take count lines) thread && not (has_ended (open_lines (take count lines)) thread))
+
+-- the core has so many shards, and none of them has ended
+pub record Serves (shards : ℕ) (core : CoreState) : Type 0 where
+  pub enough : shards ≤ core.limits.shards
+  pub running : (number : ℕ) → number < shards → ended_at core number ≡ false

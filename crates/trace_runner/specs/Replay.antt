@@ -1,5 +1,5 @@
 -- What a replay writes.
-use Rattle.std.specs.Prelude.{◌≡◌, ◌+◌, ℕ, Bool, List, Option, length}
+use Rattle.std.specs.Prelude.{◌≡◌, ◌+◌, ℕ, Bool, List, Option}
 use Rattle.std.specs.Io.KnownBytes.{Appends}
 use Rattle.span.specs.PlainMap.{empty_map}
 use Rattle.arena_core.specs.State.{CoreState, HasKeys, limits_of, live_keys, new_core, pages, shown}
@@ -19,18 +19,19 @@ abbrev pub start_of : Header → CoreState
 start_of header = new_core (limits_of header.shards header.pages header.ring header.gens)
 
 -- the counts at the end of a run
-abbrev pub ending_of : CoreState → List LineAnswer → Ending
-ending_of core answers = record { pages = pages core; live = live_keys core; calls = length answers }
+abbrev pub ending_of : CoreState → ℕ → Ending
+ending_of core calls = record { pages = pages core; live = live_keys core; calls = calls }
 
--- the bytes are the report of a run of the trace: its calls, from the empty plain map on, with their answers, and the counts at its end,
+-- the bytes are the report of a run of the trace: what its lines did, from the empty plain map on, with their answers, and the counts at its end,
 -- of which that of the live keys is how many keys have a value in the plain map
 pub record IsReportOf (trace : Trace) (replies : Bool) (bytes : List ℕ) : Type 0 where
   pub last : CoreState
   pub answers : List LineAnswer
+  pub calls : ℕ
   pub empty : shown (start_of trace.header) ≡ empty_map
-  pub run : IsRun trace.lines.items (start_of trace.header) last answers
+  pub run : IsRun trace.header.shards trace.lines.items (start_of trace.header) last answers calls
   pub live : HasKeys (shown last) (live_keys last)
-  pub spelled : bytes ≡ report_text replies answers (ending_of last answers)
+  pub spelled : bytes ≡ report_text replies answers (ending_of last calls)
 
 -- the text is a trace, and the bytes are the report of a run of it
 abbrev pub IsReport : List ℕ → Bool → List ℕ → Type 0

@@ -26,6 +26,9 @@ answer_text answer.Absent = codes "none"
 answer_text answer.Freed = codes "yes"
 answer_text answer.NotFreed = codes "no"
 answer_text answer.Unbound = codes "unbound"
+answer_text answer.Ended = codes "ended"
+answer_text (answer.Adopted head) = codes "adopted " ++ id_text head
+answer_text answer.NothingToAdopt = codes "refused nothing"
 
 -- the line's number, a space, the answer
 abbrev pub answer_line : LineAnswer → List ℕ

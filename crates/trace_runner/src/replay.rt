@@ -52,14 +52,14 @@ fn report(alloc: Global, trace: &Trace, replies: bool) -> Result<Vec<u8>, AllocE
     ensures { IfOk result (λ report. IsReportOf trace.now replies report.items) }
 {
     let core = core_of(alloc, &trace.header)?;
-    let (core, answers) = run_lines(alloc, trace, core)?;
-    let totals = core.totals();
+    let ran = run_lines(alloc, trace, core)?;
+    let totals = ran.core.totals();
     let ending = Ending {
         pages: totals.pages,
         live: totals.live,
-        calls: answers.len(),
+        calls: ran.calls,
     };
-    report_text(alloc, replies, answers.as_slice(), &ending)
+    report_text(alloc, replies, ran.answers.as_slice(), &ending)
 }
 
 /// The core that the header asks for.

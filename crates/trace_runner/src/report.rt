@@ -1,13 +1,13 @@
 //! What a report says.
 
-use span::Key;
+use span::{Key, SpanId};
 
-/// What a call of the trace answered.
+/// What a call of the trace answered, or an adoption.
 #[derive(Clone, Copy, Debug, PartialEq, Eq)]
 pub enum Answer {
     /// A put stored its value under this key.
     Key(Key),
-    /// A put found no usable slot, and the shard may have no further page.
+    /// A put found no usable slot, and the shard may have no further page; or an adoption found the shard to have all its pages.
     PagesSpent,
     /// A look-up found this value.
     Value(u128),
@@ -19,14 +19,20 @@ pub enum Answer {
     NotFreed,
     /// The put that should have bound the name was refused.
     Unbound,
+    /// A thread has ended.
+    Ended,
+    /// A shard adopted the group with this head.
+    Adopted(SpanId),
+    /// A shard found no group to adopt.
+    NothingToAdopt,
 }
 
 /// An answer with its place in the trace.
 #[derive(Clone, Copy, Debug, PartialEq, Eq)]
 pub struct LineAnswer {
-    /// The number of the line that made the call, where the first line of the trace is 1.
+    /// The number of the line that asked for it, where the first line of the trace is 1.
     pub line: usize,
-    /// What the call answered.
+    /// What it was answered.
     pub answer: Answer,
 }
 
@@ -37,6 +43,6 @@ pub struct Ending {
     pub pages: usize,
     /// The slots that hold a value, over all pages.
     pub live: usize,
-    /// The calls that the trace made, whatever they answered.
+    /// The replies to the lines of threads, whatever they say. Those to adoptions don't count.
     pub calls: usize,
 }

@@ -1,18 +1,21 @@
 //! Runs the lines of a trace on a core.
 
-ghost use Rattle.std.specs.Prelude.{◌≡◌, ◌+◌, ◌-◌, ◌≤◌, ◌^◌, ◌<◌, [], ◌∷◌, false, List, ℕ, Some, None, map, option_map, OnOk, IfOk, length, slice_get, slice_range, unwrap_or};
+ghost use Rattle.std.specs.Prelude.{◌≡◌, ◌+◌, ◌-◌, ◌≤◌, ◌^◌, ◌<◌, ◌&&◌, ◌||◌, ◌==◌, ◌++◌, [], ◌∷◌, true, false, not, List, ℕ, Some, None, filter, map, OnOk, IfOk, length, nat_lt, slice_get, slice_range, take, unwrap_or, if◌then◌else◌};
 ghost use Rattle.std.specs.List.{range_with_len};
 ghost use Rattle.arena_core.specs.State.{CoreState};
-ghost use Rattle.trace_runner.specs.Recalls.{HasCome, IsFine, IsFor, IsRunning, IsServed, Makes, Recalls, Serves, answers_if_run, key_if_run};
-ghost use Rattle.trace_runner.specs.Causes.{is_call_over};
-ghost use Rattle.trace_runner.specs.Runs.{IsRun, Made, answer_to, event_made, events_asked, events_of_line, IsTold, key_at, key_of, on_line, Called};
+ghost use Rattle.trace_runner.specs.Barrier.{is_barrier};
+ghost use Rattle.trace_runner.specs.Recalls.{Abandons, CanLeave, EndsBelow, EndsOne, HasCome, IsOpen, IsReady, IsRunning, IsServed, KeepsShards, Makes, MakesLine, MayCall, Recalls, Serves, answers_if_run, has, key_if_run};
+ghost use Rattle.trace_runner.specs.Causes.{call_ends, ends, first_cause, is_adopt, is_call_over};
+ghost use Rattle.trace_runner.specs.Runs.{IsRun, Did, answer_to, asked_by, asked_by_call, on_key, IsTold, key_at, key_of, Called, Calls, Keyless, Leaves};
 ghost use Rattle.arena_core.specs.declared.event.Event.TheVariants as event;
+ghost use Rattle.arena_core.specs.declared.event.Event.{Event};
 
 use arena_core::{Core, Event, Refusal, Reply};
 use crate::report::{Answer, LineAnswer};
 use crate::text::{Call, Line, Name, Reference, Trace};
 use span::Key;
 use std::alloc::{AllocError, Global};
+use std::collections::HashSet;
 
 /// A run of a trace, as far as it has come.
 #[derive(Drop)]
@@ -23,29 +26,33 @@ struct Run<'t> {
     answers: Vec<LineAnswer>,
     /// Of each line that was run, where its answers begin.
     starts: Vec<usize>,
+    /// The threads that have ended, and whose shards wait for the barrier to be abandoned.
+    leaving: HashSet<u32>,
 }
 
 impl<'t> Run<'t> {
     /// A run of no line yet.
     fn new(alloc: Global, trace: &'t Trace, core: Core) -> Run<'t>
+        requires { Serves trace.now.header.shards core }
         ensures trace { result.trace.now ≡ trace.now }
-        ensures come { HasCome trace.now.lines.items 0 core result.core result.answers.items result.starts.items }
+        ensures come { HasCome trace.now.header.shards trace.now.lines.items 0 core result.core result.answers.items result.starts.items (has result.leaving) }
     {
         Run {
             trace,
             core,
             answers: Vec::new(alloc),
             starts: Vec::new(alloc),
+            leaving: HashSet::new(alloc),
         }
     }
 
     /// Makes a call on the line of that number, and keeps its answer.
     fn call(&mut self, number: usize, event: Event) -> Result<(), AllocError>
-        requires serving { Serves self.old.trace.now.header.shards self.old.core }
-        requires asked { IsFor self.old.trace.now.header.shards event }
-        ensures made { OnOk result (Makes number (Some event ∷ []) self.old.core self.old.answers.items self.new.core self.new.answers.items) }
+        requires { MayCall self.old.core event }
+        ensures made { OnOk result (Makes number (Calls event ∷ []) self.old.core self.old.answers.items self.new.core self.new.answers.items) }
         ensures starts { self.new.starts ≡ self.old.starts }
-        ensures serving { Serves self.old.trace.now.header.shards self.new.core }
+        ensures shards { KeepsShards self.old.core self.new.core }
+        ensures leaving { self.new.leaving ≡ self.old.leaving }
         ensures trace { self.new.trace.now ≡ self.old.trace.now }
     {
         let reply = self.core.step(event);
@@ -59,10 +66,10 @@ impl<'t> Run<'t> {
 
     /// Keeps that no call was made, since the key that the line names was never given out.
     fn skip(&mut self, number: usize) -> Result<(), AllocError>
-        requires { Serves self.old.trace.now.header.shards self.old.core }
-        ensures made { OnOk result (Makes number (None ∷ []) self.old.core self.old.answers.items self.new.core self.new.answers.items) }
+        ensures made { OnOk result (Makes number (Keyless ∷ []) self.old.core self.old.answers.items self.new.core self.new.answers.items) }
         ensures starts { self.new.starts ≡ self.old.starts }
-        ensures serving { Serves self.old.trace.now.header.shards self.new.core }
+        ensures shards { KeepsShards self.old.core self.new.core }
+        ensures leaving { self.new.leaving ≡ self.old.leaving }
         ensures trace { self.new.trace.now ≡ self.old.trace.now }
     {
         self.answers.push(LineAnswer {
@@ -80,12 +87,12 @@ impl<'t> Run<'t> {
         count: u32,
         value: u128,
     ) -> Result<(), AllocError>
-        requires serving { Serves self.old.trace.now.header.shards self.old.core }
-        requires asked { thread < self.old.trace.now.header.shards }
+        requires running { IsOpen self.old.core thread }
         requires within { value + count ≤ 2 ^ 128 }
-        ensures made { OnOk result (Makes number (map (λ i. Some (event.Put thread (value + i))) (range_with_len 0 count)) self.old.core self.old.answers.items self.new.core self.new.answers.items) }
+        ensures made { OnOk result (Makes number (map (λ i. Calls (event.Put thread (value + i))) (range_with_len 0 count)) self.old.core self.old.answers.items self.new.core self.new.answers.items) }
         ensures starts { self.new.starts ≡ self.old.starts }
-        ensures serving { Serves self.old.trace.now.header.shards self.new.core }
+        ensures shards { KeepsShards self.old.core self.new.core }
+        ensures leaving { self.new.leaving ≡ self.old.leaving }
         ensures trace { self.new.trace.now ≡ self.old.trace.now }
     {
         for i in 0..count {
@@ -101,7 +108,7 @@ impl<'t> Run<'t> {
     /// The answers of the line at that place below the header, or none where it was not run to its end.
     fn answers_of(&self, line: usize) -> &[LineAnswer]
         requires { IsRunning self.now.answers.items self.now.starts.items }
-        ensures { (done : List (List Made)) → Recalls done self.now.answers.items self.now.starts.items → result.now ≡ answers_if_run (line + 6) (slice_get done line) }
+        ensures { (done : List Did) → Recalls done self.now.answers.items self.now.starts.items → result.now ≡ answers_if_run (line + 6) (slice_get done line) }
     {
         if line >= self.starts.len() - 1 {
             return &[];
@@ -112,7 +119,7 @@ impl<'t> Run<'t> {
     /// The key that a put of the line at that place gave out.
     fn key_at(&self, line: usize, place: usize) -> Option<Key>
         requires { IsRunning self.now.answers.items self.now.starts.items }
-        ensures { (done : List (List Made)) → Recalls done self.now.answers.items self.now.starts.items → result ≡ key_if_run place (slice_get done line) }
+        ensures { (done : List Did) → Recalls done self.now.answers.items self.now.starts.items → result ≡ key_if_run place (slice_get done line) }
     {
         match self.answers_of(line).get(place)?.answer {
             Answer::Key(key) => Some(key),
@@ -123,7 +130,7 @@ impl<'t> Run<'t> {
     /// The key of a name and a place.
     fn key_named(&self, name: &Name, place: u32) -> Option<Key>
         requires { IsRunning self.now.answers.items self.now.starts.items }
-        ensures { (done : List (List Made)) → Recalls done self.now.answers.items self.now.starts.items → result ≡ key_at self.now.trace.now.lines.items done name.now place }
+        ensures { (done : List Did) → Recalls done self.now.answers.items self.now.starts.items → result ≡ key_at self.now.trace.now.lines.items done name.now place }
     {
         let line = self.trace.binding(name)?.line;
         self.key_at(line, place as usize)
@@ -132,19 +139,19 @@ impl<'t> Run<'t> {
     /// The key that a reference names.
     fn key_of(&self, reference: &Reference) -> Option<Key>
         requires { IsRunning self.now.answers.items self.now.starts.items }
-        ensures { (done : List (List Made)) → Recalls done self.now.answers.items self.now.starts.items → result ≡ key_of self.now.trace.now.lines.items done reference.now }
+        ensures { (done : List Did) → Recalls done self.now.answers.items self.now.starts.items → result ≡ key_of self.now.trace.now.lines.items done reference.now }
     {
         self.key_named(&reference.name, reference.index.unwrap_or(0))
     }
 
     /// Frees the key of a name and a place.
     fn free(&mut self, number: usize, name: &Name, place: u32) -> Result<(), AllocError>
-        requires serving { Serves self.old.trace.now.header.shards self.old.core }
         requires running { IsRunning self.old.answers.items self.old.starts.items }
-        ensures made { (done : List (List Made)) → Recalls done self.old.answers.items self.old.starts.items
-            → OnOk result (Makes number (option_map event.Free (key_at self.old.trace.now.lines.items done name.now place) ∷ []) self.old.core self.old.answers.items self.new.core self.new.answers.items) }
+        ensures made { (done : List Did) → Recalls done self.old.answers.items self.old.starts.items
+            → OnOk result (Makes number (on_key event.Free (key_at self.old.trace.now.lines.items done name.now place) ∷ []) self.old.core self.old.answers.items self.new.core self.new.answers.items) }
         ensures starts { self.new.starts ≡ self.old.starts }
-        ensures serving { Serves self.old.trace.now.header.shards self.new.core }
+        ensures shards { KeepsShards self.old.core self.new.core }
+        ensures leaving { self.new.leaving ≡ self.old.leaving }
         ensures trace { self.new.trace.now ≡ self.old.trace.now }
     {
         match self.key_named(name, place) {
@@ -155,12 +162,12 @@ impl<'t> Run<'t> {
 
     /// Looks the key of a reference up.
     fn get(&mut self, number: usize, reference: &Reference) -> Result<(), AllocError>
-        requires serving { Serves self.old.trace.now.header.shards self.old.core }
         requires running { IsRunning self.old.answers.items self.old.starts.items }
-        ensures made { (done : List (List Made)) → Recalls done self.old.answers.items self.old.starts.items
-            → OnOk result (Makes number (option_map event.Get (key_of self.old.trace.now.lines.items done reference.now) ∷ []) self.old.core self.old.answers.items self.new.core self.new.answers.items) }
+        ensures made { (done : List Did) → Recalls done self.old.answers.items self.old.starts.items
+            → OnOk result (Makes number (on_key event.Get (key_of self.old.trace.now.lines.items done reference.now) ∷ []) self.old.core self.old.answers.items self.new.core self.new.answers.items) }
         ensures starts { self.new.starts ≡ self.old.starts }
-        ensures serving { Serves self.old.trace.now.header.shards self.new.core }
+        ensures shards { KeepsShards self.old.core self.new.core }
+        ensures leaving { self.new.leaving ≡ self.old.leaving }
         ensures trace { self.new.trace.now ≡ self.old.trace.now }
     {
         match self.key_of(reference) {
@@ -171,12 +178,12 @@ impl<'t> Run<'t> {
 
     /// Frees the keys of a name from one place up to, and without, another.
     fn sweep(&mut self, number: usize, name: &Name, from: u32, to: u32) -> Result<(), AllocError>
-        requires serving { Serves self.old.trace.now.header.shards self.old.core }
         requires running { IsRunning self.old.answers.items self.old.starts.items }
-        ensures made { (done : List (List Made)) → Recalls done self.old.answers.items self.old.starts.items
-            → OnOk result (Makes number (map (λ place. option_map event.Free (key_at self.old.trace.now.lines.items done name.now place)) (range_with_len from (to - from))) self.old.core self.old.answers.items self.new.core self.new.answers.items) }
+        ensures made { (done : List Did) → Recalls done self.old.answers.items self.old.starts.items
+            → OnOk result (Makes number (map (λ place. on_key event.Free (key_at self.old.trace.now.lines.items done name.now place)) (range_with_len from (to - from))) self.old.core self.old.answers.items self.new.core self.new.answers.items) }
         ensures starts { self.new.starts ≡ self.old.starts }
-        ensures serving { Serves self.old.trace.now.header.shards self.new.core }
+        ensures shards { KeepsShards self.old.core self.new.core }
+        ensures leaving { self.new.leaving ≡ self.old.leaving }
         ensures trace { self.new.trace.now ≡ self.old.trace.now }
     {
         for place in from..to {
@@ -185,16 +192,32 @@ impl<'t> Run<'t> {
         Ok(())
     }
 
+    /// Keeps that the thread has ended. Its shard is abandoned at the barrier.
+    fn leave(&mut self, number: usize, thread: u32) -> Result<(), AllocError>
+        ensures made { OnOk result (Makes number (Leaves ∷ []) self.old.core self.old.answers.items self.new.core self.new.answers.items) }
+        ensures starts { self.new.starts ≡ self.old.starts }
+        ensures shards { KeepsShards self.old.core self.new.core }
+        ensures leaving { OnOk result ((other : ℕ) → has self.new.leaving other ≡ (thread == other || has self.old.leaving other)) }
+        ensures trace { self.new.trace.now ≡ self.old.trace.now }
+    {
+        self.leaving.insert(thread)?;
+        self.answers.push(LineAnswer {
+            line: number,
+            answer: Answer::Ended,
+        })?;
+        Ok(())
+    }
+
     /// Makes the calls of a thread on the line of that number.
     fn thread_call(&mut self, number: usize, thread: u32, call: &Call) -> Result<(), AllocError>
-        requires serving { Serves self.old.trace.now.header.shards self.old.core }
         requires running { IsRunning self.old.answers.items self.old.starts.items }
-        requires asked { thread < self.old.trace.now.header.shards }
+        requires thread { IsOpen self.old.core thread }
         requires within { is_call_over call.now ≡ false }
-        ensures made { (done : List (List Made)) → Recalls done self.old.answers.items self.old.starts.items
-            → OnOk result (Makes number (events_asked self.old.trace.now.lines.items done thread call.now) self.old.core self.old.answers.items self.new.core self.new.answers.items) }
+        ensures made { (done : List Did) → Recalls done self.old.answers.items self.old.starts.items
+            → OnOk result (Makes number (asked_by_call self.old.trace.now.lines.items done thread call.now) self.old.core self.old.answers.items self.new.core self.new.answers.items) }
         ensures starts { self.new.starts ≡ self.old.starts }
-        ensures serving { Serves self.old.trace.now.header.shards self.new.core }
+        ensures shards { KeepsShards self.old.core self.new.core }
+        ensures leaving { OnOk result ((other : ℕ) → has self.new.leaving other ≡ (call_ends other thread call.now || has self.old.leaving other)) }
         ensures trace { self.new.trace.now ≡ self.old.trace.now }
     {
         match call {
@@ -209,38 +232,79 @@ impl<'t> Run<'t> {
             Call::Get { key } => self.get(number, key),
             Call::Free { key } => self.free(number, &key.name, key.index.unwrap_or(0)),
             Call::Sweep { name, from, to } => self.sweep(number, name, *from, *to),
-            Call::End => Ok(()),
+            Call::End => self.leave(number, thread),
         }
     }
 
-    /// Makes the calls of the line at that place below the header.
+    /// Abandons the shard of a thread that has ended.
+    fn end(&mut self, shard: u32) -> Result<(), AllocError>
+        requires { IsOpen self.old.core shard }
+        ensures made { OnOk result (Abandons (shard ∷ []) self.old.core self.new.core) }
+        ensures shards { OnOk result (EndsOne self.old.core shard self.new.core) }
+        ensures answers { self.new.answers ≡ self.old.answers }
+        ensures starts { self.new.starts ≡ self.old.starts }
+        ensures leaving { self.new.leaving ≡ self.old.leaving }
+        ensures trace { self.new.trace.now ≡ self.old.trace.now }
+    {
+        match self.core.step(Event::End { shard }) {
+            Reply::Ended => Ok(()),
+            Reply::Refused(Refusal::OutOfMemory) => Err(AllocError),
+            _ => unreachable!(),
+        }
+    }
+
+    /// Abandons the shards of the threads that have ended since the last barrier, ascending.
+    fn abandon(&mut self) -> Result<(), AllocError>
+        requires { CanLeave self.old.trace.now.header.shards self.old.core (has self.old.leaving) }
+        ensures made { OnOk result (Abandons (filter (has self.old.leaving) (range_with_len 0 self.old.trace.now.header.shards)) self.old.core self.new.core) }
+        ensures shards { OnOk result (EndsBelow self.old.core self.old.trace.now.header.shards (has self.old.leaving) self.new.core) }
+        ensures answers { self.new.answers ≡ self.old.answers }
+        ensures starts { self.new.starts ≡ self.old.starts }
+        ensures leaving { OnOk result ((other : ℕ) → has self.new.leaving other ≡ false) }
+        ensures trace { self.new.trace.now ≡ self.old.trace.now }
+    {
+        let shards = self.trace.header.shards;
+        for shard in 0..shards {
+            if self.leaving.contains(&shard) {
+                self.end(shard)?;
+            }
+        }
+        self.leaving.clear();
+        Ok(())
+    }
+
+    /// Does what the line at that place below the header asks for. A barrier begins with its first
+    /// adoption, since no thread's line stands between that and the mark.
     fn line(&mut self, place: usize, line: &Line) -> Result<(), AllocError>
-        requires serving { Serves self.old.trace.now.header.shards self.old.core }
         requires running { IsRunning self.old.answers.items self.old.starts.items }
         requires numbered { place + 6 < 2 ^ 64 }
-        requires fine { IsFine self.old.trace.now.header line.now }
-        ensures made { (done : List (List Made)) → Recalls done self.old.answers.items self.old.starts.items
-            → OnOk result (Makes (place + 6) (events_of_line self.old.trace.now.lines.items done line.now) self.old.core self.old.answers.items self.new.core self.new.answers.items) }
+        requires ready { IsReady self.old.trace.now.header.shards self.old.core (has self.old.leaving) line.now }
+        ensures made { (done : List Did) → Recalls done self.old.answers.items self.old.starts.items
+            → OnOk result (MakesLine (place + 6) (if is_barrier line.now then filter (has self.old.leaving) (range_with_len 0 self.old.trace.now.header.shards) else []) (asked_by self.old.trace.now.lines.items done line.now) self.old.core self.old.answers.items self.new.core self.new.answers.items) }
+        ensures shards { OnOk result (EndsBelow self.old.core self.old.trace.now.header.shards (λ thread. is_barrier line.now && has self.old.leaving thread) self.new.core) }
         ensures starts { self.new.starts ≡ self.old.starts }
-        ensures serving { Serves self.old.trace.now.header.shards self.new.core }
+        ensures leaving { OnOk result ((other : ℕ) → has self.new.leaving other ≡ (not (is_barrier line.now) && (ends other line.now || has self.old.leaving other))) }
         ensures trace { self.new.trace.now ≡ self.old.trace.now }
     {
         match line {
-            Line::Silent | Line::Adopt { .. } | Line::Mark => Ok(()),
+            Line::Silent => Ok(()),
             Line::Call { thread, call } => self.thread_call(place + 6, *thread, call),
+            Line::Adopt { shard } => {
+                self.abandon()?;
+                self.call(place + 6, Event::Adopt { shard: *shard })
+            }
+            Line::Mark => self.abandon(),
         }
     }
 
     /// Runs the next line, which is the one at that place below the header.
     fn next_line(&mut self, place: usize, line: &Line) -> Result<(), AllocError>
-        requires serving { Serves self.old.trace.now.header.shards self.old.core }
         requires numbered { place + 6 < 2 ^ 64 }
         requires here { slice_get self.old.trace.now.lines.items place ≡ Some line.now }
-        requires fine { IsFine self.old.trace.now.header line.now }
-        requires come { (start : CoreState) × HasCome self.old.trace.now.lines.items place start self.old.core self.old.answers.items self.old.starts.items }
-        ensures more { (start : CoreState) → HasCome self.old.trace.now.lines.items place start self.old.core self.old.answers.items self.old.starts.items
-            → OnOk result (HasCome self.old.trace.now.lines.items (place + 1) start self.new.core self.new.answers.items self.new.starts.items) }
-        ensures serving { Serves self.old.trace.now.header.shards self.new.core }
+        requires fine { first_cause self.old.trace.now.header (take place self.old.trace.now.lines.items) line.now ≡ None }
+        requires come { (start : CoreState) × HasCome self.old.trace.now.header.shards self.old.trace.now.lines.items place start self.old.core self.old.answers.items self.old.starts.items (has self.old.leaving) }
+        ensures more { (start : CoreState) → HasCome self.old.trace.now.header.shards self.old.trace.now.lines.items place start self.old.core self.old.answers.items self.old.starts.items (has self.old.leaving)
+            → OnOk result (HasCome self.old.trace.now.header.shards self.old.trace.now.lines.items (place + 1) start self.new.core self.new.answers.items self.new.starts.items (has self.new.leaving)) }
         ensures trace { self.new.trace.now ≡ self.old.trace.now }
     {
         self.starts.push(self.answers.len())?;
@@ -249,29 +313,56 @@ impl<'t> Run<'t> {
     }
 }
 
-/// Runs the lines of a trace on the core, one after another. It gives the core after the last line,
-/// and an answer for each call, in the order of the calls.
+/// What a run of all lines leaves.
+#[derive(Drop)]
+pub struct Ran {
+    /// The core after the last line, and after the end of the text.
+    pub core: Core,
+    /// The answers of all lines, in the order of the report.
+    pub answers: Vec<LineAnswer>,
+    /// How many of them are those of threads' lines.
+    pub calls: usize,
+}
+
+/// Runs the lines of a trace on the core, one after another, and abandons at the end of the text the
+/// shards of the threads that ended behind the last mark.
 ///
 /// The error is want of memory, of a call or of the answers; the core is then dropped.
-pub fn run_lines(
-    alloc: Global,
-    trace: &Trace,
-    core: Core,
-) -> Result<(Core, Vec<LineAnswer>), AllocError>
+pub fn run_lines(alloc: Global, trace: &Trace, core: Core) -> Result<Ran, AllocError>
     requires { Serves trace.now.header.shards core }
-    ensures { IfOk result (λ ran. IsRun trace.now.lines.items core ran.0 ran.1.items) }
+    ensures { IfOk result (λ ran. IsRun trace.now.header.shards trace.now.lines.items core ran.core ran.answers.items ran.calls) }
 {
     let mut run = Run::new(alloc, trace, core);
     for place in 0..trace.lines.len() {
         run.next_line(place, &trace.lines[place])?;
     }
+    run.abandon()?;
     let Run {
         trace: _,
         core,
         answers,
         starts: _,
+        leaving: _,
     } = run;
-    Ok((core, answers))
+    let calls = answers.len() - adoptions(trace.lines.as_slice());
+    Ok(Ran {
+        core,
+        answers,
+        calls,
+    })
+}
+
+/// How many of the lines are adoptions.
+fn adoptions(lines: &[Line]) -> usize
+    ensures { result ≡ length (filter is_adopt lines.now) }
+{
+    let mut count = 0;
+    for line in lines {
+        if let Line::Adopt { .. } = line {
+            count += 1;
+        }
+    }
+    count
 }
 
 /// The answers from one place up to, and without, another.
@@ -283,7 +374,8 @@ fn part(answers: &[LineAnswer], start: usize, end: usize) -> &[LineAnswer]
     &answers[start..end]
 }
 
-/// What the report tells of a reply. Of the refusals it tells only that of a page; want of memory ends the run.
+/// What the report tells of a reply. Of the refusals it tells only that of a page and that of an adoption which finds
+/// nothing; want of memory ends the run.
 fn answer_to(reply: Reply) -> Result<Answer, AllocError>
     requires { IsServed reply }
     ensures told { OnOk result (IsTold reply) }
@@ -295,9 +387,12 @@ fn answer_to(reply: Reply) -> Result<Answer, AllocError>
         Reply::Found(None) => Ok(Answer::Absent),
         Reply::Freed(true) => Ok(Answer::Freed),
         Reply::Freed(false) => Ok(Answer::NotFreed),
+        Reply::Ended => Ok(Answer::Ended),
+        Reply::Adopted(head) => Ok(Answer::Adopted(head)),
         Reply::Refused(Refusal::PagesSpent) => Ok(Answer::PagesSpent),
+        Reply::Refused(Refusal::NothingToAdopt) => Ok(Answer::NothingToAdopt),
         Reply::Refused(Refusal::OutOfMemory) => Err(AllocError),
-        // The trace asks for its own threads alone, and no shard ends.
+        // A trace asks for its own shards alone, and for none that has ended.
         Reply::Refused(Refusal::Ended | Refusal::Config) => unreachable!(),
     }
 }

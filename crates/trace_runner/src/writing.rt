@@ -50,6 +50,12 @@ fn push_answer(out: &mut Vec<u8>, answer: Answer) -> Result<(), AllocError>
         Answer::Freed => out.extend_from_slice(b"yes"),
         Answer::NotFreed => out.extend_from_slice(b"no"),
         Answer::Unbound => out.extend_from_slice(b"unbound"),
+        Answer::Ended => out.extend_from_slice(b"ended"),
+        Answer::Adopted(head) => {
+            out.extend_from_slice(b"adopted ")?;
+            push_id(out, head)
+        }
+        Answer::NothingToAdopt => out.extend_from_slice(b"refused nothing"),
     }
 }
 

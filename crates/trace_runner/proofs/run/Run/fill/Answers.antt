@@ -1,25 +1,27 @@
-use Rattle.std.proofs.Common.{◌+◌, ◌∙◌, ◌∷◌, [], Some, List, Option, map, subst, sym, ℕ, zero-add}
+use Rattle.std.proofs.Common.{◌+◌, ◌∙◌, ◌∷◌, [], List, map, subst, sym, ℕ, zero-add}
 use Rattle.std.specs.List.{range_with_len}
 use Rattle.std.proofs.lemmas.List.FromFn.{map-range_with_len_more}
 use Rattle.trace_runner.specs.Recalls.{Makes}
-use Rattle.arena_core.specs.declared.event.Event.{Event}
+use Rattle.trace_runner.specs.Runs.{Asked, Calls}
 use Rattle.arena_core.specs.declared.event.Event.TheVariants as event
 use Rattle.trace_runner.proofs.Making.{Makes-append}
+use Rattle.trace_runner.proofs.Shards.{IsOpen-kept, KeepsShards-trans}
 use Rattle.trace_runner.proofs.run.Run.fill.Goals as goal
 
 pub loop-i-preserved : goal.loop-i-preserved
 loop-i-preserved c =
-    let put : ℕ → Option Event = λ k. Some (event.Put c.args.thread (c.args.value + k)) in
+    let put : ℕ → Asked = λ k. Calls (event.Put c.args.thread (c.args.value + k)) in
     let more = map-range_with_len_more put 0 c.loop-i.i c.loop-i.i (zero-add c.loop-i.i) in
     record {
-      made = subst (λ (asked : List (Option Event)). Makes c.args.number asked c.args.self.now.core c.args.self.now.answers.items c.call.new.self.core c.call.new.self.answers.items) (sym more)
+      made = subst (λ (asked : List Asked). Makes c.args.number asked c.args.self.now.core c.args.self.now.answers.items c.call.new.self.core c.call.new.self.answers.items) (sym more)
           (Makes-append c.args.number (map put (range_with_len 0 c.loop-i.i)) (put c.loop-i.i ∷ []) c.args.self.now.core c.loop-i.self.core c.call.new.self.core
           c.args.self.now.answers.items c.loop-i.self.answers.items c.call.new.self.answers.items c.loop-i.invariant.made
           (rw (← c.from.ensures) c.in_ok-call.ensures.made));
       starts = c.call.ensures.starts ∙ c.loop-i.invariant.starts;
       trace = c.call.ensures.trace ∙ c.loop-i.invariant.trace;
-      serving = rw (← c.loop-i.invariant.trace) c.call.ensures.serving;
+      leaving = c.call.ensures.leaving ∙ c.loop-i.invariant.leaving;
+      shards = KeepsShards-trans _ _ _ c.loop-i.invariant.shards c.call.ensures.shards;
     }
 
-pub call-requires-clause-serving : goal.call-requires-clause-serving
-call-requires-clause-serving c = rw c.loop-i.invariant.trace c.loop-i.invariant.serving
+pub call-requires : goal.call-requires
+call-requires c = IsOpen-kept _ _ c.args.thread c.loop-i.invariant.shards c.requires.running

@@ -1,13 +1,15 @@
-use Rattle.std.proofs.Common.{◌≡◌, ◌+◌, Some, map}
+use Rattle.std.proofs.Common.{◌≡◌, ◌+◌, map}
 use Rattle.std.specs.List.{range_with_len}
-use Rattle.trace_runner.specs.Recalls.{Makes, Serves}
+use Rattle.trace_runner.specs.Recalls.{KeepsShards, Makes}
+use Rattle.trace_runner.specs.Runs.{Calls}
 use Rattle.arena_core.specs.declared.event.Event.TheVariants as event
 use Rattle.trace_runner.proofs.run.Run.fill.Given as goal
 
 abbrev pub invariant-loop-i : goal.invariant-loop-i
 invariant-loop-i l = record {
-  made : Makes l.number (map (λ k. Some (event.Put l.thread (l.value + k))) (range_with_len 0 l.i)) l.fn.self.core l.fn.self.answers.items l.self.core l.self.answers.items;
+  made : Makes l.number (map (λ k. Calls (event.Put l.thread (l.value + k))) (range_with_len 0 l.i)) l.fn.self.core l.fn.self.answers.items l.self.core l.self.answers.items;
   starts : l.self.starts ≡ l.fn.self.starts;
   trace : l.self.trace.now ≡ l.fn.self.trace.now;
-  serving : Serves l.fn.self.trace.now.header.shards l.self.core;
+  leaving : l.self.leaving ≡ l.fn.self.leaving;
+  shards : KeepsShards l.fn.self.core l.self.core;
 }

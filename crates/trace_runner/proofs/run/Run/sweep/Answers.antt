@@ -1,29 +1,28 @@
-use Rattle.std.proofs.Common.{◌+◌, ◌-◌, ◌≡◌, ◌∙◌, ◌∷◌, [], List, Option, ap, map, subst, sym, arith, ℕ}
+use Rattle.std.proofs.Common.{◌+◌, ◌-◌, ◌≡◌, ◌∙◌, ◌∷◌, [], List, ap, map, subst, sym, arith, ℕ}
 use Rattle.std.specs.List.{range_with_len}
-use Rattle.std.specs.Prelude.{option_map}
 use Rattle.std.proofs.lemmas.List.FromFn.{map-range_with_len_more}
 use Rattle.trace_runner.specs.Recalls.{Makes, Recalls}
-use Rattle.trace_runner.specs.Runs.{Made, key_at}
+use Rattle.trace_runner.specs.Runs.{Asked, Did, key_at, on_key}
 use Rattle.trace_runner.specs.declared.text.line.Line.{Line}
-use Rattle.arena_core.specs.declared.event.Event.{Event}
 use Rattle.arena_core.specs.declared.event.Event.TheVariants as event
 use Rattle.trace_runner.proofs.Making.{Makes-append, Recalls-makes}
+use Rattle.trace_runner.proofs.Shards.{KeepsShards-trans}
 use Rattle.trace_runner.proofs.run.Run.sweep.Goals as goal
 
 module _ (c : goal.In_ok-free) where
   -- the event that the sweep asks for at a place
-  asked : List (List Made) → ℕ → Option Event
-  asked done place = option_map event.Free (key_at c.args.self.now.trace.now.lines.items done c.args.name.now place)
+  asked : List Did → ℕ → Asked
+  asked done place = on_key event.Free (key_at c.args.self.now.trace.now.lines.items done c.args.name.now place)
 
-  recalls_now : (done : List (List Made)) → Recalls done c.args.self.now.answers.items c.args.self.now.starts.items → Recalls done c.loop-place.self.answers.items c.loop-place.self.starts.items
+  recalls_now : (done : List Did) → Recalls done c.args.self.now.answers.items c.args.self.now.starts.items → Recalls done c.loop-place.self.answers.items c.loop-place.self.starts.items
   unfolding asked
   recalls_now done recalls = rw c.loop-place.invariant.starts (Recalls-makes done c.args.number (map (asked done) (range_with_len c.args.from (c.loop-place.place - c.args.from)))
       c.args.self.now.core c.loop-place.self.core c.args.self.now.answers.items c.loop-place.self.answers.items c.args.self.now.starts.items recalls (c.loop-place.invariant.made done recalls))
 
-  freed : (done : List (List Made)) → Recalls done c.args.self.now.answers.items c.args.self.now.starts.items
+  freed : (done : List Did) → Recalls done c.args.self.now.answers.items c.args.self.now.starts.items
       → Makes c.args.number (asked done c.loop-place.place ∷ []) c.loop-place.self.core c.loop-place.self.answers.items c.free.new.self.core c.free.new.self.answers.items
   unfolding asked
-  freed done recalls = subst (λ (lines : List Line). Makes c.args.number (option_map event.Free (key_at lines done c.args.name.now c.loop-place.place) ∷ []) c.loop-place.self.core c.loop-place.self.answers.items c.free.new.self.core c.free.new.self.answers.items)
+  freed done recalls = subst (λ (lines : List Line). Makes c.args.number (on_key event.Free (key_at lines done c.args.name.now c.loop-place.place) ∷ []) c.loop-place.self.core c.loop-place.self.answers.items c.free.new.self.core c.free.new.self.answers.items)
       (ap (λ t. t.lines.items) c.loop-place.invariant.trace) (c.in_ok-free.ensures.made done (recalls_now done recalls))
 
 pub loop-place-preserved : goal.loop-place-preserved
@@ -32,7 +31,7 @@ loop-place-preserved c = record {
   made = λ done recalls.
       let more = map-range_with_len_more (asked c done) c.args.from (c.loop-place.place - c.args.from) c.loop-place.place (omega arith) in
       let next : c.loop-place.place + 1 - c.args.from ≡ c.loop-place.place - c.args.from + 1 = omega arith in
-      subst (λ (events : List (Option Event)). Makes c.args.number events c.args.self.now.core c.args.self.now.answers.items c.free.new.self.core c.free.new.self.answers.items)
+      subst (λ (events : List Asked). Makes c.args.number events c.args.self.now.core c.args.self.now.answers.items c.free.new.self.core c.free.new.self.answers.items)
       (sym (ap (λ n. map (asked c done) (range_with_len c.args.from n)) next ∙ more))
       (Makes-append c.args.number (map (asked c done) (range_with_len c.args.from (c.loop-place.place - c.args.from))) (asked c done c.loop-place.place ∷ []) c.args.self.now.core c.loop-place.self.core c.free.new.self.core
       c.args.self.now.answers.items c.loop-place.self.answers.items c.free.new.self.answers.items (c.loop-place.invariant.made done recalls) (freed c done recalls));
@@ -42,13 +41,11 @@ loop-place-preserved c = record {
       (before.0, rw c.free.ensures.starts (Recalls-makes before.0 c.args.number _ c.loop-place.self.core c.free.new.self.core c.loop-place.self.answers.items c.free.new.self.answers.items c.loop-place.self.starts.items before.1 (c.in_ok-free.ensures.made before.0 before.1)));
   starts = c.free.ensures.starts ∙ c.loop-place.invariant.starts;
   trace = c.free.ensures.trace ∙ c.loop-place.invariant.trace;
-  serving = rw (← c.loop-place.invariant.trace) c.free.ensures.serving;
+  leaving = c.free.ensures.leaving ∙ c.loop-place.invariant.leaving;
+  shards = KeepsShards-trans _ _ _ c.loop-place.invariant.shards c.free.ensures.shards;
 }
 
 pub returns-clause-made : goal.returns-clause-made
 returns-clause-made c done recalls =
     let all : c.loop-place.place - c.args.from ≡ c.args.to - c.args.from = omega arith in
     rw (← all) (c.loop-place.invariant.made done recalls)
-
-pub free-requires-clause-serving : goal.free-requires-clause-serving
-free-requires-clause-serving c = rw c.loop-place.invariant.trace c.loop-place.invariant.serving

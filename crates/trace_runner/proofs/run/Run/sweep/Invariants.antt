@@ -1,18 +1,18 @@
 use Rattle.std.proofs.Common.{◌≡◌, ◌-◌, ◌≤◌, List, map}
 use Rattle.std.specs.List.{range_with_len}
-use Rattle.std.specs.Prelude.{option_map}
-use Rattle.trace_runner.specs.Recalls.{IsRunning, Makes, Recalls, Serves}
-use Rattle.trace_runner.specs.Runs.{Made, key_at}
+use Rattle.trace_runner.specs.Recalls.{IsRunning, KeepsShards, Makes, Recalls}
+use Rattle.trace_runner.specs.Runs.{Did, key_at, on_key}
 use Rattle.arena_core.specs.declared.event.Event.TheVariants as event
 use Rattle.trace_runner.proofs.run.Run.sweep.Given as goal
 
 abbrev pub invariant-loop-place : goal.invariant-loop-place
 invariant-loop-place l = record {
-  made : (done : List (List Made)) → Recalls done l.fn.self.answers.items l.fn.self.starts.items
-      → Makes l.number (map (λ place. option_map event.Free (key_at l.fn.self.trace.now.lines.items done l.name place)) (range_with_len l.fn.from (l.place - l.fn.from))) l.fn.self.core l.fn.self.answers.items l.self.core l.self.answers.items;
+  made : (done : List Did) → Recalls done l.fn.self.answers.items l.fn.self.starts.items
+      → Makes l.number (map (λ place. on_key event.Free (key_at l.fn.self.trace.now.lines.items done l.name place)) (range_with_len l.fn.from (l.place - l.fn.from))) l.fn.self.core l.fn.self.answers.items l.self.core l.self.answers.items;
   bound : l.place - l.fn.from ≤ l.fn.to - l.fn.from;
   running : IsRunning l.self.answers.items l.self.starts.items;
   starts : l.self.starts ≡ l.fn.self.starts;
   trace : l.self.trace.now ≡ l.fn.self.trace.now;
-  serving : Serves l.fn.self.trace.now.header.shards l.self.core;
+  leaving : l.self.leaving ≡ l.fn.self.leaving;
+  shards : KeepsShards l.fn.self.core l.self.core;
 }

@@ -1,0 +1,97 @@
+-- Which shards have ended, after several steps.
+use Rattle.std.proofs.Common.{◌≡◌, ◌==◌, ◌&&◌, ◌||◌, ◌+◌, ◌<◌, ◌≤◌, ℕ, Bool, true, false, cond, nat_lt, List, [], ◌∷◌, ◌++◌, map, filter, refl, sym, ap, ap₂, subst, ◌∙◌, arith, inl, inr, zero-add, append-nil}
+use Rattle.std.specs.List.{range_with_len}
+use Rattle.std.proofs.lemmas.List.FromFn.{filter_of_map_range_with_len_more}
+use Rattle.std.proofs.lemmas.Bool.Decides.{nat_tests}
+use Rattle.arena_core.specs.State.{CoreState}
+use Rattle.trace_runner.specs.Recalls.{Abandons, EndsBelow, EndsOne, IsOpen, KeepsShards, ended_at}
+use Rattle.trace_runner.proofs.Lines.{either}
+use Rattle.trace_runner.proofs.Making.{Abandons-append}
+
+pub KeepsShards-refl : (core : CoreState) → KeepsShards core core
+KeepsShards-refl core = record { limits = refl; ended = λ number. refl }
+
+pub KeepsShards-trans : (a b c : CoreState) → KeepsShards a b → KeepsShards b c → KeepsShards a c
+KeepsShards-trans a b c first second = record { limits = second.limits ∙ first.limits; ended = λ number. second.ended number ∙ first.ended number }
+
+pub IsOpen-kept : (old new : CoreState) (number : ℕ) → KeepsShards old new → IsOpen old number → IsOpen new number
+IsOpen-kept old new number keeps is_open = record { within = rw keeps.limits is_open.within; running = keeps.ended number ∙ is_open.running }
+
+and_false : (b : Bool) → (b && false) ≡ false
+and_false true = refl
+and_false false = refl
+
+-- where no shard ended, none of those that pass a test that none passes did
+pub EndsBelow-kept : (old new : CoreState) (bound : ℕ) (test : ℕ → Bool) → ((number : ℕ) → test number ≡ false) → KeepsShards old new → EndsBelow old bound test new
+EndsBelow-kept old new bound test none keeps = record {
+  limits = keeps.limits;
+  ended = λ number. keeps.ended number ∙ ap (λ b. b || ended_at old number) (sym (ap (λ b. nat_lt number bound && b) (none number) ∙ and_false (nat_lt number bound)));
+}
+
+pub EndsBelow-then : (old mid new : CoreState) (bound : ℕ) (test : ℕ → Bool) → EndsBelow old bound test mid → KeepsShards mid new → EndsBelow old bound test new
+EndsBelow-then old mid new bound test ended keeps = record { limits = keeps.limits ∙ ended.limits; ended = λ number. keeps.ended number ∙ ended.ended number }
+
+pub EndsBelow-none : (core : CoreState) (test : ℕ → Bool) → EndsBelow core 0 test core
+EndsBelow-none core test = record { limits = refl; ended = λ number. let e : nat_lt number 0 ≡ false = grind (arith, nat_tests) in rw e refl }
+
+module _ (old mid : CoreState) (bound : ℕ) (test : ℕ → Bool) (below : EndsBelow old bound test mid) where
+  -- a shard that is not reached yet is open as before
+  pub IsOpen-reached : IsOpen old bound → IsOpen mid bound
+  IsOpen-reached is_open = record {
+    within = rw below.limits is_open.within;
+    running = let e : nat_lt bound bound ≡ false = grind (arith, nat_tests) in below.ended bound ∙ rw e is_open.running;
+  }
+
+  -- a shard that passes no test is open as before
+  pub IsOpen-others : (number : ℕ) → test number ≡ false → IsOpen old number → IsOpen mid number
+  IsOpen-others number fails is_open = record {
+    within = rw below.limits is_open.within;
+    running = below.ended number ∙ ap (λ b. b || ended_at old number) (ap (λ b. nat_lt number bound && b) fails ∙ and_false (nat_lt number bound)) ∙ is_open.running;
+  }
+
+  -- the shard of this number passes no test, and stays
+  pub EndsBelow-skip : test bound ≡ false → EndsBelow old (bound + 1) test mid
+  EndsBelow-skip fails = record { limits = below.limits; ended = λ number. below.ended number ∙ ap (λ b. b || ended_at old number) (more number) }
+    where
+      more : (number : ℕ) → (nat_lt number bound && test number) ≡ (nat_lt number (bound + 1) && test number)
+      more number = elim (either (bound == number)) [
+        | inl is ↦
+            let same : bound ≡ number = grind (arith, nat_tests) in
+            let e : test number ≡ false = rw (← same) fails in
+            ap (λ b. nat_lt number bound && b) e ∙ and_false (nat_lt number bound) ∙ sym (ap (λ b. nat_lt number (bound + 1) && b) e ∙ and_false (nat_lt number (bound + 1)))
+        | inr differs ↦ let e : nat_lt number bound ≡ nat_lt number (bound + 1) = grind (arith, nat_tests) in ap (λ b. b && test number) e
+      ]
+
+  -- or it passes, and ends
+  pub EndsBelow-end : (new : CoreState) → test bound ≡ true → EndsOne mid bound new → EndsBelow old (bound + 1) test new
+  EndsBelow-end new passes ends = record { limits = ends.limits ∙ below.limits; ended = λ number. ends.ended number ∙ ap (λ b. bound == number || b) (below.ended number) ∙ more number }
+    where
+      more : (number : ℕ) → (bound == number || ((nat_lt number bound && test number) || ended_at old number)) ≡ ((nat_lt number (bound + 1) && test number) || ended_at old number)
+      more number = elim (either (bound == number)) [
+        | inl is ↦
+            let same : bound ≡ number = grind (arith, nat_tests) in
+            let e : test number ≡ true = rw (← same) passes in
+            let f : nat_lt number (bound + 1) ≡ true = grind (arith, nat_tests) in
+            ap (λ b. b || ((nat_lt number bound && test number) || ended_at old number)) is ∙ sym (ap₂ (λ a b. (a && b) || ended_at old number) f e)
+        | inr differs ↦
+            let e : nat_lt number bound ≡ nat_lt number (bound + 1) = grind (arith, nat_tests) in
+            ap (λ b. b || ((nat_lt number bound && test number) || ended_at old number)) differs ∙ ap (λ b. (b && test number) || ended_at old number) e
+      ]
+
+map_same : (ks : List ℕ) → map (λ (k : ℕ). k) ks ≡ ks
+map_same [] = refl
+map_same (k ∷ ks) = ap (λ xs. k ∷ xs) (map_same ks)
+
+-- the numbers below one more that pass the test
+pub filter-range_with_len_more : (test : ℕ → Bool) (n : ℕ) → filter test (range_with_len 0 (n + 1)) ≡ filter test (range_with_len 0 n) ++ cond (test n) (n ∷ []) []
+filter-range_with_len_more test n =
+    ap (filter test) (sym (map_same (range_with_len 0 (n + 1)))) ∙ filter_of_map_range_with_len_more test (λ k. k) 0 n n (zero-add n)
+    ∙ ap (λ ks. filter test ks ++ cond (test n) (n ∷ []) []) (map_same (range_with_len 0 n))
+
+module _ (old mid : CoreState) (bound : ℕ) (test : ℕ → Bool) (abandons : Abandons (filter test (range_with_len 0 bound)) old mid) where
+  pub Abandons-skip : test bound ≡ false → Abandons (filter test (range_with_len 0 (bound + 1))) old mid
+  Abandons-skip fails = subst (λ (ts : List ℕ). Abandons ts old mid) (sym (filter-range_with_len_more test bound ∙ ap (λ b. filter test (range_with_len 0 bound) ++ cond b (bound ∷ []) []) fails ∙ append-nil (filter test (range_with_len 0 bound)))) abandons
+
+  pub Abandons-end : (new : CoreState) → test bound ≡ true → Abandons (bound ∷ []) mid new → Abandons (filter test (range_with_len 0 (bound + 1))) old new
+  Abandons-end new passes more = subst (λ (ts : List ℕ). Abandons ts old new) (sym (filter-range_with_len_more test bound ∙ ap (λ b. filter test (range_with_len 0 bound) ++ cond b (bound ∷ []) []) passes))
+      (Abandons-append (filter test (range_with_len 0 bound)) (bound ∷ []) old mid new abandons more)

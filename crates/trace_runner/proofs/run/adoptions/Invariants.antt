@@ -1,0 +1,7 @@
+use Rattle.std.proofs.Common.{◌≡◌, filter, length, take}
+use Rattle.trace_runner.specs.Causes.{is_adopt}
+use Rattle.trace_runner.proofs.run.adoptions.Given as goal
+
+-- the adoptions so far
+abbrev pub invariant-loop-line : goal.invariant-loop-line
+invariant-loop-line l = l.count ≡ length (filter is_adopt (take l.line-index l.lines))
