@@ -13,8 +13,7 @@ use Rattle.trace_runner.proofs.Lines.{either}
 use Rattle.arena_core.specs.declared.event.Event.{Event}
 use Rattle.arena_core.specs.declared.event.Event.TheVariants.{Put, Get, Free, End, Adopt}
 use Rattle.arena_core.specs.declared.reply.Reply.{Reply}
-use Rattle.arena_core.specs.declared.reply.Reply.TheVariants.{Issued, Found, Freed, Adopted, Refused}
-use Rattle.arena_core.specs.declared.reply.Reply.TheVariants as reply
+use Rattle.arena_core.specs.declared.reply.Reply.TheVariants.{Issued, Found, Freed, ShardEnded, Adopted, Refused}
 use Rattle.arena_core.specs.declared.reply.Refusal.TheVariants.{OutOfMemory, PagesSpent, Ended, NothingToAdopt, Config}
 
 -- the shard of this number is there and has ended
@@ -78,20 +77,26 @@ KeepsShards-step old new (Put shard value) (Refused Ended) may step = KeepsShard
 KeepsShards-step old new (Put shard value) (Refused PagesSpent) may step = KeepsShards-same old new step.1
 KeepsShards-step old new (Put shard value) (Refused OutOfMemory) may step = KeepsShards-same old new step.1
 KeepsShards-step old new (Get key) (Found value) may step = KeepsShards-same old new step.1
-KeepsShards-step old new (Free key) (Freed true) may step = subst (KeepsShards old) (sym step.rest) (KeepsShards-with_shard old step.number step.before step.after step.here (ended-Frees step.before step.after key step.at step.frees))
+KeepsShards-step old new (Free key) (Freed true) may (inl step) = subst (KeepsShards old) (sym step.rest) (KeepsShards-with_shard old step.number step.before step.after step.here (ended-Frees step.before step.after key step.at step.frees))
+KeepsShards-step old new (Free key) (Freed true) may (inr step) = subst (KeepsShards old) (sym step.rest) (record { limits = refl; ended = λ number. refl })
 KeepsShards-step old new (Free key) (Freed false) may step = KeepsShards-same old new step.1
 KeepsShards-step old new (End shard) reply may step = absurd may
-KeepsShards-step old new (Adopt shard) (Adopted head) may step = subst (KeepsShards old) (sym step.rest) (KeepsShards-with_shard old shard step.before step.after step.here.here (step.running ∙ sym step.here.running))
-KeepsShards-step old new (Adopt shard) (Refused Config) may step = KeepsShards-same old new step.1
+KeepsShards-step old new (Adopt shard) (Adopted head) may step =
+    let adopted = ap (λ (s : ShardState). s.ended) step.adopts.takes_in.after in
+    let keeps = KeepsShards-with_shard old shard step.before step.after step.here adopted in
+    subst (KeepsShards old) (sym step.rest) (record { limits = keeps.limits; ended = keeps.ended })
+KeepsShards-step old new (Adopt shard) (Refused Config) may step = KeepsShards-same old new step.2
 KeepsShards-step old new (Adopt shard) (Refused Ended) may step = KeepsShards-same old new step.1
-KeepsShards-step old new (Adopt shard) (Refused PagesSpent) may step = KeepsShards-same old new step
-KeepsShards-step old new (Adopt shard) (Refused NothingToAdopt) may step = KeepsShards-same old new step
-KeepsShards-step old new (Adopt shard) (Refused OutOfMemory) may step = KeepsShards-same old new step
+KeepsShards-step old new (Adopt shard) (Refused PagesSpent) may step = KeepsShards-same old new step.1
+KeepsShards-step old new (Adopt shard) (Refused NothingToAdopt) may step = KeepsShards-same old new step.2
+KeepsShards-step old new (Adopt shard) (Refused OutOfMemory) may step = KeepsShards-same old new step.1
 KeepsShards-step old new event reply may step = absurd step
 
 -- the end of a shard is its own alone
-pub EndsOne-step : (old new : CoreState) (shard : ℕ) → CoreStep old (End shard) reply.Ended new → EndsOne old shard new
-EndsOne-step old new shard step = subst (EndsOne old shard) (sym step.rest) (EndsOne-with_shard old shard step.before step.after step.here.here step.ended)
+pub EndsOne-step : (old new : CoreState) (shard : ℕ) → CoreStep old (End shard) ShardEnded new → EndsOne old shard new
+EndsOne-step old new shard step =
+    let ends = EndsOne-with_shard old shard step.before step.after step.here (ap (λ (s : ShardState). s.ended) step.receives.after) in
+    subst (EndsOne old shard) (sym step.rest) (record { limits = ends.limits; ended = ends.ended })
 
 clash : true ≡ false → ⊥
 clash e = cc
@@ -118,12 +123,12 @@ IsServed-step old new event reply may step = absurd step
 
 -- what an open shard answers to its end
 abbrev pub EndsOrNoMemory : Reply → Type 0
-EndsOrNoMemory reply.Ended = Unit {0}
+EndsOrNoMemory ShardEnded = Unit {0}
 EndsOrNoMemory (Refused OutOfMemory) = Unit {0}
 EndsOrNoMemory reply = ⊥
 
 pub EndsOrNoMemory-step : (old new : CoreState) (shard : ℕ) (reply : Reply) → IsOpen old shard → CoreStep old (End shard) reply new → EndsOrNoMemory reply
-EndsOrNoMemory-step old new shard reply.Ended is_open step = tt
+EndsOrNoMemory-step old new shard ShardEnded is_open step = tt
 EndsOrNoMemory-step old new shard (Refused OutOfMemory) is_open step = tt
 EndsOrNoMemory-step old new shard (Refused Config) is_open step = absurd (omega (arith, is_open.within, step.0))
 EndsOrNoMemory-step old new shard (Refused Ended) is_open step = absurd (has_ended-clash old shard step.0.0 is_open step.0.1 step.0.2)

@@ -6,13 +6,12 @@ use Rattle.trace_runner.specs.Barrier.{is_barrier, leavers}
 use Rattle.trace_runner.specs.Causes.{binding_of}
 use Rattle.arena_core.specs.State.{CoreState, shown}
 use Rattle.arena_core.specs.Step.{CoreRun}
-use Rattle.arena_core.specs.Plain.{PlainRun}
+use Rattle.arena_core.specs.Plain.{PlainRun, erased}
 use Rattle.arena_core.specs.declared.event.Event.{Event}
 use Rattle.arena_core.specs.declared.event.Event.TheVariants as event
 use Rattle.arena_core.specs.declared.reply.Refusal.TheVariants.{PagesSpent, NothingToAdopt}
 use Rattle.arena_core.specs.declared.reply.Reply.{Reply}
-use Rattle.arena_core.specs.declared.reply.Reply.TheVariants.{Issued, Found, Freed, Adopted, Refused}
-use Rattle.arena_core.specs.declared.reply.Reply.TheVariants as reply
+use Rattle.arena_core.specs.declared.reply.Reply.TheVariants.{Issued, Found, Freed, ShardEnded, Adopted, Refused}
 use Rattle.trace_runner.specs.declared.report.Answer.{Answer}
 use Rattle.trace_runner.specs.declared.report.Answer.TheVariants as answer
 use Rattle.trace_runner.specs.declared.report.LineAnswer.{LineAnswer}
@@ -114,10 +113,10 @@ IsTold (Refused NothingToAdopt) = Unit {0}
 IsTold (Refused cause) = ⊥
 IsTold reply = Unit {0}
 
--- the core answers the calls so, which is a run of the plain map that it shows
+-- the core answers the calls so, which without ends and adoptions is a run of the plain map that it shows
 pub record IsAnswered (old : CoreState) (made : List Made) (new : CoreState) : Type 0 where
   pub core : CoreRun old (events_of made) (replies_of made) new
-  pub plain : PlainRun (shown old) (events_of made) (replies_of made) (shown new)
+  pub plain : PlainRun (shown old) (erased (events_of made) (replies_of made)) (shown new)
   pub told : AllByRecursion IsTold (replies_of made)
 
 -- after what was done, the line did this
@@ -146,7 +145,7 @@ answer_to (Called event (Found (Some value))) = answer.Value value
 answer_to (Called event (Found None)) = answer.Absent
 answer_to (Called event (Freed true)) = answer.Freed
 answer_to (Called event (Freed false)) = answer.NotFreed
-answer_to (Called event reply.Ended) = answer.Ended
+answer_to (Called event ShardEnded) = answer.Ended
 answer_to (Called event (Adopted head)) = answer.Adopted head
 answer_to (Called event (Refused NothingToAdopt)) = answer.NothingToAdopt
 answer_to (Called event (Refused cause)) = answer.PagesSpent

@@ -247,7 +247,7 @@ impl<'t> Run<'t> {
         ensures trace { self.new.trace.now ≡ self.old.trace.now }
     {
         match self.core.step(Event::End { shard }) {
-            Reply::Ended => Ok(()),
+            Reply::ShardEnded => Ok(()),
             Reply::Refused(Refusal::OutOfMemory) => Err(AllocError),
             _ => unreachable!(),
         }
@@ -387,7 +387,7 @@ fn answer_to(reply: Reply) -> Result<Answer, AllocError>
         Reply::Found(None) => Ok(Answer::Absent),
         Reply::Freed(true) => Ok(Answer::Freed),
         Reply::Freed(false) => Ok(Answer::NotFreed),
-        Reply::Ended => Ok(Answer::Ended),
+        Reply::ShardEnded => Ok(Answer::Ended),
         Reply::Adopted(head) => Ok(Answer::Adopted(head)),
         Reply::Refused(Refusal::PagesSpent) => Ok(Answer::PagesSpent),
         Reply::Refused(Refusal::NothingToAdopt) => Ok(Answer::NothingToAdopt),

@@ -27,6 +27,19 @@ fn trace(alloc: Global, pages: u32, gens: u32, lines: &str) -> Result<Vec<u8>, A
     Ok(text.into_bytes())
 }
 
+/// A trace of several shards, with 9 generations: the header, then the lines.
+fn shared_trace(
+    alloc: Global,
+    shards: u32,
+    pages: u32,
+    lines: &str,
+) -> Result<Vec<u8>, AllocError> {
+    let text = format!(in alloc;
+        "mesh 1\nshards {shards}\npages {pages}\nring 4\ngens 9\n{lines}"
+    )?;
+    Ok(text.into_bytes())
+}
+
 /// Whether the report of the lines is the replies and the end, and without replies the end alone.
 fn reports(
     rt: &(impl AllocGlobal + Abort),
@@ -102,6 +115,103 @@ fn small_traces(rt: HostRuntime) -> Result<(), Fail> {
         ),
     ] {
         let text = trace(rt.alloc(), pages, gens, lines)?;
+        reports(&rt, &text, replies, end)?;
+    }
+    Ok(())
+}
+
+#[test]
+fn ends_and_adoptions(rt: HostRuntime) -> Result<(), Fail> {
+    for (shards, pages, lines, replies, end) in [
+        // What a thread left behind is adopted, and the adopter puts into it.
+        (
+            2,
+            4,
+            "0 put a 5\n0 end\nadopt 1\nmark\n1 put b 6\n",
+            "6 key 0.0/0/1\n7 ended\n8 adopted 0.0\n10 key 0.0/1/1\n",
+            "end pages 1 live 2 calls 3",
+        ),
+        (
+            2,
+            4,
+            "0 put a 5\n0 end\nadopt 1\nadopt 1\nmark\n1 put b 6\n",
+            "6 key 0.0/0/1\n7 ended\n8 adopted 0.0\n9 refused nothing\n11 key 0.0/1/1\n",
+            "end pages 1 live 2 calls 3",
+        ),
+        // The free that empties a group of the pool gives up its page.
+        (
+            2,
+            4,
+            "0 put a 5\n0 end\nmark\n1 free a\n1 get a\n",
+            "6 key 0.0/0/1\n7 ended\n9 yes\n10 none\n",
+            "end pages 0 live 0 calls 4",
+        ),
+        // A shard that has all its pages adopts nothing, and the group stays in the pool.
+        (
+            2,
+            1,
+            "0 put a 5\n0 end\n1 put b 6\nadopt 1\nmark\n",
+            "6 key 0.0/0/1\n7 ended\n8 key 1.0/0/1\n9 refused pages\n",
+            "end pages 2 live 2 calls 3",
+        ),
+        (
+            2,
+            4,
+            "adopt 1\nmark\n",
+            "6 refused nothing\n",
+            "end pages 0 live 0 calls 0",
+        ),
+    ] {
+        let text = shared_trace(rt.alloc(), shards, pages, lines)?;
+        reports(&rt, &text, replies, end)?;
+    }
+    Ok(())
+}
+
+#[test]
+fn barriers(rt: HostRuntime) -> Result<(), Fail> {
+    for (shards, pages, lines, replies, end) in [
+        // The end of the text abandons too: a page with a live slot stays, and one without goes.
+        (
+            1,
+            4,
+            "0 put a 5\n0 end\n",
+            "6 key 0.0/0/1\n7 ended\n",
+            "end pages 1 live 1 calls 2",
+        ),
+        (
+            1,
+            4,
+            "0 put a 5\n0 free a\n0 end\n",
+            "6 key 0.0/0/1\n7 yes\n8 ended\n",
+            "end pages 0 live 0 calls 3",
+        ),
+        // Until the barrier the shard of a thread that has ended keeps its page.
+        (
+            2,
+            4,
+            "0 put a 5\nmark\n0 end\n1 free a\n1 put b 6\n",
+            "6 key 0.0/0/1\n8 ended\n9 yes\n10 key 1.0/0/1\n",
+            "end pages 1 live 1 calls 4",
+        ),
+        // Adoptions take the lowest heads in order of line, whichever thread ended first.
+        (
+            4,
+            4,
+            "0 put a 1\n1 put b 2\n1 end\n0 end\nadopt 3\n# next\nadopt 2\nmark\n2 put c 3\n3 put d 4\n2 get a\n3 get b\n",
+            "6 key 0.0/0/1\n7 key 1.0/0/1\n8 ended\n9 ended\n10 adopted 0.0\n12 adopted 1.0\n14 key 1.0/1/1\n15 key 0.0/1/1\n16 value 1\n17 value 2\n",
+            "end pages 2 live 4 calls 8",
+        ),
+        // A shard that adopted ends in its turn.
+        (
+            3,
+            4,
+            "0 put a 1\n0 end\nadopt 1\nmark\n1 end\nadopt 2\nmark\n2 free a\n",
+            "6 key 0.0/0/1\n7 ended\n8 adopted 0.0\n10 ended\n11 adopted 0.0\n13 yes\n",
+            "end pages 1 live 0 calls 4",
+        ),
+    ] {
+        let text = shared_trace(rt.alloc(), shards, pages, lines)?;
         reports(&rt, &text, replies, end)?;
     }
     Ok(())
@@ -208,6 +318,21 @@ fn a_broken_trace_writes_nothing(rt: HostRuntime) -> Result<(), Fail> {
             "mesh 1\nshards 1\npages 4\nring 4\ngens 9\n0 put a 340282366920938463463374607431768211456\n",
             6,
             Cause::Limit,
+        ),
+        (
+            "mesh 1\nshards 2\npages 4\nring 4\ngens 9\n0 put a 1\n1 get a\n",
+            7,
+            Cause::Early,
+        ),
+        (
+            "mesh 1\nshards 2\npages 4\nring 4\ngens 9\nadopt 1\n",
+            7,
+            Cause::Adopt,
+        ),
+        (
+            "mesh 1\nshards 2\npages 4\nring 4\ngens 9\n0 end\n0 tend\n",
+            7,
+            Cause::Form,
         ),
     ] {
         let mut out = Memory::new(rt.alloc());

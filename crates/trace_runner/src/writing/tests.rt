@@ -42,6 +42,12 @@ fn large_numbers(rt: HostRuntime) -> Result<(), Fail> {
         line(262_148, Answer::Value(u128::MAX)),
         line(262_149, Answer::PagesSpent),
         line(262_150, Answer::Unbound),
+        line(262_151, Answer::Ended),
+        line(
+            262_152,
+            Answer::Adopted(SpanId::new(63, 1023).ok_or("no id")?),
+        ),
+        line(262_153, Answer::NothingToAdopt),
     ];
     let ending = Ending {
         pages: 65_536,
@@ -51,7 +57,7 @@ fn large_numbers(rt: HostRuntime) -> Result<(), Fail> {
     let text = report_text(rt.alloc(), true, answers.as_slice(), &ending)?;
     assert_eq!(rt;
         text.as_slice(),
-        b"262147 key 63.1023/255/4294967295\n262148 value 340282366920938463463374607431768211455\n262149 refused pages\n262150 unbound\nend pages 65536 live 16777216 calls 262144\n".as_slice()
+        b"262147 key 63.1023/255/4294967295\n262148 value 340282366920938463463374607431768211455\n262149 refused pages\n262150 unbound\n262151 ended\n262152 adopted 63.1023\n262153 refused nothing\nend pages 65536 live 16777216 calls 262144\n".as_slice()
     );
     Ok(())
 }

@@ -8,7 +8,7 @@ answer_to-requires c = IsServed-step _ _ c.args.event c.step-reply.result c.requ
 pub returns-clause-made : goal.returns-clause-made
 returns-clause-made c = rw (c.in_ok-push.ensures.items, c.in_ok-answer.ensures.answer c.args.event)
     (Makes-called c.args.number c.args.event c.step-reply.result c.args.self.now.core c.step-reply.new.self c.args.self.now.answers.items
-    c.step-reply.ensures.exact c.step-reply.ensures.plain c.in_ok-answer.ensures.told)
+    c.step-reply.ensures.exact c.step-reply.ensures.sound c.step-reply.ensures.plain c.in_ok-answer.ensures.told)
 
 pub returns-in_err-answer-clause-shards : goal.returns-in_err-answer-clause-shards
 returns-in_err-answer-clause-shards c = KeepsShards-step _ _ c.args.event c.step-reply.result c.requires c.step-reply.ensures.exact
