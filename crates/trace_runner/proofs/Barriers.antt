@@ -9,7 +9,6 @@ use Rattle.trace_runner.proofs.Knowing.{has_ended-push}
 use Rattle.trace_runner.specs.Barrier.{is_barrier, open_lines}
 use Rattle.trace_runner.specs.Causes.{ends, has_ended}
 use Rattle.trace_runner.specs.declared.text.line.Line.{Line}
-use Rattle.trace_runner.specs.declared.text.line.Line.TheVariants as line
 
 abbrev passes : Line → Bool
 passes line = not (is_barrier line)

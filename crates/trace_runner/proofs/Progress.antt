@@ -112,10 +112,12 @@ DoLines-rest : (shards : ℕ) (all lines : List Line) (done after : List Did) �
     → (rest : List Did) × (after ≡ done ++ rest) × ((number : ℕ) → length (answers_from number rest) ≡ calls_in lines rest + length (filter is_adopt lines))
 DoLines-rest shards all [] done after is = ([], is ∙ sym (append-nil done), λ number. refl)
 DoLines-rest shards all (l ∷ ls) done after (did, does, later) =
-    let more = DoLines-rest shards all ls (done ++ did ∷ []) after later in
-    (did ∷ more.0, more.1 ∙ append_assoc done (did ∷ []) more.0,
-    λ number. length-append (map (on_line number) did.calls) (answers_from (number + 1) more.0)
-    ∙ omega (arith, length-map did.calls (on_line number), more.2 (number + 1), calls_of_line shards all done l did does, adopts-cons l ls))
+    let more = DoLines-rest shards all ls (done ++ did ∷ []) after later in (
+      did ∷ more.0,
+      more.1 ∙ append_assoc done (did ∷ []) more.0,
+      λ number. length-append (map (on_line number) did.calls) (answers_from (number + 1) more.0)
+          ∙ omega (arith, length-map did.calls (on_line number), more.2 (number + 1), calls_of_line shards all done l did does, adopts-cons l ls),
+    )
 
 module _ (h : Header) (lines : List Line) (count : ℕ) (old core : CoreState) (answers : List LineAnswer) (starts : List ℕ) (leaving : ℕ → Bool) (come : HasCome h.shards lines count old core answers starts leaving) where
   -- once the start of the next line is kept

@@ -1,10 +1,10 @@
 -- What is kept of the lines before a line.
-use Rattle.std.specs.Prelude.{◌≡◌, ◌≤◌, ◌+◌, ◌||◌, ℕ, Bool, List, Option, Some, nat_eq, if◌then◌else◌}
+use Rattle.std.specs.Prelude.{◌≡◌, ◌≤◌, ◌||◌, ℕ, Bool, List, Option, Some, nat_eq, if◌then◌else◌}
 use Rattle.std.specs.HashMap as hash
 use Rattle.std.specs.HashSet as bag
 use Rattle.std.specs.Option.{option_or}
 use Rattle.std.specs.Cmp.Lexicographic.{pointwise}
-use Rattle.trace_runner.specs.Causes.{awaits_mark, binding_at, binding_of, ends, has_ended, is_adopt, marks, marks_at, speaks}
+use Rattle.trace_runner.specs.Causes.{awaits_mark, binding_at, binding_of, ends, has_ended, is_adopt, marks, speaks}
 use Rattle.trace_runner.specs.declared.text.line.Line.{Line}
 use Rattle.trace_runner.specs.declared.text.line.Keys.{Keys}
 use Rattle.trace_runner.specs.declared.text.line.Keys.TheVariants.{One, Many}

@@ -4,7 +4,6 @@ use Rattle.std.specs.HashSet as bag
 use Rattle.std.specs.HashSet.{HashSet}
 use Rattle.std.specs.Option.{option_map_or}
 use Rattle.span.specs.declared.key.Key.{Key}
-use Rattle.shard.specs.State.{ShardState}
 use Rattle.trace_runner.specs.Barrier.{open_lines}
 use Rattle.trace_runner.specs.Causes.{has_ended, is_call, is_call_over, thread_of}
 use Rattle.arena_core.specs.State.{CoreState}

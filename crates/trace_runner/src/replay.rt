@@ -9,13 +9,13 @@ ghost use Rattle.trace_runner.specs.declared.text.header.Header.{Header};
 ghost use Rattle.trace_runner.specs.declared.text.line.Line.{Line};
 ghost use Rattle.trace_runner.specs.Replay.{IsNoFault, IsReportOf, Stops, WritesReport, start_of};
 
-use arena_core::{Core, CoreError};
 use crate::fault::ReplayError;
 use crate::report::Ending;
 use crate::run::run_lines;
 use crate::sink::{Sink, give};
 use crate::text::{Header, Trace, parse};
 use crate::writing::report_text;
+use arena_core::{Core, CoreError};
 use std::alloc::{AllocError, Global};
 
 /// Replays a trace: reads the text whole, runs its calls one after another on a core of its own, and gives the report to

@@ -10,9 +10,9 @@ ghost use Rattle.trace_runner.specs.Runs.{IsRun, Did, answer_to, asked_by, asked
 ghost use Rattle.arena_core.specs.declared.event.Event.TheVariants as event;
 ghost use Rattle.arena_core.specs.declared.event.Event.{Event};
 
-use arena_core::{Core, Event, Refusal, Reply};
 use crate::report::{Answer, LineAnswer};
 use crate::text::{Call, Line, Name, Reference, Trace};
+use arena_core::{Core, Event, Refusal, Reply};
 use span::Key;
 use std::alloc::{AllocError, Global};
 use std::collections::HashSet;

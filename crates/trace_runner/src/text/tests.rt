@@ -39,7 +39,10 @@ fn headers(rt: HostRuntime) -> Result<(), Fail> {
             "line 2: header",
         ),
         ("mesh 1\nshards 0\npages 4\nring 4\ngens 9", "line 2: limit"),
-        ("mesh 1\nshards 65\npages 4\nring 4\ngens 9", "line 2: limit"),
+        (
+            "mesh 1\nshards 65\npages 4\nring 4\ngens 9",
+            "line 2: limit",
+        ),
         (
             "mesh 1\nshards 1\npages 1025\nring 4\ngens",
             "line 3: limit",
@@ -171,7 +174,9 @@ fn ends_adoptions_and_marks(rt: HostRuntime) -> Result<(), Fail> {
 #[test]
 fn trace_of_each_form(rt: HostRuntime) -> Result<(), Fail> {
     let mut text = Vec::from_slice(rt.alloc(), HEADER)?;
-    text.extend_from_slice(b"0 put a 7\n\nmark\n0 fill b 3 5\n0 get a\n0 free b.1\n0 sweep b 1 2\n0 end\nadopt 1\nmark")?;
+    text.extend_from_slice(
+        b"0 put a 7\n\nmark\n0 fill b 3 5\n0 get a\n0 free b.1\n0 sweep b 1 2\n0 end\nadopt 1\nmark",
+    )?;
     let trace = parse(rt.alloc(), text.as_slice())?;
     let header = Header {
         shards: 2,

@@ -1,4 +1,4 @@
-use Rattle.std.proofs.Common.{◌≤◌, ℕ, List, Bool, not, arith, refl, filter, length, take}
+use Rattle.std.proofs.Common.{◌≤◌, ℕ, List, not, arith, refl, filter, length, take}
 use Rattle.std.proofs.lemmas.List.{length-take-le}
 use Rattle.std.proofs.lemmas.List.Filters.{length-filter_both}
 use Rattle.trace_runner.specs.Causes.{is_adopt}

@@ -1,4 +1,4 @@
-use Rattle.std.proofs.Common.{arith, ◌≡◌, true, map, drop, length, Ok, [], ap, sym, ◌∙◌, inr}
+use Rattle.std.proofs.Common.{arith, ◌≡◌, true, drop, Ok, [], ap, sym, ◌∙◌, inr}
 use Rattle.std.proofs.lemmas.List.{drop-map}
 use Rattle.trace_runner.specs.Causes.{Reads, awaits_mark}
 use Rattle.trace_runner.specs.Header.{header_of}
@@ -17,5 +17,9 @@ returns-then-awaits_mark-clause-fault c =
     let below : contents_of c.below_header.result.now ≡ drop 5 (lines_of c.args.text.now) = ap contents_of c.below_header.ensures ∙ sym (drop-map (λ t. t.now) 5 c.as_slice-2.result.now) ∙ ap (drop 5) again in
     let fine : Reads c.in_ok-header.header [] (drop 5 (lines_of c.args.text.now)) c.in_ok-lines.lines.items = rw below at c.in_ok-lines.ensures.ok in
     let awaits : awaits_mark c.in_ok-lines.lines.items ≡ true = sym (c.awaits_mark.ensures c.in_ok-lines.lines.items c.in_ok-lines.ensures.known) ∙ c.if-awaits_mark.true in
-    inr (c.in_ok-header.header, head, end_fault c.in_ok-header.header (drop 5 (lines_of c.args.text.now)) c.in_ok-lines.lines.items _ fine awaits
-    (omega (arith, Reads-length c.in_ok-header.header [] (drop 5 (lines_of c.args.text.now)) c.in_ok-lines.lines.items fine)))
+    inr (
+      c.in_ok-header.header,
+      head,
+      end_fault c.in_ok-header.header (drop 5 (lines_of c.args.text.now)) c.in_ok-lines.lines.items _ fine awaits
+          (omega (arith, Reads-length c.in_ok-header.header [] (drop 5 (lines_of c.args.text.now)) c.in_ok-lines.lines.items fine)),
+    )
