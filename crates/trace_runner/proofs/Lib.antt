@@ -15,4 +15,5 @@ pub mod Shards
 pub mod Barriers
 pub mod Recalling
 pub mod Progress
+pub mod Reporting
 pub mod Serving

@@ -1,5 +1,9 @@
-use Rattle.std.proofs.Common.{◌≡◌, arith, Some, slice_get}
+use Rattle.std.proofs.Common.{◌≡◌, ◌∙◌, ap, arith, filter, length, Some, slice_get}
+use Rattle.std.specs.Prelude.{vec_len}
 use Rattle.std.proofs.lemmas.Option.{slice_get_read}
+use Rattle.trace_runner.specs.Causes.{is_adopt}
+use Rattle.trace_runner.specs.Recalls.{has}
+use Rattle.trace_runner.proofs.Progress.{HasCome-IsRun, HasCome-calls}
 use Rattle.trace_runner.proofs.run.run_lines.Goals as goal
 
 here : (c : goal.After-index) → slice_get c.args.trace.now.lines.items c.loop-place.place ≡ Some c.index.result.now
@@ -10,3 +14,23 @@ next_line-requires-clause-here c = rw c.loop-place.invariant.trace (here c)
 
 pub next_line-requires-clause-fine : goal.next_line-requires-clause-fine
 next_line-requires-clause-fine c = rw c.loop-place.invariant.trace (c.args.trace.now.sound c.loop-place.place c.index.result.now (here c))
+
+pub next_line-requires-clause-come : goal.next_line-requires-clause-come
+next_line-requires-clause-come c = (c.args.core, rw c.loop-place.invariant.trace c.loop-place.invariant.come)
+
+pub overflow_sub-calls : goal.overflow_sub-calls
+overflow_sub-calls c =
+    let all : c.loop-place.place ≡ length c.args.trace.now.lines.items = omega (arith, c.args.trace.now.lines.ok.0, c.len-place-end.ensures) in
+    let count = HasCome-calls c.args.trace.now.header c.args.trace.now.lines.items c.loop-place.place c.args.core c.loop-place.run.core c.loop-place.run.answers.items c.loop-place.run.starts.items (has c.loop-place.run.leaving) c.loop-place.invariant.come all in
+    let adopts : c.adoptions.result ≡ length (filter is_adopt c.args.trace.now.lines.items) = rw c.as_slice.ensures.value at c.adoptions.ensures in
+    let len : c.len.result ≡ length c.loop-place.run.answers.items = c.len.ensures ∙ ap vec_len c.abandon.ensures.answers ∙ c.loop-place.run.answers.ok.0 in
+    omega (arith, count, adopts, len)
+
+pub returns : goal.returns
+returns c =
+    let all : c.loop-place.place ≡ length c.args.trace.now.lines.items = omega (arith, c.args.trace.now.lines.ok.0, c.len-place-end.ensures) in
+    let count = HasCome-calls c.args.trace.now.header c.args.trace.now.lines.items c.loop-place.place c.args.core c.loop-place.run.core c.loop-place.run.answers.items c.loop-place.run.starts.items (has c.loop-place.run.leaving) c.loop-place.invariant.come all in
+    let adopts : c.adoptions.result ≡ length (filter is_adopt c.args.trace.now.lines.items) = rw c.as_slice.ensures.value at c.adoptions.ensures in
+    let len : c.len.result ≡ length c.loop-place.run.answers.items = c.len.ensures ∙ ap vec_len c.abandon.ensures.answers ∙ c.loop-place.run.answers.ok.0 in
+    rw c.abandon.ensures.answers (HasCome-IsRun c.args.trace.now.header c.args.trace.now.lines.items c.loop-place.place c.args.core c.loop-place.run.core c.loop-place.run.answers.items c.loop-place.run.starts.items (has c.loop-place.run.leaving) c.loop-place.invariant.come
+    c.abandon.new.self.core _ all (rw c.loop-place.invariant.trace at c.in_ok-abandon.ensures.made) (omega (arith, count, adopts, len)))

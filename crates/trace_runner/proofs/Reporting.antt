@@ -1,0 +1,51 @@
+-- The start of a run, and the report of one.
+use Rattle.std.proofs.Common.{◌≡◌, ℕ, Bool, false, List, Option, Some, None, option_map, Result, Ok, Err, IfOk, map, refl, ap, subst, sym, ◌∙◌, arith, slice_get}
+use Rattle.std.specs.List.{range_with_len}
+use Rattle.std.specs.Option.{option_map_or}
+use Rattle.std.proofs.lemmas.Option.{slice_get-map}
+use Rattle.span.specs.PlainMap.{empty_map}
+use Rattle.shard.specs.State.{ShardState}
+use Rattle.arena_core.specs.State.{CoreState, HasKeys, live_keys, new_shard, pages, shown}
+use Rattle.trace_runner.specs.Recalls.{Serves}
+use Rattle.trace_runner.specs.Replay.{IsReportOf, ending_of, start_of}
+use Rattle.trace_runner.specs.Report.{report_text}
+use Rattle.trace_runner.specs.Runs.{IsRun}
+use Rattle.trace_runner.specs.declared.report.Ending.{Ending}
+use Rattle.trace_runner.specs.declared.report.LineAnswer.{LineAnswer}
+use Rattle.trace_runner.specs.declared.text.header.Header.{Header}
+use Rattle.trace_runner.specs.declared.text.trace.Trace.{Trace}
+
+-- a new shard has not ended, whether or not there is one
+not_ended : (page_limit gens : ℕ) (o : Option ℕ) → option_map_or (λ (shard : ShardState). shard.ended) (option_map (new_shard page_limit gens) o) false ≡ false
+not_ended page_limit gens None = refl
+not_ended page_limit gens (Some number) = refl
+
+-- the core that a run starts with has the header's shards, and none has ended
+pub Serves-start : (header : Header) → Serves header.shards (start_of header)
+Serves-start header = record {
+  enough = omega arith;
+  running = λ number below.
+      ap (λ o. option_map_or (λ (shard : ShardState). shard.ended) o false) (slice_get-map (new_shard header.pages header.gens) (range_with_len 0 header.shards) number)
+      ∙ not_ended header.pages header.gens (slice_get (range_with_len 0 header.shards) number);
+}
+
+module _ (trace : Trace) (replies : Bool) (start last : CoreState) (answers : List LineAnswer) (ending : Ending) where
+  -- what is written of a run is its report
+  pub IsReportOf-run : start ≡ start_of trace.header → shown (start_of trace.header) ≡ empty_map → IsRun trace.header.shards trace.lines.items start last answers ending.calls
+      → ending.pages ≡ pages last → ending.live ≡ live_keys last → HasKeys (shown last) ending.live
+      → (bytes : List ℕ) → bytes ≡ report_text replies answers ending → IsReportOf trace replies bytes
+  IsReportOf-run starts empty run pages_are live_are keys bytes spelled =
+      let same : ending ≡ ending_of last ending.calls = λ i. record { pages = pages_are i; live = live_are i; calls = ending.calls } in
+      record {
+        last = last;
+        answers = answers;
+        calls = ending.calls;
+        empty = empty;
+        run = subst (λ (c : CoreState). IsRun trace.header.shards trace.lines.items c last answers ending.calls) starts run;
+        live = subst (HasKeys (shown last)) live_are keys;
+        spelled = spelled ∙ ap (report_text replies answers) same;
+      }
+
+pub IfOk-map : {A E : Type 0} {P Q : A → Type 0} (r : Result A E) → ((x : A) → P x → Q x) → IfOk r P → IfOk r Q
+IfOk-map (Ok x) f p = f x p
+IfOk-map (Err e) f p = tt
