@@ -1,7 +1,9 @@
-//! Reads traces of puts, gets and frees, runs them, and reports what each call answered and what the run left.
+//! Reads traces of puts, gets and frees by threads that end, runs them, and reports what each call answered and what
+//! the run left.
 //!
-//! A trace is a text with one call on a line. `replay_serial` reads it and runs its calls on a `Core`, which keeps one
-//! word of 128 bits under each key and answers as a plain map of keys does. Its report goes to any `Sink`.
+//! A trace is a text with one call on a line, in sections that marks part. `replay_serial` reads it and runs its calls on
+//! a `Core`, which keeps one word of 128 bits under each key and answers as a plain map of keys does. At a mark the shards
+//! of threads that have ended are abandoned, and other shards adopt what they left. Its report goes to any `Sink`.
 //!
 //! `meshrun`, the program, does so for a file or for its standard input: `meshrun run [TRACE] [--serial] [--replies]`.
 //! It ends with status 0 where the report was written, or help was asked for; 1 where the text is no trace, 2 where the
