@@ -7,7 +7,7 @@ use std::alloc::{AllocError, Global};
 /// For each span that the core's shards may open, the number of the shard that adopted it last.
 ///
 /// It is a guess only: that shard may have ended since, and the span be in the pool. So an answer is
-/// tried, and not believed. (The threaded arena keeps such a word for each span.)
+/// tried, and not believed.
 #[derive(Drop)]
 pub struct Guesses {
     shards: Vec<Option<u8>>,
