@@ -7,7 +7,7 @@ use Rattle.std.specs.FinSet.{contains, union, empty, contains-insert, contains-u
 use Rattle.std.specs.Ordering.{nat_cmp, eq_by_cmp}
 use Rattle.std.proofs.lemmas.Bool.{cases_eq, ne_eqb}
 use Rattle.bitmap.specs.Operations.{AreDisjoint-at, AreDisjoint-by_slot}
-use Rattle.bitmap.specs.Slots.{AreDisjoint}
+use Rattle.bitmap.specs.Slots.{AreDisjoint, SlotSet}
 use Rattle.bitmap.specs.Words.{same_slots}
 use Rattle.span.proofs.Changes.{get-put}
 use Rattle.span.proofs.Ids.{same_id_from_test}
@@ -49,15 +49,15 @@ union_of-push (span ∷ spans) guest = same_slots _ _ (λ q.
     ∙ ap (λ b. b || contains (live_slots guest.log) q) (sym (contains-union nat_cmp_total (live_slots span.log) (union_of spans) q))
     ∙ sym (contains-union nat_cmp_total (union (live_slots span.log) (union_of spans)) (live_slots guest.log) q))
 
-true_right : (a b : Bool) → b ≡ true → (a || b) ≡ true
+pub true_right : (a b : Bool) → b ≡ true → (a || b) ≡ true
 true_right true b is = refl
 true_right false b is = is
 
-true_left : (a b : Bool) → a ≡ true → (a || b) ≡ true
+pub true_left : (a b : Bool) → a ≡ true → (a || b) ≡ true
 true_left true b is = refl
 true_left false b is = absurd cc
 
-either : (a b : Bool) {P : Type 0} → (a || b) ≡ true → (a ≡ true → P) → (b ≡ true → P) → P
+pub either : (a b : Bool) {P : Type 0} → (a || b) ≡ true → (a ≡ true → P) → (b ≡ true → P) → P
 either true b is left right = left refl
 either false b is left right = right is
 
@@ -73,6 +73,37 @@ AreApart-push (span ∷ spans) guest apart new = (
   AreApart-push spans guest apart.1 (AreDisjoint-by_slot (live_slots guest.log) (union_of spans) (λ q inside other.
       AreDisjoint-at (live_slots guest.log) (union (live_slots span.log) (union_of spans)) new q inside
       (contains-union nat_cmp_total (live_slots span.log) (union_of spans) q ∙ true_right (contains (live_slots span.log) q) (contains (union_of spans) q) other))),
+)
+
+-- spans that come behind others
+
+union_of_none : (s : SlotSet) → union empty s ≡ s
+union_of_none s = same_slots _ _ (λ q. contains-union nat_cmp_total empty s q ∙ ap (λ b. b || contains s q) (contains-empty nat_cmp q))
+
+union_assoc : (a b c : SlotSet) → union a (union b c) ≡ union (union a b) c
+union_assoc a b c = same_slots _ _ (λ q.
+    contains-union nat_cmp_total a (union b c) q
+    ∙ ap (λ x. contains a q || x) (contains-union nat_cmp_total b c q)
+    ∙ sym (or_assoc (contains a q) (contains b q) (contains c q))
+    ∙ ap (λ x. x || contains c q) (sym (contains-union nat_cmp_total a b q))
+    ∙ sym (contains-union nat_cmp_total (union a b) c q))
+
+pub union_of-append : (spans more : List SpanState) → union_of (spans ++ more) ≡ union (union_of spans) (union_of more)
+union_of-append [] more = sym (union_of_none (union_of more))
+union_of-append (span ∷ spans) more = ap (union (live_slots span.log)) (union_of-append spans more) ∙ union_assoc (live_slots span.log) (union_of spans) (union_of more)
+
+pub AreApart-append : (spans more : List SpanState) → AreApart spans → AreApart more → AreDisjoint (union_of spans) (union_of more) → AreApart (spans ++ more)
+AreApart-append [] more apart also new = also
+AreApart-append (span ∷ spans) more apart also new = (
+  AreDisjoint-by_slot (live_slots span.log) (union_of (spans ++ more)) (λ q inside other.
+      either (contains (union_of spans) q) (contains (union_of more) q)
+      (sym (contains-union nat_cmp_total (union_of spans) (union_of more) q) ∙ ap (λ s. contains s q) (sym (union_of-append spans more)) ∙ other)
+      (λ in_spans. AreDisjoint-at (live_slots span.log) (union_of spans) apart.0 q inside in_spans)
+      (λ in_more. AreDisjoint-at (union (live_slots span.log) (union_of spans)) (union_of more) new q
+      (contains-union nat_cmp_total (live_slots span.log) (union_of spans) q ∙ true_left (contains (live_slots span.log) q) (contains (union_of spans) q) inside) in_more)),
+  AreApart-append spans more apart.1 also (AreDisjoint-by_slot (union_of spans) (union_of more) (λ q inside other.
+      AreDisjoint-at (union (live_slots span.log) (union_of spans)) (union_of more) new q
+      (contains-union nat_cmp_total (live_slots span.log) (union_of spans) q ∙ true_right (contains (live_slots span.log) q) (contains (union_of spans) q) inside) other)),
 )
 
 -- a span with one put, and two of them on a page

@@ -1,4 +1,7 @@
+pub mod CopiedWords
 pub mod FreeHere
+pub mod Grafted
+pub mod GuestRoom
 pub mod Guests
 pub mod HeadPlaces
 pub mod Heads
@@ -12,6 +15,7 @@ pub mod Logged
 pub mod Logs
 pub mod MappedSpans
 pub mod MovedGroups
+pub mod Opened
 pub mod Places
 pub mod PutHere
 pub mod PutInNew

@@ -86,6 +86,16 @@ module _ (groups : List GroupState) (rooms : SlotSet) (has : HasRooms groups roo
       ];
     }
 
+    -- a group that takes no put and takes none afterwards
+    pub HasRooms-full : (group : GroupState) → slice_get groups index ≡ Some group → (HasNoRoom group → HasNoRoom after) → HasRooms (set groups index after) rooms
+    HasRooms-full group here full = record {
+      within = λ q member. let low = has.within q member in rw (length-set groups index after) low;
+      others = λ q other there out. elim (cases-set groups index after q other there) [
+        | inl now ↦ subst HasNoRoom now.1 (full (has.others index group here (ap (contains rooms) (sym now.0) ∙ out)))
+        | inr old ↦ has.others q other old.1 out
+      ];
+    }
+
     pub HasRooms-free : index < length groups → HasRooms (set groups index after) (finset.insert rooms index)
     HasRooms-free within = record {
       within = λ q member. let long = length-set groups index after in elim (cases_eq q index) [

@@ -70,7 +70,7 @@ spans_round groups index place group span stands =
 
 -- a span of the list stands in a group
 
-in_either : {X : Type 0} (xs ys : List X) (at : ℕ) (x : X) → slice_get (xs ++ ys) at ≡ Some x → (slice_get xs at ≡ Some x) ⊎ ((later : ℕ) × (slice_get ys later ≡ Some x))
+pub in_either : {X : Type 0} (xs ys : List X) (at : ℕ) (x : X) → slice_get (xs ++ ys) at ≡ Some x → (slice_get xs at ≡ Some x) ⊎ ((later : ℕ) × (slice_get ys later ≡ Some x))
 in_either [] ys at x there = inr (at, there)
 in_either (z ∷ xs) ys zero x there = inl there
 in_either (z ∷ xs) ys (suc at) x there = in_either xs ys at x there

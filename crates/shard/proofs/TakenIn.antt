@@ -51,10 +51,10 @@ mapped_before mapped (span ∷ spans) page number other =
     mapped_before (map.insert mapped (rank span.id) page) spans page number (λ place s here. other (suc place) s here)
     ∙ get-insert_other mapped (rank span.id) page number (other 0 span refl)
 
-abbrev Ranked : List SpanState → ℕ → Type 0
+abbrev pub Ranked : List SpanState → ℕ → Type 0
 Ranked spans number = (place : ℕ) × (span : SpanState) × (slice_get spans place ≡ Some span) × (rank span.id ≡ number)
 
-new_or_old : (mapped : Spans) (spans : List SpanState) (page number found : ℕ) → map.get (with_mapped mapped spans page) number ≡ Some found → Ranked spans number ⊎ (map.get mapped number ≡ Some found)
+pub new_or_old : (mapped : Spans) (spans : List SpanState) (page number found : ℕ) → map.get (with_mapped mapped spans page) number ≡ Some found → Ranked spans number ⊎ (map.get mapped number ≡ Some found)
 new_or_old mapped [] page number found is = inr is
 new_or_old mapped (span ∷ spans) page number found is = elim (new_or_old (map.insert mapped (rank span.id) page) spans page number found is) [
   | inl later ↦ inl (suc later.0, later.1, later.2, later.3)

@@ -1,10 +1,12 @@
 // A group: a head and its guests on one page.
-ghost use Rattle.std.specs.Prelude.{[], ◌≡◌, ◌<◌, ◌≤◌, ◌+◌, ℕ, IfOk, IfSome, OnOk, OnErr, MatchOption, Some, IsTrue, ◌↔◌, slice_get, length, true, false};
+ghost use Rattle.std.specs.Prelude.{[], ◌≡◌, ◌<◌, ◌≤◌, ◌+◌, ℕ, IfOk, IfSome, OnOk, OnErr, MatchOption, Some, IsTrue, ◌↔◌, slice_get, length, true, false, vec_capacity};
 ghost use Rattle.std.specs.Bool.{OnTrue, OnFalse};
 ghost use Rattle.std.specs.FinSet as set;
+ghost use Rattle.bitmap.specs.Slots.{AreDisjoint};
 ghost use Rattle.span.specs.Log.{puts_of, Holds};
-ghost use Rattle.shard.specs.Group.{spans_alone, occupied, unusable, HasNoRoom, IsLowestUsable, IsSpanAt, HasNoSpan, spans_of, with_put, with_free, with_span, group_of};
-ghost use Rattle.shard.specs.Moves.{IsBriefOf};
+ghost use Rattle.shard.specs.Closes.{closed_group, opened_group};
+ghost use Rattle.shard.specs.Group.{all_spans, spans_alone, occupied, union_of, unusable, HasNoRoom, IsLowestUsable, IsSpanAt, HasNoSpan, spans_of, with_put, with_free, with_span, group_of};
+ghost use Rattle.shard.specs.Moves.{IsBriefOf, with_guests};
 ghost use Rattle.shard.specs.State.{live_count};
 ghost use Rattle.span.specs.State.{SpanState};
 
@@ -132,13 +134,6 @@ impl Group {
         self.spans
     }
 
-    /// Makes room for so many more guests.
-    pub fn reserve(&mut self, guests: usize) -> Result<(), AllocError>
-        ensures { self.new ≡ self.old }
-    {
-        self.spans.reserve(guests)
-    }
-
     /// Puts the value at a usable slot of the head.
     pub fn put(&mut self, slot: u8, value: u128) -> Result<Key, AllocError>
         requires { set.contains (unusable self.old) slot ≡ false }
@@ -157,5 +152,38 @@ impl Group {
         ensures unknown { OnFalse result (self.new ≡ self.old) }
     {
         self.spans.free(place, key)
+    }
+
+    /// Whether it is closed, and so takes no put.
+    pub fn is_closed(&self) -> bool
+        ensures { result ≡ self.now.closed }
+    {
+        self.closed
+    }
+
+    /// Closes it: it takes no put.
+    pub fn close(&mut self)
+        ensures { self.new ≡ closed_group self.old }
+    {
+        self.closed = true;
+    }
+
+    /// Opens it: it takes puts.
+    pub fn reopen(&mut self)
+        ensures { self.new ≡ opened_group self.old }
+    {
+        self.closed = false;
+    }
+
+    /// Takes the spans in as its last guests, in a list with room for all its guests. The list that they stood in
+    /// before is given for it, with none. No slot is live on both sides.
+    pub fn take_guests(&mut self, spans: Spans, room: &mut Vec<Span>)
+        requires apart { AreDisjoint (occupied self.old) (union_of (all_spans spans)) }
+        requires none { room.old.items ≡ [] }
+        requires room { length self.old.guests + length (all_spans spans) ≤ vec_capacity room.old }
+        ensures guests { self.new ≡ with_guests self.old (all_spans spans) }
+        ensures none { room.new.items ≡ [] }
+    {
+        self.spans.take_guests(spans, room);
     }
 }

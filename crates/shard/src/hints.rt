@@ -36,12 +36,22 @@ impl Hints {
     /// Keeps where the guests among the spans are.
     pub fn note(&mut self, spans: &Spans) {
         for place in 1..spans.len() {
-            // Where a hint finds no room, the walk finds the guest.
-            let guest = spans.span_at(place).id();
-            match self.heads.insert(guest.rank(), spans.head_id()) {
-                Ok(_) => {}
-                Err(_) => {}
-            }
+            self.note_guest(spans.span_at(place).id(), spans.head_id());
+        }
+    }
+
+    /// Keeps that all of the spans are guests of the head.
+    pub fn note_all(&mut self, spans: &Spans, head: SpanId) {
+        for place in 0..spans.len() {
+            self.note_guest(spans.span_at(place).id(), head);
+        }
+    }
+
+    // Where a hint finds no room, the walk finds the guest.
+    fn note_guest(&mut self, guest: SpanId, head: SpanId) {
+        match self.heads.insert(guest.rank(), head) {
+            Ok(_) => {}
+            Err(_) => {}
         }
     }
 

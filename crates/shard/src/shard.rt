@@ -23,6 +23,7 @@ use span::{Key, Span, SpanId};
 use std::alloc::{AllocError, Global};
 use std::marker::Model;
 
+mod folds;
 mod moves;
 
 pub use moves::map_all;
@@ -68,6 +69,8 @@ pub struct Shard {
     hints: Hints,
     table: Table,
     onto: Option<SpanId>,
+    // An empty list with room for the guests of the group `onto` and those for which room is reserved.
+    guest_room: Vec<Span>,
 }
 
 impl Model for Shard {
@@ -109,6 +112,7 @@ impl Shard {
             hints: Hints::new(alloc),
             table: Table::new(alloc),
             onto: None,
+            guest_room: Vec::new(alloc),
         })
     }
 
@@ -325,15 +329,24 @@ impl Shard {
         ensures within { IfSome result (λ index. index < length self.now.groups) }
         ensures sound { IsSound self.now }
     {
-        let index = lower_heads(self.groups.as_slice(), head);
-        if index >= self.groups.len() {
-            return None;
-        }
-        if self.groups[index].head_id() == head {
-            Some(index)
-        } else {
-            None
-        }
+        head_index(self.groups.as_slice(), head)
+    }
+}
+
+// Where the group of the head stands among the groups.
+fn head_index(groups: &[Group], head: SpanId) -> Option<usize>
+    requires { Ascend groups.now }
+    ensures head { MatchOption result (HasNoHead groups.now head) (λ index. (group : GroupState) × IsHeadOf groups.now head index group) }
+    ensures within { IfSome result (λ index. index < length groups.now) }
+{
+    let index = lower_heads(groups, head);
+    if index >= groups.len() {
+        return None;
+    }
+    if groups[index].head_id() == head {
+        Some(index)
+    } else {
+        None
     }
 }
 

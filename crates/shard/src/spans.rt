@@ -1,5 +1,5 @@
 // A head and its guests, whose live slots differ.
-ghost use Rattle.std.specs.Prelude.{[], ◌∷◌, ◌++◌, ◌≡◌, ◌<◌, ◌≤◌, ◌+◌, ℕ, IfOk, IfSome, OnOk, OnErr, MatchOption, Some, IsTrue, ◌↔◌, slice_get, slice_set, length, false};
+ghost use Rattle.std.specs.Prelude.{[], ◌∷◌, ◌++◌, ◌≡◌, ◌<◌, ◌≤◌, ◌+◌, ℕ, IfOk, IfSome, OnOk, OnErr, MatchOption, Some, IsTrue, ◌↔◌, slice_get, slice_set, length, false, vec_len, vec_capacity};
 ghost use Rattle.std.specs.Bool.{OnTrue, OnFalse};
 ghost use Rattle.std.specs.FinSet as set;
 ghost use Rattle.bitmap.specs.Slots.{AreDisjoint, HasAllBelow, IsLowestOutside};
@@ -12,6 +12,7 @@ use bitmap::Bits256;
 use span::{Key, Span, SpanId};
 use std::alloc::{AllocError, Global};
 use std::marker::Model;
+use std::mem::swap;
 
 /// A head and its guests, which are on one page: no slot is live in two of them (the idea is that of
 /// Mesh). The slots that are live in one of them are kept beside them.
@@ -86,6 +87,19 @@ impl Spans {
         self.occupied = self.occupied.union(&guest.live());
         self.guests.push_reserved(guest);
         Ok(())
+    }
+
+    /// Takes the other spans in as its last guests, in a list with room for all its guests. The list that they
+    /// stood in before is given for it, with none. No slot is live on both sides. It takes no memory.
+    pub fn take_guests(&mut self, spans: Spans, room: &mut Vec<Span>)
+        requires apart { AreDisjoint (union_of (all_spans self.old)) (union_of (all_spans spans)) }
+        requires none { room.old.items ≡ [] }
+        requires room { length self.old.guests + length (all_spans spans) ≤ vec_capacity room.old }
+        ensures guests { self.new ≡ record self.old { guests = self.old.guests ++ all_spans spans } }
+        ensures none { room.new.items ≡ [] }
+    {
+        self.occupied = self.occupied.union(&spans.occupied);
+        append_all(&mut self.guests, room, spans.head, spans.guests);
     }
 
     /// The slots that are live in one of the spans.
@@ -203,4 +217,31 @@ fn position(spans: &[Span], id: SpanId) -> Option<usize>
         }
     }
     None
+}
+
+// Moves the head and the others behind the guests, all of them into the list with room for them. The lists change
+// places, so that the one with room has none afterwards.
+fn append_all(guests: &mut Vec<Span>, room: &mut Vec<Span>, head: Span, mut others: Vec<Span>)
+    requires none { room.old.items ≡ [] }
+    requires room { length guests.old.items + (1 + length others.items) ≤ vec_capacity room.old }
+    ensures guests { guests.new.items ≡ guests.old.items ++ head ∷ others.items }
+    ensures none { room.new.items ≡ [] }
+{
+    append_reserved(room, guests);
+    room.push_reserved(head);
+    append_reserved(room, &mut others);
+    swap(guests, room);
+}
+
+// Moves the spans of a list behind those of another that has room for them, which needs no memory.
+fn append_reserved(spans: &mut Vec<Span>, more: &mut Vec<Span>)
+    requires { vec_len spans.old + vec_len more.old ≤ vec_capacity spans.old }
+    ensures items { spans.new.items ≡ spans.old.items ++ more.old.items }
+    ensures none { more.new.items ≡ [] }
+    ensures capacity { vec_capacity spans.old ≤ vec_capacity spans.new }
+{
+    match spans.append(more) {
+        Ok(()) => {}
+        Err(_) => unreachable!(),
+    }
 }

@@ -1,19 +1,20 @@
 // Groups that come and go whole.
-ghost use Rattle.std.specs.Prelude.{◌≡◌, ◌<◌, ◌≤◌, ◌-◌, [], length, slice_get, true, IsTrue, None, Some, ◌↔◌, OnOk, OnErr, IfOk, MatchOption};
+ghost use Rattle.std.specs.Prelude.{◌≡◌, ◌<◌, ◌≤◌, ◌-◌, [], length, vec_capacity, slice_get, true, IsTrue, None, Some, ◌↔◌, OnOk, OnErr, IfOk, MatchOption};
 ghost use Rattle.page_table.specs.State.{HasPage};
+ghost use Rattle.shard.specs.Calls.{Ascend};
 ghost use Rattle.shard.specs.Group.{GroupState, all_spans, spans_alone};
-ghost use Rattle.shard.specs.Moves.{HasNoHead, HasNoMember, IsBriefHere, IsMemberAt, Lifts, MayTakeIn, TakesIn, head_among, with_mapped, with_room};
+ghost use Rattle.shard.specs.Moves.{HasGuestRoom, HasNoHead, HasNoMember, IsBriefHere, IsMemberAt, Lifts, MayTakeIn, TakesIn, head_among, with_mapped, with_room};
 ghost use Rattle.shard.specs.Sound.{IsSound};
 ghost use Rattle.shard.specs.State.{IsElsewhere};
 
-use super::{Shard, insert_reserved, lower_heads};
+use super::{Shard, head_index, insert_reserved, lower_heads};
 use crate::brief::Brief;
 use crate::group::Group;
 use crate::rooms::Rooms;
 use crate::spans::Spans;
 use crate::whole::Whole;
 use page_table::{Page, Table};
-use span::SpanId;
+use span::{Span, SpanId};
 use std::alloc::AllocError;
 
 impl Shard {
@@ -96,35 +97,12 @@ impl Shard {
         ensures err { OnErr result (self.new ≡ self.old) }
         ensures sound { IsSound self.new }
     {
-        let onto = self.reserve_guests(onto, spans)?;
+        let onto = reserve_guests(self.groups.as_slice(), &mut self.guest_room, onto, spans)?;
         self.groups.reserve(1)?;
         self.hints.reserve(spans)?;
         self.table.reserve(1, spans)?;
         self.onto = onto;
         Ok(())
-    }
-
-    // Makes room for so many guests in the group of the head, and answers the head, where the shard has it.
-    fn reserve_guests(
-        &mut self,
-        onto: Option<SpanId>,
-        guests: usize,
-    ) -> Result<Option<SpanId>, AllocError>
-        ensures head { IfOk result (λ kept. kept ≡ head_among self.old.groups onto) }
-        ensures same { self.new ≡ self.old }
-        ensures sound { IsSound self.new }
-    {
-        if self.groups.is_empty() {
-            return Ok(None);
-        }
-        let Some(head) = onto else {
-            return Ok(None);
-        };
-        let Some(index) = self.find_head(head) else {
-            return Ok(None);
-        };
-        self.groups[index].reserve(guests)?;
-        Ok(Some(head))
     }
 
     /// Takes the group in, in reserved room, with its guests and its page. It takes no memory.
@@ -145,6 +123,32 @@ impl Shard {
         self.rooms = Rooms::below(self.groups.len());
         self.onto = None;
     }
+}
+
+// Makes room for the guests of the head's group and so many more, where the head is among the groups, and answers
+// the head.
+fn reserve_guests(
+    groups: &[Group],
+    room: &mut Vec<Span>,
+    onto: Option<SpanId>,
+    more: usize,
+) -> Result<Option<SpanId>, AllocError>
+    requires ascending { Ascend groups.now }
+    requires none { room.old.items ≡ [] }
+    ensures head { IfOk result (λ kept. kept ≡ head_among groups.now onto) }
+    ensures room { IfOk result (λ kept. HasGuestRoom groups.now kept more (vec_capacity room.new)) }
+    ensures none { room.new.items ≡ [] }
+    ensures capacity { vec_capacity room.old ≤ vec_capacity room.new }
+{
+    let Some(head) = onto else {
+        return Ok(None);
+    };
+    let Some(index) = head_index(groups, head) else {
+        return Ok(None);
+    };
+    let guests = groups[index].len() - 1;
+    room.reserve(guests.saturating_add(more))?;
+    Ok(Some(head))
 }
 
 /// Maps the spans to the page, in reserved room, which needs no memory.

@@ -262,3 +262,85 @@ fn lets_a_guest_go_with_its_head(rt: HostRuntime) -> Result<(), Fail> {
     assert_eq!(rt; put(&rt, &mut shard, 9)?.0, key(0, 0, 1)?);
     Ok(())
 }
+
+fn close(shard: &mut Shard, head: SpanId) -> bool {
+    shard.close(head)
+}
+
+fn reopen(shard: &mut Shard) {
+    shard.reopen();
+}
+
+#[test]
+fn puts_past_a_closed_group(rt: HostRuntime) -> Result<(), Fail> {
+    let mut shard = shard(rt.alloc(), 2, 1)?;
+    let head = put(&rt, &mut shard, 5)?.0.span();
+    assert_eq!(rt; (close(&mut shard, head), shard.has_closed()), (true, true));
+    assert_eq!(rt; put(&rt, &mut shard, 6)?.0, key(1, 0, 1)?);
+    assert!(rt; close(&mut shard, head));
+    reopen(&mut shard);
+    assert!(rt; !shard.has_closed());
+    assert_eq!(rt; put(&rt, &mut shard, 7)?.0, key(0, 1, 1)?);
+    Ok(())
+}
+
+#[test]
+fn closes_no_group_that_it_has_not(rt: HostRuntime) -> Result<(), Fail> {
+    let mut shard = shard(rt.alloc(), 2, 1)?;
+    let head = put(&rt, &mut shard, 5)?.0.span();
+    assert_eq!(rt;
+        (close(&mut shard, id_of(5)?), shard.has_closed()),
+        (false, false)
+    );
+    assert!(rt; close(&mut shard, head));
+    assert_eq!(rt; shard.get(&key(0, 0, 1)?), Found::Value(5, 1));
+    Ok(())
+}
+
+// Grafts a group of one span onto the group of the head, where it may.
+fn graft(shard: &mut Shard, head: SpanId, whole: Whole) -> Result<bool, Fail> {
+    shard.reserve_for(Some(head), 1)?;
+    let brief = shard.brief(head).ok_or("the head is here")?;
+    if !brief.occupied.is_disjoint(&whole.spans().occupied()) {
+        return Ok(false);
+    }
+    if !whole.has_page() {
+        return Ok(false);
+    }
+    if whole.spans().len() != 1 {
+        return Ok(false);
+    }
+    let guest = whole.head_id();
+    if guest.shard() == shard.number() {
+        return Ok(false);
+    }
+    if shard.has(guest) {
+        return Ok(false);
+    }
+    shard.graft(head, whole);
+    Ok(true)
+}
+
+// The group of shard 5, which has a word at slot 1.
+fn of_another_shard(rt: &impl Abort, alloc: Global) -> Result<Whole, Fail> {
+    let mut other = Shard::new(alloc, 5, 1, 2)?;
+    let first = put(rt, &mut other, 7)?.0;
+    put(rt, &mut other, 8)?;
+    other.free(&first);
+    Ok(other.lift(first.span()).ok_or("the group is here")?)
+}
+
+#[test]
+fn finds_what_was_grafted(rt: HostRuntime) -> Result<(), Fail> {
+    let mut shard = shard(rt.alloc(), 1, 2)?;
+    let made = put(&rt, &mut shard, 9)?.0;
+    let whole = of_another_shard(&rt, rt.alloc())?;
+    assert!(rt; graft(&mut shard, made.span(), whole)?);
+    let of_guest = Key::new(id_of(5)?, 1, 1).ok_or("generations count from 1")?;
+    assert_eq!(rt; shard.get(&of_guest), Found::Value(8, 3));
+    assert_eq!(rt; shard.get(&made), Found::Value(9, 1));
+    assert_eq!(rt; shard.span_at(made.span(), 1), Some(of_guest.span()));
+    assert_eq!(rt; put(&rt, &mut shard, 6)?.0.slot(), 2);
+    assert_eq!(rt; shard.free(&of_guest), Freed::Yes(3));
+    Ok(())
+}

@@ -1,30 +1,12 @@
-use Rattle.std.proofs.Common.{◌≡◌, ◌<◌, ◌∙◌, List, length, Some, ap, refl, slice_get, subst, sym, arith}
-use Rattle.std.proofs.lemmas.Option.{slice_get_read}
-use Rattle.span.proofs.Ids.{same_id_from_test}
+use Rattle.std.proofs.Common.{◌∙◌, List, ap, subst}
+use Rattle.std.specs.Prelude.{MatchOption}
 use Rattle.shard.specs.Group.{GroupState}
-use Rattle.shard.specs.Moves.{HasNoHead, IsHeadOf}
+use Rattle.shard.specs.Moves.{HasNoHead}
 use Rattle.shard.specs.State.{ShardState}
-use Rattle.shard.proofs.HeadPlaces.{HasNoHead-lower, IsLower}
-use Rattle.shard.proofs.Lists.{same_some}
-use Rattle.shard.proofs.Places.{unlike_from_test}
+use Rattle.shard.proofs.HeadsHere.{IsHeadAt}
 use Rattle.shard.proofs.shard.Shard.find_head.Goals as goal
 
-pub returns-then-eq-clause-head : goal.returns-then-eq-clause-head
-returns-then-eq-clause-head c =
-    let within : c.lower_heads-index.result < length c.self.inside.groups.items = omega (arith, c.self.inside.groups.ok.0) in
-    let here : slice_get c.self.inside.groups.items c.lower_heads-index.result ≡ Some c.index.result.now = slice_get_read c.self.inside.groups.items _ c.lower_heads-index.result c.index.result.now refl within c.index.ensures in (
-      c.index.result.now,
-      subst (λ (s : ShardState). IsHeadOf s.groups c.args.head c.lower_heads-index.result c.index.result.now) c.self.view_is
-          (record { here = here; head_is = sym c.head_id.ensures ∙ same_id_from_test c.head_id.result c.args.head (sym (c.if-eq.ensures {u = tt})) }),
-    )
-
-pub returns-else-eq-clause-head : goal.returns-else-eq-clause-head
-returns-else-eq-clause-head c =
-    let within : c.lower_heads-index.result < length c.self.inside.groups.items = omega (arith, c.self.inside.groups.ok.0) in
-    let here : slice_get c.self.inside.groups.items c.lower_heads-index.result ≡ Some c.index.result.now = slice_get_read c.self.inside.groups.items _ c.lower_heads-index.result c.index.result.now refl within c.index.ensures in
-    let lower : IsLower c.self.inside.groups.items c.args.head c.lower_heads-index.result =
-    subst (λ (groups : List GroupState). IsLower groups c.args.head c.lower_heads-index.result) c.as_slice.ensures.value
-    (record { within = c.lower_heads-index.ensures.within; lower = c.lower_heads-index.ensures.lower; others = c.lower_heads-index.ensures.others }) in
-    subst (λ (s : ShardState). HasNoHead s.groups c.args.head) c.self.view_is
-    (HasNoHead-lower c.self.inside.groups.items c.args.head c.lower_heads-index.result lower c.self.invariant.sound.ascending
-    (λ group there same. unlike_from_test c.head_id.result c.args.head (c.if-eq.ensures {u = tt}) (c.head_id.ensures ∙ ap (λ (g : GroupState). g.head.id) (same_some (sym here ∙ there)) ∙ same)))
+pub returns-clause-head : goal.returns-clause-head
+returns-clause-head c =
+    subst (λ (groups : List GroupState). MatchOption c.head_index.result (HasNoHead groups c.args.head) (IsHeadAt groups c.args.head))
+    (c.as_slice.ensures.value ∙ ap (λ (s : ShardState). s.groups) c.self.view_is) c.head_index.ensures.head

@@ -1,9 +1,11 @@
 use Rattle.std.proofs.Common.{◌≡◌, ◌∙◌, Some, length, ap, sym, subst, refl, slice_get}
+use Rattle.std.specs.Prelude.{vec_capacity}
 use Rattle.shard.specs.Group.{GroupState, spans_of, with_span, with_free}
 use Rattle.shard.specs.Kept.{state_of}
 use Rattle.shard.specs.State.{ShardState, IsElsewhere, IsHere}
 use Rattle.shard.specs.declared.shard.Freed.TheVariants.{No, NotHere, Yes}
 use Rattle.shard.proofs.FreeHere.{IsSound-free_here}
+use Rattle.shard.proofs.GuestRoom.{HasGuestRoom-span}
 use Rattle.shard.proofs.Here.{found_in, here_read, read_is}
 use Rattle.shard.proofs.Lists.{get_within, same_some}
 use Rattle.shard.proofs.Places.{clash, on_true}
@@ -60,6 +62,9 @@ invariant_of-self c =
       sound = rw (freed_now c) (IsSound-free_here (state_of c.self.inside) c.self.invariant.sound c.in-Some.index c.in-Some.place group span c.args.key.now (here.group_is, here.span_is) (c.if-not-find.ensures.0 refl).1);
       rooms = rw c.insert.ensures (HasRooms-free c.self.inside.groups.items c.self.inside.rooms c.self.invariant.rooms c.in-Some.index c.free.new.self (get_within c.self.inside.groups.items c.in-Some.index group here.group_is));
       room_for_groups = c.self.invariant.room_for_groups;
+      no_guests = c.self.invariant.no_guests;
+      room_for_guests = rw (freed_now c)
+          (HasGuestRoom-span c.self.inside.groups.items c.self.inside.onto c.self.inside.table.span_room (vec_capacity c.self.inside.guest_room) c.self.invariant.room_for_guests c.in-Some.index c.in-Some.place group span (with_free span c.args.key.now) here.group_is here.span_is refl);
     }
 
 pub returns-clause-step : goal.returns-clause-step

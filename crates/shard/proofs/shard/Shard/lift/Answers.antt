@@ -3,6 +3,7 @@ use Rattle.page_table.specs.State.{TableState}
 use Rattle.shard.specs.Kept.{state_of}
 use Rattle.shard.specs.Moves.{IsHeadOf}
 use Rattle.shard.specs.State.{ShardState}
+use Rattle.shard.proofs.GuestRoom.{HasGuestRoom-none}
 use Rattle.shard.proofs.HeadsHere.{head_read}
 use Rattle.shard.proofs.LiftedGroup.{IsSound-lifted, IsSoundWhole-lifted}
 use Rattle.shard.proofs.RoomBits.{HasRooms-all}
@@ -24,6 +25,8 @@ invariant_of-self c =
       sound = rw (c.remove-group.ensures.items, c.take_page-words.ensures.table, c.page.ensures) (IsSound-lifted (state_of c.self.inside) c.self.invariant.sound c.in-Some.index c.remove-group.result head_here.here);
       rooms = HasRooms-all c.remove-group.new.self.items c.below-self-inside.result c.len.result (omega (arith, c.len.ensures, c.remove-group.new.self.ok.0)) c.below-self-inside.ensures;
       room_for_groups = omega (arith, c.self.invariant.room_for_groups, c.remove-group.ensures.len, c.remove-group.ensures.capacity, ap (λ (t : TableState). t.page_room) c.take_page-words.ensures.table);
+      no_guests = c.self.invariant.no_guests;
+      room_for_guests = HasGuestRoom-none _ _ _;
     }
 
 pub returns-clause-lifts : goal.returns-clause-lifts

@@ -1,5 +1,6 @@
 use Rattle.std.proofs.Common.{ap, arith}
 use Rattle.page_table.specs.State.{TableState}
+use Rattle.shard.proofs.GuestRoom.{HasGuestRoom-none}
 use Rattle.shard.proofs.RoomBits.{HasRooms-empty}
 use Rattle.shard.proofs.Start.{IsSound-new}
 use Rattle.shard.proofs.shard.Shard.new.Goals as goal
@@ -12,6 +13,8 @@ invariant_of-result c = record {
   sound = rw (c.new.ensures.items, c.new-3.ensures) (IsSound-new c.args.number c.args.page_limit c.args.gens (omega arith));
   rooms = rw (c.new.ensures.items, c.empty.ensures) HasRooms-empty;
   room_for_groups = omega (arith, ap (λ (t : TableState). t.page_room) c.new-3.ensures, c.new.result.ok.1);
+  no_guests = c.new-4.ensures.items;
+  room_for_guests = HasGuestRoom-none _ _ _;
 }
 
 pub returns-clause-sound : goal.returns-clause-sound

@@ -1,10 +1,12 @@
 use Rattle.std.proofs.Common.{◌≡◌, ◌∙◌, length, ap, arith, refl, subst, sym}
+use Rattle.std.specs.Prelude.{vec_capacity}
 use Rattle.span.specs.State.{SpanState}
 use Rattle.page_table.specs.State.{HasPage, TableState}
 use Rattle.shard.specs.Calls.{IsLowestRoom}
 use Rattle.shard.specs.Group.{GroupState}
 use Rattle.shard.specs.Kept.{state_of}
 use Rattle.shard.specs.State.{ShardState}
+use Rattle.shard.proofs.GuestRoom.{HasGuestRoom-set}
 use Rattle.shard.proofs.Lists.{same_some}
 use Rattle.shard.proofs.PutHere.{IsSound-put_here}
 use Rattle.shard.proofs.RoomBits.{HasRooms-set, has_bit, IsLowestRoom-read}
@@ -27,6 +29,11 @@ invariant_of-self-2 c =
       sound = rw (c.in_ok-key.ensures.ok, c.set_at.ensures, page) (IsSound-put_here (state_of c.self.inside) c.self.invariant.sound c.args.index group c.args.slot c.args.value room);
       rooms = HasRooms-set c.self.inside.groups.items c.self.inside.rooms c.self.invariant.rooms c.args.index c.put.new.self (has_bit c.self.inside.groups.items c.self.inside.rooms c.self.invariant.rooms c.args.index group c.args.slot room.here room.slot_is);
       room_for_groups = omega (arith, c.self.invariant.room_for_groups, ap (λ (t : TableState). t.page_room) c.set_at.ensures);
+      no_guests = c.self.invariant.no_guests;
+      room_for_guests = rw c.set_at.ensures
+          (HasGuestRoom-set c.self.inside.groups.items c.self.inside.onto c.self.inside.table.span_room (vec_capacity c.self.inside.guest_room) c.self.invariant.room_for_guests c.args.index group c.put.new.self room.here
+          (ap (λ (g : GroupState). g.head.id) c.in_ok-key.ensures.ok)
+          (ap (λ (g : GroupState). length g.guests) c.in_ok-key.ensures.ok));
     }
 
 pub returns-clause-ok : goal.returns-clause-ok

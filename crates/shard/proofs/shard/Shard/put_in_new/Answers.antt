@@ -10,6 +10,7 @@ use Rattle.shard.specs.Calls.{IsFull, IsPlaceFor, new_group, with_open, with_wor
 use Rattle.shard.specs.Group.{GroupState, group_of, with_put}
 use Rattle.shard.specs.Kept.{state_of}
 use Rattle.shard.specs.State.{ShardState}
+use Rattle.shard.proofs.GuestRoom.{HasGuestRoom-none}
 use Rattle.shard.proofs.Logs.{contains-live_slots-empty, contains-worn_slots-empty}
 use Rattle.shard.proofs.HeadPlaces.{IsLower, IsPlaceFor-lower, no_head_next}
 use Rattle.shard.proofs.PutInNew.{IsSound-put_in_new}
@@ -66,6 +67,8 @@ invariant_of-self-2 c = record {
       (subst (λ (s : ShardState). s.opened < 1024) (sym c.self.view_is) c.requires.opened));
   rooms = rw (groups_now c, c.insert.ensures, c.empty-self-inside.ensures) (HasRooms-only c.self.inside.groups.items c.lower_heads-index.result (made c) (place_now c).within (subst (λ (s : ShardState). IsFull s.groups) (sym c.self.view_is) c.requires.full));
   room_for_groups = omega (arith, c.self.invariant.room_for_groups, c.insert_reserved.ensures.len, c.insert_reserved.ensures.capacity, c.in_ok-reserve.ensures.len, c.in_ok-reserve.ensures.ok, c.in_ok-reserve.ensures.capacity, ap (λ (t : TableState). t.page_room) (table_now c));
+  no_guests = c.self.invariant.no_guests;
+  room_for_guests = HasGuestRoom-none _ _ _;
 }
 
 pub returns-clause-ok : goal.returns-clause-ok
@@ -88,3 +91,16 @@ returns-clause-ok c =
 
 pub lower_heads-index-requires : goal.lower_heads-index-requires
 lower_heads-index-requires c = rw (c.as_slice.ensures.value, c.in_ok-reserve.ensures.items) c.self.invariant.sound.ascending
+
+-- where the list of groups could not grow, all is as it was
+pub invariant_of-self : goal.invariant_of-self
+invariant_of-self c = record {
+  number_fits = c.self.invariant.number_fits;
+  pages_fit = c.self.invariant.pages_fit;
+  gens_fit = c.self.invariant.gens_fit;
+  sound = rw c.reserve.ensures.items c.self.invariant.sound;
+  rooms = rw c.reserve.ensures.items c.self.invariant.rooms;
+  room_for_groups = omega (arith, c.self.invariant.room_for_groups, c.reserve.ensures.len, c.reserve.ensures.capacity);
+  no_guests = c.self.invariant.no_guests;
+  room_for_guests = rw c.reserve.ensures.items c.self.invariant.room_for_guests;
+}

@@ -5,6 +5,7 @@ use Rattle.shard.specs.Group.{GroupState, group_of}
 use Rattle.shard.specs.Kept.{state_of}
 use Rattle.shard.specs.Moves.{MayTakeIn, TakesIn, WholeState, spans_moved, whole_with, with_page}
 use Rattle.shard.specs.State.{ShardState}
+use Rattle.shard.proofs.GuestRoom.{HasGuestRoom-none}
 use Rattle.shard.proofs.HeadPlaces.{IsLower, IsPlaceFor-lower, no_head_elsewhere}
 use Rattle.shard.proofs.MovedGroups.{IsSound-TakesIn}
 use Rattle.shard.proofs.RoomBits.{HasRooms-all}
@@ -61,6 +62,8 @@ invariant_of-self c = record {
   sound = IsSound-TakesIn (old c) _ c.args.whole c.self.invariant.sound (may c) c.into_parts-spans.ensures.sound (takes c);
   rooms = HasRooms-all c.insert_reserved.new.groups.items c.below-self-inside.result c.len.result (omega (arith, c.len.ensures, c.insert_reserved.new.groups.ok.0)) c.below-self-inside.ensures;
   room_for_groups = omega (arith, (may c).page_room, c.self.invariant.room_for_groups, c.insert_reserved.ensures.len, c.insert_reserved.ensures.capacity, ap (λ (t : TableState). t.page_room) (table_is c));
+  no_guests = c.self.invariant.no_guests;
+  room_for_guests = HasGuestRoom-none _ _ _;
 }
 
 pub returns-clause-takes : goal.returns-clause-takes
