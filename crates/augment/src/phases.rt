@@ -1,5 +1,5 @@
 // Turning round several walks in one phase, along layers.
-ghost use Rattle.std.specs.Prelude.{◌≡◌, ◌+◌, ◌<◌, ◌≤◌, length, true, false, None, IfSome, IfNone, IfOk};
+ghost use Rattle.std.specs.Prelude.{◌≡◌, ◌+◌, ◌<◌, ◌≤◌, ℕ, length, true, false, None, IfSome, IfNone, IfOk};
 ghost use Rattle.augment.specs.Mates.{mate};
 ghost use Rattle.mesh_graph.specs.Groups.{compatible_at};
 ghost use Rattle.augment.specs.Walks.{Joins, pair_count, AreLinked, is_marked, IsSearched};
@@ -61,12 +61,30 @@ fn turn_others(
     ensures more { pair_count mates.old.onto.items ≤ pair_count mates.new.onto.items }
 {
     let mut cursors = vec![in alloc; 0; mates.onto.len()]?;
+    let mut first = 0;
     for root in 0..mates.onto.len() {
         if mates.onto[root].is_none() {
+            // The places before the first one are used, and in a dense graph they are many.
+            first = first_unused(used, first);
+            cursors[root] = first;
             turn_from(alloc, graph, mates, layers, used, &mut cursors, root)?;
         }
     }
     Ok(())
+}
+
+/// The least place from `from` on that is not used, or the number of places where all of them are.
+fn first_unused(used: &[bool], from: usize) -> usize
+    ensures from { from ≤ length used.now → from ≤ result }
+    ensures passed { (k : ℕ) → from ≤ k → k < result → is_marked used.now k ≡ true }
+    ensures unused { result < length used.now → is_marked used.now result ≡ false }
+{
+    for at in from..used.len() {
+        if !used[at] {
+            return at;
+        }
+    }
+    used.len()
 }
 
 /// The layer of each abandoned place that an entry reached: how many pairs its walk has.

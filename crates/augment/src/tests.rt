@@ -1,10 +1,11 @@
-//! Plans of small snapshots, and of two chains that a pass in ascending order gets wrong.
+//! Plans of small snapshots, of two chains that a pass in ascending order gets wrong, and where a growth
+//! is refused.
 use super::*;
 use bitmap::Bits256;
-use certificate::{check, partners};
-use mesh_graph::{Entry, Graph, Snapshot};
+use certificate::{Plan, Short, check, partners};
+use mesh_graph::{BuildError, Entry, Graph, Snapshot};
 use span::SpanId;
-use std::alloc::Global;
+use std::alloc::{AllocError, Global};
 use std::test::Fail;
 
 fn entry(shard: u32, serial: u32, occupied: Bits256) -> Result<Entry, Fail> {
@@ -225,5 +226,82 @@ fn a_phase_turns_many_walks_round(rt: HostRuntime) -> Result<(), Fail> {
     assert_eq!(rt; (plan.pairs().len(), short.ids().len()), (256, 0));
     assert!(rt; phases <= 3);
     assert!(rt; check(&snapshot, &plan, &short));
+    Ok(())
+}
+
+// A list of these groups. Where the first growth was refused, it is made the second time.
+fn list_again(alloc: Global, groups: &[Entry]) -> Result<Vec<Entry>, AllocError> {
+    match Vec::from_slice(alloc, groups) {
+        Err(_) => Vec::from_slice(alloc, groups),
+        list => list,
+    }
+}
+
+// A snapshot of four groups for which the second of three phases turns two walks round, and of one
+// that has no partner.
+fn small(alloc: Global) -> Result<Snapshot, Fail> {
+    let abandoned = [
+        group(0, &[2, 3])?,
+        group(1, &[1, 2, 3])?,
+        group(2, &[0, 1])?,
+        group(3, &[0, 1, 3])?,
+        group(4, &[0, 1, 2, 3])?,
+    ];
+    let owned = [
+        group(5, &[0])?,
+        group(6, &[1])?,
+        group(7, &[2])?,
+        group(8, &[3])?,
+    ];
+    Ok(Snapshot::new(list_again(alloc, &abandoned)?, list_again(alloc, &owned)?)?)
+}
+
+fn build_again(alloc: Global, snapshot: &Snapshot) -> Result<Graph, BuildError> {
+    match Graph::build(alloc, snapshot, 1) {
+        Err(_) => Graph::build(alloc, snapshot, 1),
+        graph => graph,
+    }
+}
+
+// Plans. Where memory was refused, the same call plans the second time.
+fn plan_again(alloc: Global, graph: &Graph) -> Result<(Plan, Short), AllocError> {
+    match plan(alloc, graph) {
+        Err(_) => plan(alloc, graph),
+        found => found,
+    }
+}
+
+fn plan_counted_again(alloc: Global, graph: &Graph) -> Result<(Plan, Short, usize), AllocError> {
+    match plan_counted(alloc, graph) {
+        Err(_) => plan_counted(alloc, graph),
+        found => found,
+    }
+}
+
+// Whether the plan folds these groups onto the owned ones, each by its shard.
+fn folds(plan: &Plan, onto: &[(u32, u32)]) -> bool {
+    plan.pairs()
+        .iter()
+        .map(|pair| (pair.0.shard(), pair.1.shard()))
+        .eq(onto.iter().copied())
+}
+
+#[test]
+fn a_refused_growth_leaves_the_plan(rt: HostRuntime) -> Result<(), Fail> {
+    let alloc = rt.alloc();
+    let graph = build_again(alloc, &small(alloc)?)?;
+    let (plan, short) = plan_again(alloc, &graph)?;
+    assert!(rt; folds(&plan, &[(0, 6), (1, 5), (2, 8), (3, 7)]));
+    assert_eq!(rt; short.ids().len(), 1);
+    Ok(())
+}
+
+#[test]
+fn a_refused_growth_leaves_the_phases(rt: HostRuntime) -> Result<(), Fail> {
+    let alloc = rt.alloc();
+    let graph = build_again(alloc, &small(alloc)?)?;
+    let (plan, short, phases) = plan_counted_again(alloc, &graph)?;
+    assert!(rt; folds(&plan, &[(0, 6), (1, 5), (2, 8), (3, 7)]));
+    assert_eq!(rt; (short.ids().len(), phases), (1, 3));
     Ok(())
 }

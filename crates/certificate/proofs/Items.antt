@@ -1,7 +1,7 @@
 -- A list of items while it is read.
 use Rattle.std.proofs.Common.{ℕ, ◌+◌, ◌-◌, ◌<◌, ◌≤◌, ◌≡◌, List, [], ◌∷◌, ◌++◌, codes, length, map, get_or, Option, Some, None, option_map, Result, Ok, Err, refl, subst, sym, ◌∙◌, ap, arith, suc, inl, inr}
 use Rattle.std.proofs.lemmas.Bool.{cases_eq}
-use Rattle.std.proofs.lemmas.List.{append_assoc, get_or_append_left, get_or_push, length-map, length_push}
+use Rattle.std.proofs.lemmas.List.{append-nil, append_assoc, get_or_append_left, get_or_push, length-map, length_push, map_push}
 use Rattle.bitmap.specs.Slots.{SlotSet}
 use Rattle.span.specs.declared.id.SpanId.{SpanId}
 use Rattle.span.specs.Ids.{rank}
@@ -27,18 +27,6 @@ then-err r next e h = ap (λ x. x >>= next) (sym h)
 
 pub then-ok : {A B E : Type 0} (r : Result A E) (next : A → Result B E) (a : A) → Ok a ≡ r → (r >>= next) ≡ next a
 then-ok r next a h = ap (λ x. x >>= next) (sym h)
-
-append_nil : {X : Type 0} (xs : List X) → xs ++ [] ≡ xs
-append_nil [] = refl
-append_nil (x ∷ xs) = ap (λ ys. x ∷ ys) (append_nil xs)
-
-pub map_same : {X : Type 0} (xs : List X) → map (λ x. x) xs ≡ xs
-map_same [] = refl
-map_same (x ∷ xs) = ap (λ ys. x ∷ ys) (map_same xs)
-
-map_push : {X Y : Type 0} (f : X → Y) (xs : List X) (x : X) → map f (xs ++ x ∷ []) ≡ map f xs ++ f x ∷ []
-map_push f [] x = refl
-map_push f (y ∷ xs) x = ap (λ ys. f y ∷ ys) (map_push f xs x)
 
 -- items that stand before the rest
 abbrev pub carried : {X : Type 0} → List X → Result (List X) ReadError → Result (List X) ReadError
@@ -138,7 +126,7 @@ module _ {X Y : Type 0} (parse : List ℕ → Result X Cause) (id_of : X → Id)
     IsReading-done past =
         s.so_far
         ∙ ap (λ m. carried (map view done) (items_in parse id_of parts (option_map id_parts last) (at + k) m)) (none_left)
-        ∙ ap Ok (append_nil (map view done))
+        ∙ ap Ok (append-nil (map view done))
       where
         none_left : n - k ≡ 0
         none_left = omega arith

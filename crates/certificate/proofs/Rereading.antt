@@ -2,7 +2,7 @@
 use Rattle.std.proofs.Common.{ℕ, ◌+◌, ◌<◌, ◌≤◌, ◌≡◌, true, List, [], ◌∷◌, ◌++◌, codes, length, map, get_or, Option, Some, None, option_map, Result, Ok, refl, subst, sym, ◌∙◌, ap, arith, suc, lt-ltb, eq-eqb}
 use Rattle.std.specs.Fmt.{decimal}
 use Rattle.std.specs.List.{AllByRecursion}
-use Rattle.std.proofs.lemmas.List.{append_assoc, length-append, length-map}
+use Rattle.std.proofs.lemmas.List.{append_assoc, length-append, length-map, map-id}
 use Rattle.bitmap.specs.Slots.{set_text, slots_of_text}
 use Rattle.span.specs.declared.id.SpanId.{SpanId}
 use Rattle.span.specs.Ids.{rank}
@@ -137,10 +137,6 @@ each_entry : (xs : List Entry) → AllByRecursion (λ x. slots_of_text (set_text
 each_entry [] h = tt
 each_entry (x ∷ xs) h = (entry_in-body x h.0, each_entry xs h.1)
 
-map_same : {X : Type 0} (xs : List X) → map (λ x. x) xs ≡ xs
-map_same [] = refl
-map_same (x ∷ xs) = ap (λ ys. x ∷ ys) (map_same xs)
-
 -- what is written is read again
 pub certificate_in-text : (c : Certificate) → IsWritable c → IsAscending (ids c.snapshot.abandoned) → IsAscending (ids c.snapshot.owned)
     → AllByRecursion (λ x. slots_of_text (set_text x.occupied) ≡ x.occupied) c.snapshot.abandoned → AllByRecursion (λ x. slots_of_text (set_text x.occupied) ≡ x.occupied) c.snapshot.owned
@@ -179,7 +175,7 @@ certificate_in-text c w up_a up_o sets_a sets_o =
     let read_a : list_in (codes "abandoned") entry_in (λ x. x.0) (all_lines c) 1 ≡ Ok (map entry_parts A) = list_in-at entry_in (λ x. x.0) entry_parts (λ x. x.id) (λ y. refl) entry_body (codes "abandoned") A front1 (owned_lines c) refl w.abandoned (each_entry A sets_a) up_a (omega arith) in
     let read_o : list_in (codes "owned") entry_in (λ x. x.0) (all_lines c) (length front2) ≡ Ok (map entry_parts O) = ap (λ ps. list_in (codes "owned") entry_in (λ x. x.0) ps (length front2)) whole2 ∙ list_in-at entry_in (λ x. x.0) entry_parts (λ x. x.id) (λ y. refl) entry_body (codes "owned") O front2 (fold_lines c) refl w.owned (each_entry O sets_o) up_o (omega arith) in
     let read_f : list_in (codes "folds") pair_in (λ p. p.0) (all_lines c) (length front3) ≡ Ok (map pair_parts c.plan) = ap (λ ps. list_in (codes "folds") pair_in (λ p. p.0) ps (length front3)) whole3 ∙ list_in-at pair_in (λ p. p.0) pair_parts (λ p. p.0) (λ y. refl) pair_body (codes "folds") c.plan front3 (short_lines c) refl w.folds (each pair_in-body c.plan) w.folds_ascending (omega arith) in
-    let read_s : list_in (codes "short") id_in (λ id. id) (all_lines c) (length front4) ≡ Ok (map id_parts c.short) = ap (λ ps. list_in (codes "short") id_in (λ id. id) ps (length front4)) whole4 ∙ list_in-at id_in (λ id. id) id_parts (λ id. id) (λ y. refl) id_text (codes "short") c.short front4 (codes "end" ∷ [] ∷ []) refl w.short (each id_in-text c.short) (subst IsAscending (sym (map_same c.short)) w.short_ascending) (omega arith) in
+    let read_s : list_in (codes "short") id_in (λ id. id) (all_lines c) (length front4) ≡ Ok (map id_parts c.short) = ap (λ ps. list_in (codes "short") id_in (λ id. id) ps (length front4)) whole4 ∙ list_in-at id_in (λ id. id) id_parts (λ id. id) (λ y. refl) id_text (codes "short") c.short front4 (codes "end" ∷ [] ∷ []) refl w.short (each id_in-text c.short) (subst IsAscending (sym (map-id c.short)) w.short_ascending) (omega arith) in
     let read_end : line_in (fixed_in (codes "end")) (all_lines c) (length front5) ≡ Ok tt = ap (λ ps. line_in (fixed_in (codes "end")) ps (length front5)) whole5 ∙ line_in-at (fixed_in (codes "end")) front5 (codes "end") ([] ∷ []) (omega arith) in
     let size : length (all_lines c) ≡ length front5 + 1 + 1 = ap length whole6 ∙ n7 ∙ ap (λ n. n + 1) n6 in
     let empty : get_or (all_lines c) (length front5 + 1) [] ≡ [] = (λ i. get_or (whole6 i) (sym n6 i) []) ∙ at-front (front5 ++ codes "end" ∷ []) [] [] [] in

@@ -3,7 +3,7 @@ use Rattle.std.proofs.Common.{◌+◌, ◌≡◌, Bool, true, false, ◌&&◌, �
 use Rattle.std.specs.List.{All, AllByRecursion, IsDistinct, list_all, list_any}
 use Rattle.std.proofs.lemmas.Bool.{cases_Bool, both_ways, or_cases, or_left, or_right, and_parts, and_from}
 use Rattle.std.proofs.lemmas.List.Elements.{All-from_recursion, recursion_from_All}
-use Rattle.std.proofs.lemmas.List.{length-map}
+use Rattle.std.proofs.lemmas.List.{length-map, map-id}
 use Rattle.span.specs.declared.id.SpanId.{SpanId}
 use Rattle.span.specs.Ids.{same_span}
 use Rattle.span.proofs.Ids.{same_id_from_test, test_from_same_id}
@@ -53,13 +53,9 @@ among_right s a b h = sym (among-ids s.owned b) ∙
     any_elim (λ x. same_span x.id a && list_any (λ y. same_span y.id b && are_compatible x y) s.owned) (has_id s.owned b) s.abandoned
     (λ x e. any_less (λ y. same_span y.id b) (are_compatible x) s.owned (and_parts (same_span x.id a) _ e).1) h
 
-map_same : {X : Type 0} (xs : List X) → map (λ x. x) xs ≡ xs
-map_same [] = refl
-map_same (x ∷ xs) = ap (λ l. x ∷ l) (map_same xs)
-
 -- a list is distinct exactly where its members are
-pub IsDistinct-map_same : {K : Type 0} (same : K → K → Bool) (xs : List K) → IsDistinct same (map (λ x. x) xs) ≡ IsDistinct same xs
-IsDistinct-map_same same xs = ap (IsDistinct same) (map_same xs)
+pub IsDistinct-map-id : {K : Type 0} (same : K → K → Bool) (xs : List K) → IsDistinct same (map (λ x. x) xs) ≡ IsDistinct same xs
+IsDistinct-map-id same xs = ap (IsDistinct same) (map-id xs)
 
 -- a list in which each passes
 module _ {X : Type 0} (test : X → Bool) (P : X → Type 0) where

@@ -1,6 +1,10 @@
-//! Certificates as texts: which are read, which are accepted, and what is said of the others.
+//! Certificates as texts: which are read, which are accepted, what is said of the others, and what a
+//! refused growth leaves.
+ghost use Rattle.std.specs.Prelude.{IfOk};
+ghost use Rattle.certificate.specs.Text.{IsWritable};
+
 use super::*;
-use std::alloc::Global;
+use std::alloc::{AllocError, Global};
 use std::test::Fail;
 
 // Three groups compete for one place.
@@ -22,7 +26,7 @@ const LINES: [&str; 14] = [
 ];
 
 // Those lines, where the line of this number is another.
-fn with_line(alloc: Global, number: usize, line: &str) -> Result<Vec<u8>, Fail> {
+fn with_line(alloc: Global, number: usize, line: &str) -> Result<Vec<u8>, AllocError> {
     let mut text = Vec::new(alloc);
     for (k, own) in LINES.iter().enumerate() {
         if k + 1 == number {
@@ -36,7 +40,7 @@ fn with_line(alloc: Global, number: usize, line: &str) -> Result<Vec<u8>, Fail> 
 }
 
 // The first lines alone.
-fn first_lines(alloc: Global, count: usize) -> Result<Vec<u8>, Fail> {
+fn first_lines(alloc: Global, count: usize) -> Result<Vec<u8>, AllocError> {
     let mut text = Vec::new(alloc);
     for own in LINES.iter().take(count) {
         text.extend_from_slice(own.as_bytes())?;
@@ -145,5 +149,72 @@ fn what_is_written_is_what_was_read(rt: HostRuntime) -> Result<(), Fail> {
         Ok(certificate) => assert!(rt; write(alloc, &certificate)?.as_slice() == text.as_slice()),
         Err(_) => return Err("the text is a certificate")?,
     }
+    Ok(())
+}
+
+// Those lines, where the twelfth is `line`, also where one growth is refused.
+fn text_again(alloc: Global, line: &str) -> Result<Vec<u8>, AllocError> {
+    match with_line(alloc, 12, line) {
+        Err(_) => with_line(alloc, 12, line),
+        text => text,
+    }
+}
+
+// Reads. Where memory was refused, that is the answer, and the same call reads the second time.
+fn read_again(alloc: Global, text: &[u8]) -> Result<Certificate, ReadError>
+    ensures { IfOk result IsWritable }
+{
+    match read(alloc, text) {
+        Err(ReadError::OutOfMemory) => read(alloc, text),
+        answer => answer,
+    }
+}
+
+// Reads, and writes it again. Where memory was refused, the same call writes the second time.
+fn rewritten(alloc: Global, text: &[u8]) -> Result<Vec<u8>, ReadError> {
+    let certificate = read_again(alloc, text)?;
+    match write(alloc, &certificate) {
+        Err(_) => Ok(write(alloc, &certificate)?),
+        Ok(text) => Ok(text),
+    }
+}
+
+// The shard of the only partner that the certificate's short set has. Where memory was refused, the
+// same call finds it the second time.
+fn only_partner(alloc: Global, text: &[u8]) -> Result<Option<u32>, ReadError> {
+    let Certificate {
+        snapshot,
+        short,
+        ..
+    } = read_again(alloc, text)?;
+    let found = match partners(alloc, &snapshot, &short) {
+        Err(_) => partners(alloc, &snapshot, &short)?,
+        Ok(found) => found,
+    };
+    match found.as_slice() {
+        [id] => Ok(Some(id.shard())),
+        _ => Ok(None),
+    }
+}
+
+#[test]
+fn a_refused_growth_leaves_nothing_unread(rt: HostRuntime) -> Result<(), Fail> {
+    let alloc = rt.alloc();
+    let text = text_again(alloc, "1.0")?;
+    assert!(rt; rewritten(alloc, &text)?.as_slice() == text.as_slice());
+    let faulty = text_again(alloc, "0.0")?;
+    let fault = ReadError::BadCertificate {
+        line: 12,
+        cause: Cause::Order,
+    };
+    assert!(rt; matches!(rewritten(alloc, &faulty), Err(said) if said == fault));
+    Ok(())
+}
+
+#[test]
+fn a_refused_growth_leaves_each_partner(rt: HostRuntime) -> Result<(), Fail> {
+    let alloc = rt.alloc();
+    let text = text_again(alloc, "1.0")?;
+    assert_eq!(rt; only_partner(alloc, &text), Ok(Some(3)));
     Ok(())
 }

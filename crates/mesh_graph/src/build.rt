@@ -34,8 +34,8 @@ impl From<AllocError> for BuildError {
 impl Graph {
     /// The graph of a snapshot. In how many pieces its rows are built changes nothing. `TooMany`
     /// comes exactly where a side has more than 4,096 groups.
-    pub fn build(alloc: Global, snapshot: &Snapshot, _pieces: usize) -> Result<Graph, BuildError>
-        requires { 1 ≤ _pieces }
+    pub fn build(alloc: Global, snapshot: &Snapshot, pieces: usize) -> Result<Graph, BuildError>
+        requires { 1 ≤ pieces }
         ensures graph { IfOk result (λ graph. graph ≡ snapshot.now) }
         ensures too_many { (result ≡ Err TooMany) ↔ ((4096 < length snapshot.now.abandoned) ⊎ (4096 < length snapshot.now.owned)) }
     {

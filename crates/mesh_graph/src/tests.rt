@@ -4,7 +4,7 @@ ghost use Rattle.std.specs.Prelude.{◌≤◌};
 use super::*;
 use bitmap::Bits256;
 use span::SpanId;
-use std::alloc::Global;
+use std::alloc::{AllocError, Global};
 use std::test::Fail;
 
 // The group of the id `shard.serial` with these slots.
@@ -79,5 +79,45 @@ fn a_side_has_at_most_4096_groups(rt: HostRuntime) -> Result<(), Fail> {
     assert_eq!(rt; Graph::build(alloc, &full, 1)?.abandoned(), 4096);
     let more = Snapshot::new(Vec::new(alloc), empty_groups(alloc, 4097)?)?;
     assert!(rt; matches!(Graph::build(alloc, &more, 1), Err(BuildError::TooMany)));
+    Ok(())
+}
+
+// A list of these groups. Where the first growth was refused, it is made the second time.
+fn list_again(alloc: Global, groups: &[Entry]) -> Result<Vec<Entry>, AllocError> {
+    match Vec::from_slice(alloc, groups) {
+        Err(_) => Vec::from_slice(alloc, groups),
+        list => list,
+    }
+}
+
+// Builds. Where memory was refused, that is the answer, and the same call builds the second time.
+fn build_again(alloc: Global, snapshot: &Snapshot) -> Result<Graph, BuildError> {
+    match Graph::build(alloc, snapshot, 1) {
+        Err(BuildError::OutOfMemory) => Graph::build(alloc, snapshot, 1),
+        answer => answer,
+    }
+}
+
+// The word that the row has, where it is the only one.
+fn only_word(graph: &Graph, i: usize) -> Option<u64> {
+    if i >= graph.abandoned() {
+        return None;
+    }
+    match graph.row(i) {
+        [word] => Some(*word),
+        _ => None,
+    }
+}
+
+#[test]
+fn a_refused_growth_leaves_nothing(rt: HostRuntime) -> Result<(), Fail> {
+    let abandoned = list_again(rt.alloc(), &[entry(0, 0, &[0])?, entry(0, 1, &[1])?])?;
+    let owned = list_again(rt.alloc(), &[entry(3, 0, &[1])?, entry(3, 1, &[])?])?;
+    let snapshot = Snapshot::new(abandoned, owned)?;
+    let graph = build_again(rt.alloc(), &snapshot)?;
+    assert_eq!(rt;
+        (only_word(&graph, 0), only_word(&graph, 1)),
+        (Some(0b11), Some(0b10))
+    );
     Ok(())
 }

@@ -1,11 +1,12 @@
 use Rattle.std.proofs.Common.{◌≡◌, ◌+◌, ◌∙◌, refl, Err, Global, Vec, ap, arith, codes, map, subst}
+use Rattle.std.proofs.lemmas.List.{map-id}
 use Rattle.std.proofs.lemmas.Result.{err_from_is_err_and}
 use Rattle.span.specs.declared.id.SpanId.{SpanId}
 use Rattle.mesh_graph.specs.Groups.{IsAscending}
 use Rattle.certificate.specs.declared.text.cause.ReadError.TheVariants.{BadCertificate}
 use Rattle.certificate.specs.Grammar.{id_in, id_parts}
 use Rattle.certificate.specs.Words.{contents_of}
-use Rattle.certificate.proofs.Items.{IsReading-done, IsReading-more, IsReading-refused, Reads-err, list_in-err, list_in-ok, map_same}
+use Rattle.certificate.proofs.Items.{IsReading-done, IsReading-more, IsReading-refused, Reads-err, list_in-err, list_in-ok}
 use Rattle.certificate.proofs.text.items.read_short.Goals as goal
 
 pub returns-in_err-count-clause-read : goal.returns-in_err-count-clause-read
@@ -30,4 +31,4 @@ returns-clause-read c =
     ∙ IsReading-done id_in (λ id. id) id_parts (λ id. id) (λ y. refl) (contents_of c.args.lines.now) (c.args.at + 1) c.in_ok-count.count c.loop-k.short.items c.loop-k.last c.loop-k.k c.loop-k.invariant (omega (arith, c.loop-k-test.false))
 
 pub returns-clause-ascending : goal.returns-clause-ascending
-returns-clause-ascending c = subst IsAscending (map_same c.loop-k.short.items) c.loop-k.invariant.ascending
+returns-clause-ascending c = subst IsAscending (map-id c.loop-k.short.items) c.loop-k.invariant.ascending
