@@ -156,7 +156,7 @@ module _ (old : PoolState) (sound : IsSound old) (index place : ℕ) (group : Po
       → IsSound (record old { groups = set old.groups index (now None); table = without_page old.table page })
   IsSound-emptied none page is =
       let sound_now = IsSound-inserted rest (IsSound-left_over old sound index group here.0) (now None) index (place_now None) rest.table (emptied_table none) once_here elsewhere_now in
-      subst IsSound (λ i. record { groups = in_place None i; table = without_page_of old.table (is i) }) sound_now
+      subst IsSound (λ i. record old { groups = in_place None i; table = without_page_of old.table (is i) }) sound_now
 
   -- the group that still has a live slot
   module _ (live : union_of (spans_of (with_span group place changed)) ≢ set_of.empty) (page : ℕ) (is : group.page ≡ Some page) where
@@ -213,7 +213,7 @@ module _ (old : PoolState) (sound : IsSound old) (index place : ℕ) (group : Po
     pub IsSound-still_live : IsSound (record old { groups = set old.groups index (with_span group place changed) })
     IsSound-still_live =
         let sound_now = IsSound-inserted rest (IsSound-left_over old sound index group here.0) (now group.page) index (place_now group.page) old.table live_table once_here elsewhere_now in
-        subst (λ gs. IsSound (record { groups = gs; table = old.table })) (in_place group.page ∙ ap (set old.groups index) (same_group place)) sound_now
+        subst (λ gs. IsSound (record old { groups = gs })) (in_place group.page ∙ ap (set old.groups index) (same_group place)) sound_now
 
   pub IsSound-Leaves : (new : PoolState) → Leaves old index (with_span group place changed) new → IsSound new
   IsSound-Leaves new leaves = elim (empty_or_not (union_of (spans_of (with_span group place changed)))) [

@@ -49,7 +49,7 @@ module _ (old : PoolState) (sound : IsSound old) (group : PooledState) (index : 
       by_test true its = let none = with_it.own_page page (from-is_page group.page page its) in let one : cond {A = ℕ} (is_page group.page page) 1 0 ≡ 1 = rw its refl in omega (arith, more)
       by_test false other = let most = sound.own_page page in let nothing = none_where (is_page group.page page) other in omega (arith, more)
 
-  pub IsSound-inserted : IsSound (record { groups = insert old.groups index group; table = table })
+  pub IsSound-inserted : IsSound (record old { groups = insert old.groups index group; table = table })
   IsSound-inserted = record {
     ascending = pairs-insert (λ (a b : PooledState). rank a.head.id < rank b.head.id) old.groups index group place.within sound.ascending place.before place.after;
     groups = groups_now;

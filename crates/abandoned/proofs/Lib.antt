@@ -14,6 +14,7 @@ pub mod Released
 pub mod Removed
 pub mod Searches
 pub mod ShownLogs
+pub mod SpanCounts
 pub mod Standing
 pub mod Started
 pub mod Tables

@@ -23,7 +23,7 @@ use Rattle.abandoned.proofs.Tables.{len-without, pages-without, spans-were, span
 
 module _ (old : PoolState) (sound : IsSound old) (index : ℕ) (group : PooledState) (here : slice_get old.groups index ≡ Some group) where
   abbrev pub left_over : PoolState
-  left_over = record { groups = remove old.groups index; table = without_page_of old.table group.page }
+  left_over = record old { groups = remove old.groups index; table = without_page_of old.table group.page }
 
   same_there : (was : ℕ) (g : PooledState) → (was ≡ index → ⊥) → slice_get old.groups was ≡ Some g → IsSameOn old.table left_over.table g
   same_there was g differ there = record {

@@ -46,16 +46,16 @@ module _ (group now : PooledState) (table after : TableState) (gives : GivesUp g
     | inr live ↦ let is = (gives.live live).1 in (ap (λ (t : TableState). t.page_room) is, ap (λ (t : TableState). t.span_room) is)
   ]
 
-  pub Leaves-GivesUp : (groups : List PooledState) (index pages spans : ℕ)
-      → Leaves (record { groups = groups; table = record table { page_room = pages; span_room = spans } }) index group (record { groups = set groups index now; table = record after { page_room = pages; span_room = spans } })
-  Leaves-GivesUp groups index pages spans = record {
+  pub Leaves-GivesUp : (groups : List PooledState) (index pages spans : ℕ) (told : Bool)
+      → Leaves (record { groups = groups; table = record table { page_room = pages; span_room = spans }; has_plan = told }) index group (record { groups = set groups index now; table = record after { page_room = pages; span_room = spans }; has_plan = told })
+  Leaves-GivesUp groups index pages spans told = record {
     emptied = λ none page is.
         let e = gives.emptied none in
         let t : after ≡ without_page_of table (Some page) = e.1 ∙ ap (without_page_of table) is in
-        λ i. record { groups = set groups index (e.0 i); table = record (t i) { page_room = pages; span_room = spans } };
+        λ i. record { groups = set groups index (e.0 i); table = record (t i) { page_room = pages; span_room = spans }; has_plan = told };
     live = λ live.
         let e = gives.live live in
-        λ i. record { groups = set groups index (e.0 i); table = record (e.1 i) { page_room = pages; span_room = spans } };
+        λ i. record { groups = set groups index (e.0 i); table = record (e.1 i) { page_room = pages; span_room = spans }; has_plan = told };
   }
 
 -- a key that a span of the group holds has a page

@@ -1,11 +1,11 @@
 -- A pool with no group is sound.
-use Rattle.std.proofs.Common.{◌≡◌, ℕ, [], Some, None, sym, ◌∙◌, arith, refl}
+use Rattle.std.proofs.Common.{false, ◌≡◌, ℕ, [], Some, None, sym, ◌∙◌, arith, refl}
 use Rattle.std.specs.FinMap as map
 use Rattle.std.specs.Ordering.{nat_cmp}
 use Rattle.shard.specs.State.{no_pages}
 use Rattle.abandoned.specs.Sound.{IsSound}
 
-pub IsSound-new : IsSound (record { groups = []; table = no_pages })
+pub IsSound-new : IsSound (record { groups = []; table = no_pages; has_plan = false })
 IsSound-new = record {
   ascending = λ low high a b less at_low at_high. absurd cc;
   groups = λ index group there. absurd cc;

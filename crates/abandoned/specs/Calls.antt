@@ -78,7 +78,7 @@ abbrev pub Lifts : PoolState → SpanId → Option WholeState → PoolState → 
 Lifts old head None new = HasNoHead old.groups head × (new ≡ old)
 Lifts old head (Some whole) new =
     (index : ℕ) × (group : PooledState) × IsHeadOf old.groups head index group × (whole ≡ whole_of old.table group)
-    × (new ≡ record { groups = remove old.groups index; table = without_page_of old.table group.page })
+    × (new ≡ record old { groups = remove old.groups index; table = without_page_of old.table group.page })
 
 -- the pool with reserved room for one group of so many spans
 abbrev pub with_room : PoolState → ℕ → PoolState

@@ -1,5 +1,5 @@
 -- What contracts see of the pool.
-use Rattle.std.specs.Prelude.{◌≡◌, ◌≢◌, ℕ, ◌<◌, List, [], ◌∷◌, length, map, filter, Option, Some, None, is_some, option_map, slice_get, slice_index, sum_by, zero, suc, slice_set}
+use Rattle.std.specs.Prelude.{◌≡◌, ◌≢◌, ℕ, ◌<◌, Bool, List, [], ◌∷◌, length, map, filter, Option, Some, None, is_some, option_map, slice_get, slice_index, sum_by, zero, suc, slice_set}
 use Rattle.std.specs.List.{flat_map}
 use Rattle.bitmap.specs.Slots.{SlotSet}
 use Rattle.span.specs.declared.id.SpanId.{SpanId}
@@ -16,10 +16,11 @@ pub record PooledState : Type 0 where
   pub guests : List SpanState
   pub page : Option ℕ
 
--- the pool: its groups by ascending head, and the table of their pages
+-- the pool: its groups by ascending head, the table of their pages, and whether a plan of folds is open
 pub record PoolState : Type 0 where
   pub groups : List PooledState
   pub table : TableState
+  pub has_plan : Bool
 
 -- the group of the spans, on the page, if there is one
 abbrev pub group_of : SpansState → Option ℕ → PooledState

@@ -17,6 +17,9 @@ pub enum ReceiveError {
     /// A span of the shard is in the pool already.
     #[error("a span of the shard is in the pool already")]
     Doubled,
+    /// A group of the shard is closed, since a plan of folds is open.
+    #[error("a group of the shard is closed by a plan of folds")]
+    PlanOpen,
 }
 
 impl From<AllocError> for ReceiveError {
@@ -42,6 +45,9 @@ pub enum AdoptError {
     /// A span of the group is in the shard already, or bears the shard's number.
     #[error("a span of the group is in the shard already, or is one of its own")]
     Doubled,
+    /// A plan of folds is open.
+    #[error("a plan of folds is open")]
+    PlanOpen,
     /// No group of the pool has a page.
     #[error("no group has a page")]
     NothingToAdopt,

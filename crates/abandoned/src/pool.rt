@@ -1,5 +1,5 @@
 // The pool and its calls on keys.
-ghost use Rattle.std.specs.Prelude.{◌≡◌, ◌<◌, ◌≤◌, ◌*◌, ◌↔◌, ℕ, [], map, length, IsTrue, IfOk, IfSome, MatchOption, if◌then◌else◌, is_some};
+ghost use Rattle.std.specs.Prelude.{◌≡◌, ◌<◌, ◌≤◌, ◌*◌, ◌↔◌, ℕ, [], map, length, IsTrue, IfOk, IfSome, MatchOption, false, true, if◌then◌else◌, is_some};
 ghost use Rattle.std.specs.List.Sorted.{IsStrictlyIncreasing};
 ghost use Rattle.span.specs.Ids.{rank};
 ghost use Rattle.span.specs.PlainMap as plain;
@@ -22,6 +22,8 @@ use std::marker::Model;
 
 mod handover;
 mod moves;
+#[cfg(test)]
+mod tests;
 
 /// The groups of shards that have ended, by ascending head, and the pages of those that have a live slot.
 ///
@@ -35,6 +37,7 @@ pub struct Pool {
     table: Table,
     page_room: usize,
     span_room: usize,
+    has_plan: bool,
 }
 
 impl Model for Pool {
@@ -56,7 +59,7 @@ impl Model for Pool {
 impl Pool {
     /// A pool with no group. It takes no memory.
     pub fn new(alloc: Global) -> Pool
-        ensures empty { result ≡ record { groups = []; table = no_pages } }
+        ensures empty { result ≡ record { groups = []; table = no_pages; has_plan = false } }
         ensures sound { IsSound result }
     {
         Pool {
@@ -66,6 +69,7 @@ impl Pool {
             table: Table::new(alloc),
             page_room: 0,
             span_room: 0,
+            has_plan: false,
         }
     }
 
@@ -74,6 +78,29 @@ impl Pool {
         ensures { result ≡ length (paged_groups self.now) }
     {
         self.table.pages()
+    }
+
+    /// Says that a plan of folds is open, so that no group is adopted until it is closed. It takes no memory.
+    pub fn plan_opened(&mut self)
+        ensures opened { self.new ≡ record self.old { has_plan = true } }
+        ensures sound { IsSound self.new }
+    {
+        self.has_plan = true;
+    }
+
+    /// Says that no plan is open. It takes no memory.
+    pub fn plan_closed(&mut self)
+        ensures closed { self.new ≡ record self.old { has_plan = false } }
+        ensures sound { IsSound self.new }
+    {
+        self.has_plan = false;
+    }
+
+    /// Whether a plan of folds is open.
+    pub fn has_plan(&self) -> bool
+        ensures { result ≡ self.now.has_plan }
+    {
+        self.has_plan
     }
 
     /// How many keys are live in it.

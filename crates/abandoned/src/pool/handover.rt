@@ -1,5 +1,6 @@
 // The end of a shard, and the adoption of a group by another.
-ghost use Rattle.std.specs.Prelude.{◌≡◌, ◌≢◌, ◌<◌, ◌+◌, ◌≤◌, ◌↔◌, ℕ, Err, IfOk, IfSome, IsOkUnless, IsTrue, MatchOption, OnErr, OnOk, false, length, map, slice_get, true};
+ghost use Rattle.std.specs.Prelude.{◌≡◌, ◌≢◌, ◌<◌, ◌+◌, ◌≤◌, ◌↔◌, ℕ, Err, IfOk, IfSome, IsOkUnless, IsTrue, if◌then◌else◌, MatchOption, OnErr, OnOk, false, length, map, slice_get, true};
+ghost use Rattle.std.specs.List.{list_any};
 ghost use Rattle.span.specs.declared.id.SpanId.{SpanId};
 ghost use Rattle.span.specs.State.{SpanState};
 ghost use Rattle.shard.specs.Group.{GroupState, all_spans};
@@ -25,14 +26,15 @@ impl Pool {
     ///
     /// # Errors
     ///
-    /// `Ended` exactly where the shard has ended before, `Doubled` exactly where it has not and one of its spans is
-    /// here already, and `OutOfMemory` where neither holds and a growth was refused; each growth stands before the
-    /// first change.
+    /// The first of these that holds, exactly: `Ended` where the shard has ended before; `Doubled` where one of its
+    /// spans is here already; `PlanOpen` where one of its groups is closed. `OutOfMemory` where none holds and a
+    /// growth was refused; each growth stands before the first change.
     pub fn receive(&mut self, shard: &mut Shard) -> Result<(), ReceiveError>
         ensures ok { OnOk result (Receives self.old shard.old self.new shard.new) }
         ensures kept { OnOk result (shown self.new ≡ together (shown self.old) (shown_by_shard shard.old)) }
         ensures ended { (result ≡ Err ReceiveError.Ended) ↔ (shard.old.ended ≡ true) }
         ensures doubled { (result ≡ Err ReceiveError.Doubled) ↔ ((shard.old.ended ≡ false) × IsInPool self.old shard.old) }
+        ensures plan_open { (result ≡ Err ReceiveError.PlanOpen) ↔ ((shard.old.ended ≡ false) × (IsInPool self.old shard.old → ⊥) × (list_any (λ group. group.closed) shard.old.groups ≡ true)) }
         ensures err { OnErr result (self.new ≡ self.old) }
         ensures err_shard { OnErr result (shard.new ≡ shard.old) }
         ensures sound { IsSound self.new }
@@ -44,6 +46,9 @@ impl Pool {
         }
         if doubled {
             return Err(ReceiveError::Doubled);
+        }
+        if shard.has_closed() {
+            return Err(ReceiveError::PlanOpen);
         }
         self.receive_all(shard)
     }
@@ -62,10 +67,7 @@ impl Pool {
         ensures sound { IsSound self.new }
         ensures sound_shard { IsSoundShard shard.new }
     {
-        let Some(spans) = count_spans(shard) else {
-            return Err(ReceiveError::OutOfMemory);
-        };
-        self.reserve(shard.pages(), spans)?;
+        self.reserve(shard.pages(), count_spans(shard))?;
         self.take_all(shard);
         shard.set_ended();
         Ok(())
@@ -124,7 +126,8 @@ impl Pool {
     ///
     /// The first of these that holds, exactly: `PagesSpent` where the shard has all the pages that it may have,
     /// whatever the pool holds; `Ended` where the shard has ended; `Doubled` where a span of the group is in the
-    /// shard already or bears its number; `NothingToAdopt` where no group has a page. `OutOfMemory` where none
+    /// shard already or bears its number; `PlanOpen` where a plan of folds is open; `NothingToAdopt` where no group
+    /// has a page. `OutOfMemory` where none
     /// holds and a growth was refused; each growth stands before the first change.
     pub fn adopt(&mut self, shard: &mut Shard) -> Result<SpanId, AdoptError>
         ensures ok { IfOk result (λ head. Adopts self.old shard.old head self.new shard.new) }
@@ -132,7 +135,8 @@ impl Pool {
         ensures spent { (result ≡ Err AdoptError.PagesSpent) ↔ (shard.old.page_limit ≡ length shard.old.groups) }
         ensures ended { (result ≡ Err AdoptError.Ended) ↔ ((shard.old.page_limit ≢ length shard.old.groups) × (shard.old.ended ≡ true)) }
         ensures doubled { (result ≡ Err AdoptError.Doubled) ↔ ((shard.old.page_limit ≢ length shard.old.groups) × (shard.old.ended ≡ false) × IsDoubled self.old shard.old) }
-        ensures nothing { (result ≡ Err AdoptError.NothingToAdopt) ↔ ((shard.old.page_limit ≢ length shard.old.groups) × (shard.old.ended ≡ false) × HasNothingToAdopt self.old) }
+        ensures plan_open { (result ≡ Err AdoptError.PlanOpen) ↔ ((shard.old.page_limit ≢ length shard.old.groups) × (shard.old.ended ≡ false) × (IsDoubled self.old shard.old → ⊥) × (self.old.has_plan ≡ true)) }
+        ensures nothing { (result ≡ Err AdoptError.NothingToAdopt) ↔ ((shard.old.page_limit ≢ length shard.old.groups) × (shard.old.ended ≡ false) × (self.old.has_plan ≡ false) × HasNothingToAdopt self.old) }
         ensures err { OnErr result (self.new ≡ self.old) }
         ensures err_shard { OnErr result (shard.new ≡ shard.old) }
         ensures sound { IsSound self.new }
@@ -147,12 +151,26 @@ impl Pool {
             return Err(AdoptError::Ended);
         }
         let Some(index) = lowest else {
-            return Err(AdoptError::NothingToAdopt);
+            return Err(self.nothing_to_adopt());
         };
         if self.would_double(shard, index) {
             return Err(AdoptError::Doubled);
         }
+        if self.has_plan {
+            return Err(AdoptError::PlanOpen);
+        }
         self.move_to(shard, index)
+    }
+
+    // Why no group is adopted where none has a page.
+    fn nothing_to_adopt(&self) -> AdoptError
+        ensures { result ≡ (if self.now.has_plan then AdoptError.PlanOpen else AdoptError.NothingToAdopt) }
+    {
+        if self.has_plan {
+            AdoptError::PlanOpen
+        } else {
+            AdoptError::NothingToAdopt
+        }
     }
 
     // Where the group of lowest head that has a page stands.
@@ -209,15 +227,16 @@ impl Pool {
     }
 }
 
-// How many spans the shard has, if it is a number.
-fn count_spans(shard: &Shard) -> Option<usize>
-    ensures { IfSome result (λ spans. spans ≡ length (spans_in_shard shard.now.groups)) }
+// How many spans the shard has: no more than there are ids, since none stands twice.
+fn count_spans(shard: &Shard) -> usize
+    requires { IsSoundShard shard.now }
+    ensures { result ≡ length (spans_in_shard shard.now.groups) }
 {
-    let mut spans: usize = 0;
+    let mut spans = 0;
     for index in 0..shard.pages() {
-        spans = spans.checked_add(shard.spans_at(index).len())?;
+        spans += shard.spans_at(index).len();
     }
-    Some(spans)
+    spans
 }
 
 // Whether one of the spans is in the shard already, or bears its number.

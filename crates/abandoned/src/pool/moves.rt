@@ -20,7 +20,8 @@ use std::alloc::AllocError;
 impl Pool {
     /// A look at the group of the head, if the pool has it.
     pub fn brief(&self, head: SpanId) -> Option<Brief>
-        ensures { MatchOption result (HasNoHead self.now.groups head) (IsBriefHere self.now.groups head) }
+        ensures brief { MatchOption result (HasNoHead self.now.groups head) (IsBriefHere self.now.groups head) }
+        ensures sound { IsSound self.now }
     {
         let Some(index) = self.find_head(head) else {
             return None;

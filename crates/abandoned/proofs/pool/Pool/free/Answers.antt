@@ -1,4 +1,4 @@
-use Rattle.std.proofs.Common.{◌≡◌, ◌∙◌, ℕ, List, Some, length, ap, set, sym, subst, refl, slice_get, arith}
+use Rattle.std.proofs.Common.{Bool, ◌≡◌, ◌∙◌, ℕ, List, Some, length, ap, set, sym, subst, refl, slice_get, arith}
 use Rattle.page_table.specs.State.{TableState}
 use Rattle.shard.specs.declared.shard.Freed.TheVariants.{No, NotHere, Yes}
 use Rattle.shard.specs.Group.{with_free}
@@ -41,11 +41,11 @@ free-requires-clause-page c =
     page_there (state_of c.self.inside) c.self.invariant.sound c.in-Some.index c.index_mut-group.result.now (read_is _ _ _ _ found.0 found.1 found.2 c.index_mut-group.result.now c.index_mut-group.ensures.value)
 
 -- a group and a table that stay leave the pool as it was
-same_pool : (groups : List PooledState) (table after : TableState) (pages spans index : ℕ) (group now : PooledState) → slice_get groups index ≡ Some group → now ≡ group → after ≡ table
-    → ◌≡◌ {A = PoolState} (record { groups = set groups index now; table = record after { page_room = pages; span_room = spans } }) (record { groups = groups; table = record table { page_room = pages; span_room = spans } })
-same_pool groups table after pages spans index group now here same same_table =
-    (λ i. record { groups = set groups index (same i); table = record (same_table i) { page_room = pages; span_room = spans } })
-    ∙ ap (λ (gs : List PooledState). record { groups = gs; table = record table { page_room = pages; span_room = spans } }) (set-same groups index group here)
+same_pool : (groups : List PooledState) (table after : TableState) (pages spans index : ℕ) (told : Bool) (group now : PooledState) → slice_get groups index ≡ Some group → now ≡ group → after ≡ table
+    → ◌≡◌ {A = PoolState} (record { groups = set groups index now; table = record after { page_room = pages; span_room = spans }; has_plan = told }) (record { groups = groups; table = record table { page_room = pages; span_room = spans }; has_plan = told })
+same_pool groups table after pages spans index told group now here same same_table =
+    (λ i. record { groups = set groups index (same i); table = record (same_table i) { page_room = pages; span_room = spans }; has_plan = told })
+    ∙ ap (λ (gs : List PooledState). record { groups = gs; table = record table { page_room = pages; span_room = spans }; has_plan = told }) (set-same groups index group here)
 
 pub returns-then-not-free-clause-step : goal.returns-then-not-free-clause-step
 returns-then-not-free-clause-step c =
@@ -60,7 +60,7 @@ returns-then-not-free-clause-step c =
       subst (λ (s : PoolState). IsHere s.groups c.args.key.now.span c.in-Some.index c.in-Some.place c.index_mut-group.result.now c.span_at.result.now) c.self.view_is here,
       (λ holds. clash (sym (((c.if-not-free.ensures {u = tt}).found c.span_at.result.now c.span_at.ensures).1 (sym here.id_is, holds)))),
       ap length c.log-at.ensures.changes,
-      same_pool c.self.inside.groups.items c.self.inside.table c.free.new.table c.self.inside.page_room c.self.inside.span_room c.in-Some.index c.index_mut-group.result.now c.free.new.self read same.0 same.1 ∙ c.self.view_is,
+      same_pool c.self.inside.groups.items c.self.inside.table c.free.new.table c.self.inside.page_room c.self.inside.span_room c.in-Some.index c.self.inside.has_plan c.index_mut-group.result.now c.free.new.self read same.0 same.1 ∙ c.self.view_is,
     )
 
 pub returns-then-not-free-clause-found : goal.returns-then-not-free-clause-found
@@ -73,7 +73,7 @@ invariant_of-self-2 c =
     let holds = (((c.if-not-free.ensures {u = tt}).found c.span_at.result.now c.span_at.ensures).0 refl).1 in
     let gives = (c.if-not-free.ensures {u = tt}).freed c.span_at.result.now c.span_at.ensures in
     let rooms = rooms-GivesUp _ _ _ _ gives in
-    let leaves = Leaves-GivesUp _ _ _ _ gives c.self.inside.groups.items c.in-Some.index c.self.inside.page_room c.self.inside.span_room in
+    let leaves = Leaves-GivesUp _ _ _ _ gives c.self.inside.groups.items c.in-Some.index c.self.inside.page_room c.self.inside.span_room c.self.inside.has_plan in
     record {
       sound = IsSound-Leaves (state_of c.self.inside) c.self.invariant.sound c.in-Some.index c.in-Some.place c.index_mut-group.result.now c.span_at.result.now c.args.key.now (here.group_is, here.span_is) holds _ leaves;
       room_for_pages = rw rooms.0 c.self.invariant.room_for_pages;
@@ -87,7 +87,7 @@ returns-clause-step c =
     let here = here_read _ _ _ _ found.0 found.1 found.2 c.index_mut-group.result.now c.index_mut-group.ensures.value c.span_at.result.now c.span_at.ensures in
     let holds = (((c.if-not-free.ensures {u = tt}).found c.span_at.result.now c.span_at.ensures).0 refl).1 in
     let gives = (c.if-not-free.ensures {u = tt}).freed c.span_at.result.now c.span_at.ensures in
-    let leaves = Leaves-GivesUp _ _ _ _ gives c.self.inside.groups.items c.in-Some.index c.self.inside.page_room c.self.inside.span_room in (
+    let leaves = Leaves-GivesUp _ _ _ _ gives c.self.inside.groups.items c.in-Some.index c.self.inside.page_room c.self.inside.span_room c.self.inside.has_plan in (
       c.in-Some.index,
       c.in-Some.place,
       c.index_mut-group.result.now,
@@ -95,7 +95,7 @@ returns-clause-step c =
       subst (λ (s : PoolState). IsHere s.groups c.args.key.now.span c.in-Some.index c.in-Some.place c.index_mut-group.result.now c.span_at.result.now) c.self.view_is here,
       holds,
       ap length c.log-at.ensures.changes,
-      subst (λ (s : PoolState). Leaves s c.in-Some.index (with_span c.index_mut-group.result.now c.in-Some.place (with_free c.span_at.result.now c.args.key.now)) (record { groups = set c.self.inside.groups.items c.in-Some.index c.free.new.self; table = record c.free.new.table { page_room = c.self.inside.page_room; span_room = c.self.inside.span_room } })) c.self.view_is leaves,
+      subst (λ (s : PoolState). Leaves s c.in-Some.index (with_span c.index_mut-group.result.now c.in-Some.place (with_free c.span_at.result.now c.args.key.now)) (record { groups = set c.self.inside.groups.items c.in-Some.index c.free.new.self; table = record c.free.new.table { page_room = c.self.inside.page_room; span_room = c.self.inside.span_room }; has_plan = c.self.inside.has_plan })) c.self.view_is leaves,
     )
 
 pub returns-clause-found : goal.returns-clause-found

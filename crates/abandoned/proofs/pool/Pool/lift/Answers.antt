@@ -33,6 +33,7 @@ invariant_of-self c =
           subst IsSound (λ i. record {
             groups = sym c.remove-group.ensures.items i;
             table = (sym (with_rooms-without c.self.inside.table c.remove-group.result.page c.self.inside.page_room c.self.inside.span_room) ∙ ap (λ (t : TableState). record t { page_room = c.self.inside.page_room; span_room = c.self.inside.span_room }) (sym table_is)) i;
+            has_plan = c.self.inside.has_plan;
           })
           (IsSound-left_over (state_of c.self.inside) c.self.invariant.sound c.in-Some.index c.remove-group.result head_here.here);
       room_for_pages = rw (table_is, rooms.0) c.self.invariant.room_for_pages;
@@ -52,8 +53,9 @@ returns-clause-lifts c =
       (λ i. record {
         groups = c.remove-group.ensures.items i;
         table = (ap (λ (t : TableState). record t { page_room = c.self.inside.page_room; span_room = c.self.inside.span_room }) table_is ∙ with_rooms-without c.self.inside.table c.remove-group.result.page c.self.inside.page_room c.self.inside.span_room) i;
+        has_plan = c.self.inside.has_plan;
       })
-          ∙ ap (λ (s : PoolState). record { groups = remove s.groups c.in-Some.index; table = without_page_of s.table c.remove-group.result.page }) c.self.view_is,
+          ∙ ap (λ (s : PoolState). record s { groups = remove s.groups c.in-Some.index; table = without_page_of s.table c.remove-group.result.page }) c.self.view_is,
     )
 
 pub returns-clause-sound : goal.returns-clause-sound

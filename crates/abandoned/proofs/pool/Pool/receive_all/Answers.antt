@@ -15,7 +15,7 @@ take_all-requires-clause-apart c =
 pub returns-clause-ok : goal.returns-clause-ok
 returns-clause-ok c = record {
   page_room = c.pages.result;
-  span_room = c.in-Some.spans;
+  span_room = c.count_spans.result;
   running = c.requires.running;
   moved = subst (λ (p : PoolState). TakesAll p (map (whole_of c.args.shard.now.table) c.args.shard.now.groups) c.take_all.new.self) (c.in_ok-reserve.ensures {u = tt}).ok c.take_all.ensures.moved;
   after = c.set_ended.ensures.ended ∙ ended_after c.args.shard.now c.take_all.new.shard c.take_all.ensures.emptied c.take_all.ensures.sound_shard;
@@ -23,7 +23,7 @@ returns-clause-ok c = record {
 
 pub returns-clause-kept : goal.returns-clause-kept
 returns-clause-kept c =
-    together-Receives c.args.self.now c.take_all.new.self c.args.shard.now c.pages.result c.in-Some.spans
-    (IsSound-with_rooms c.args.self.now c.pages.result c.in-Some.spans c.requires.sound) c.requires.sound c.requires.sound_shard (AreSound-groups c.args.shard.now c.requires.sound_shard)
+    together-Receives c.args.self.now c.take_all.new.self c.args.shard.now c.pages.result c.count_spans.result
+    (IsSound-with_rooms c.args.self.now c.pages.result c.count_spans.result c.requires.sound) c.requires.sound c.requires.sound_shard (AreSound-groups c.args.shard.now c.requires.sound_shard)
     (AreApart-receiving c.args.self.now c.args.shard.now c.requires.sound c.requires.sound_shard c.requires.apart)
     (subst (λ (p : PoolState). TakesAll p (map (whole_of c.args.shard.now.table) c.args.shard.now.groups) c.take_all.new.self) (c.in_ok-reserve.ensures {u = tt}).ok c.take_all.ensures.moved)

@@ -33,7 +33,7 @@ place_now c =
     (no_head_elsewhere c.self.inside.groups.items (moved c).head.id ((may c).elsewhere 0 (moved c).head refl))
 
 abbrev now : goal.After-self-2-1 → PoolState
-now c = record { groups = c.insert_reserved.new.groups.items; table = record c.house-page.new.table { page_room = c.self.inside.page_room - 1; span_room = c.self.inside.span_room - c.len-count.result } }
+now c = record { groups = c.insert_reserved.new.groups.items; table = record c.house-page.new.table { page_room = c.self.inside.page_room - 1; span_room = c.self.inside.span_room - c.len-count.result }; has_plan = c.self.inside.has_plan }
 
 takes : (c : goal.After-self-2-1) → TakesIn (state_of c.self.inside) (moved c) (now c)
 takes c =
@@ -41,12 +41,13 @@ takes c =
     (λ i. record {
       groups = (ap (insert c.self.inside.groups.items c.lower_heads-index.result) (sym c.new.ensures) ∙ sym c.insert_reserved.ensures.items) i;
       table = record c.house-page.new.table { page_room = c.self.inside.page_room - 1; span_room = c.self.inside.span_room - sym c.len-count.ensures i };
+      has_plan = c.self.inside.has_plan;
     })
-    (TakesIn-housed c.self.inside.groups.items c.self.inside.table c.house-page.new.table c.self.inside.page_room c.self.inside.span_room (moved c) c.house-page.result c.lower_heads-index.result c.house-page.ensures.emptied c.house-page.ensures.live (place_now c))
+    (TakesIn-housed c.self.inside.groups.items c.self.inside.table c.house-page.new.table c.self.inside.page_room c.self.inside.span_room c.self.inside.has_plan (moved c) c.house-page.result c.lower_heads-index.result c.house-page.ensures.emptied c.house-page.ensures.live (place_now c))
 
 pub invariant_of-self : goal.invariant_of-self
 invariant_of-self c =
-    let rooms = rooms-housed c.self.inside.groups.items c.self.inside.table c.house-page.new.table c.self.inside.page_room c.self.inside.span_room (moved c) c.house-page.result c.lower_heads-index.result c.house-page.ensures.emptied c.house-page.ensures.live c.self.invariant.room_for_pages c.self.invariant.room_for_spans in
+    let rooms = rooms-housed c.self.inside.groups.items c.self.inside.table c.house-page.new.table c.self.inside.page_room c.self.inside.span_room c.self.inside.has_plan (moved c) c.house-page.result c.lower_heads-index.result c.house-page.ensures.emptied c.house-page.ensures.live c.self.invariant.room_for_pages c.self.invariant.room_for_spans in
     record {
       sound = IsSound-TakesIn (state_of c.self.inside) (now c) (moved c) c.self.invariant.sound (subst IsSoundWhole c.into_parts-spans.ensures.parts c.into_parts-spans.ensures.sound) (may c).elsewhere (takes c);
       room_for_pages = rooms.0;
