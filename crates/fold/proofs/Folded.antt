@@ -1,0 +1,97 @@
+-- A fold that may be: what the shard asks of it, and that all keys keep their values.
+use Rattle.std.proofs.Common.{◌≡◌, ℕ, ◌≤◌, ◌++◌, Option, None, Some, length, slice_get, ◌∙◌, ap, sym, subst, refl, inl, inr, arith}
+use Rattle.std.specs.FinSet.{intersection}
+use Rattle.std.specs.Option.{IsSome}
+use Rattle.std.specs.Prelude.{option_map}
+use Rattle.bitmap.specs.Slots.{AreDisjoint}
+use Rattle.span.specs.declared.id.SpanId.{SpanId}
+use Rattle.page_table.specs.State.{words_of}
+use Rattle.shard.specs.Group.{GroupState, occupied, union_of}
+use Rattle.shard.specs.Moves.{Grafts, IsHeadOf as IsHeadOfInShard, MayGraft, WholeState, head_among, spans_moved, with_room}
+use Rattle.shard.specs.Shown.{shown as shown_by_shard}
+use Rattle.shard.specs.Sound.{IsSound as IsSoundShard}
+use Rattle.shard.specs.State.{ShardState}
+use Rattle.shard.proofs.HeadsHere.{head_among-here}
+use Rattle.shard.proofs.Logged.{logged}
+use Rattle.shard.proofs.ShownLogs.{shown-logged as shown-logged_shard}
+use Rattle.abandoned.specs.Calls.{Lifts}
+use Rattle.abandoned.specs.Shown.{shown, together}
+use Rattle.abandoned.specs.Sound.{IsSound}
+use Rattle.abandoned.specs.State.{IsHeadOf, PoolState, PooledState, spans_of, whole_of}
+use Rattle.abandoned.proofs.Adopted.{one_head}
+use Rattle.abandoned.proofs.ShownLogs.{nothing_pending, shown-logged}
+use Rattle.abandoned.proofs.Standing.{times}
+use Rattle.abandoned.proofs.TakenIn.{empty_or_not}
+use Rattle.abandoned.proofs.Together.{spans_in-Lifts, together-moved}
+use Rattle.fold.specs.Folds.{Folds, MayFold}
+use Rattle.fold.proofs.Heads.{none_or_head}
+use Rattle.fold.proofs.Sums.{spans_in-Grafts}
+
+module _ (pool : PoolState) (sound : IsSound pool) (shard : ShardState) (a b : SpanId) (may : MayFold pool shard a b) where
+  -- the group of the shard
+  onto : (place : ℕ) × (group : GroupState) × IsHeadOfInShard shard.groups b place group
+  onto = elim (none_or_head shard.groups b) [
+    | inl none ↦ absurd (may.present (inr (inl none)))
+    | inr here ↦ here
+  ]
+
+  module _ (index : ℕ) (group : PooledState) (from : IsHeadOf pool.groups a index group) where
+    page_is : (page : ℕ) × (group.page ≡ Some page)
+    page_is = by_page group.page refl
+      where
+        by_page : (o : Option ℕ) → group.page ≡ o → (page : ℕ) × (group.page ≡ Some page)
+        by_page None e = absurd (may.paged (may.present, (index, group, from, e)))
+        by_page (Some page) e = (page, e)
+
+    apart : AreDisjoint (occupied onto.1) (union_of (spans_of group))
+    apart = elim (empty_or_not (intersection (occupied onto.1) (union_of (spans_of group)))) [
+      | inl none ↦ none
+      | inr some ↦ absurd (may.apart (may.present, may.paged, (index, onto.0, group, onto.1, from, onto.2, some)))
+    ]
+
+  -- the room that is made is for the spans that come
+  module _ (whole : WholeState) (pool_new : PoolState) (lifts : Lifts pool a (Some whole) pool_new) (index : ℕ) (group : PooledState) (from : IsHeadOf pool.groups a index group) (spans : ℕ) (spans_is : spans ≡ length (spans_of group)) (room : ShardState)
+      (room_is : room ≡ with_room shard (head_among shard.groups (Some b)) spans) where
+    whole_is : whole ≡ whole_of pool.table group
+    whole_is = lifts.3 ∙ ap (whole_of pool.table) (one_head pool sound lifts.0 index lifts.1 group lifts.2.here from.here (lifts.2.head_is ∙ sym from.head_is))
+
+    spans_are : spans_moved whole ≡ spans_of group
+    spans_are = ap spans_moved whole_is
+
+    room_for : room ≡ with_room shard (Some b) (length (spans_moved whole))
+    room_for =
+        room_is ∙ ap (λ (o : Option SpanId). with_room shard o spans) (head_among-here shard.groups b onto.0 onto.1 onto.2)
+        ∙ ap (with_room shard (Some b)) (spans_is ∙ ap length (sym spans_are))
+
+    pub MayGraft-room : MayGraft room b whole
+    MayGraft-room = subst (λ (s : ShardState). MayGraft s b whole) (sym room_for) (record {
+      paged = subst (λ (w : WholeState). IsSome w.words) (sym whole_is) (still_some (page_is index group from).0 group.page (page_is index group from).1);
+      elsewhere = λ at span there other g here place found.
+          may.present (inr (inr (index, group, from, (at, span, ap (λ xs. slice_get xs at) (sym spans_are) ∙ there, inr (λ away. away other g here place found)))));
+      foreign = λ at span there same. may.present (inr (inr (index, group, from, (at, span, ap (λ xs. slice_get xs at) (sym spans_are) ∙ there, inl same))));
+      apart = (onto.0, onto.1, onto.2, subst (λ xs. AreDisjoint (occupied onto.1) (union_of xs)) (sym spans_are) (apart index group from));
+      onto = refl;
+      span_room = omega arith;
+    })
+      where
+        still_some : (page : ℕ) (o : Option ℕ) → o ≡ Some page → IsSome (option_map (words_of pool.table) o)
+        still_some page None e = absurd cc
+        still_some page (Some other) e = refl
+
+    pub Folds-grafted : (shard_new : ShardState) → Grafts room b whole shard_new → Folds pool shard a b pool_new shard_new
+    Folds-grafted shard_new grafts = record { whole = whole; lifts = lifts; grafts = subst (λ (s : ShardState). Grafts s b whole shard_new) room_for grafts }
+
+-- pool and shard show together what they showed
+pub together-Folds : (pool : PoolState) (shard : ShardState) (a b : SpanId) (pool_new : PoolState) (shard_new : ShardState) → IsSound pool → IsSoundShard shard → IsSound pool_new → IsSoundShard shard_new → Folds pool shard a b pool_new shard_new
+    → together (shown pool_new) (shown_by_shard shard_new) ≡ together (shown pool) (shown_by_shard shard)
+together-Folds pool shard a b pool_new shard_new sound sound_shard sound_new sound_shard_new folds =
+    let whole = folds.whole in
+    let out = spans_in-Lifts pool pool_new a whole folds.lifts in
+    let into = spans_in-Grafts (with_room shard (Some b) (length (spans_moved whole))) shard_new b whole folds.grafts in
+    let here : (id : SpanId) → times id (out.0 ++ (spans_moved whole ++ out.1)) ≤ 1 = λ id. subst (λ xs. times id xs ≤ 1) out.2 (sound.once id) in
+    let there : (id : SpanId) → times id (into.left ++ (spans_moved whole ++ into.right)) ≤ 1 = λ id. subst (λ xs. times id xs ≤ 1) into.with_is (sound_shard_new.once id) in
+    ap (λ m. together m (shown_by_shard shard_new)) (shown-logged pool_new sound_new ∙ ap (λ xs. logged xs nothing_pending) out.3)
+    ∙ ap (together (logged (out.0 ++ out.1) nothing_pending)) (shown-logged_shard shard_new sound_shard_new ∙ ap (λ xs. logged xs nothing_pending) into.with_is)
+    ∙ together-moved out.0 (spans_moved whole) out.1 into.left into.right here there
+    ∙ sym (ap (λ m. together m (shown_by_shard shard)) (shown-logged pool sound ∙ ap (λ xs. logged xs nothing_pending) out.2)
+    ∙ ap (together (logged (out.0 ++ (spans_moved whole ++ out.1)) nothing_pending)) (shown-logged_shard shard sound_shard ∙ ap (λ xs. logged xs nothing_pending) into.without_is))

@@ -1,0 +1,4 @@
+pub mod Folded
+pub mod Heads
+pub mod Judged
+pub mod Sums

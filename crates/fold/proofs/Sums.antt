@@ -1,0 +1,123 @@
+-- What a fold does to the spans of pool and shard.
+use Rattle.std.proofs.Common.{◌≡◌, ℕ, ◌+◌, ◌++◌, false, true, Bool, List, ◌∷◌, length, append_assoc, length-set, None, Some, ◌∙◌, ap, sym, refl, arith, Option, is_some, cond, slice_get}
+use Rattle.std.specs.Prelude.{option_map, remove, sum_by}
+use Rattle.std.proofs.lemmas.Grind.{flat_map-append}
+use Rattle.std.proofs.lemmas.List.Sums.{length-filter, sum_by-append}
+use Rattle.span.specs.State.{SpanState}
+use Rattle.span.specs.declared.id.SpanId.{SpanId}
+use Rattle.page_table.specs.State.{words_of}
+use Rattle.shard.specs.Group.{spans_of}
+use Rattle.shard.specs.Moves.{Grafts, WholeState, spans_moved, with_guests, with_room}
+use Rattle.shard.specs.Sound.{IsSound as IsSoundShard}
+use Rattle.shard.specs.State.{ShardState, spans_in as spans_in_shard}
+use Rattle.shard.proofs.Lists.{split_at}
+use Rattle.shard.proofs.MovedGroups.{AreBetween}
+use Rattle.abandoned.specs.Calls.{Lifts}
+use Rattle.abandoned.specs.State.{PoolState, PooledState, paged_groups, spans_in}
+use Rattle.abandoned.proofs.Removed.{count-remove}
+use Rattle.abandoned.proofs.Together.{spans_in-Lifts}
+use Rattle.fold.specs.Folds.{Folds}
+
+-- after a graft the spans are the old ones with those that came behind the last guest of the group
+pub spans_in-Grafts : (old new : ShardState) (head : SpanId) (whole : WholeState) → Grafts old head whole new → AreBetween (spans_in_shard new.groups) (spans_in_shard old.groups) (spans_moved whole)
+spans_in-Grafts old new head whole grafts =
+    let cut = split_at old.groups grafts.index grafts.group grafts.here.here in
+    let left : List SpanState = spans_in_shard cut.left in
+    let right : List SpanState = spans_in_shard cut.right in
+    let own : List SpanState = spans_of grafts.group in
+    let moved : List SpanState = spans_moved whole in
+    record {
+      left = left ++ own;
+      right = right;
+      with_is =
+          ap (λ (s : ShardState). spans_in_shard s.groups) grafts.after
+          ∙ ap spans_in_shard (cut.after_set (with_guests grafts.group moved))
+          ∙ flat_map-append spans_of cut.left (with_guests grafts.group moved ∷ cut.right)
+          ∙ ap (λ (xs : List SpanState). left ++ xs) (append_assoc own moved right)
+          ∙ sym (append_assoc left own (moved ++ right));
+      without_is =
+          ap spans_in_shard cut.whole ∙ flat_map-append spans_of cut.left (grafts.group ∷ cut.right) ∙ sym (append_assoc left own right);
+    }
+
+-- sums over the spans
+
+pub sum_by-Lifts : (w : SpanState → ℕ) (old new : PoolState) (head : SpanId) (whole : WholeState) → Lifts old head (Some whole) new → sum_by w (spans_in new.groups) + sum_by w (spans_moved whole) ≡ sum_by w (spans_in old.groups)
+sum_by-Lifts w old new head whole lifts =
+    let out = spans_in-Lifts old new head whole lifts in
+    omega (arith, ap (sum_by w) out.2, ap (sum_by w) out.3, sum_by-append w out.0 out.1, sum_by-append w out.0 (spans_moved whole ++ out.1), sum_by-append w (spans_moved whole) out.1)
+
+pub sum_by-Grafts : (w : SpanState → ℕ) (old new : ShardState) (head : SpanId) (whole : WholeState) → Grafts old head whole new → sum_by w (spans_in_shard new.groups) ≡ sum_by w (spans_in_shard old.groups) + sum_by w (spans_moved whole)
+sum_by-Grafts w old new head whole grafts =
+    let into = spans_in-Grafts old new head whole grafts in
+    omega (
+      arith,
+      ap (sum_by w) into.with_is,
+      ap (sum_by w) into.without_is,
+      sum_by-append w into.left into.right,
+      sum_by-append w into.left (spans_moved whole ++ into.right),
+      sum_by-append w (spans_moved whole) into.right,
+    )
+
+module _ (pool : PoolState) (shard : ShardState) (a b : SpanId) (pool_new : PoolState) (shard_new : ShardState) (folds : Folds pool shard a b pool_new shard_new) where
+  -- the shard has the spans of a's group more
+  pub sum_by-Folds_shard : (w : SpanState → ℕ) → sum_by w (spans_in_shard shard_new.groups) ≡ sum_by w (spans_in_shard shard.groups) + sum_by w (spans_moved folds.whole)
+  sum_by-Folds_shard w = sum_by-Grafts w (with_room shard (Some b) (length (spans_moved folds.whole))) shard_new b folds.whole folds.grafts
+
+  -- and the pool has them less
+  pub sum_by-Folds_pool : (w : SpanState → ℕ) → sum_by w (spans_in pool_new.groups) + sum_by w (spans_moved folds.whole) ≡ sum_by w (spans_in pool.groups)
+  sum_by-Folds_pool w = sum_by-Lifts w pool pool_new a folds.whole folds.lifts
+
+  -- so that both together have the same
+  pub sum_by-Folds : (w : SpanState → ℕ) → sum_by w (spans_in_shard shard_new.groups) + sum_by w (spans_in pool_new.groups) ≡ sum_by w (spans_in_shard shard.groups) + sum_by w (spans_in pool.groups)
+  sum_by-Folds w = omega (arith, sum_by-Folds_shard w, sum_by-Folds_pool w)
+
+  pub number-Folds : shard_new.number ≡ shard.number
+  number-Folds = ap (λ (s : ShardState). s.number) folds.grafts.after
+
+  pub page_limit-Folds : shard_new.page_limit ≡ shard.page_limit
+  page_limit-Folds = ap (λ (s : ShardState). s.page_limit) folds.grafts.after
+
+  pub gens-Folds : shard_new.gens ≡ shard.gens
+  gens-Folds = ap (λ (s : ShardState). s.gens) folds.grafts.after
+
+  pub opened-Folds : shard_new.opened ≡ shard.opened
+  opened-Folds = ap (λ (s : ShardState). s.opened) folds.grafts.after
+
+  pub ended-Folds : shard_new.ended ≡ shard.ended
+  ended-Folds = ap (λ (s : ShardState). s.ended) folds.grafts.after
+
+  -- a shard that has a group has not ended
+  pub running-Folds : IsSoundShard shard → shard.ended ≡ false
+  running-Folds sound = by_end shard.ended refl
+    where
+      by_end : (e : Bool) → shard.ended ≡ e → shard.ended ≡ false
+      by_end false is = is
+      by_end true is = absurd (
+          let none : None ≡ slice_get shard.groups folds.grafts.index = ap (λ gs. slice_get gs folds.grafts.index) (sym (sound.none_left is)) in
+          let some = folds.grafts.here.here in
+          cc)
+
+  -- the shard has as many groups as before
+  pub length_groups-Folds : length shard_new.groups ≡ length shard.groups
+  length_groups-Folds = ap (λ (s : ShardState). length s.groups) folds.grafts.after ∙ length-set shard.groups folds.grafts.index (with_guests folds.grafts.group (spans_moved folds.whole))
+
+  -- and the pool has one page less
+  pub length_paged-Folds : length (paged_groups pool_new) + 1 ≡ length (paged_groups pool)
+  length_paged-Folds =
+      let (index, group, at, whole_is, new_is) = folds.lifts in
+      let some : is_some group.page ≡ true = has_page group.page (ap (λ (w : WholeState). w.words) (sym whole_is) ∙ folds.grafts.words_are) in
+      omega (
+        arith,
+        ap (λ (p : PoolState). length (paged_groups p)) new_is,
+        length-filter is_paged (remove pool.groups index),
+        length-filter is_paged pool.groups,
+        count-remove is_paged pool.groups index group at.here,
+        ap (λ b. cond {A = ℕ} b 1 0) some,
+      )
+    where
+      is_paged : PooledState → Bool
+      is_paged group = is_some group.page
+
+      has_page : (o : Option ℕ) {words : List ℕ} → option_map (words_of pool.table) o ≡ Some words → is_some o ≡ true
+      has_page None e = absurd cc
+      has_page (Some page) e = refl

@@ -1,0 +1,63 @@
+-- What a fold of a group of the pool onto a group of a shard does, and where there is none.
+use Rattle.std.specs.Prelude.{◌≡◌, ◌⊎◌, ℕ, length, None, Some}
+use Rattle.bitmap.specs.Slots.{AreDisjoint}
+use Rattle.span.specs.declared.id.SpanId.{SpanId}
+use Rattle.shard.specs.Group.{GroupState, occupied, union_of}
+use Rattle.shard.specs.Moves.{Grafts, HasNoHead as HasNoHeadInShard, IsHeadOf as IsHeadOfInShard, WholeState, spans_moved, with_room}
+use Rattle.shard.specs.State.{ShardState, IsElsewhere as IsElsewhereInShard}
+use Rattle.abandoned.specs.Calls.{HasDoubled, Lifts}
+use Rattle.abandoned.specs.State.{HasNoHead, IsHeadOf, PoolState, PooledState, spans_of}
+use Rattle.fold.specs.declared.step.Step.{Step}
+use Rattle.fold.specs.declared.step.Step.TheVariants.{Absent, Clash, Emptied, Folded}
+
+-- the shard has a span of this id, or is the one that opens it
+abbrev pub IsTaken : ShardState → SpanId → Type 0
+IsTaken shard id = (id.shard ≡ shard.number) ⊎ (IsElsewhereInShard shard.groups id → ⊥)
+
+-- a span of the pool's group of a is in the shard already, or bears its number
+abbrev pub WouldDouble : PoolState → ShardState → SpanId → Type 0
+WouldDouble pool shard a = (index : ℕ) × (group : PooledState) × IsHeadOf pool.groups a index group × HasDoubled shard (spans_of group)
+
+-- a heads no group of the pool, or b no group of the shard, or a span would stand twice
+abbrev pub IsAbsent : PoolState → ShardState → SpanId → SpanId → Type 0
+IsAbsent pool shard a b = HasNoHead pool.groups a ⊎ (HasNoHeadInShard shard.groups b ⊎ WouldDouble pool shard a)
+
+-- neither group is absent, and that of a has no page
+abbrev pub IsEmptied : PoolState → ShardState → SpanId → SpanId → Type 0
+IsEmptied pool shard a b = (IsAbsent pool shard a b → ⊥) × ((index : ℕ) × (group : PooledState) × IsHeadOf pool.groups a index group × (group.page ≡ None))
+
+-- a slot is live in both groups
+abbrev pub AreClashing : PoolState → ShardState → SpanId → SpanId → Type 0
+AreClashing pool shard a b =
+    (index place : ℕ) × (group : PooledState) × (onto : GroupState) × IsHeadOf pool.groups a index group × IsHeadOfInShard shard.groups b place onto
+    × (AreDisjoint (occupied onto) (union_of (spans_of group)) → ⊥)
+
+-- neither group is absent, both have a page, and a slot is live in both
+abbrev pub IsClash : PoolState → ShardState → SpanId → SpanId → Type 0
+IsClash pool shard a b = (IsAbsent pool shard a b → ⊥) × (IsEmptied pool shard a b → ⊥) × AreClashing pool shard a b
+
+-- nothing but want of memory may stand in the way of the fold
+pub record MayFold (pool : PoolState) (shard : ShardState) (a b : SpanId) : Type 0 where
+  pub present : IsAbsent pool shard a b → ⊥
+  pub paged : IsEmptied pool shard a b → ⊥
+  pub apart : IsClash pool shard a b → ⊥
+
+-- the pool's group of a leaves it whole, and its spans are the last guests of the shard's group of b
+pub record Folds (pool : PoolState) (shard : ShardState) (a b : SpanId) (pool_new : PoolState) (shard_new : ShardState) : Type 0 where
+  pub whole : WholeState
+  pub lifts : Lifts pool a (Some whole) pool_new
+  pub grafts : Grafts (with_room shard (Some b) (length (spans_moved whole))) b whole shard_new
+
+-- the answer that two groups get
+abbrev pub IsStepFor : PoolState → ShardState → SpanId → SpanId → Step → Type 0
+IsStepFor pool shard a b Absent = IsAbsent pool shard a b
+IsStepFor pool shard a b Emptied = IsEmptied pool shard a b
+IsStepFor pool shard a b Clash = IsClash pool shard a b
+IsStepFor pool shard a b Folded = MayFold pool shard a b
+
+-- the answer and what it changes: nothing, but for a fold
+abbrev pub Steps : PoolState → ShardState → SpanId → SpanId → Step → PoolState → ShardState → Type 0
+Steps pool shard a b Absent pool_new shard_new = IsAbsent pool shard a b × (pool_new ≡ pool) × (shard_new ≡ shard)
+Steps pool shard a b Emptied pool_new shard_new = IsEmptied pool shard a b × (pool_new ≡ pool) × (shard_new ≡ shard)
+Steps pool shard a b Clash pool_new shard_new = IsClash pool shard a b × (pool_new ≡ pool) × (shard_new ≡ shard)
+Steps pool shard a b Folded pool_new shard_new = MayFold pool shard a b × Folds pool shard a b pool_new shard_new

@@ -1,0 +1,131 @@
+// A fold of a group of the pool onto a group of a shard.
+ghost use Rattle.std.specs.Prelude.{◌≡◌, ◌+◌, ◌↔◌, ℕ, IfOk, IsTrue, OnErr, OnOk, Ok, length};
+ghost use Rattle.shard.specs.Shown.{shown as shown_by_shard};
+ghost use Rattle.shard.specs.Sound.{IsSound as IsSoundShard};
+ghost use Rattle.abandoned.specs.Shown.{shown, together};
+ghost use Rattle.abandoned.specs.Sound.{IsSound};
+ghost use Rattle.abandoned.specs.State.{IsHeadOf, PooledState, paged_groups, spans_of};
+ghost use Rattle.fold.specs.Folds.{Folds, IsStepFor, IsTaken, MayFold, Steps, WouldDouble};
+
+use crate::step::Step;
+use abandoned::Pool;
+use shard::Shard;
+use span::SpanId;
+use std::alloc::AllocError;
+
+/// Folds the pool's group of head `a` onto the shard's group of head `b`, where that can be, and tells what came of
+/// it. By a fold the spans of `a` become the last guests of `b`, their live words stand at the same slots of the page
+/// of `b`, and the page of `a` goes. Each key keeps its value.
+///
+/// The answer is the first of these that holds, exactly: [`Step::Absent`] where `a` heads no group of the pool, or `b`
+/// no group of the shard, or a span of `a`'s group is in the shard already or bears its number; [`Step::Emptied`]
+/// where `a`'s group has no page; [`Step::Clash`] where a slot is live in both groups; and else [`Step::Folded`], which
+/// alone changes anything.
+///
+/// # Errors
+///
+/// `AllocError` where the groups could be folded and memory is refused. Pool and shard are then as they were; each
+/// growth stands before the first change.
+pub fn fold_one(
+    pool: &mut Pool,
+    shard: &mut Shard,
+    a: SpanId,
+    b: SpanId,
+) -> Result<Step, AllocError>
+    ensures ok { IfOk result (λ step. Steps pool.old shard.old a b step pool.new shard.new) }
+    ensures kept { together (shown pool.new) (shown_by_shard shard.new) ≡ together (shown pool.old) (shown_by_shard shard.old) }
+    ensures page { result ≡ Ok Step.Folded → length (paged_groups pool.new) + 1 ≡ length (paged_groups pool.old) }
+    ensures groups { result ≡ Ok Step.Folded → length shard.new.groups ≡ length shard.old.groups }
+    ensures err { OnErr result (pool.new ≡ pool.old) }
+    ensures err_shard { OnErr result (shard.new ≡ shard.old) }
+    ensures err_may { OnErr result (MayFold pool.old shard.old a b) }
+    ensures sound { IsSound pool.new }
+    ensures sound_shard { IsSoundShard shard.new }
+{
+    let step = step_for(pool, shard, a, b);
+    if step != Step::Folded {
+        return Ok(step);
+    }
+    carry_out(pool, shard, a, b)?;
+    Ok(Step::Folded)
+}
+
+// What a fold of the two groups comes to, memory aside.
+fn step_for(pool: &Pool, shard: &Shard, a: SpanId, b: SpanId) -> Step
+    ensures step { IsStepFor pool.now shard.now a b result }
+    ensures sound { IsSound pool.now }
+    ensures sound_shard { IsSoundShard shard.now }
+{
+    let from = pool.brief(a);
+    // An ended shard has no group.
+    if shard.ended() {
+        return Step::Absent;
+    }
+    let Some(from) = from else {
+        return Step::Absent;
+    };
+    let Some(onto) = shard.brief(b) else {
+        return Step::Absent;
+    };
+    if would_double(pool, shard, a, from.spans) {
+        return Step::Absent;
+    }
+    if !from.paged {
+        return Step::Emptied;
+    }
+    if onto.occupied.is_disjoint(&from.occupied) {
+        Step::Folded
+    } else {
+        Step::Clash
+    }
+}
+
+// Whether a span of the pool's group of the head, which has so many spans, is in the shard already or bears its
+// number.
+fn would_double(pool: &Pool, shard: &Shard, head: SpanId, spans: usize) -> bool
+    requires group { (index : ℕ) × (group : PooledState) × IsHeadOf pool.now.groups head index group × (spans ≡ length (spans_of group)) }
+    requires sound { IsSound pool.now }
+    ensures { IsTrue result ↔ WouldDouble pool.now shard.now head }
+{
+    for place in 0..spans {
+        let Some(id) = pool.span_at(head, place) else {
+            unreachable!();
+        };
+        if is_taken(shard, id) {
+            return true;
+        }
+    }
+    false
+}
+
+// Whether the shard has a span of this id, or is the one that opens it.
+fn is_taken(shard: &Shard, id: SpanId) -> bool
+    ensures { IsTrue result ↔ IsTaken shard.now id }
+{
+    if id.shard() == shard.number() {
+        return true;
+    }
+    shard.has(id)
+}
+
+// Makes room in the shard, and then moves the group there.
+fn carry_out(pool: &mut Pool, shard: &mut Shard, a: SpanId, b: SpanId) -> Result<(), AllocError>
+    requires may { MayFold pool.old shard.old a b }
+    requires sound { IsSound pool.old }
+    requires sound_shard { IsSoundShard shard.old }
+    ensures folds { OnOk result (Folds pool.old shard.old a b pool.new shard.new) }
+    ensures err { OnErr result (pool.new ≡ pool.old) }
+    ensures err_shard { OnErr result (shard.new ≡ shard.old) }
+    ensures sound { IsSound pool.new }
+    ensures sound_shard { IsSoundShard shard.new }
+{
+    let Some(from) = pool.brief(a) else {
+        unreachable!();
+    };
+    shard.reserve_for(Some(b), from.spans)?;
+    let Some(whole) = pool.lift(a) else {
+        unreachable!();
+    };
+    shard.graft(b, whole);
+    Ok(())
+}

@@ -1,0 +1,14 @@
+// What a fold of two groups comes to.
+
+/// What came of a fold of one group onto another. Only [`Step::Folded`] has changed anything.
+#[derive(Clone, Copy, PartialEq, Eq, Debug)]
+pub enum Step {
+    /// One of the groups is not there, or a span of the first is in the shard already or bears its number.
+    Absent,
+    /// The first group has no page, since none of its slots is live.
+    Emptied,
+    /// A slot is live in both groups.
+    Clash,
+    /// The spans of the first group are guests of the second, and its page is gone.
+    Folded,
+}
