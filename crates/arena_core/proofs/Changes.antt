@@ -9,7 +9,7 @@ use Rattle.shard.specs.Sound.{IsSound as IsSoundShard}
 use Rattle.shard.specs.State.{ShardState}
 use Rattle.abandoned.specs.Sound.{IsSound as IsSoundPool}
 use Rattle.abandoned.specs.State.{PoolState}
-use Rattle.arena_core.specs.Sound.{IsSound, IsSoundAt}
+use Rattle.arena_core.specs.Sound.{HasSoundGroups, IsSoundAt}
 use Rattle.arena_core.specs.State.{CoreState, all_spans, opened_by, opened_of, with_pool, with_shard}
 use Rattle.arena_core.proofs.Groups.{IsCall, IsMove, IsPoolCall, own, strays, strays-each, strays-none}
 use Rattle.arena_core.proofs.Lists.{cond-le_one, each-set, slice_get-set_other, slice_get-set_same}
@@ -25,23 +25,23 @@ below-indicator serial opened below = grind (arith, nat_tests)
 pub past-indicator : (serial opened : ℕ) → opened ≤ serial → indicator serial opened ≡ 0
 past-indicator serial opened past = grind (arith, nat_tests)
 
-pub at_most_once : (core : CoreState) → IsSound core → (id : SpanId) → times id core ≤ 1
+pub at_most_once : (core : CoreState) → HasSoundGroups core → (id : SpanId) → times id core ≤ 1
 at_most_once core sound id = subst (λ n. n ≤ 1) (sym (sound.once id)) (cond-le_one _)
 
 -- a span that stands anywhere was opened
-pub opened-somewhere : (core : CoreState) → IsSound core → (id : SpanId) → 1 ≤ times id core → id.serial < opened_by core.shards id.shard
+pub opened-somewhere : (core : CoreState) → HasSoundGroups core → (id : SpanId) → 1 ≤ times id core → id.serial < opened_by core.shards id.shard
 opened-somewhere core sound id some = by_order (cases_lt id.serial (opened_by core.shards id.shard))
   where
     by_order : (id.serial < opened_by core.shards id.shard) ⊎ (opened_by core.shards id.shard ≤ id.serial) → id.serial < opened_by core.shards id.shard
     by_order (inl below) = below
     by_order (inr past) = absurd (omega (arith, sound.once id, past-indicator id.serial (opened_by core.shards id.shard) past))
 
-no_strays : (core : CoreState) → IsSound core → sum_all (strays core.limits.gens) core ≡ 0
+no_strays : (core : CoreState) → HasSoundGroups core → sum_all (strays core.limits.gens) core ≡ 0
 no_strays core sound = strays-none core.limits.gens (all_spans core) sound.gens
 
 -- one shard changes
 
-module _ (old : CoreState) (sound : IsSound old) (number : ℕ) (before after : ShardState) (here : slice_get old.shards number ≡ Some before) (call : IsCall before after) where
+module _ (old : CoreState) (sound : HasSoundGroups old) (number : ℕ) (before after : ShardState) (here : slice_get old.shards number ≡ Some before) (call : IsCall before after) where
   abbrev new : CoreState
   new = with_shard old number after
 
@@ -98,8 +98,8 @@ module _ (old : CoreState) (sound : IsSound old) (number : ℕ) (before after : 
             below-indicator id.serial after.opened below,
           )
 
-  pub IsSound-with_shard : IsSoundShard after → IsSound (with_shard old number after)
-  IsSound-with_shard sound_after = record {
+  pub HasSoundGroups-with_shard : IsSoundShard after → HasSoundGroups (with_shard old number after)
+  HasSoundGroups-with_shard sound_after = record {
     within = sound.within;
     count = length-set old.shards number after ∙ sound.count;
     shards = each-set (IsSoundAt old.limits) old.shards number after
@@ -118,8 +118,8 @@ module _ (old : CoreState) (sound : IsSound old) (number : ℕ) (before after : 
 
 -- the pool changes
 
-pub IsSound-with_pool : (old : CoreState) → IsSound old → (pool : PoolState) → IsPoolCall old.pool pool → IsSoundPool pool → IsSound (with_pool old pool)
-IsSound-with_pool old sound pool call sound_pool = record {
+pub HasSoundGroups-with_pool : (old : CoreState) → HasSoundGroups old → (pool : PoolState) → IsPoolCall old.pool pool → IsSoundPool pool → HasSoundGroups (with_pool old pool)
+HasSoundGroups-with_pool old sound pool call sound_pool = record {
   within = sound.within;
   count = sound.count;
   shards = sound.shards;
@@ -133,7 +133,7 @@ IsSound-with_pool old sound pool call sound_pool = record {
 
 -- spans move between a shard and the pool
 
-module _ (old : CoreState) (sound : IsSound old) (number : ℕ) (before after : ShardState) (pool : PoolState) (here : slice_get old.shards number ≡ Some before) (move : IsMove before after old.pool pool) where
+module _ (old : CoreState) (sound : HasSoundGroups old) (number : ℕ) (before after : ShardState) (pool : PoolState) (here : slice_get old.shards number ≡ Some before) (move : IsMove before after old.pool pool) where
   abbrev moved : CoreState
   moved = with_pool (with_shard old number after) pool
 
@@ -158,8 +158,8 @@ module _ (old : CoreState) (sound : IsSound old) (number : ℕ) (before after : 
       let one : times_in id before ≡ 1 = was_there.home move.running id same (subst (λ n. id.serial < n) move.opened_is below) in
       omega (arith, one, move.more running (named id), sum_all-moved (named id), at_most_once old sound id, times-parts id moved, times_in-le id moved.shards number after (slice_get-set_same old.shards number before after here))
 
-  pub IsSound-moved : IsSoundShard after → IsSoundPool pool → IsSound (with_pool (with_shard old number after) pool)
-  IsSound-moved sound_after sound_pool = record {
+  pub HasSoundGroups-moved : IsSoundShard after → IsSoundPool pool → HasSoundGroups (with_pool (with_shard old number after) pool)
+  HasSoundGroups-moved sound_after sound_pool = record {
     within = sound.within;
     count = length-set old.shards number after ∙ sound.count;
     shards = each-set (IsSoundAt old.limits) old.shards number after

@@ -1,19 +1,21 @@
 -- The steps of a core, said of its fields.
-use Rattle.std.proofs.Common.{◌≡◌, ◌≢◌, ℕ, true, false, cond, Some, ap, ◌∙◌, is_some, length, set, subst, sym}
+use Rattle.std.proofs.Common.{◌≡◌, ◌≢◌, ℕ, Bool, true, false, cond, refl, None, Some, slice_get, ap, ◌∙◌, is_some, length, set, subst, sym}
 use Rattle.std.specs.Prelude.{Err, Result, ◌↔◌}
 use Rattle.span.specs.declared.id.SpanId.{SpanId}
 use Rattle.span.specs.declared.key.Key.{Key}
 use Rattle.span.specs.Log.{Value as Word}
 use Rattle.span.specs.PlainMap.{PlainMap, with_put, without}
 use Rattle.shard.specs.Calls.{Frees, IsSpent, Puts, was_freed}
+use Rattle.shard.specs.Group.{GroupState}
 use Rattle.shard.specs.Shown.{shown as shown_by}
 use Rattle.shard.specs.Sound.{IsSound as IsSoundShard}
 use Rattle.shard.specs.State.{ShardState}
+use Rattle.shard.proofs.Unions.{false_or_true}
 use Rattle.shard.specs.declared.error.PutError.{PutError}
 use Rattle.shard.specs.declared.error.PutError.TheVariants as put_error
 use Rattle.shard.specs.declared.shard.Freed.{Freed}
 use Rattle.shard.specs.declared.shard.Freed.TheVariants as freed
-use Rattle.abandoned.specs.Calls.{Adopts, HasNothingToAdopt, Receives}
+use Rattle.abandoned.specs.Calls.{Adopts, HasNothingToAdopt, IsDoubled, IsInPool, Receives}
 use Rattle.abandoned.specs.Sound.{IsSound as IsSoundPool}
 use Rattle.abandoned.specs.State.{PoolState}
 use Rattle.abandoned.specs.declared.error.AdoptError.{AdoptError}
@@ -30,31 +32,32 @@ use Rattle.arena_core.specs.Plain.{PlainStep}
 use Rattle.arena_core.specs.Refusals.{refusal_of, refusal_of_adoption, refusal_of_end}
 use Rattle.arena_core.specs.Sound.{IsSound}
 use Rattle.arena_core.specs.State.{CoreState, has_span}
-use Rattle.arena_core.specs.Step.{CoreStep}
+use Rattle.arena_core.specs.Step.{CoreStep, HasClosed}
 use Rattle.arena_core.proofs.Fields.{IsRead, shard-read, state_of-with_both_at, state_of-with_shard_at, with_both_at, with_shard_at}
 use Rattle.arena_core.proofs.Lists.{set-slice_get}
-use Rattle.arena_core.proofs.Moves.{CoreStep-adopt_refused, CoreStep-end_refused, IsStep-Adopts, IsStep-Receives}
+use Rattle.arena_core.proofs.Moves.{CoreStep-adopt_refused, CoreStep-end_refused}
 use Rattle.arena_core.proofs.Owner.{has_span-Frees}
-use Rattle.arena_core.proofs.Steps.{CoreStep-refused, IsStep, IsStep-Frees, IsStep-Puts}
+use Rattle.arena_core.proofs.PlanSteps.{IsSoundStep, IsSoundStep-Adopts, IsSoundStep-Frees, IsSoundStep-Puts, IsSoundStep-Receives}
+use Rattle.arena_core.proofs.Steps.{CoreStep-refused, none_from_is_some, not_doubled, not_in_pool}
 
 -- a shard that is as it was leaves the fields as they were
 pub state_of-same : (c : Inside) (number : ℕ) (before after : ShardState) → IsRead c number before → after ≡ before → state_of (with_shard_at c number after) ≡ state_of c
 state_of-same c number before after read same =
     let shards : set c.shards.items number after ≡ c.shards.items = ap (set c.shards.items number) same ∙ set-slice_get c.shards.items number before (shard-read c number before read) in
-    λ i. record { limits = record { shards = length (shards i); page_limit = c.page_limit; ring_capacity = c.ring_capacity; gens = c.gens }; shards = shards i; pool = c.pool }
+    λ i. record { limits = record { shards = length (shards i); page_limit = c.page_limit; ring_capacity = c.ring_capacity; gens = c.gens }; shards = shards i; pool = c.pool; plan = c.plan }
 
 -- a shard and a pool that are as they were leave the fields as they were
 pub state_of-both_same : (c : Inside) (number : ℕ) (before after : ShardState) (pool : PoolState) (guesses : Guesses) → IsRead c number before → after ≡ before → pool ≡ c.pool → state_of (with_both_at c number after pool guesses) ≡ state_of c
 state_of-both_same c number before after pool guesses read same pool_is =
     let shards : set c.shards.items number after ≡ c.shards.items = ap (set c.shards.items number) same ∙ set-slice_get c.shards.items number before (shard-read c number before read) in
-    λ i. record { limits = record { shards = length (shards i); page_limit = c.page_limit; ring_capacity = c.ring_capacity; gens = c.gens }; shards = shards i; pool = pool_is i }
+    λ i. record { limits = record { shards = length (shards i); page_limit = c.page_limit; ring_capacity = c.ring_capacity; gens = c.gens }; shards = shards i; pool = pool_is i; plan = c.plan }
 
 pub IsStep-put_fields : (c : Inside) (number : ℕ) (value : Word) (key : Key) (at : ℕ) (before after : ShardState) → IsSound (state_of c) → IsRead c number before → Puts before value key at after
     → (shown_by before).is_issued key ≡ false → shown_by after ≡ with_put (shown_by before) key value → IsSoundShard after
-    → IsStep (state_of c) (Put number value) (reply.Issued key) (state_of (with_shard_at c number after))
+    → IsSoundStep (state_of c) (Put number value) (reply.Issued key) (state_of (with_shard_at c number after))
 IsStep-put_fields c number value key at before after kept read puts fresh plain sound =
-    subst (IsStep (state_of c) (Put number value) (reply.Issued key)) (sym (state_of-with_shard_at c number after))
-    (IsStep-Puts (state_of c) number value key at before after kept (shard-read c number before read) puts fresh plain sound)
+    subst (IsSoundStep (state_of c) (Put number value) (reply.Issued key)) (sym (state_of-with_shard_at c number after))
+    (IsSoundStep-Puts (state_of c) number value key at before after kept (shard-read c number before read) puts fresh plain sound)
 
 -- a put that the shard refuses leaves the fields as they were
 pub CoreStep-refused_fields : (c : Inside) (number : ℕ) (value : Word) (error : PutError) (before after : ShardState) → IsRead c number before
@@ -75,43 +78,51 @@ PlainStep-refused old new number value put_error.Ended same = same
 
 pub IsStep-free_fields : (c : Inside) (number : ℕ) (key : Key) (before after : ShardState) (answer : Freed) → IsSound (state_of c) → IsRead c number before → has_span key.span before ≡ true → Frees before key answer after
     → was_freed answer ≡ is_some ((shown_by before).value_of key) → shown_by after ≡ cond (was_freed answer) (without (shown_by before) key) (shown_by before) → IsSoundShard after
-    → IsStep (state_of c) (Free key) (reply.Freed (was_freed answer)) (state_of (with_shard_at c number after))
+    → IsSoundStep (state_of c) (Free key) (reply.Freed (was_freed answer)) (state_of (with_shard_at c number after))
 IsStep-free_fields c number key before after answer kept read has frees found plain sound =
-    subst (IsStep (state_of c) (Free key) (reply.Freed (was_freed answer))) (sym (state_of-with_shard_at c number after))
-    (IsStep-Frees (state_of c) key number before after answer kept (shard-read c number before read) has frees found plain sound)
+    subst (IsSoundStep (state_of c) (Free key) (reply.Freed (was_freed answer))) (sym (state_of-with_shard_at c number after))
+    (IsSoundStep-Frees (state_of c) key number before after answer kept (shard-read c number before read) has frees found plain sound)
 
-pub IsStep-end_fields : (c : Inside) (number : ℕ) (before after : ShardState) (pool : PoolState) (guesses : Guesses) → IsSound (state_of c) → IsRead c number before → Receives c.pool before pool after → IsSoundShard after → IsSoundPool pool
-    → IsStep (state_of c) (End number) reply.ShardEnded (state_of (with_both_at c number after pool guesses))
-IsStep-end_fields c number before after pool guesses kept read receives sound sound_pool =
-    subst (IsStep (state_of c) (End number) reply.ShardEnded) (sym (state_of-with_both_at c number after pool guesses))
-    (IsStep-Receives (state_of c) number before after pool kept (shard-read c number before read) receives sound sound_pool)
+pub IsStep-end_fields : (c : Inside) (number : ℕ) (before after : ShardState) (pool : PoolState) (guesses : Guesses) → IsSound (state_of c) → IsRead c number before → ((index : ℕ) (group : GroupState) → slice_get before.groups index ≡ Some group → group.closed ≡ false) → Receives c.pool before pool after → IsSoundShard after → IsSoundPool pool
+    → IsSoundStep (state_of c) (End number) reply.ShardEnded (state_of (with_both_at c number after pool guesses))
+IsStep-end_fields c number before after pool guesses kept read unclosed receives sound sound_pool =
+    subst (IsSoundStep (state_of c) (End number) reply.ShardEnded) (sym (state_of-with_both_at c number after pool guesses))
+    (IsSoundStep-Receives (state_of c) number before after pool kept (shard-read c number before read) unclosed receives sound sound_pool)
 
 -- an end that the pool refuses leaves the fields as they were
-pub CoreStep-end_refused_fields : (c : Inside) (number : ℕ) (before after : ShardState) (pool : PoolState) (guesses : Guesses) (error : ReceiveError) (cause : Refusal) → IsRead c number before → refusal_of_end error ≡ Some cause
-    → (◌≡◌ {A = Result (Unit {0}) ReceiveError} (Err error) (Err receive_error.Ended) ↔ (before.ended ≡ true)) → after ≡ before → pool ≡ c.pool
+pub CoreStep-end_refused_fields : (c : Inside) (number : ℕ) (before after : ShardState) (pool : PoolState) (guesses : Guesses) (error : ReceiveError) (cause : Refusal) → IsSound (state_of c) → IsRead c number before → refusal_of_end error ≡ Some cause
+    → (◌≡◌ {A = Result (Unit {0}) ReceiveError} (Err error) (Err receive_error.Ended) ↔ (before.ended ≡ true))
+    → (◌≡◌ {A = Result (Unit {0}) ReceiveError} (Err error) (Err receive_error.PlanOpen) ↔ ((before.ended ≡ false) × (IsInPool c.pool before → ⊥) × HasClosed before.groups))
+    → after ≡ before → pool ≡ c.pool
     → CoreStep (state_of c) (End number) (reply.Refused cause) (state_of (with_both_at c number after pool guesses))
-CoreStep-end_refused_fields c number before after pool guesses error cause read gives ended same pool_is =
+CoreStep-end_refused_fields c number before after pool guesses error cause kept read gives ended plan_open same pool_is =
     subst (CoreStep (state_of c) (End number) (reply.Refused cause)) (sym (state_of-both_same c number before after pool guesses read same pool_is))
-    (CoreStep-end_refused (state_of c) number before error cause (shard-read c number before read) gives (λ e. ended.0 (ap Err e), λ p. let e = ended.1 p in cc))
+    (CoreStep-end_refused (state_of c) number before error cause (shard-read c number before read) gives (not_in_pool (state_of c) kept.groups number before (shard-read c number before read)) (kept.plan.closed number before (shard-read c number before read))
+    (λ e. ended.0 (ap Err e), λ p. let e = ended.1 p in cc) (λ e. plan_open.0 (ap Err e), λ p. let e = plan_open.1 p in cc))
 
-pub IsStep-adopt_fields : (c : Inside) (number : ℕ) (head : SpanId) (before after : ShardState) (pool : PoolState) (guesses : Guesses) → IsSound (state_of c) → IsRead c number before → before.ended ≡ false → Adopts c.pool before head pool after → IsSoundShard after → IsSoundPool pool
-    → IsStep (state_of c) (Adopt number) (reply.Adopted head) (state_of (with_both_at c number after pool guesses))
-IsStep-adopt_fields c number head before after pool guesses kept read running adopts sound sound_pool =
-    subst (IsStep (state_of c) (Adopt number) (reply.Adopted head)) (sym (state_of-with_both_at c number after pool guesses))
-    (IsStep-Adopts (state_of c) number head before after pool kept (shard-read c number before read) running adopts sound sound_pool)
+pub IsStep-adopt_fields : (c : Inside) (number : ℕ) (head : SpanId) (before after : ShardState) (pool : PoolState) (guesses : Guesses) → IsSound (state_of c) → c.plan ≡ None → IsRead c number before → before.ended ≡ false → Adopts c.pool before head pool after → IsSoundShard after → IsSoundPool pool
+    → IsSoundStep (state_of c) (Adopt number) (reply.Adopted head) (state_of (with_both_at c number after pool guesses))
+IsStep-adopt_fields c number head before after pool guesses kept no_plan read running adopts sound sound_pool =
+    subst (IsSoundStep (state_of c) (Adopt number) (reply.Adopted head)) (sym (state_of-with_both_at c number after pool guesses))
+    (IsSoundStep-Adopts (state_of c) number head before after pool kept no_plan (shard-read c number before read) running adopts sound sound_pool)
+
+-- where the pool does not know of a plan, none is open
+pub no_plan_if_adopted : (c : Inside) → IsSound (state_of c) → (c.pool.has_plan ≡ true → ⊥) → c.plan ≡ None
+no_plan_if_adopted c kept never = none_from_is_some c.plan (sym kept.plan.told ∙ false_or_true c.pool.has_plan never)
 
 -- an adoption that the pool refuses leaves the fields as they were
 pub CoreStep-adopt_refused_fields : (c : Inside) (number : ℕ) (before after : ShardState) (pool : PoolState) (guesses : Guesses) (error : AdoptError) (cause : Refusal) → IsSound (state_of c) → IsRead c number before → refusal_of_adoption error ≡ Some cause
     → (◌≡◌ {A = Result SpanId AdoptError} (Err error) (Err adopt_error.PagesSpent) ↔ (before.page_limit ≡ length before.groups))
     → (◌≡◌ {A = Result SpanId AdoptError} (Err error) (Err adopt_error.Ended) ↔ ((before.page_limit ≢ length before.groups) × (before.ended ≡ true)))
-    → (◌≡◌ {A = Result SpanId AdoptError} (Err error) (Err adopt_error.NothingToAdopt) ↔ ((before.page_limit ≢ length before.groups) × (before.ended ≡ false) × HasNothingToAdopt c.pool))
+    → (◌≡◌ {A = Result SpanId AdoptError} (Err error) (Err adopt_error.PlanOpen) ↔ ((before.page_limit ≢ length before.groups) × (before.ended ≡ false) × (IsDoubled c.pool before → ⊥) × (c.pool.has_plan ≡ true)))
+    → (◌≡◌ {A = Result SpanId AdoptError} (Err error) (Err adopt_error.NothingToAdopt) ↔ ((before.page_limit ≢ length before.groups) × (before.ended ≡ false) × (c.pool.has_plan ≡ false) × HasNothingToAdopt c.pool))
     → after ≡ before → pool ≡ c.pool
     → CoreStep (state_of c) (Adopt number) (reply.Refused cause) (state_of (with_both_at c number after pool guesses))
-CoreStep-adopt_refused_fields c number before after pool guesses error cause kept read gives spent ended nothing same pool_is =
+CoreStep-adopt_refused_fields c number before after pool guesses error cause kept read gives spent ended plan_open nothing same pool_is =
     let here = shard-read c number before read in
     subst (CoreStep (state_of c) (Adopt number) (reply.Refused cause)) (sym (state_of-both_same c number before after pool guesses read same pool_is))
-    (CoreStep-adopt_refused (state_of c) number before error cause (kept.shards number before here).sound here gives
-    (record { spent = at_error adopt_error.PagesSpent _ spent; ended = at_error adopt_error.Ended _ ended; nothing = at_error adopt_error.NothingToAdopt _ nothing }))
+    (CoreStep-adopt_refused (state_of c) number before error cause kept.plan.told (not_doubled (state_of c) kept.groups number before here) (kept.groups.shards number before here).sound here gives
+    (record { spent = at_error adopt_error.PagesSpent _ spent; ended = at_error adopt_error.Ended _ ended; plan_open = at_error adopt_error.PlanOpen _ plan_open; nothing = at_error adopt_error.NothingToAdopt _ nothing }))
   where
     at_error : (other : AdoptError) (P : Type 0) → (◌≡◌ {A = Result SpanId AdoptError} (Err error) (Err other) ↔ P) → ((error ≡ other) ↔ P)
     at_error other P comes = (λ e. comes.0 (ap Err e), λ p. let e = comes.1 p in cc)
@@ -119,7 +130,7 @@ CoreStep-adopt_refused_fields c number before after pool guesses error cause kep
 -- a free that the shard which was asked first decides
 pub IsStep-free_home : (c : Inside) (now : CoreState) (number : ℕ) (key : Key) (before after : ShardState) (answer : Freed) → state_of c ≡ now → IsSound (state_of c) → IsRead c number before → (answer ≡ freed.NotHere → ⊥) → Frees before key answer after
     → was_freed answer ≡ is_some ((shown_by before).value_of key) → shown_by after ≡ cond (was_freed answer) (without (shown_by before) key) (shown_by before) → IsSoundShard after
-    → IsStep now (Free key) (reply.Freed (was_freed answer)) (state_of (with_shard_at c number after))
+    → IsSoundStep now (Free key) (reply.Freed (was_freed answer)) (state_of (with_shard_at c number after))
 IsStep-free_home c now number key before after answer now_is kept read here frees found plain sound =
-    subst (λ old. IsStep old (Free key) (reply.Freed (was_freed answer)) (state_of (with_shard_at c number after))) now_is
-    (IsStep-free_fields c number key before after answer kept read (has_span-Frees before after key answer (kept.shards number before (shard-read c number before read)).sound here frees) frees found plain sound)
+    subst (λ old. IsSoundStep old (Free key) (reply.Freed (was_freed answer)) (state_of (with_shard_at c number after))) now_is
+    (IsStep-free_fields c number key before after answer kept read (has_span-Frees before after key answer (kept.groups.shards number before (shard-read c number before read)).sound here frees) frees found plain sound)

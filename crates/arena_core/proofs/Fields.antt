@@ -11,7 +11,7 @@ use Rattle.abandoned.specs.State.{PoolState}
 use Rattle.arena_core.specs.declared.guesses.Guesses.{Guesses}
 use Rattle.arena_core.specs.declared.machine.Core.TheInside.{Inside}
 use Rattle.arena_core.specs.Kept.{state_of}
-use Rattle.arena_core.specs.Sound.{IsSound, IsSoundAt}
+use Rattle.arena_core.specs.Sound.{HasSoundGroups, IsSoundAt}
 use Rattle.arena_core.specs.State.{with_pool, with_shard}
 
 -- the fields with another shard at this number
@@ -27,6 +27,7 @@ state_of-with_shard_at c number after = λ i. record {
   limits = record { shards = length-set c.shards.items number after i; page_limit = c.page_limit; ring_capacity = c.ring_capacity; gens = c.gens };
   shards = set c.shards.items number after;
   pool = c.pool;
+  plan = c.plan;
 }
 
 pub state_of-with_both_at : (c : Inside) (number : ℕ) (after : ShardState) (pool : PoolState) (guesses : Guesses) → state_of (with_both_at c number after pool guesses) ≡ with_pool (with_shard (state_of c) number after) pool
@@ -34,6 +35,7 @@ state_of-with_both_at c number after pool guesses = λ i. record {
   limits = record { shards = length-set c.shards.items number after i; page_limit = c.page_limit; ring_capacity = c.ring_capacity; gens = c.gens };
   shards = set c.shards.items number after;
   pool = pool;
+  plan = c.plan;
 }
 
 -- the shard that was read at this number
@@ -61,7 +63,7 @@ pub record IsFew (index : ℕ) (shard : ShardState) : Type 0 where
   pub shards : index < 64
   pub pages : length shard.groups ≤ 1024
 
-pub IsFew-fields : (c : Inside) (shards : List ShardState) (index : ℕ) (shard : ShardState) → IsSound (state_of c) → shards ≡ c.shards.items → index < length shards → shard ≡ get_or shards index shard → IsFew index shard
+pub IsFew-fields : (c : Inside) (shards : List ShardState) (index : ℕ) (shard : ShardState) → HasSoundGroups (state_of c) → shards ≡ c.shards.items → index < length shards → shard ≡ get_or shards index shard → IsFew index shard
 IsFew-fields c shards index shard kept are within read =
     let here : slice_get c.shards.items index ≡ Some shard = ap (λ xs. slice_get xs index) (sym are) ∙ slice_get_read shards (length shards) index shard refl within read in
     let sound : IsSoundAt (state_of c).limits index shard = kept.shards index shard here in

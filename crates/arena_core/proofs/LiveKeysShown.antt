@@ -11,7 +11,7 @@ use Rattle.shard.specs.Group.{spans_of}
 use Rattle.shard.specs.State.{ShardState, spans_in}
 use Rattle.shard.proofs.Logged.{logged_by}
 use Rattle.abandoned.specs.State.{spans_in as pooled_spans, spans_of as pooled_spans_of}
-use Rattle.arena_core.specs.Sound.{IsSound}
+use Rattle.arena_core.specs.Sound.{HasSoundGroups}
 use Rattle.arena_core.specs.State.{CoreState, HasKeys, all_spans, live_keys, shard_spans, shown}
 use Rattle.arena_core.proofs.Changes.{at_most_once}
 use Rattle.arena_core.proofs.LiveKeys.{IsLegalSpan, count-keys_in, keys_in, length-keys_in, live_where}
@@ -19,7 +19,7 @@ use Rattle.arena_core.proofs.Lists.{each-append, each-flat_map, each-from}
 use Rattle.arena_core.proofs.Logged.{value-logged}
 use Rattle.arena_core.proofs.Spans.{is_named, sum_all-parts}
 
-legal-spans : (core : CoreState) → IsSound core → AllByRecursion IsLegalSpan (all_spans core)
+legal-spans : (core : CoreState) → HasSoundGroups core → AllByRecursion IsLegalSpan (all_spans core)
 legal-spans core sound =
     each-append IsLegalSpan (shard_spans core.shards) (pooled_spans core.pool.groups)
     (each-flat_map IsLegalSpan (λ (shard : ShardState). spans_in shard.groups) core.shards
@@ -30,7 +30,7 @@ live_where-logged : (key : Key) (o : Option SpanState) → live_where key o ≡ 
 live_where-logged key None = refl
 live_where-logged key (Some span) = refl
 
-pub HasKeys-live_keys : (core : CoreState) → IsSound core → HasKeys (shown core) (live_keys core)
+pub HasKeys-live_keys : (core : CoreState) → HasSoundGroups core → HasKeys (shown core) (live_keys core)
 HasKeys-live_keys core sound = (keys_in (all_spans core), λ key. counted key, sym (length-keys_in (all_spans core) ∙ sum_all-parts (λ (span : SpanState). finset.len (live_slots span.log)) core))
   where
     counted : (key : Key) → count_by (same_key key) (keys_in (all_spans core)) ≡ cond {A = ℕ} (is_some ((shown core).value_of key)) 1 0

@@ -12,7 +12,7 @@ use Rattle.shard.proofs.ShownLogs.{shown-logged}
 use Rattle.abandoned.specs.Shown.{shown as shown_by_pool}
 use Rattle.abandoned.specs.State.{spans_in as pooled_spans}
 use Rattle.abandoned.proofs.ShownLogs.{shown-logged as shown_by_pool-logged}
-use Rattle.arena_core.specs.Sound.{IsSound}
+use Rattle.arena_core.specs.Sound.{HasSoundGroups}
 use Rattle.arena_core.specs.State.{CoreState, all_spans, shown}
 use Rattle.arena_core.proofs.Changes.{at_most_once}
 use Rattle.arena_core.proofs.Lists.{found_of, sum_by-passing, sum_by-same}
@@ -41,7 +41,7 @@ value-spans key spans once = sum_by-passing (is_named key.span) (λ (span : Span
 issued-spans : (key : Key) (spans : List SpanState) → count_by (is_named key.span) spans ≤ 1 → sum_by (issued_weight key) spans ≡ bit (issued_by key (span_named spans key.span))
 issued-spans key spans once = sum_by-passing (is_named key.span) (λ (span : SpanState). bit (was_issued span.log key.slot key.generation)) spans once ∙ bit-found key (find (is_named key.span) spans)
 
-module _ (core : CoreState) (sound : IsSound core) (key : Key) where
+module _ (core : CoreState) (sound : HasSoundGroups core) (key : Key) where
   value-shards : sum_by (λ shard. code ((shown_by shard).value_of key)) core.shards ≡ sum_by (sum_in (value_weight key)) core.shards
   value-shards = sum_by-same _ _ core.shards
       (λ number shard here. let fine = (sound.shards number shard here).sound in
@@ -67,7 +67,7 @@ module _ (core : CoreState) (sound : IsSound core) (key : Key) where
   value-logged = code-injective _ _ (value-all ∙ value-spans key (all_spans core) (at_most_once core sound key.span))
 
 -- cores of the same spans show the same
-pub shown-same : (old new : CoreState) → IsSound old → IsSound new → ((w : SpanState → ℕ) → sum_all w new ≡ sum_all w old) → shown new ≡ shown old
+pub shown-same : (old new : CoreState) → HasSoundGroups old → HasSoundGroups new → ((w : SpanState → ℕ) → sum_all w new ≡ sum_all w old) → shown new ≡ shown old
 shown-same old new sound sound_new same =
     same_plain_map _ _
     (λ key. bit-injective _ _ (issued-all new sound_new key ∙ same (issued_weight key) ∙ sym (issued-all old sound key)))

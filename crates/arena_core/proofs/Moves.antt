@@ -1,12 +1,14 @@
 -- An end and an adoption as steps of the core, and their refusals.
-use Rattle.std.proofs.Common.{◌≡◌, ◌≢◌, ℕ, zero, suc, ◌<◌, ◌≤◌, ◌⊎◌, inl, inr, Bool, true, false, cond, List, [], ◌∷◌, length, refl, sym, ap, subst, ◌∙◌, arith, Option, Some, None, slice_get, is_some}
+use Rattle.std.proofs.Common.{◌≡◌, ◌≢◌, ℕ, zero, suc, ◌<◌, ◌≤◌, ◌⊎◌, inl, inr, Bool, true, false, cond, ◌||◌, List, [], ◌∷◌, length, refl, sym, ap, subst, ◌∙◌, arith, Option, Some, None, slice_get, is_some}
 use Rattle.std.specs.Prelude.{◌↔◌, filter}
+use Rattle.std.specs.List.{list_any}
 use Rattle.std.proofs.lemmas.Bool.{cases_eq}
 use Rattle.std.proofs.lemmas.Option.{slice_get_past}
 use Rattle.span.specs.declared.id.SpanId.{SpanId}
+use Rattle.shard.specs.Group.{GroupState}
 use Rattle.shard.specs.Sound.{IsSound as IsSoundShard}
 use Rattle.shard.specs.State.{ShardState}
-use Rattle.abandoned.specs.Calls.{Adopts, HasNothingToAdopt, Receives}
+use Rattle.abandoned.specs.Calls.{Adopts, HasNothingToAdopt, IsDoubled, IsInPool, Receives}
 use Rattle.abandoned.specs.Sound.{IsSound as IsSoundPool}
 use Rattle.abandoned.specs.State.{PoolState, PooledState, paged_groups}
 use Rattle.abandoned.specs.declared.error.AdoptError.{AdoptError}
@@ -18,30 +20,31 @@ use Rattle.arena_core.specs.declared.reply.Refusal.{Refusal}
 use Rattle.arena_core.specs.declared.reply.Refusal.TheVariants as refusal
 use Rattle.arena_core.specs.declared.reply.Reply.TheVariants as reply
 use Rattle.arena_core.specs.Refusals.{refusal_of_adoption, refusal_of_end}
-use Rattle.arena_core.specs.Sound.{IsSound}
-use Rattle.arena_core.specs.State.{CoreState, with_pool, with_shard}
-use Rattle.arena_core.specs.Step.{CoreStep, MayTake}
-use Rattle.arena_core.proofs.Changes.{IsSound-moved, sum_all-moved}
+use Rattle.arena_core.specs.Sound.{HasSoundGroups, IsSound}
+use Rattle.arena_core.specs.Plan.{AreClosedAsPlanned}
+use Rattle.arena_core.specs.State.{CoreState, OpenPlan, with_pool, with_shard}
+use Rattle.arena_core.specs.Step.{CoreStep, HasClosed, MayTake}
+use Rattle.arena_core.proofs.Changes.{HasSoundGroups-moved, sum_all-moved}
 use Rattle.arena_core.proofs.Groups.{IsMove-Adopts, IsMove-Receives}
 use Rattle.arena_core.proofs.Logged.{shown-same}
-use Rattle.arena_core.proofs.Steps.{IsStep}
+use Rattle.arena_core.proofs.Steps.{IsStep, none_from_is_some}
 
-pub IsStep-Receives : (old : CoreState) (number : ℕ) (before after : ShardState) (pool : PoolState) → IsSound old → slice_get old.shards number ≡ Some before → Receives old.pool before pool after → IsSoundShard after → IsSoundPool pool
+pub IsStep-Receives : (old : CoreState) (number : ℕ) (before after : ShardState) (pool : PoolState) → HasSoundGroups old → slice_get old.shards number ≡ Some before → Receives old.pool before pool after → IsSoundShard after → IsSoundPool pool
     → IsStep old (End number) reply.ShardEnded (with_pool (with_shard old number after) pool)
 IsStep-Receives old number before after pool sound here receives sound_after sound_pool =
     let move = IsMove-Receives before after old.pool pool receives in
-    let sound_new = IsSound-moved old sound number before after pool here move sound_after sound_pool in
+    let sound_new = HasSoundGroups-moved old sound number before after pool here move sound_after sound_pool in
     record {
       kept = sound_new;
       exact = record { before = before; after = after; pool = pool; here = here; receives = receives; rest = refl };
       plain = shown-same old (with_pool (with_shard old number after) pool) sound sound_new (sum_all-moved old sound number before after pool here move);
     }
 
-pub IsStep-Adopts : (old : CoreState) (number : ℕ) (head : SpanId) (before after : ShardState) (pool : PoolState) → IsSound old → slice_get old.shards number ≡ Some before → before.ended ≡ false → Adopts old.pool before head pool after → IsSoundShard after → IsSoundPool pool
+pub IsStep-Adopts : (old : CoreState) (number : ℕ) (head : SpanId) (before after : ShardState) (pool : PoolState) → HasSoundGroups old → slice_get old.shards number ≡ Some before → before.ended ≡ false → Adopts old.pool before head pool after → IsSoundShard after → IsSoundPool pool
     → IsStep old (Adopt number) (reply.Adopted head) (with_pool (with_shard old number after) pool)
 IsStep-Adopts old number head before after pool sound here running adopts sound_after sound_pool =
     let move = IsMove-Adopts before after old.pool pool head running adopts in
-    let sound_new = IsSound-moved old sound number before after pool here move sound_after sound_pool in
+    let sound_new = HasSoundGroups-moved old sound number before after pool here move sound_after sound_pool in
     record {
       kept = sound_new;
       exact = record { before = before; after = after; pool = pool; here = here; adopts = adopts; rest = refl };
@@ -54,22 +57,37 @@ not_so : (b : Bool) → (b ≡ true → ⊥) → b ≡ false
 not_so true never = absurd (never refl)
 not_so false never = refl
 
+open_all : (groups : List GroupState) → AreClosedAsPlanned None groups → list_any (λ (g : GroupState). g.closed) groups ≡ false
+open_all [] each = refl
+open_all (group ∷ groups) each = rw (each 0 group refl) (open_all groups (λ index other here. each (suc index) other here))
+
+-- where one of the groups is closed, a plan is open
+planned_if_closed : (plan : Option OpenPlan) (groups : List GroupState) → AreClosedAsPlanned plan groups → HasClosed groups → is_some plan ≡ true
+planned_if_closed None groups each some = let never : true ≡ false = sym some ∙ open_all groups each in cc
+planned_if_closed (Some plan) groups each some = refl
+
 -- an end that the pool refuses
 pub CoreStep-end_refused : (old : CoreState) (number : ℕ) (shard : ShardState) (error : ReceiveError) (cause : Refusal) → slice_get old.shards number ≡ Some shard → refusal_of_end error ≡ Some cause
-    → ((error ≡ receive_error.Ended) ↔ (shard.ended ≡ true)) → CoreStep old (End number) (reply.Refused cause) old
-CoreStep-end_refused old number shard receive_error.OutOfMemory cause here gives ended =
+    → (IsInPool old.pool shard → ⊥) → AreClosedAsPlanned old.plan shard.groups → ((error ≡ receive_error.Ended) ↔ (shard.ended ≡ true)) → ((error ≡ receive_error.PlanOpen) ↔ ((shard.ended ≡ false) × (IsInPool old.pool shard → ⊥) × HasClosed shard.groups)) → CoreStep old (End number) (reply.Refused cause) old
+CoreStep-end_refused old number shard receive_error.OutOfMemory cause here gives single closed ended plan_open =
     let is : refusal.OutOfMemory ≡ cause = cc in
-    subst (λ c. CoreStep old (End number) (reply.Refused c) old) is ((shard, record { here = here; running = not_so shard.ended (λ e. let no = ended.1 e in cc) }), refl)
-CoreStep-end_refused old number shard receive_error.Ended cause here gives ended =
+    let running = not_so shard.ended (λ e. let no = ended.1 e in cc) in
+    subst (λ c. CoreStep old (End number) (reply.Refused c) old) is ((shard, record { here = here; running = running }, λ some. let no = plan_open.1 (running, single, some) in cc), refl)
+CoreStep-end_refused old number shard receive_error.PlanOpen cause here gives single closed ended plan_open =
+    let is : refusal.PlanOpen ≡ cause = cc in
+    let facts = plan_open.0 refl in
+    subst (λ c. CoreStep old (End number) (reply.Refused c) old) is (planned_if_closed old.plan shard.groups closed facts.2, (shard, record { here = here; running = facts.0 }, facts.2), refl)
+CoreStep-end_refused old number shard receive_error.Ended cause here gives single closed ended plan_open =
     let is : refusal.Ended ≡ cause = cc in
     subst (λ c. CoreStep old (End number) (reply.Refused c) old) is ((shard, here, ended.0 refl), refl)
-CoreStep-end_refused old number shard receive_error.Doubled cause here gives ended = absurd cc
+CoreStep-end_refused old number shard receive_error.Doubled cause here gives single closed ended plan_open = absurd cc
 
 -- when an adoption is refused, and why
 pub record IsRefused (pool : PoolState) (shard : ShardState) (error : AdoptError) : Type 0 where
   pub spent : (error ≡ adopt_error.PagesSpent) ↔ (shard.page_limit ≡ length shard.groups)
   pub ended : (error ≡ adopt_error.Ended) ↔ ((shard.page_limit ≢ length shard.groups) × (shard.ended ≡ true))
-  pub nothing : (error ≡ adopt_error.NothingToAdopt) ↔ ((shard.page_limit ≢ length shard.groups) × (shard.ended ≡ false) × HasNothingToAdopt pool)
+  pub plan_open : (error ≡ adopt_error.PlanOpen) ↔ ((shard.page_limit ≢ length shard.groups) × (shard.ended ≡ false) × (IsDoubled pool shard → ⊥) × (pool.has_plan ≡ true))
+  pub nothing : (error ≡ adopt_error.NothingToAdopt) ↔ ((shard.page_limit ≢ length shard.groups) × (shard.ended ≡ false) × (pool.has_plan ≡ false) × HasNothingToAdopt pool)
 
 below_limit : (shard : ShardState) → IsSoundShard shard → (shard.page_limit ≢ length shard.groups) → length shard.groups < shard.page_limit
 below_limit shard sound room = by_case (cases_eq shard.page_limit (length shard.groups))
@@ -78,28 +96,40 @@ below_limit shard sound room = by_case (cases_eq shard.page_limit (length shard.
     by_case (inl full) = absurd (room full)
     by_case (inr differ) = omega (arith, sound.limit)
 
+-- the shard of this number, which has not ended, may have another page
+may_take-here : (old : CoreState) (number : ℕ) (shard : ShardState) → IsSoundShard shard → slice_get old.shards number ≡ Some shard → (shard.page_limit ≢ length shard.groups) → shard.ended ≡ false → MayTake old number
+may_take-here old number shard sound here room running other there =
+    let same : shard ≡ other = (let both : Some shard ≡ Some other = sym here ∙ there in cc) in
+    subst (λ (s : ShardState). (s.ended ≡ false) × (length s.groups < s.page_limit)) same (running, below_limit shard sound room)
+
 -- an adoption that the pool refuses
-pub CoreStep-adopt_refused : (old : CoreState) (number : ℕ) (shard : ShardState) (error : AdoptError) (cause : Refusal) → IsSoundShard shard → slice_get old.shards number ≡ Some shard → refusal_of_adoption error ≡ Some cause
+pub CoreStep-adopt_refused : (old : CoreState) (number : ℕ) (shard : ShardState) (error : AdoptError) (cause : Refusal) → old.pool.has_plan ≡ is_some old.plan → (shard.ended ≡ false → IsDoubled old.pool shard → ⊥) → IsSoundShard shard → slice_get old.shards number ≡ Some shard → refusal_of_adoption error ≡ Some cause
     → IsRefused old.pool shard error → CoreStep old (Adopt number) (reply.Refused cause) old
-CoreStep-adopt_refused old number shard adopt_error.OutOfMemory cause sound here gives why =
+CoreStep-adopt_refused old number shard adopt_error.OutOfMemory cause told single sound here gives why =
     let is : refusal.OutOfMemory ≡ cause = cc in
     let room : (shard.page_limit ≢ length shard.groups) = λ full. let no = why.spent.1 full in cc in
     let running : shard.ended ≡ false = not_so shard.ended (λ e. let no = why.ended.1 (room, e) in cc) in
+    let no_plan : old.pool.has_plan ≡ false = not_so old.pool.has_plan (λ e. let no = why.plan_open.1 (room, running, single running, e) in cc) in
     subst (λ c. CoreStep old (Adopt number) (reply.Refused c) old) is
-    ((shard, record { here = here; running = running }, below_limit shard sound room, λ nothing. let no = why.nothing.1 (room, running, nothing) in cc), refl)
-CoreStep-adopt_refused old number shard adopt_error.PagesSpent cause sound here gives why =
+    ((shard, record { here = here; running = running }, below_limit shard sound room, none_from_is_some old.plan (sym told ∙ no_plan), λ nothing. let no = why.nothing.1 (room, running, no_plan, nothing) in cc), refl)
+CoreStep-adopt_refused old number shard adopt_error.PagesSpent cause told single sound here gives why =
     let is : refusal.PagesSpent ≡ cause = cc in
     subst (λ c. CoreStep old (Adopt number) (reply.Refused c) old) is ((shard, here, why.spent.0 refl), refl)
-CoreStep-adopt_refused old number shard adopt_error.Ended cause sound here gives why =
+CoreStep-adopt_refused old number shard adopt_error.Ended cause told single sound here gives why =
     let is : refusal.Ended ≡ cause = cc in
     subst (λ c. CoreStep old (Adopt number) (reply.Refused c) old) is ((shard, here, (why.ended.0 refl).1), refl)
-CoreStep-adopt_refused old number shard adopt_error.Doubled cause sound here gives why = absurd cc
-CoreStep-adopt_refused old number shard adopt_error.NothingToAdopt cause sound here gives why =
+CoreStep-adopt_refused old number shard adopt_error.Doubled cause told single sound here gives why = absurd cc
+CoreStep-adopt_refused old number shard adopt_error.PlanOpen cause told single sound here gives why =
+    let is : refusal.PlanOpen ≡ cause = cc in
+    let facts = why.plan_open.0 refl in
+    subst (λ c. CoreStep old (Adopt number) (reply.Refused c) old) is (may_take-here old number shard sound here facts.0 facts.1, sym told ∙ facts.3, refl)
+CoreStep-adopt_refused old number shard adopt_error.NothingToAdopt cause told single sound here gives why =
     let is : refusal.NothingToAdopt ≡ cause = cc in
     let facts = why.nothing.0 refl in
     subst (λ c. CoreStep old (Adopt number) (reply.Refused c) old) is (
-      λ other there. let same : shard ≡ other = (let both : Some shard ≡ Some other = sym here ∙ there in cc) in subst (λ (s : ShardState). (s.ended ≡ false) × (length s.groups < s.page_limit)) same (facts.1, below_limit shard sound facts.0),
-      facts.2,
+      may_take-here old number shard sound here facts.0 facts.1,
+      none_from_is_some old.plan (sym told ∙ facts.2),
+      facts.3,
       refl,
     )
 
@@ -110,6 +140,10 @@ running-adopted shard room ended = not_so shard.ended (λ e. ended (room, e))
 -- no shard of this number stands in the way
 pub may_take-nowhere : (core : CoreState) (number : ℕ) → length core.shards ≤ number → MayTake core number
 may_take-nowhere core number past shard here = absurd (let none : None ≡ Some shard = sym (slice_get_past core.shards number past) ∙ here in cc)
+
+-- a number past the core's limit is past its shards
+pub past_last : (core : CoreState) (number : ℕ) → IsSound core → core.limits.shards ≤ number → length core.shards ≤ number
+past_last core number sound past = omega (arith, sound.groups.count)
 
 -- no group has a page, where so many have one
 
@@ -137,3 +171,19 @@ unpaged-nothing (first ∷ groups) none =
 
 pub unpaged-HasNothingToAdopt : (pool : PoolState) → HasNothingToAdopt pool → length (paged_groups pool) ≡ 0
 unpaged-HasNothingToAdopt pool none = unpaged-nothing pool.groups none
+
+-- a shard that was received had not ended
+pub running-received : {old new : PoolState} {before after : ShardState} → Receives old before new after → before.ended ≡ false
+running-received receives = receives.running
+
+-- where none of the groups is closed, each is open
+pub unclosed : (groups : List GroupState) → (HasClosed groups → ⊥) → (index : ℕ) (group : GroupState) → slice_get groups index ≡ Some group → group.closed ≡ false
+unclosed [] never index group here = absurd cc
+unclosed (first ∷ groups) never zero group here =
+    let same : first ≡ group = cc in
+    not_so group.closed (λ closed. never (ap (λ b. b || list_any (λ (g : GroupState). g.closed) groups) (ap (λ (g : GroupState). g.closed) same ∙ closed)))
+unclosed (first ∷ groups) never (suc index) group here = unclosed groups (λ closed. never (ap (λ b. first.closed || b) closed ∙ or_true first.closed)) index group here
+  where
+    or_true : (b : Bool) → (b || true) ≡ true
+    or_true true = refl
+    or_true false = refl

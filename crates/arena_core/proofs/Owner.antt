@@ -19,7 +19,7 @@ use Rattle.abandoned.specs.State.{IsElsewhere as IsElsewherePooled, PoolState}
 use Rattle.arena_core.specs.declared.machine.Owner.{Owner}
 use Rattle.arena_core.specs.declared.machine.Owner.TheVariants as owner
 use Rattle.arena_core.specs.Owner.{StandsAt}
-use Rattle.arena_core.specs.Sound.{IsSound}
+use Rattle.arena_core.specs.Sound.{HasSoundGroups}
 use Rattle.arena_core.specs.State.{CoreState, has_span, shown}
 use Rattle.arena_core.proofs.Spans.{times_pooled}
 use Rattle.arena_core.proofs.Steps.{has_span-elsewhere, has_span-here, pooled-somewhere, value-pool, value-shard}
@@ -44,14 +44,14 @@ has_span-Frees before after key (freed.No at) sound here (index, place, group, s
 has_span-Frees before after key freed.NotHere sound here away = absurd (here refl)
 
 -- where the shard has the key's span, its answer is that of the core
-pub value-Gets : (core : CoreState) (key : Key) (number : ℕ) (shard : ShardState) (answer : Found) → IsSound core → slice_get core.shards number ≡ Some shard → (answer ≡ found.NotHere → ⊥) → Gets shard key answer
+pub value-Gets : (core : CoreState) (key : Key) (number : ℕ) (shard : ShardState) (answer : Found) → HasSoundGroups core → slice_get core.shards number ≡ Some shard → (answer ≡ found.NotHere → ⊥) → Gets shard key answer
     → value_found answer ≡ (shown_by shard).value_of key → value_found answer ≡ (shown core).value_of key
 value-Gets core key number shard answer sound here found_here gets plain =
     plain ∙ sym (value-shard core sound key number shard here (has_span-Gets shard key answer (sound.shards number shard here).sound found_here gets))
 
 -- the owner that was named answers for the key
 
-module _ (core : CoreState) (key : Key) (id : SpanId) (at : Owner) (sound : IsSound core) (stands : StandsAt core id at) (id_is : id ≡ key.span) where
+module _ (core : CoreState) (key : Key) (id : SpanId) (at : Owner) (sound : HasSoundGroups core) (stands : StandsAt core id at) (id_is : id ≡ key.span) where
   pub shard-there : (number : ℕ) (shard : ShardState) → at ≡ owner.Shard number → shard ≡ get_or core.shards number shard → (slice_get core.shards number ≡ Some shard) × (has_span key.span shard ≡ true)
   shard-there number shard at_is read =
       let (other, here, some) = subst (StandsAt core id) at_is stands in

@@ -3,7 +3,7 @@ use Rattle.std.proofs.Common.{◌≡◌, ℕ, ◌+◌, ◌<◌, Bool, true, fals
 use Rattle.std.proofs.lemmas.List.{length_push, take_more}
 use Rattle.span.specs.PlainMap.{PlainMap}
 use Rattle.arena_core.specs.declared.event.Event.{Event}
-use Rattle.arena_core.specs.declared.event.Event.TheVariants.{Put, Get, Free, End, Adopt}
+use Rattle.arena_core.specs.declared.event.Event.TheVariants.{Put, Get, Free, End, Adopt, Mark, Step, Close}
 use Rattle.arena_core.specs.declared.reply.Reply.{Reply}
 use Rattle.arena_core.specs.Plain.{ErasedStep, PlainRun, PlainStep, erased, is_plain}
 use Rattle.arena_core.specs.Sound.{IsSound}
@@ -27,6 +27,9 @@ PlainRun-added old mid new steps (Get key) reply run step = PlainRun-push old mi
 PlainRun-added old mid new steps (Free key) reply run step = PlainRun-push old mid new steps (Free key) reply run step
 PlainRun-added old mid new steps (End shard) reply run step = PlainRun-stay old mid new steps run step
 PlainRun-added old mid new steps (Adopt shard) reply run step = PlainRun-stay old mid new steps run step
+PlainRun-added old mid new steps Mark reply run step = PlainRun-stay old mid new steps run step
+PlainRun-added old mid new steps Step reply run step = PlainRun-stay old mid new steps run step
+PlainRun-added old mid new steps Close reply run step = PlainRun-stay old mid new steps run step
 
 erased-push : (events : List Event) (replies : List Reply) (event : Event) (reply : Reply) → length replies ≡ length events → erased (events ++ event ∷ []) (replies ++ reply ∷ []) ≡ erased events replies ++ added event reply
 erased-push [] [] event reply each = refl

@@ -1,5 +1,5 @@
 -- A core begins sound, and shows the empty map.
-use Rattle.std.proofs.Common.{◌≡◌, ℕ, zero, suc, ◌+◌, ◌<◌, ◌++◌, List, [], ◌∷◌, refl, sym, ap, subst, ◌∙◌, arith, None, Some, map, slice_get, length, append-nil}
+use Rattle.std.proofs.Common.{◌≡◌, ℕ, zero, suc, ◌+◌, ◌<◌, ◌++◌, List, [], ◌∷◌, refl, sym, ap, subst, ◌∙◌, arith, Option, None, Some, map, slice_get, length, append-nil}
 use Rattle.std.specs.Prelude.{sum_by}
 use Rattle.std.specs.List.{range_with_len}
 use Rattle.std.proofs.lemmas.List.FromFn.{length-map-range_with_len}
@@ -7,11 +7,12 @@ use Rattle.span.specs.declared.id.SpanId.{SpanId}
 use Rattle.span.specs.PlainMap.{empty_map}
 use Rattle.span.specs.State.{SpanState}
 use Rattle.shard.specs.Sound.{IsSound as IsSoundShard}
+use Rattle.shard.specs.Group.{GroupState}
 use Rattle.shard.specs.State.{ShardState}
 use Rattle.abandoned.specs.State.{PoolState}
 use Rattle.abandoned.proofs.Started.{IsSound-new}
-use Rattle.arena_core.specs.Sound.{IsSound, IsSoundAt}
-use Rattle.arena_core.specs.State.{AreWithin, CoreState, Limits, all_spans, limits_of, new_core, new_pool, new_shard, opened_by, shard_spans, shard_with, shown, shown_at}
+use Rattle.arena_core.specs.Sound.{HasSoundGroups, IsSound, IsSoundAt}
+use Rattle.arena_core.specs.State.{AreWithin, CoreState, Limits, all_spans, OpenPlan, limits_of, new_core, new_pool, new_shard, opened_by, shard_spans, shard_with, shown, shown_at}
 use Rattle.arena_core.proofs.Changes.{indicator, past-indicator}
 use Rattle.arena_core.proofs.Groups.{strays, strays-each}
 use Rattle.arena_core.proofs.Shown.{same_plain_map}
@@ -43,8 +44,8 @@ slice_get-range limits from (suc count) (suc number) shard here =
     let rest : (number < count) × (new_shard limits.page_limit limits.gens (from + 1 + number) ≡ shard) = slice_get-range limits (from + 1) count number shard here in
     (omega arith, ap (new_shard limits.page_limit limits.gens) (omega arith) ∙ rest.1)
 
-pub IsSound-new_core : (limits : Limits) → AreWithin limits → ((number : ℕ) → number < limits.shards → IsSoundShard (new_shard limits.page_limit limits.gens number)) → IsSound (new_core limits)
-IsSound-new_core limits within each = record {
+pub HasSoundGroups-new_core : (limits : Limits) → AreWithin limits → ((number : ℕ) → number < limits.shards → IsSoundShard (new_shard limits.page_limit limits.gens number)) → HasSoundGroups (new_core limits)
+HasSoundGroups-new_core limits within each = record {
   within = within;
   count = length-map-range_with_len (new_shard limits.page_limit limits.gens) 0 limits.shards;
   shards = λ number shard here.
@@ -67,12 +68,32 @@ shown-new_core limits =
     nowhere id = shard_with-nowhere id (new_core limits).shards (sum-new (named id) limits (range_with_len 0 limits.shards))
 
 abbrev with_count : Limits → ℕ → List ShardState → CoreState
-with_count limits count shards = record { limits = limits_of count limits.page_limit limits.ring_capacity limits.gens; shards = shards; pool = new_pool }
+with_count limits count shards = record { limits = limits_of count limits.page_limit limits.ring_capacity limits.gens; shards = shards; pool = new_pool; plan = None }
 
 -- the fields of a new core show as the new core
-pub new_core-fields : (limits : Limits) (shards : List ShardState) (pool : PoolState) → shards ≡ (new_core limits).shards → pool ≡ new_pool
-    → ◌≡◌ {A = CoreState} (record { limits = limits_of (length shards) limits.page_limit limits.ring_capacity limits.gens; shards = shards; pool = pool }) (new_core limits)
-new_core-fields limits shards pool are empty =
-    ap (λ (p : PoolState). record (with_count limits (length shards) shards) { pool = p }) empty
+pub new_core-fields : (limits : Limits) (shards : List ShardState) (pool : PoolState) (plan : Option OpenPlan) → shards ≡ (new_core limits).shards → pool ≡ new_pool → plan ≡ None
+    → ◌≡◌ {A = CoreState} (record { limits = limits_of (length shards) limits.page_limit limits.ring_capacity limits.gens; shards = shards; pool = pool; plan = plan }) (new_core limits)
+new_core-fields limits shards pool plan are empty no_plan =
+    (λ i. record (with_count limits (length shards) shards) { pool = empty i; plan = no_plan i })
     ∙ ap (λ all. with_count limits (length all) all) are
     ∙ ap (λ n. with_count limits n (new_core limits).shards) (length-map-range_with_len (new_shard limits.page_limit limits.gens) 0 limits.shards)
+
+-- a core begins with no plan
+pub IsSound-new_core : (limits : Limits) → HasSoundGroups (new_core limits) → IsSound (new_core limits)
+IsSound-new_core limits groups = record {
+  groups = groups;
+  plan = record {
+    told = refl;
+    closed = λ number shard here index group at. absurd (no_group number shard here index group at);
+    under_way = tt;
+  };
+}
+  where
+    no_group : (number : ℕ) (shard : ShardState) → slice_get (new_core limits).shards number ≡ Some shard → (index : ℕ) (group : GroupState) → slice_get shard.groups index ≡ Some group → ⊥
+    no_group number shard here index group at =
+        let is = slice_get-range limits 0 limits.shards number shard here in
+        nothing index (ap (λ (s : ShardState). slice_get s.groups index) is.1 ∙ at)
+      where
+        nothing : (index : ℕ) → slice_get [] index ≡ Some group → ⊥
+        nothing zero e = cc
+        nothing (suc index) e = cc

@@ -16,10 +16,10 @@ use Rattle.shard.specs.declared.shard.Freed.{Freed}
 use Rattle.shard.specs.declared.shard.Freed.TheVariants as freed
 use Rattle.shard.proofs.ShownLogs.{span_named-elsewhere, span_named-here}
 use Rattle.span.specs.State.{SpanState}
-use Rattle.abandoned.specs.Calls.{Frees as FreesPooled, IsDoubled, IsInPool}
+use Rattle.abandoned.specs.Calls.{Frees as FreesPooled, HasDoubled, IsDoubled, IsInPool}
 use Rattle.abandoned.specs.Shown.{shown as shown_by_pool}
 use Rattle.abandoned.specs.Sound.{IsSound as IsSoundPool}
-use Rattle.abandoned.specs.State.{IsElsewhere as IsElsewherePooled, PoolState}
+use Rattle.abandoned.specs.State.{IsElsewhere as IsElsewherePooled, PoolState, PooledState, spans_of as pooled_spans_of}
 use Rattle.abandoned.proofs.Standing.{elsewhere-times, times-elsewhere}
 use Rattle.arena_core.specs.declared.event.Event.{Event}
 use Rattle.arena_core.specs.declared.event.Event.TheVariants.{Put, Free}
@@ -28,10 +28,10 @@ use Rattle.arena_core.specs.declared.reply.Reply.TheVariants as reply
 use Rattle.arena_core.specs.Owner.{IsNowhere}
 use Rattle.arena_core.specs.Plain.{ErasedStep}
 use Rattle.arena_core.specs.Refusals.{refusal_of}
-use Rattle.arena_core.specs.Sound.{IsSound}
+use Rattle.arena_core.specs.Sound.{HasSoundGroups}
 use Rattle.arena_core.specs.State.{CoreState, has_span, opened_by, opened_of, shown, shown_at, with_pool, with_shard}
 use Rattle.arena_core.specs.Step.{CoreStep}
-use Rattle.arena_core.proofs.Changes.{IsSound-with_pool, IsSound-with_shard, at_most_once, indicator, opened-somewhere, past-indicator}
+use Rattle.arena_core.proofs.Changes.{HasSoundGroups-with_pool, HasSoundGroups-with_shard, at_most_once, indicator, opened-somewhere, past-indicator}
 use Rattle.arena_core.proofs.Groups.{IsCall-Frees, IsCall-Puts, IsPoolCall-Frees}
 use Rattle.arena_core.proofs.Lists.{find-none, set-slice_get}
 use Rattle.arena_core.proofs.Owners.{value-unpooled}
@@ -40,7 +40,7 @@ use Rattle.arena_core.proofs.Spans.{has_span-counted, shard_with-here, shard_wit
 
 -- what the core keeps, its own step, and that of the plain map, if the plain map knows the event
 pub record IsStep (old : CoreState) (event : Event) (answer : Reply) (new : CoreState) : Type 0 where
-  pub kept : IsSound new
+  pub kept : HasSoundGroups new
   pub exact : CoreStep old event answer new
   pub plain : ErasedStep (shown old) event answer (shown new)
 
@@ -72,7 +72,7 @@ pooled-somewhere pool id some = by_count (times_pooled id pool) refl
     by_count zero e = absurd (some (elsewhere-times pool.groups id e))
     by_count (suc n) e = omega arith
 
-module _ (core : CoreState) (sound : IsSound core) where
+module _ (core : CoreState) (sound : HasSoundGroups core) where
   owned-once : (id : SpanId) → times_owned id core.shards ≤ 1
   owned-once id = omega (arith, times-parts id core, at_most_once core sound id)
 
@@ -103,9 +103,10 @@ module _ (core : CoreState) (sound : IsSound core) where
       let one = times_in-found span.id shard (has_span-here shard span.id index place group span (sound.shards number shard here).sound (record { group_is = at; span_is = there; id_is = refl })) in
       omega (arith, pooled-somewhere core.pool span.id some, times_in-le span.id core.shards number shard here, times-parts span.id core, at_most_once core sound span.id)
 
-  pub not_doubled : (number : ℕ) (shard : ShardState) → slice_get core.shards number ≡ Some shard → shard.ended ≡ false → IsDoubled core.pool shard → ⊥
-  not_doubled number shard here running (index, group, lowest, (place, span, there, either)) =
-      let pooled : 1 ≤ times_pooled span.id core.pool = pooled-somewhere core.pool span.id (λ elsewhere. elsewhere index group lowest.here place (span, there, refl)) in
+  -- a span of a group of the pool is in no shard, and bears the number of none that runs
+  pub not_doubled_in : (number : ℕ) (shard : ShardState) → slice_get core.shards number ≡ Some shard → shard.ended ≡ false → (index : ℕ) (group : PooledState) → slice_get core.pool.groups index ≡ Some group → HasDoubled shard (pooled_spans_of group) → ⊥
+  not_doubled_in number shard here running index group at (place, span, there, either) =
+      let pooled : 1 ≤ times_pooled span.id core.pool = pooled-somewhere core.pool span.id (λ elsewhere. elsewhere index group at place (span, there, refl)) in
       let one : 1 ≤ times_in span.id shard = by_case pooled either in
       omega (arith, times_in-le span.id core.shards number shard here, times-parts span.id core, at_most_once core sound span.id)
     where
@@ -118,14 +119,17 @@ module _ (core : CoreState) (sound : IsSound core) where
           omega (arith, fine.home running span.id named_so (omega arith))
       by_case pooled (inr some) = times_in-found span.id shard (has_span-elsewhere shard span.id (sound.shards number shard here).sound some)
 
+  pub not_doubled : (number : ℕ) (shard : ShardState) → slice_get core.shards number ≡ Some shard → shard.ended ≡ false → IsDoubled core.pool shard → ⊥
+  not_doubled number shard here running (index, group, lowest, doubled) = not_doubled_in number shard here running index group lowest.here doubled
+
 -- puts
 
-pub IsStep-Puts : (old : CoreState) (number : ℕ) (value : Word) (key : Key) (at : ℕ) (before after : ShardState) → IsSound old → slice_get old.shards number ≡ Some before → Puts before value key at after
+pub IsStep-Puts : (old : CoreState) (number : ℕ) (value : Word) (key : Key) (at : ℕ) (before after : ShardState) → HasSoundGroups old → slice_get old.shards number ≡ Some before → Puts before value key at after
     → (shown_by before).is_issued key ≡ false → shown_by after ≡ with_put (shown_by before) key value → IsSoundShard after
     → IsStep old (Put number value) (reply.Issued key) (with_shard old number after)
 IsStep-Puts old number value key at before after sound here puts fresh plain sound_after =
     let call = IsCall-Puts before after value key at puts in
-    let sound_new = IsSound-with_shard old sound number before after here call sound_after in
+    let sound_new = HasSoundGroups-with_shard old sound number before after here call sound_after in
     let local = IsLocal-shard old (with_shard old number after) (at_most_once old sound) (at_most_once (with_shard old number after) sound_new) number before after here refl in
     record {
       kept = sound_new;
@@ -151,32 +155,32 @@ CoreStep-refused old number value shard put_error.Ended here spent ended = ((sha
 
 -- frees
 
-none_from_is_some : {X : Type 0} (o : Option X) → is_some o ≡ false → o ≡ None
+pub none_from_is_some : {X : Type 0} (o : Option X) → is_some o ≡ false → o ≡ None
 none_from_is_some None e = refl
 none_from_is_some (Some x) e = absurd cc
 
 -- a key that is not live is not freed
-pub IsStep-dead : (old : CoreState) (key : Key) → IsSound old → (shown old).value_of key ≡ None → IsStep old (Free key) (reply.Freed false) old
+pub IsStep-dead : (old : CoreState) (key : Key) → HasSoundGroups old → (shown old).value_of key ≡ None → IsStep old (Free key) (reply.Freed false) old
 IsStep-dead old key sound none = record { kept = sound; exact = (none, refl); plain = (none, refl) }
 
-with_shard-same : (old : CoreState) (number : ℕ) (before after : ShardState) → slice_get old.shards number ≡ Some before → after ≡ before → with_shard old number after ≡ old
+pub with_shard-same : (old : CoreState) (number : ℕ) (before after : ShardState) → slice_get old.shards number ≡ Some before → after ≡ before → with_shard old number after ≡ old
 with_shard-same old number before after here same =
     let shards : set old.shards number after ≡ old.shards = ap (set old.shards number) same ∙ set-slice_get old.shards number before here in
-    λ i. record { limits = old.limits; shards = shards i; pool = old.pool }
+    λ i. record { limits = old.limits; shards = shards i; pool = old.pool; plan = old.plan }
 
-IsStep-unfreed : (old : CoreState) (key : Key) (number : ℕ) (before after : ShardState) → IsSound old → slice_get old.shards number ≡ Some before → has_span key.span before ≡ true → false ≡ is_some ((shown_by before).value_of key) → after ≡ before
+IsStep-unfreed : (old : CoreState) (key : Key) (number : ℕ) (before after : ShardState) → HasSoundGroups old → slice_get old.shards number ≡ Some before → has_span key.span before ≡ true → false ≡ is_some ((shown_by before).value_of key) → after ≡ before
     → IsStep old (Free key) (reply.Freed false) (with_shard old number after)
 IsStep-unfreed old key number before after sound here has found same =
     subst (IsStep old (Free key) (reply.Freed false)) (sym (with_shard-same old number before after here same))
     (IsStep-dead old key sound (value-shard old sound key number before here has ∙ none_from_is_some _ (sym found)))
 
-pub IsStep-Frees : (old : CoreState) (key : Key) (number : ℕ) (before after : ShardState) (answer : Freed) → IsSound old → slice_get old.shards number ≡ Some before → has_span key.span before ≡ true → Frees before key answer after
+pub IsStep-Frees : (old : CoreState) (key : Key) (number : ℕ) (before after : ShardState) (answer : Freed) → HasSoundGroups old → slice_get old.shards number ≡ Some before → has_span key.span before ≡ true → Frees before key answer after
     → was_freed answer ≡ is_some ((shown_by before).value_of key) → shown_by after ≡ cond (was_freed answer) (without (shown_by before) key) (shown_by before) → IsSoundShard after
     → IsStep old (Free key) (reply.Freed (was_freed answer)) (with_shard old number after)
 IsStep-Frees old key number before after (freed.Yes at) sound here has frees found plain sound_after =
     let call = IsCall-Frees before after key at frees in
     let new = with_shard old number after in
-    let sound_new = IsSound-with_shard old sound number before after here call sound_after in
+    let sound_new = HasSoundGroups-with_shard old sound number before after here call sound_after in
     let local = IsLocal-shard old new (at_most_once old sound) (at_most_once new sound_new) number before after here refl in
     let still : has_span key.span after ≡ true = has_span-counted key.span after (omega (arith, times_in-found key.span before has, call.none_lost key.span)) in
     record {
@@ -188,21 +192,21 @@ IsStep-Frees old key number before after (freed.No at) sound here has (index, pl
     IsStep-unfreed old key number before after sound here has found same
 IsStep-Frees old key number before after freed.NotHere sound here has frees found plain sound_after = IsStep-unfreed old key number before after sound here has found frees.1
 
-with_pool-same : (old : CoreState) (pool : PoolState) → pool ≡ old.pool → with_pool old pool ≡ old
-with_pool-same old pool same = λ i. record { limits = old.limits; shards = old.shards; pool = same i }
+pub with_pool-same : (old : CoreState) (pool : PoolState) → pool ≡ old.pool → with_pool old pool ≡ old
+with_pool-same old pool same = λ i. record { limits = old.limits; shards = old.shards; pool = same i; plan = old.plan }
 
-IsStep-unfreed_pooled : (old : CoreState) (key : Key) (pool : PoolState) → IsSound old → 1 ≤ times_pooled key.span old.pool → false ≡ is_some ((shown_by_pool old.pool).value_of key) → pool ≡ old.pool → IsStep old (Free key) (reply.Freed false) (with_pool old pool)
+IsStep-unfreed_pooled : (old : CoreState) (key : Key) (pool : PoolState) → HasSoundGroups old → 1 ≤ times_pooled key.span old.pool → false ≡ is_some ((shown_by_pool old.pool).value_of key) → pool ≡ old.pool → IsStep old (Free key) (reply.Freed false) (with_pool old pool)
 IsStep-unfreed_pooled old key pool sound some found same =
     subst (IsStep old (Free key) (reply.Freed false)) (sym (with_pool-same old pool same))
     (IsStep-dead old key sound (value-pool old sound key some ∙ none_from_is_some _ (sym found)))
 
-pub IsStep-FreesPooled : (old : CoreState) (key : Key) (pool : PoolState) (answer : Freed) → IsSound old → 1 ≤ times_pooled key.span old.pool → FreesPooled old.pool key answer pool
+pub IsStep-FreesPooled : (old : CoreState) (key : Key) (pool : PoolState) (answer : Freed) → HasSoundGroups old → 1 ≤ times_pooled key.span old.pool → FreesPooled old.pool key answer pool
     → was_freed answer ≡ is_some ((shown_by_pool old.pool).value_of key) → shown_by_pool pool ≡ cond (was_freed answer) (without (shown_by_pool old.pool) key) (shown_by_pool old.pool) → IsSoundPool pool
     → IsStep old (Free key) (reply.Freed (was_freed answer)) (with_pool old pool)
 IsStep-FreesPooled old key pool (freed.Yes at) sound some frees found plain sound_pool =
     let call = IsPoolCall-Frees old.pool pool key at sound.pool frees in
     let new = with_pool old pool in
-    let sound_new = IsSound-with_pool old sound pool call sound_pool in
+    let sound_new = HasSoundGroups-with_pool old sound pool call sound_pool in
     let local = IsLocal-pool old new (at_most_once old sound) (at_most_once new sound_new) pool refl in
     let still : has_pooled key.span pool ≡ true = has_pooled-counted key.span pool (omega (arith, call.spans key.span)) in
     record {

@@ -5,4 +5,4 @@ use Rattle.arena_core.specs.State.{CoreState}
 
 -- what contracts see of the fields
 abbrev pub state_of : Inside → CoreState
-state_of c = record { limits = record { shards = length c.shards.items; page_limit = c.page_limit; ring_capacity = c.ring_capacity; gens = c.gens }; shards = c.shards.items; pool = c.pool }
+state_of c = record { limits = record { shards = length c.shards.items; page_limit = c.page_limit; ring_capacity = c.ring_capacity; gens = c.gens }; shards = c.shards.items; pool = c.pool; plan = c.plan }

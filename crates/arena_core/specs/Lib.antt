@@ -1,6 +1,9 @@
+pub mod Closings
 pub mod Kept
+pub mod Marks
 pub mod Owner
 pub mod Plain
+pub mod Plan
 pub mod Refusals
 pub mod Sound
 pub mod State

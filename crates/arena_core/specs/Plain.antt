@@ -2,7 +2,7 @@
 use Rattle.std.specs.Prelude.{◌≡◌, Bool, true, false, if◌then◌else◌, List, [], ◌∷◌, None, IsSome}
 use Rattle.span.specs.PlainMap.{PlainMap, with_put, without}
 use Rattle.arena_core.specs.declared.event.Event.{Event}
-use Rattle.arena_core.specs.declared.event.Event.TheVariants.{Put, Get, Free, End, Adopt}
+use Rattle.arena_core.specs.declared.event.Event.TheVariants.{Put, Get, Free, End, Adopt, Mark, Step, Close}
 use Rattle.arena_core.specs.declared.reply.Reply.{Reply}
 use Rattle.arena_core.specs.declared.reply.Reply.TheVariants.{Issued, Found, Freed, Refused}
 use Rattle.arena_core.specs.declared.reply.Refusal.TheVariants.{OutOfMemory, PagesSpent, Ended, Config}
@@ -21,13 +21,16 @@ PlainStep old (Free key) (Freed false) new = (old.value_of key ≡ None) × (new
 -- no other pair comes
 PlainStep old event reply new = ⊥
 
--- the plain map knows the event: it has no shards that end or adopt
+-- the plain map knows the event: it has no shards that end or adopt, and no plans
 abbrev pub is_plain : Event → Bool
 is_plain (End shard) = false
 is_plain (Adopt shard) = false
+is_plain Mark = false
+is_plain Step = false
+is_plain Close = false
 is_plain event = true
 
--- the events and their replies, with every end and every adoption, and their replies, taken out
+-- the events and their replies, with every end, adoption, mark, step and close, and their replies, taken out
 abbrev pub erased : List Event → List Reply → List (Event × Reply)
 erased (event ∷ events) (reply ∷ replies) = if is_plain event then (event, reply) ∷ erased events replies else erased events replies
 erased events replies = []
@@ -36,6 +39,9 @@ erased events replies = []
 abbrev pub ErasedStep : PlainMap → Event → Reply → PlainMap → Type 0
 ErasedStep old (End shard) reply new = new ≡ old
 ErasedStep old (Adopt shard) reply new = new ≡ old
+ErasedStep old Mark reply new = new ≡ old
+ErasedStep old Step reply new = new ≡ old
+ErasedStep old Close reply new = new ≡ old
 ErasedStep old event reply new = PlainStep old event reply new
 
 -- the plain map may give these replies to these events, one after another

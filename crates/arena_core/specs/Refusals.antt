@@ -7,7 +7,7 @@ use Rattle.abandoned.specs.declared.error.AdoptError.TheVariants as adopt
 use Rattle.abandoned.specs.declared.error.ReceiveError.{ReceiveError}
 use Rattle.abandoned.specs.declared.error.ReceiveError.TheVariants as receive
 use Rattle.arena_core.specs.declared.reply.Refusal.{Refusal}
-use Rattle.arena_core.specs.declared.reply.Refusal.TheVariants.{OutOfMemory, PagesSpent, Ended, NothingToAdopt}
+use Rattle.arena_core.specs.declared.reply.Refusal.TheVariants.{OutOfMemory, PagesSpent, Ended, PlanOpen, NothingToAdopt}
 
 -- the core gives the shard's cause
 abbrev pub refusal_of : PutError → Refusal
@@ -20,6 +20,7 @@ abbrev pub refusal_of_end : ReceiveError → Option Refusal
 refusal_of_end receive.OutOfMemory = Some OutOfMemory
 refusal_of_end receive.Ended = Some Ended
 refusal_of_end receive.Doubled = None
+refusal_of_end receive.PlanOpen = Some PlanOpen
 
 -- the core gives the pool's cause, save that no span stands twice
 abbrev pub refusal_of_adoption : AdoptError → Option Refusal
@@ -27,4 +28,5 @@ refusal_of_adoption adopt.OutOfMemory = Some OutOfMemory
 refusal_of_adoption adopt.PagesSpent = Some PagesSpent
 refusal_of_adoption adopt.Ended = Some Ended
 refusal_of_adoption adopt.Doubled = None
+refusal_of_adoption adopt.PlanOpen = Some PlanOpen
 refusal_of_adoption adopt.NothingToAdopt = Some NothingToAdopt

@@ -6,6 +6,7 @@ use Rattle.span.specs.State.{SpanState}
 use Rattle.shard.specs.Sound.{IsSound as IsSoundShard}
 use Rattle.shard.specs.State.{ShardState, spans_in}
 use Rattle.abandoned.specs.Sound.{IsSound as IsSoundPool}
+use Rattle.arena_core.specs.Plan.{KeepsPlan}
 use Rattle.arena_core.specs.State.{Limits, AreWithin, CoreState, all_spans, opened_by}
 
 -- the shard has this number and the limits of the core, and is sound
@@ -18,7 +19,7 @@ pub record IsSoundAt (limits : Limits) (number : ℕ) (shard : ShardState) : Typ
   pub home : shard.ended ≡ false → (id : SpanId) → id.shard ≡ number → id.serial < shard.opened → count_by (λ span. same_span span.id id) (spans_in shard.groups) ≡ 1
 
 -- the numbers are within their ranges, the shards are those of the numbers, and each of them and the pool are sound
-pub record IsSound (core : CoreState) : Type 0 where
+pub record HasSoundGroups (core : CoreState) : Type 0 where
   pub within : AreWithin core.limits
   pub count : length core.shards ≡ core.limits.shards
   pub shards : (number : ℕ) (shard : ShardState) → slice_get core.shards number ≡ Some shard → IsSoundAt core.limits number shard
@@ -27,3 +28,8 @@ pub record IsSound (core : CoreState) : Type 0 where
   pub gens : (place : ℕ) (span : SpanState) → slice_get (all_spans core) place ≡ Some span → span.gens ≡ core.limits.gens
   -- each opened span stands in exactly one group, of one shard or of the pool, and no other span stands anywhere
   pub once : (id : SpanId) → count_by (λ span. same_span span.id id) (all_spans core) ≡ (if nat_lt id.serial (opened_by core.shards id.shard) then 1 else 0)
+
+-- the groups are sound, and the closed ones are those that the open plan plans
+pub record IsSound (core : CoreState) : Type 0 where
+  pub groups : HasSoundGroups core
+  pub plan : KeepsPlan core

@@ -28,11 +28,17 @@ pub record AreWithin (limits : Limits) : Type 0 where
   pub ring_capacity : (1 ≤ limits.ring_capacity) × (limits.ring_capacity ≤ 1024)
   pub gens : (1 ≤ limits.gens) × (limits.gens ≤ 2 ^ 32 - 1)
 
--- a core: the numbers of the product, the shards by their numbers, and the pool of the groups whose shards have ended
+-- an open plan of folds: its pairs, each an abandoned group and the owned group that it is to be folded onto, by their heads, and how many of them, from the first on, are done with
+pub record OpenPlan : Type 0 where
+  pub pairs : List (SpanId × SpanId)
+  pub done : ℕ
+
+-- a core: the numbers of the product, the shards by their numbers, the pool of the groups whose shards have ended, and the open plan, if there is one
 pub record CoreState : Type 0 where
   pub limits : Limits
   pub shards : List ShardState
   pub pool : PoolState
+  pub plan : Option OpenPlan
 
 -- a shard that has opened no span
 abbrev pub new_shard : ℕ → ℕ → ℕ → ShardState
@@ -40,11 +46,11 @@ new_shard page_limit gens number = record { number = number; page_limit = page_l
 
 -- a pool with no group
 abbrev pub new_pool : PoolState
-new_pool = record { groups = []; table = no_pages }
+new_pool = record { groups = []; table = no_pages; has_plan = false }
 
--- a core of new shards, one for each number, and an empty pool
+-- a core of new shards, one for each number, an empty pool, and no plan
 abbrev pub new_core : Limits → CoreState
-new_core limits = record { limits = limits; shards = map (new_shard limits.page_limit limits.gens) (range_with_len 0 limits.shards); pool = new_pool }
+new_core limits = record { limits = limits; shards = map (new_shard limits.page_limit limits.gens) (range_with_len 0 limits.shards); pool = new_pool; plan = None }
 
 -- the core with another shard at this number
 abbrev pub with_shard : CoreState → ℕ → ShardState → CoreState
@@ -53,6 +59,10 @@ with_shard core number shard = record core { shards = slice_set core.shards numb
 -- the core with another pool
 abbrev pub with_pool : CoreState → PoolState → CoreState
 with_pool core pool = record core { pool = pool }
+
+-- the core with another plan, or none
+abbrev pub with_plan : CoreState → Option OpenPlan → CoreState
+with_plan core plan = record core { plan = plan }
 
 -- the spans of all shards, in order
 abbrev pub shard_spans : List ShardState → List SpanState

@@ -1,20 +1,29 @@
 -- The steps and runs of the core.
-use Rattle.std.specs.Prelude.{◌≡◌, ◌⊎◌, ℕ, ◌<◌, ◌≤◌, true, false, List, [], ◌∷◌, ◌++◌, length, slice_get, Some, None}
+use Rattle.std.specs.Prelude.{◌≡◌, ◌⊎◌, ℕ, ◌<◌, ◌≤◌, Bool, true, false, List, [], ◌∷◌, ◌++◌, length, map, slice_get, Some, None, is_some}
+use Rattle.std.specs.List.{list_any}
 use Rattle.span.specs.declared.id.SpanId.{SpanId}
 use Rattle.span.specs.declared.key.Key.{Key}
 use Rattle.span.specs.Log.{Value}
 use Rattle.shard.specs.Calls.{Puts, Frees, IsSpent}
+use Rattle.shard.specs.Group.{GroupState}
 use Rattle.shard.specs.State.{ShardState}
 use Rattle.shard.specs.declared.shard.Freed.TheVariants.{Yes}
 use Rattle.abandoned.specs.Calls.{Adopts, Frees as FreesPooled, HasNothingToAdopt, Receives}
 use Rattle.abandoned.specs.State.{PoolState}
+use Rattle.certificate.specs.declared.certificate.Certificate.{Certificate}
+use Rattle.fold.specs.Folds.{Folds}
+use Rattle.fold.specs.declared.step.Step.{Step as Outcome}
+use Rattle.fold.specs.declared.step.Step.TheVariants.{Absent, Emptied, Clash, Folded}
 use Rattle.arena_core.specs.declared.event.Event.{Event}
-use Rattle.arena_core.specs.declared.event.Event.TheVariants.{Put, Get, Free, End, Adopt}
+use Rattle.arena_core.specs.declared.event.Event.TheVariants.{Put, Get, Free, End, Adopt, Mark, Step, Close}
 use Rattle.arena_core.specs.declared.reply.Reply.{Reply}
-use Rattle.arena_core.specs.declared.reply.Reply.TheVariants.{Issued, Found, Freed, ShardEnded, Adopted, Refused}
-use Rattle.arena_core.specs.declared.reply.Refusal.TheVariants.{OutOfMemory, PagesSpent, Ended, NothingToAdopt, Config}
+use Rattle.arena_core.specs.declared.reply.Reply.TheVariants.{Issued, Found, Freed, ShardEnded, Adopted, Marked, Stepped, NoPairLeft, Closed, NoPlan, Refused}
+use Rattle.arena_core.specs.declared.reply.Refusal.TheVariants.{OutOfMemory, PagesSpent, Ended, PlanOpen, TooMany, NothingToAdopt, Config}
 use Rattle.arena_core.specs.Sound.{IsSound}
-use Rattle.arena_core.specs.State.{CoreState, shown, with_pool, with_shard}
+use Rattle.arena_core.specs.Closings.{closed_onto, reopened}
+use Rattle.arena_core.specs.Marks.{AreTooMany, IsLargest}
+use Rattle.arena_core.specs.Plan.{IsCarriedOut, IsEmptied, IsNext, with_next_done}
+use Rattle.arena_core.specs.State.{CoreState, OpenPlan, shown, with_plan, with_pool, with_shard}
 use Rattle.arena_core.specs.Plain.{PlainRun, erased}
 
 -- the shard of this number, which has not ended
@@ -42,13 +51,33 @@ MayTake core number = (shard : ShardState) → slice_get core.shards number ≡ 
 abbrev pub MayPut : CoreState → ℕ → Type 0
 MayPut core number = (shard : ShardState) × IsRunning core number shard × (IsSpent shard → ⊥)
 
+-- one of the groups is closed
+abbrev pub HasClosed : List GroupState → Type 0
+HasClosed groups = list_any (λ group. group.closed) groups ≡ true
+
+-- the shard of this number has not ended, and has a closed group
+abbrev pub HasClosedGroup : CoreState → ℕ → Type 0
+HasClosedGroup core number = (shard : ShardState) × IsRunning core number shard × HasClosed shard.groups
+
 -- nothing but want of memory refuses an end there
 abbrev pub MayEnd : CoreState → ℕ → Type 0
-MayEnd core number = (shard : ShardState) × IsRunning core number shard
+MayEnd core number = (shard : ShardState) × IsRunning core number shard × (HasClosed shard.groups → ⊥)
 
 -- nothing but want of memory refuses an adoption there
 abbrev pub MayAdopt : CoreState → ℕ → Type 0
-MayAdopt core number = (shard : ShardState) × IsRunning core number shard × (length shard.groups < shard.page_limit) × (HasNothingToAdopt core.pool → ⊥)
+MayAdopt core number = (shard : ShardState) × IsRunning core number shard × (length shard.groups < shard.page_limit) × (core.plan ≡ None) × (HasNothingToAdopt core.pool → ⊥)
+
+-- a plan is open
+abbrev pub HasPlan : CoreState → Type 0
+HasPlan core = is_some core.plan ≡ true
+
+-- a mark would see more than 4,096 groups on a side
+abbrev pub HasTooMany : CoreState → Type 0
+HasTooMany core = AreTooMany core.pool core.shards
+
+-- nothing but want of memory refuses a mark
+abbrev pub MayMark : CoreState → Type 0
+MayMark core = (core.plan ≡ None) × (HasTooMany core → ⊥)
 
 -- the shard of this number puts the value, and all else is as it was
 pub record PutsInShard (old : CoreState) (number : ℕ) (value : Value) (key : Key) (new : CoreState) : Type 0 where
@@ -94,6 +123,57 @@ pub record AdoptsInShard (old : CoreState) (number : ℕ) (head : SpanId) (new :
   pub adopts : Adopts old.pool before head pool after
   pub rest : new ≡ with_pool (with_shard old number after) pool
 
+-- the pool, which knows whether a plan is open
+abbrev pub with_plan_told : PoolState → Bool → PoolState
+with_plan_told pool told = record pool { has_plan = told }
+
+-- a mark: of what it sees it makes a largest plan with its short set, opens the plan and closes the groups that are planned onto
+pub record Marks (old : CoreState) (certificate : Certificate) (new : CoreState) : Type 0 where
+  pub no_plan : old.plan ≡ None
+  pub largest : IsLargest old.pool old.shards certificate
+  pub after : new ≡ record old { shards = map (closed_onto certificate.plan) old.shards; pool = with_plan_told old.pool true; plan = Some (record { pairs = certificate.plan; done = 0 }) }
+
+-- the next pair is folded: the spans of the abandoned group are guests of the owned one, on its page, and all other shards are as they were
+pub record FoldsNext (old : CoreState) (pair : SpanId × SpanId) (new : CoreState) : Type 0 where
+  pub plan : OpenPlan
+  pub number : ℕ
+  pub before : ShardState
+  pub after : ShardState
+  pub pool : PoolState
+  pub next : IsNext old plan pair
+  pub here : slice_get old.shards number ≡ Some before
+  pub folds : Folds old.pool before pair.0 pair.1 pool after
+  pub rest : new ≡ with_plan (with_pool (with_shard old number after) pool) (Some (with_next_done plan))
+
+-- the next pair's abandoned group is empty: it stays in the pool
+pub record PassesNext (old : CoreState) (pair : SpanId × SpanId) (new : CoreState) : Type 0 where
+  pub plan : OpenPlan
+  pub next : IsNext old plan pair
+  pub emptied : IsEmptied old pair
+  pub rest : new ≡ with_plan old (Some (with_next_done plan))
+
+-- the pair is carried out where it can be, and never met as one that can't
+abbrev pub TakesNext : CoreState → SpanId × SpanId → Outcome → CoreState → Type 0
+TakesNext old pair Folded new = FoldsNext old pair new
+TakesNext old pair Emptied new = PassesNext old pair new
+TakesNext old pair Clash new = ⊥
+TakesNext old pair Absent new = ⊥
+
+-- a pair of the open plan is left
+abbrev pub HasPairLeft : CoreState → Type 0
+HasPairLeft core = (plan : OpenPlan) × (pair : SpanId × SpanId) × IsNext core plan pair
+
+-- no pair of the open plan is left, and each is carried out
+pub record HasNoPairLeft (core : CoreState) : Type 0 where
+  pub plan : OpenPlan
+  pub plan_is : core.plan ≡ Some plan
+  pub all : plan.done ≡ length plan.pairs
+  pub carried_out : (k : ℕ) (pair : SpanId × SpanId) → slice_get plan.pairs k ≡ Some pair → IsCarriedOut core pair
+
+-- all groups are open, no plan is, and all else is as it was
+abbrev pub with_plan_closed : CoreState → CoreState
+with_plan_closed core = record core { shards = map reopened core.shards; pool = with_plan_told core.pool false; plan = None }
+
 -- from old, the core gives this reply to the event and goes on to new
 abbrev pub CoreStep : CoreState → Event → Reply → CoreState → Type 0
 CoreStep old (Put shard value) (Issued key) new = PutsInShard old shard value key new
@@ -106,14 +186,26 @@ CoreStep old (Free key) (Freed true) new = FreesInShard old key new ⊎ FreesInP
 CoreStep old (Free key) (Freed false) new = ((shown old).value_of key ≡ None) × (new ≡ old)
 CoreStep old (End shard) ShardEnded new = Ends old shard new
 CoreStep old (End shard) (Refused Ended) new = HasEnded old shard × (new ≡ old)
+CoreStep old (End shard) (Refused PlanOpen) new = HasPlan old × HasClosedGroup old shard × (new ≡ old)
 CoreStep old (End shard) (Refused Config) new = (old.limits.shards ≤ shard) × (new ≡ old)
 CoreStep old (End shard) (Refused OutOfMemory) new = MayEnd old shard × (new ≡ old)
 CoreStep old (Adopt shard) (Adopted head) new = AdoptsInShard old shard head new
 CoreStep old (Adopt shard) (Refused PagesSpent) new = HasAllPages old shard × (new ≡ old)
 CoreStep old (Adopt shard) (Refused Ended) new = HasEnded old shard × (new ≡ old)
-CoreStep old (Adopt shard) (Refused NothingToAdopt) new = MayTake old shard × HasNothingToAdopt old.pool × (new ≡ old)
-CoreStep old (Adopt shard) (Refused Config) new = (old.limits.shards ≤ shard) × (HasNothingToAdopt old.pool → ⊥) × (new ≡ old)
+CoreStep old (Adopt shard) (Refused PlanOpen) new = MayTake old shard × HasPlan old × (new ≡ old)
+CoreStep old (Adopt shard) (Refused NothingToAdopt) new = MayTake old shard × (old.plan ≡ None) × HasNothingToAdopt old.pool × (new ≡ old)
+CoreStep old (Adopt shard) (Refused Config) new = (old.limits.shards ≤ shard) × (old.plan ≡ None) × (HasNothingToAdopt old.pool → ⊥) × (new ≡ old)
 CoreStep old (Adopt shard) (Refused OutOfMemory) new = MayAdopt old shard × (new ≡ old)
+CoreStep old Mark (Marked certificate) new = Marks old certificate new
+CoreStep old Mark (Refused PlanOpen) new = HasPlan old × (new ≡ old)
+CoreStep old Mark (Refused TooMany) new = (old.plan ≡ None) × HasTooMany old × (new ≡ old)
+CoreStep old Mark (Refused OutOfMemory) new = MayMark old × (new ≡ old)
+CoreStep old Step (Stepped abandoned owned outcome) new = TakesNext old (abandoned, owned) outcome new
+CoreStep old Step NoPairLeft new = HasNoPairLeft old × (new ≡ old)
+CoreStep old Step NoPlan new = (old.plan ≡ None) × (new ≡ old)
+CoreStep old Step (Refused OutOfMemory) new = HasPairLeft old × (new ≡ old)
+CoreStep old Close Closed new = HasPlan old × (new ≡ with_plan_closed old)
+CoreStep old Close NoPlan new = (old.plan ≡ None) × (new ≡ old)
 -- no other pair comes
 CoreStep old event reply new = ⊥
 
@@ -123,7 +215,7 @@ CoreRun old [] [] new = new ≡ old
 CoreRun old (event ∷ events) (reply ∷ replies) new = (mid : CoreState) × CoreStep old event reply mid × IsSound mid × CoreRun mid events replies new
 CoreRun old events replies new = ⊥
 
--- the replies to the events are appended, one for each: they are those of the core's steps, and without ends and adoptions those of the plain map
+-- the replies to the events are appended, one for each: they are those of the core's steps, and, erased, those of the plain map
 pub record Answers (old : CoreState) (events : List Event) (replies replies_new : List Reply) (new : CoreState) : Type 0 where
   pub answers : List Reply
   pub appended : replies_new ≡ replies ++ answers

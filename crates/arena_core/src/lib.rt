@@ -24,10 +24,13 @@
 //! (`specs/Step.antt`), and leads from a sound core to a sound core (`specs/Sound.antt`).
 #![tactic(auto)]
 
+mod closing;
+mod current_plan;
 mod error;
 mod event;
 mod guesses;
 mod machine;
+mod marking;
 mod reply;
 #[cfg(test)]
 mod tests;

@@ -16,6 +16,7 @@ ghost use Rattle.arena_core.specs.Plain.{ErasedStep, PlainStep};
 ghost use Rattle.arena_core.specs.declared.event.Event.TheVariants as event;
 ghost use Rattle.arena_core.specs.declared.reply.Reply.TheVariants as reply;
 
+use crate::current_plan::CurrentPlan;
 use crate::error::CoreError;
 use crate::event::Event;
 use crate::guesses::Guesses;
@@ -27,6 +28,8 @@ use span::{Key, SpanId};
 use std::alloc::{AllocError, Global};
 use std::marker::Model;
 
+mod marks;
+
 /// All shards and the pool as one value, which takes events one after another and answers replies.
 ///
 /// A put costs what the shard's own put costs. A look-up and a free ask the shard that opened the span first, which has
@@ -34,11 +37,13 @@ use std::marker::Model;
 /// was adopted last, then in the pool, and at last in every shard.
 #[derive(Drop)]
 pub struct Core {
+    alloc: Global,
     page_limit: usize,
     ring_capacity: usize,
     gens: u32,
     shards: Vec<Shard>,
     pool: Pool,
+    plan: CurrentPlan,
     guesses: Guesses,
 }
 
@@ -93,31 +98,39 @@ impl Core {
             return Err(CoreError::Config);
         }
         let guesses = Guesses::new(alloc, shards)?;
+        let plan = CurrentPlan::new(alloc)?;
         let shards = new_shards(alloc, shards, page_limit, gens)?;
         Ok(Core {
+            alloc,
             page_limit,
             ring_capacity,
             gens,
             shards,
             pool: Pool::new(alloc),
+            plan,
             guesses,
         })
     }
 
-    /// Takes the event and answers it. Without ends and adoptions, the reply is that of a plain map of keys; an end and an
-    /// adoption leave the map that the core shows as it is.
+    /// Takes the event and answers it. The replies to puts, look-ups and frees are those of a plain map of keys; ends,
+    /// adoptions, marks, steps and closes leave the map that the core shows as it is.
     ///
     /// A refused event changes nothing. Of several causes that hold, the first of these is answered:
     ///
-    /// | Refusal | Put | End | Adopt |
-    /// |---|---|---|---|
-    /// | [`Refusal::PagesSpent`] | the shard needs a page that it may not have | | the shard has all its pages |
-    /// | [`Refusal::Ended`] | the shard has ended | the shard has ended | the shard has ended |
-    /// | [`Refusal::NothingToAdopt`] | | | no group of the pool has a page |
-    /// | [`Refusal::Config`] | there is no such shard | there is no such shard | there is no such shard |
-    /// | [`Refusal::OutOfMemory`] | a growth was refused | a growth was refused | a growth was refused |
+    /// | Refusal | Put | End | Adopt | Mark | Step |
+    /// |---|---|---|---|---|---|
+    /// | [`Refusal::PagesSpent`] | the shard needs a page that it may not have | | the shard has all its pages | | |
+    /// | [`Refusal::Ended`] | the shard has ended | the shard has ended | the shard has ended | | |
+    /// | [`Refusal::PlanOpen`] | | the shard has a closed group | a plan is open | a plan is open | |
+    /// | [`Refusal::TooMany`] | | | | a side has more than 4,096 groups | |
+    /// | [`Refusal::NothingToAdopt`] | | | no group of the pool has a page | | |
+    /// | [`Refusal::Config`] | there is no such shard | there is no such shard | there is no such shard | | |
+    /// | [`Refusal::OutOfMemory`] | a growth was refused | a growth was refused | a growth was refused | a growth was refused | a growth was refused; the pair stays next |
     ///
-    /// A look-up and a free are never refused, and take no memory.
+    /// A look-up, a free and a close are never refused, and take no memory.
+    ///
+    /// A mark that is not refused plans as many folds as can be, and shows it: no plan of what stands has more pairs. Until the
+    /// plan is closed, the groups that it folds onto take no put, and each step carries out its next pair.
     // Inlined, an event and its reply stay in registers; a call passes them through memory, which
     // costs several times the shard's own look-up.
     #[inline(always)]
@@ -141,6 +154,12 @@ impl Core {
                 Ok(head) => Reply::Adopted(head),
                 Err(refusal) => Reply::Refused(refusal),
             },
+            Event::Mark => match self.mark() {
+                Ok(certificate) => Reply::Marked(certificate),
+                Err(refusal) => Reply::Refused(refusal),
+            },
+            Event::Step => self.take_step(),
+            Event::Close => self.close(),
         }
     }
 
@@ -294,6 +313,20 @@ impl Core {
         Ok(())
     }
 
+    // Why no group is adopted by a shard that there is not.
+    fn no_adopter(&self, number: u32) -> Refusal
+        requires { self.now.limits.shards ≤ number }
+        ensures { CoreStep self.now (event.Adopt number) (reply.Refused result) self.now }
+    {
+        if self.plan.is_open() {
+            return Refusal::PlanOpen;
+        }
+        if self.pool.pages() == 0 {
+            return Refusal::NothingToAdopt;
+        }
+        Refusal::Config
+    }
+
     // Moves the pool's group of lowest head that has a page to the shard of this number, and guesses from now on that its
     // spans are there.
     fn adopt(&mut self, number: u32) -> Result<SpanId, Refusal>
@@ -304,10 +337,7 @@ impl Core {
         ensures sound { IsSound self.new }
     {
         let Some(shard) = self.shards.get_mut(number as usize) else {
-            if self.pool.pages() == 0 {
-                return Err(Refusal::NothingToAdopt);
-            }
-            return Err(Refusal::Config);
+            return Err(self.no_adopter(number));
         };
         let head = match self.pool.adopt(shard) {
             Ok(head) => head,

@@ -3,12 +3,14 @@ ghost use Rattle.std.specs.Prelude.{◌≡◌, ◌≢◌, Some};
 ghost use Rattle.arena_core.specs.Refusals.{refusal_of, refusal_of_adoption, refusal_of_end};
 
 use abandoned::{AdoptError, ReceiveError};
+use certificate::Certificate;
+use fold::Step;
 use shard::PutError;
 use span::{Key, SpanId};
 use thiserror::Error;
 
 /// What the core answers to one event.
-#[derive(Clone, Copy, PartialEq, Eq, Debug)]
+#[derive(Drop)]
 pub enum Reply {
     /// The key under which a put keeps its value.
     Issued(Key),
@@ -20,6 +22,16 @@ pub enum Reply {
     ShardEnded,
     /// The head of the group that the shard has adopted.
     Adopted(SpanId),
+    /// What the mark saw, a plan of it that has the most pairs, and the short set that shows it. The plan is open.
+    Marked(Certificate),
+    /// The pair that was next, its abandoned group first, and what came of it.
+    Stepped(SpanId, SpanId, Step),
+    /// The open plan has no pair left: none of its abandoned groups has a page of its own.
+    NoPairLeft,
+    /// The plan has ended, and all groups are open.
+    Closed,
+    /// No plan is open.
+    NoPlan,
     /// The event was refused, and nothing has changed.
     Refused(Refusal),
 }
@@ -37,6 +49,12 @@ pub enum Refusal {
     /// The shard has ended.
     #[error("the shard has ended: ask another shard")]
     Ended,
+    /// A plan is open: a mark and an adoption wait for its close, and so does the end of a shard that has a closed group.
+    #[error("a plan is open: close it first")]
+    PlanOpen,
+    /// A mark would see more than 4,096 groups on a side.
+    #[error("a side has more than 4096 groups, too many for a plan")]
+    TooMany,
     /// No group of the pool has a page.
     #[error("no group of the pool has a page: there is nothing to adopt")]
     NothingToAdopt,
@@ -66,6 +84,7 @@ pub fn end_refusal(error: ReceiveError) -> Refusal
         ReceiveError::OutOfMemory => Refusal::OutOfMemory,
         ReceiveError::Ended => Refusal::Ended,
         ReceiveError::Doubled => unreachable!(),
+        ReceiveError::PlanOpen => Refusal::PlanOpen,
     }
 }
 
@@ -79,6 +98,7 @@ pub fn adopt_refusal(error: AdoptError) -> Refusal
         AdoptError::PagesSpent => Refusal::PagesSpent,
         AdoptError::Ended => Refusal::Ended,
         AdoptError::Doubled => unreachable!(),
+        AdoptError::PlanOpen => Refusal::PlanOpen,
         AdoptError::NothingToAdopt => Refusal::NothingToAdopt,
     }
 }

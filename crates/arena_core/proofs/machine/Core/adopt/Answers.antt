@@ -1,4 +1,4 @@
-use Rattle.std.proofs.Common.{◌≤◌, Err, ap, refl, subst, sym, ◌∙◌}
+use Rattle.std.proofs.Common.{◌≡◌, ◌≢◌, ◌≤◌, false, length, slice_get, Some, Err, ap, refl, subst, sym, ◌∙◌}
 use Rattle.arena_core.specs.declared.event.Event.TheVariants.{Adopt}
 use Rattle.arena_core.specs.declared.reply.Reply.TheVariants.{Adopted, Refused}
 use Rattle.arena_core.specs.Kept.{state_of}
@@ -8,13 +8,15 @@ use Rattle.arena_core.specs.Step.{CoreStep, MayTake}
 use Rattle.arena_core.proofs.FieldSteps.{CoreStep-adopt_refused_fields, IsStep-adopt_fields}
 use Rattle.arena_core.proofs.Fields.{no_read, shard-read, with_both_at}
 use Rattle.arena_core.proofs.Moves.{HasNothingToAdopt-unpaged, may_take-nowhere, running-adopted, unpaged-HasNothingToAdopt}
-use Rattle.arena_core.proofs.Steps.{IsStep, not_doubled}
+use Rattle.arena_core.proofs.FieldSteps.{no_plan_if_adopted}
+use Rattle.arena_core.proofs.PlanSteps.{IsSoundStep}
+use Rattle.arena_core.proofs.Steps.{not_doubled}
 use Rattle.arena_core.proofs.machine.Core.adopt.Goals as goal
 
 pub adopt_refusal-requires : goal.adopt_refusal-requires
 adopt_refusal-requires c = λ e.
     let facts = c.in-Err.ensures.doubled.0 (ap Err e) in
-    not_doubled (state_of c.self.inside) c.self.invariant c.args.number c.in-Some.shard.now
+    not_doubled (state_of c.self.inside) c.self.invariant.groups c.args.number c.in-Some.shard.now
     (shard-read c.self.inside c.args.number c.in-Some.shard.now (record { within = c.in-Some.ensures.variant.0 refl; value = c.in-Some.ensures.value }))
     facts.1 facts.2
 
@@ -22,12 +24,22 @@ pub returns-in-Err-clause-exact : goal.returns-in-Err-clause-exact
 returns-in-Err-clause-exact c =
     subst (λ old. CoreStep old (Adopt c.args.number) (Refused c.adopt_refusal.result) (state_of (with_both_at c.self.inside c.args.number c.adopt.new.shard c.adopt.new.self c.self.inside.guesses))) c.self.view_is
     (CoreStep-adopt_refused_fields c.self.inside c.args.number c.in-Some.shard.now c.adopt.new.shard c.adopt.new.self c.self.inside.guesses c.in-Err.error c.adopt_refusal.result c.self.invariant
-    (record { within = c.in-Some.ensures.variant.0 refl; value = c.in-Some.ensures.value }) c.adopt_refusal.ensures c.in-Err.ensures.spent c.in-Err.ensures.ended c.in-Err.ensures.nothing c.in-Err.ensures.err_shard c.in-Err.ensures.err)
+    (record { within = c.in-Some.ensures.variant.0 refl; value = c.in-Some.ensures.value }) c.adopt_refusal.ensures c.in-Err.ensures.spent c.in-Err.ensures.ended c.in-Err.ensures.plan_open c.in-Err.ensures.nothing c.in-Err.ensures.err_shard c.in-Err.ensures.err)
 
-adopted : (c : goal.After-self-2-1) → IsStep c.args.self.now (Adopt c.args.number) (Adopted c.in-Ok.head) (state_of (with_both_at c.self.inside c.args.number c.adopt.new.shard c.adopt.new.self c.guess.new.guesses))
+read_shard : (c : goal.After-self-2-1) → slice_get c.self.inside.shards.items c.args.number ≡ Some c.in-Some.shard.now
+read_shard c = shard-read c.self.inside c.args.number c.in-Some.shard.now (record { within = c.in-Some.ensures.variant.0 refl; value = c.in-Some.ensures.value })
+
+not_full : (c : goal.After-self-2-1) → c.in-Some.shard.now.page_limit ≢ length c.in-Some.shard.now.groups
+not_full c full = let never = c.in-Ok.ensures.spent.1 full in cc
+
+still_running : (c : goal.After-self-2-1) → c.in-Some.shard.now.ended ≡ false
+still_running c = running-adopted c.in-Some.shard.now (λ full. let never = c.in-Ok.ensures.spent.1 full in cc) (λ both. let never = c.in-Ok.ensures.ended.1 both in cc)
+
+adopted : (c : goal.After-self-2-1) → IsSoundStep c.args.self.now (Adopt c.args.number) (Adopted c.in-Ok.head) (state_of (with_both_at c.self.inside c.args.number c.adopt.new.shard c.adopt.new.self c.guess.new.guesses))
 adopted c =
-    subst (λ old. IsStep old (Adopt c.args.number) (Adopted c.in-Ok.head) (state_of (with_both_at c.self.inside c.args.number c.adopt.new.shard c.adopt.new.self c.guess.new.guesses))) c.self.view_is
+    subst (λ old. IsSoundStep old (Adopt c.args.number) (Adopted c.in-Ok.head) (state_of (with_both_at c.self.inside c.args.number c.adopt.new.shard c.adopt.new.self c.guess.new.guesses))) c.self.view_is
     (IsStep-adopt_fields c.self.inside c.args.number c.in-Ok.head c.in-Some.shard.now c.adopt.new.shard c.adopt.new.self c.guess.new.guesses c.self.invariant
+    (no_plan_if_adopted c.self.inside c.self.invariant (λ told. let never = c.in-Ok.ensures.plan_open.1 (not_full c, still_running c, not_doubled (state_of c.self.inside) c.self.invariant.groups c.args.number c.in-Some.shard.now (read_shard c) (still_running c), told) in cc))
     (record { within = c.in-Some.ensures.variant.0 refl; value = c.in-Some.ensures.value })
     (running-adopted c.in-Some.shard.now (λ full. let never = c.in-Ok.ensures.spent.1 full in cc) (λ both. let never = c.in-Ok.ensures.ended.1 both in cc))
     c.in-Ok.ensures.ok c.adopt.ensures.sound_shard c.adopt.ensures.sound)
@@ -44,16 +56,8 @@ returns-clause-same c = (adopted c).plain
 pub returns-clause-sound : goal.returns-clause-sound
 returns-clause-sound c = (adopted c).kept
 
-pub returns-then-pages-eq0-clause-exact : goal.returns-then-pages-eq0-clause-exact
-returns-then-pages-eq0-clause-exact c = (
-  subst (λ (s : CoreState). MayTake s c.args.number) c.self.view_is (may_take-nowhere (state_of c.self.inside) c.args.number (no_read c.self.inside c.args.number c.in_default.ensures.variant.1)),
-  subst (λ (s : CoreState). HasNothingToAdopt s.pool) c.self.view_is (HasNothingToAdopt-unpaged c.self.inside.pool (sym c.pages.ensures ∙ c.if-pages-eq0.true)),
-  c.self.view_is,
-)
+pub no_adopter-requires : goal.no_adopter-requires
+no_adopter-requires c = no_read c.self.inside c.args.number c.in_default.ensures.variant.1
 
 pub returns-in_default-clause-exact : goal.returns-in_default-clause-exact
-returns-in_default-clause-exact c = (
-  subst (λ (s : CoreState). s.limits.shards ≤ c.args.number) c.self.view_is (no_read c.self.inside c.args.number c.in_default.ensures.variant.1),
-  subst (λ (s : CoreState). HasNothingToAdopt s.pool → ⊥) c.self.view_is (λ nothing. c.if-pages-eq0.false (c.pages.ensures ∙ unpaged-HasNothingToAdopt c.self.inside.pool nothing)),
-  c.self.view_is,
-)
+returns-in_default-clause-exact c = subst (λ (s : CoreState). CoreStep s (Adopt c.args.number) (Refused c.no_adopter.result) (state_of c.self.inside)) c.self.view_is c.no_adopter.ensures

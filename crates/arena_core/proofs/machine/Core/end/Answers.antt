@@ -1,30 +1,36 @@
-use Rattle.std.proofs.Common.{Err, ap, refl, subst}
+use Rattle.std.proofs.Common.{◌≡◌, Some, slice_get, Err, ap, refl, subst}
 use Rattle.arena_core.specs.declared.event.Event.TheVariants.{End}
 use Rattle.arena_core.specs.declared.reply.Reply.TheVariants.{Refused, ShardEnded}
 use Rattle.arena_core.specs.Kept.{state_of}
 use Rattle.arena_core.specs.Step.{CoreStep}
 use Rattle.arena_core.proofs.FieldSteps.{CoreStep-end_refused_fields, IsStep-end_fields}
 use Rattle.arena_core.proofs.Fields.{shard-read, with_both_at}
-use Rattle.arena_core.proofs.Steps.{IsStep, not_in_pool}
+use Rattle.arena_core.proofs.Moves.{running-received, unclosed}
+use Rattle.arena_core.proofs.PlanSteps.{IsSoundStep}
+use Rattle.arena_core.proofs.Steps.{not_in_pool}
 use Rattle.arena_core.proofs.machine.Core.end.Goals as goal
 
 pub end_refusal-requires : goal.end_refusal-requires
 end_refusal-requires c = λ e.
-    not_in_pool (state_of c.self.inside) c.self.invariant c.args.number c.in-Some.shard.now
+    not_in_pool (state_of c.self.inside) c.self.invariant.groups c.args.number c.in-Some.shard.now
     (shard-read c.self.inside c.args.number c.in-Some.shard.now (record { within = c.in-Some.ensures.variant.0 refl; value = c.in-Some.ensures.value }))
     (c.in-Err.ensures.doubled.0 (ap Err e)).1
 
 pub returns-in-Err-clause-exact : goal.returns-in-Err-clause-exact
 returns-in-Err-clause-exact c =
     subst (λ old. CoreStep old (End c.args.number) (Refused c.end_refusal.result) (state_of (with_both_at c.self.inside c.args.number c.receive.new.shard c.receive.new.self c.self.inside.guesses))) c.self.view_is
-    (CoreStep-end_refused_fields c.self.inside c.args.number c.in-Some.shard.now c.receive.new.shard c.receive.new.self c.self.inside.guesses c.in-Err.error c.end_refusal.result
-    (record { within = c.in-Some.ensures.variant.0 refl; value = c.in-Some.ensures.value }) c.end_refusal.ensures c.in-Err.ensures.ended c.in-Err.ensures.err_shard c.in-Err.ensures.err)
+    (CoreStep-end_refused_fields c.self.inside c.args.number c.in-Some.shard.now c.receive.new.shard c.receive.new.self c.self.inside.guesses c.in-Err.error c.end_refusal.result c.self.invariant
+    (record { within = c.in-Some.ensures.variant.0 refl; value = c.in-Some.ensures.value }) c.end_refusal.ensures c.in-Err.ensures.ended c.in-Err.ensures.plan_open c.in-Err.ensures.err_shard c.in-Err.ensures.err)
 
-ended : (c : goal.In-Ok) → IsStep c.args.self.now (End c.args.number) ShardEnded (state_of (with_both_at c.self.inside c.args.number c.receive.new.shard c.receive.new.self c.self.inside.guesses))
+read_shard : (c : goal.In-Ok) → slice_get c.self.inside.shards.items c.args.number ≡ Some c.in-Some.shard.now
+read_shard c = shard-read c.self.inside c.args.number c.in-Some.shard.now (record { within = c.in-Some.ensures.variant.0 refl; value = c.in-Some.ensures.value })
+
+ended : (c : goal.In-Ok) → IsSoundStep c.args.self.now (End c.args.number) ShardEnded (state_of (with_both_at c.self.inside c.args.number c.receive.new.shard c.receive.new.self c.self.inside.guesses))
 ended c =
-    subst (λ old. IsStep old (End c.args.number) ShardEnded (state_of (with_both_at c.self.inside c.args.number c.receive.new.shard c.receive.new.self c.self.inside.guesses))) c.self.view_is
+    subst (λ old. IsSoundStep old (End c.args.number) ShardEnded (state_of (with_both_at c.self.inside c.args.number c.receive.new.shard c.receive.new.self c.self.inside.guesses))) c.self.view_is
     (IsStep-end_fields c.self.inside c.args.number c.in-Some.shard.now c.receive.new.shard c.receive.new.self c.self.inside.guesses c.self.invariant
     (record { within = c.in-Some.ensures.variant.0 refl; value = c.in-Some.ensures.value })
+    (unclosed c.in-Some.shard.now.groups (λ closed. let never = c.in-Ok.ensures.plan_open.1 (running-received c.in-Ok.ensures.ok, not_in_pool (state_of c.self.inside) c.self.invariant.groups c.args.number c.in-Some.shard.now (read_shard c), closed) in cc))
     c.in-Ok.ensures.ok c.receive.ensures.sound_shard c.receive.ensures.sound)
 
 pub invariant_of-self-2 : goal.invariant_of-self-2

@@ -8,15 +8,16 @@ use Rattle.arena_core.specs.Kept.{state_of}
 use Rattle.arena_core.specs.State.{shown}
 use Rattle.arena_core.proofs.FieldSteps.{IsStep-free_home}
 use Rattle.arena_core.proofs.Fields.{no_read, with_shard_at}
-use Rattle.arena_core.proofs.Steps.{IsStep, IsStep-dead, value-no_home}
+use Rattle.arena_core.proofs.PlanSteps.{IsSoundStep, IsSoundStep-dead}
+use Rattle.arena_core.proofs.Steps.{value-no_home}
 use Rattle.arena_core.proofs.machine.Core.free.Goals as goal
 use Rattle.arena_core.proofs.machine.Core.free.Goals.{in-NotHere, in_default-matches}
 
-nowhere : (c : goal.After-self-in_default-2-1) → IsStep c.args.self.now (Free c.args.key.now) (Freed false) c.args.self.now
+nowhere : (c : goal.After-self-in_default-2-1) → IsSoundStep c.args.self.now (Free c.args.key.now) (Freed false) c.args.self.now
 nowhere c =
-    subst (λ old. IsStep old (Free c.args.key.now) (Freed false) old) c.self.view_is
-    (IsStep-dead (state_of c.self.inside) c.args.key.now c.self.invariant
-    (value-no_home (state_of c.self.inside) c.self.invariant c.args.key.now
+    subst (λ old. IsSoundStep old (Free c.args.key.now) (Freed false) old) c.self.view_is
+    (IsSoundStep-dead (state_of c.self.inside) c.args.key.now c.self.invariant
+    (value-no_home (state_of c.self.inside) c.self.invariant.groups c.args.key.now
     (ap (slice_get c.self.inside.shards.items) (sym (c.shard.ensures.value ∙ ap (λ (id : SpanId). id.shard) c.span.ensures))
     ∙ slice_get_past c.self.inside.shards.items c.shard.result (no_read c.self.inside c.shard.result c.in_default.ensures.variant.1))))
 
@@ -26,7 +27,7 @@ returns-in_default-clause-exact c = ((nowhere c).exact.0, c.self.view_is)
 pub returns-in_default-clause-plain : goal.returns-in_default-clause-plain
 returns-in_default-clause-plain c = ((nowhere c).plain.0, ap shown c.self.view_is)
 
-home : (c : goal.Else-matches) → IsStep c.args.self.now (Free c.args.key.now) (Freed (was_freed c.free-freed.result)) (state_of (with_shard_at c.self.inside c.shard.result c.free-freed.new.self))
+home : (c : goal.Else-matches) → IsSoundStep c.args.self.now (Free c.args.key.now) (Freed (was_freed c.free-freed.result)) (state_of (with_shard_at c.self.inside c.shard.result c.free-freed.new.self))
 home c =
     IsStep-free_home c.self.inside c.args.self.now c.shard.result c.args.key.now c.in-Some.shard.now c.free-freed.new.self c.free-freed.result c.self.view_is c.self.invariant
     (record { within = c.in-Some.ensures.variant.0 refl; value = c.in-Some.ensures.value })
@@ -36,9 +37,9 @@ home c =
     ])
     c.free-freed.ensures.step c.free-freed.ensures.found c.free-freed.ensures.plain c.free-freed.ensures.sound
 
-done : (c : goal.After-was_done) → IsStep c.args.self.now (Free c.args.key.now) (Freed c.was_done.result) (state_of (with_shard_at c.self.inside c.shard.result c.free-freed.new.self))
+done : (c : goal.After-was_done) → IsSoundStep c.args.self.now (Free c.args.key.now) (Freed c.was_done.result) (state_of (with_shard_at c.self.inside c.shard.result c.free-freed.new.self))
 done c =
-    subst (λ b. IsStep c.args.self.now (Free c.args.key.now) (Freed b) (state_of (with_shard_at c.self.inside c.shard.result c.free-freed.new.self))) (sym c.was_done.ensures)
+    subst (λ b. IsSoundStep c.args.self.now (Free c.args.key.now) (Freed b) (state_of (with_shard_at c.self.inside c.shard.result c.free-freed.new.self))) (sym c.was_done.ensures)
     (IsStep-free_home c.self.inside c.args.self.now c.shard.result c.args.key.now c.in-Some.shard.now c.free-freed.new.self c.free-freed.result c.self.view_is c.self.invariant
     (record { within = c.in-Some.ensures.variant.0 refl; value = c.in-Some.ensures.value })
     (elim c.match-matches.branch [

@@ -8,25 +8,26 @@ use Rattle.arena_core.specs.Sound.{IsSound}
 use Rattle.arena_core.specs.State.{CoreState, with_pool}
 use Rattle.arena_core.proofs.Fields.{state_of-with_shard_at, with_shard_at}
 use Rattle.arena_core.proofs.Owner.{pooled-there, shard-there}
-use Rattle.arena_core.proofs.Steps.{IsStep, IsStep-Frees, IsStep-FreesPooled, IsStep-dead, value-nowhere}
+use Rattle.arena_core.proofs.PlanSteps.{IsSoundStep, IsSoundStep-Frees, IsSoundStep-FreesPooled, IsSoundStep-dead}
+use Rattle.arena_core.proofs.Steps.{value-nowhere}
 use Rattle.arena_core.proofs.machine.Core.free_moved.Goals as goal
 
-owned : (c : goal.After-was_done) → IsStep c.args.self.now (Free c.args.key.now) (Freed c.was_done.result) (state_of (with_shard_at c.self.inside c.in-Some-Shard.number c.free.new.self))
+owned : (c : goal.After-was_done) → IsSoundStep c.args.self.now (Free c.args.key.now) (Freed c.was_done.result) (state_of (with_shard_at c.self.inside c.in-Some-Shard.number c.free.new.self))
 owned c =
-    let there = shard-there (state_of c.self.inside) c.args.key.now c.span.result c.in-Some-Shard.field-0 c.self.invariant (subst (λ (s : CoreState). StandsAt s c.span.result c.in-Some-Shard.field-0) (sym c.self.view_is) c.in-Some-Shard.ensures) c.span.ensures
+    let there = shard-there (state_of c.self.inside) c.args.key.now c.span.result c.in-Some-Shard.field-0 c.self.invariant.groups (subst (λ (s : CoreState). StandsAt s c.span.result c.in-Some-Shard.field-0) (sym c.self.view_is) c.in-Some-Shard.ensures) c.span.ensures
     c.in-Some-Shard.number c.index_mut.result.now c.in-Some-Shard.field-0-is c.index_mut.ensures.value in
-    subst (λ old. IsStep old (Free c.args.key.now) (Freed c.was_done.result) (state_of (with_shard_at c.self.inside c.in-Some-Shard.number c.free.new.self))) c.self.view_is
-    (subst (λ b. IsStep (state_of c.self.inside) (Free c.args.key.now) (Freed b) (state_of (with_shard_at c.self.inside c.in-Some-Shard.number c.free.new.self))) (sym c.was_done.ensures)
-    (subst (IsStep (state_of c.self.inside) (Free c.args.key.now) (Freed (was_freed c.free.result))) (sym (state_of-with_shard_at c.self.inside c.in-Some-Shard.number c.free.new.self))
-    (IsStep-Frees (state_of c.self.inside) c.args.key.now c.in-Some-Shard.number c.index_mut.result.now c.free.new.self c.free.result c.self.invariant there.0 there.1
+    subst (λ old. IsSoundStep old (Free c.args.key.now) (Freed c.was_done.result) (state_of (with_shard_at c.self.inside c.in-Some-Shard.number c.free.new.self))) c.self.view_is
+    (subst (λ b. IsSoundStep (state_of c.self.inside) (Free c.args.key.now) (Freed b) (state_of (with_shard_at c.self.inside c.in-Some-Shard.number c.free.new.self))) (sym c.was_done.ensures)
+    (subst (IsSoundStep (state_of c.self.inside) (Free c.args.key.now) (Freed (was_freed c.free.result))) (sym (state_of-with_shard_at c.self.inside c.in-Some-Shard.number c.free.new.self))
+    (IsSoundStep-Frees (state_of c.self.inside) c.args.key.now c.in-Some-Shard.number c.index_mut.result.now c.free.new.self c.free.result c.self.invariant there.0 there.1
     c.free.ensures.step c.free.ensures.found c.free.ensures.plain c.free.ensures.sound)))
 
-pooled : (c : goal.After-was_done-in-Some-Pool) → IsStep c.args.self.now (Free c.args.key.now) (Freed c.was_done-in-Some-Pool.result) (with_pool (state_of c.self.inside) c.free-in-Some-Pool.new.self)
+pooled : (c : goal.After-was_done-in-Some-Pool) → IsSoundStep c.args.self.now (Free c.args.key.now) (Freed c.was_done-in-Some-Pool.result) (with_pool (state_of c.self.inside) c.free-in-Some-Pool.new.self)
 pooled c =
-    let some = pooled-there (state_of c.self.inside) c.args.key.now c.span.result c.in-Some-Pool.field-0 c.self.invariant (subst (λ (s : CoreState). StandsAt s c.span.result c.in-Some-Pool.field-0) (sym c.self.view_is) c.in-Some-Pool.ensures) c.span.ensures c.in-Some-Pool.field-0-is in
-    subst (λ old. IsStep old (Free c.args.key.now) (Freed c.was_done-in-Some-Pool.result) (with_pool (state_of c.self.inside) c.free-in-Some-Pool.new.self)) c.self.view_is
-    (subst (λ b. IsStep (state_of c.self.inside) (Free c.args.key.now) (Freed b) (with_pool (state_of c.self.inside) c.free-in-Some-Pool.new.self)) (sym c.was_done-in-Some-Pool.ensures)
-    (IsStep-FreesPooled (state_of c.self.inside) c.args.key.now c.free-in-Some-Pool.new.self c.free-in-Some-Pool.result c.self.invariant some
+    let some = pooled-there (state_of c.self.inside) c.args.key.now c.span.result c.in-Some-Pool.field-0 c.self.invariant.groups (subst (λ (s : CoreState). StandsAt s c.span.result c.in-Some-Pool.field-0) (sym c.self.view_is) c.in-Some-Pool.ensures) c.span.ensures c.in-Some-Pool.field-0-is in
+    subst (λ old. IsSoundStep old (Free c.args.key.now) (Freed c.was_done-in-Some-Pool.result) (with_pool (state_of c.self.inside) c.free-in-Some-Pool.new.self)) c.self.view_is
+    (subst (λ b. IsSoundStep (state_of c.self.inside) (Free c.args.key.now) (Freed b) (with_pool (state_of c.self.inside) c.free-in-Some-Pool.new.self)) (sym c.was_done-in-Some-Pool.ensures)
+    (IsSoundStep-FreesPooled (state_of c.self.inside) c.args.key.now c.free-in-Some-Pool.new.self c.free-in-Some-Pool.result c.self.invariant some
     c.free-in-Some-Pool.ensures.step c.free-in-Some-Pool.ensures.found c.free-in-Some-Pool.ensures.plain c.free-in-Some-Pool.ensures.sound))
 
 pub invariant_of-self : goal.invariant_of-self
@@ -53,10 +54,10 @@ returns-in-Some-Pool-clause-plain c = (pooled c).plain
 pub returns-in-Some-Pool-clause-sound : goal.returns-in-Some-Pool-clause-sound
 returns-in-Some-Pool-clause-sound c = (pooled c).kept
 
-nowhere : (c : goal.In-None) → IsStep c.args.self.now (Free c.args.key.now) (Freed false) c.args.self.now
+nowhere : (c : goal.In-None) → IsSoundStep c.args.self.now (Free c.args.key.now) (Freed false) c.args.self.now
 nowhere c =
-    IsStep-dead c.args.self.now c.args.key.now (subst IsSound c.self.view_is c.self.invariant)
-    (value-nowhere c.args.self.now (subst IsSound c.self.view_is c.self.invariant) c.args.key.now (subst (IsNowhere c.args.self.now) c.span.ensures c.in-None.ensures))
+    IsSoundStep-dead c.args.self.now c.args.key.now (subst IsSound c.self.view_is c.self.invariant)
+    (value-nowhere c.args.self.now (subst IsSound c.self.view_is c.self.invariant).groups c.args.key.now (subst (IsNowhere c.args.self.now) c.span.ensures c.in-None.ensures))
 
 pub returns-in-None-clause-exact : goal.returns-in-None-clause-exact
 returns-in-None-clause-exact c = (nowhere c).exact

@@ -8,12 +8,15 @@ use Rattle.arena_core.specs.State.{shown}
 use Rattle.arena_core.specs.Step.{CoreStep}
 use Rattle.arena_core.proofs.FieldSteps.{CoreStep-refused_fields, IsStep-put_fields, PlainStep-refused, state_of-same}
 use Rattle.arena_core.proofs.Fields.{with_shard_at}
-use Rattle.arena_core.proofs.Steps.{IsStep}
+use Rattle.arena_core.proofs.Flagged as flagged_groups
+use Rattle.arena_core.proofs.PlanFolds as plan_folds
+use Rattle.arena_core.proofs.PlanMarks as plan_marks
+use Rattle.arena_core.proofs.PlanSteps.{IsSoundStep}
 use Rattle.arena_core.proofs.machine.Core.put.Goals as goal
 
-issued : (c : goal.After-key-1) → IsStep c.args.self.now (Put c.args.number c.args.value) (Issued c.in_ok-key.key) (state_of (with_shard_at c.self.inside c.args.number c.put.new.self))
+issued : (c : goal.After-key-1) → IsSoundStep c.args.self.now (Put c.args.number c.args.value) (Issued c.in_ok-key.key) (state_of (with_shard_at c.self.inside c.args.number c.put.new.self))
 issued c =
-    subst (λ old. IsStep old (Put c.args.number c.args.value) (Issued c.in_ok-key.key) (state_of (with_shard_at c.self.inside c.args.number c.put.new.self))) c.self.view_is
+    subst (λ old. IsSoundStep old (Put c.args.number c.args.value) (Issued c.in_ok-key.key) (state_of (with_shard_at c.self.inside c.args.number c.put.new.self))) c.self.view_is
     (IsStep-put_fields c.self.inside c.args.number c.args.value c.in_ok-key.key c.in_ok-key.field-0-1 c.in-Some.shard.now c.put.new.self
     c.self.invariant (record { within = c.in-Some.ensures.variant.0 refl; value = c.in-Some.ensures.value })
     c.in_ok-key.ensures.ok c.in_ok-key.ensures.fresh c.in_ok-key.ensures.plain c.put.ensures.sound)

@@ -1,0 +1,194 @@
+-- What a mark and a close leave: a sound core, which shows the same map.
+use Rattle.std.proofs.Common.{◌≡◌, ℕ, ◌<◌, ◌≤◌, Bool, true, false, List, refl, sym, ap, subst, ◌∙◌, arith, Option, Some, None, is_some, slice_get, set, length, map, get_or}
+use Rattle.std.proofs.Math.ListN.{length-set}
+use Rattle.std.proofs.lemmas.Option.{get_or_from_slice_get}
+use Rattle.std.specs.Vec.{with_item}
+use Rattle.std.proofs.lemmas.List.{length-map}
+use Rattle.span.specs.declared.id.SpanId.{SpanId}
+use Rattle.shard.specs.Closes.{opened_group}
+use Rattle.shard.specs.Group.{GroupState, occupied}
+use Rattle.shard.specs.Sound.{IsSound as IsSoundShard}
+use Rattle.shard.specs.State.{ShardState}
+use Rattle.shard.proofs.Lists.{get_within}
+use Rattle.abandoned.specs.Sound.{IsSound as IsSoundPool}
+use Rattle.abandoned.specs.State.{PoolState, PooledState}
+use Rattle.fold.specs.Folds.{Steps}
+use Rattle.fold.specs.declared.step.Step.{Step as Outcome}
+use Rattle.certificate.specs.declared.certificate.Certificate.{Certificate}
+use Rattle.arena_core.specs.Closings.{AreOpen, closed_as_planned, closed_onto, reopened}
+use Rattle.arena_core.specs.Kept.{state_of}
+use Rattle.arena_core.specs.Marks.{IsLargest, advanced, next_pair}
+use Rattle.arena_core.specs.Owner.{IsNowhere, StandsAt}
+use Rattle.arena_core.specs.Plan.{AreClosedAsPlanned, IsNext, IsOwned, IsPooled, is_planned, plans_onto}
+use Rattle.arena_core.specs.Sound.{HasSoundGroups, IsSound}
+use Rattle.arena_core.specs.State.{CoreState, OpenPlan, has_span, shown, with_plan, with_pool, with_shard}
+use Rattle.arena_core.specs.Step.{with_plan_closed, with_plan_told}
+use Rattle.arena_core.specs.declared.event.Event.TheVariants.{Step}
+use Rattle.arena_core.specs.declared.guesses.Guesses.{Guesses}
+use Rattle.arena_core.specs.declared.machine.Core.TheInside.{Inside}
+use Rattle.arena_core.specs.declared.machine.Owner.TheVariants as owner
+use Rattle.arena_core.specs.declared.reply.Reply.TheVariants.{Stepped}
+use Rattle.arena_core.proofs.Changes.{at_most_once}
+use Rattle.arena_core.proofs.Flagged.{HasSoundGroups-flagged, map_back, map_there, shown-flagged, with_all_flags}
+use Rattle.arena_core.proofs.Lists.{set-slice_get}
+use Rattle.arena_core.proofs.PlanMarks.{IsUnderWay-marked}
+use Rattle.arena_core.proofs.PlanSteps.{AreAllClosedAsPlanned, IsSoundStep, KeepsPlan-none}
+use Rattle.arena_core.proofs.Spans.{times-parts, times_in-found, times_in-le, times_owned}
+use Rattle.arena_core.proofs.Stepping.{IsSoundStep-Steps, waits}
+use Rattle.arena_core.proofs.Steps.{has_span-elsewhere, has_span-here, pooled-somewhere}
+
+-- the core with another flag of its pool and another plan
+abbrev retold : CoreState → Bool → Option OpenPlan → CoreState
+retold core told plan = record core { pool = with_plan_told core.pool told; plan = plan }
+
+HasSoundGroups-retold : (core : CoreState) (told : Bool) (plan : Option OpenPlan) → HasSoundGroups core → HasSoundGroups (retold core told plan)
+HasSoundGroups-retold core told plan sound = record {
+  within = sound.within;
+  count = sound.count;
+  shards = sound.shards;
+  pool = record { ascending = sound.pool.ascending; groups = sound.pool.groups; once = sound.pool.once; own_page = sound.pool.own_page; only = sound.pool.only; pages = sound.pool.pages };
+  gens = sound.gens;
+  once = sound.once;
+}
+
+-- no plan is open, so no group is closed
+pub AreOpen-none : (core : CoreState) → IsSound core → core.plan ≡ None → AreOpen core.shards
+AreOpen-none core sound none = subst (λ plan. AreAllClosedAsPlanned plan core.shards) none sound.plan.closed
+
+-- a mark
+
+module _ (old : CoreState) (sound : IsSound old) (found : Certificate) (largest : IsLargest old.pool old.shards found) where
+  abbrev pub marked : CoreState
+  marked = record old { shards = map (closed_onto found.plan) old.shards; pool = with_plan_told old.pool true; plan = Some (record { pairs = found.plan; done = 0 }) }
+
+  abbrev flag : GroupState → Bool
+  flag group = plans_onto found.plan group.head.id
+
+  marked_groups : HasSoundGroups marked
+  marked_groups = HasSoundGroups-retold (with_all_flags flag old) true (Some (record { pairs = found.plan; done = 0 })) (HasSoundGroups-flagged flag old sound.groups)
+
+  owned_still : (head : SpanId) (group : GroupState) → IsOwned old head group → (now : GroupState) × IsOwned marked head now × (occupied now ≡ occupied group)
+  owned_still head group is = (
+    closed_as_planned found.plan group,
+    record {
+      number = is.number;
+      shard = closed_onto found.plan is.shard;
+      index = is.index;
+      shard_is = map_there (closed_onto found.plan) old.shards is.number is.shard is.shard_is;
+      head_of = record { here = map_there (closed_as_planned found.plan) is.shard.groups is.index group is.head_of.here; head_is = is.head_of.head_is };
+    },
+    refl,
+  )
+
+  pub IsSound-marked : IsSound marked
+  IsSound-marked = record {
+    groups = marked_groups;
+    plan = record {
+      told = refl;
+      closed = λ number shard here index group at.
+          let (was, there, is) = map_back (closed_onto found.plan) old.shards number shard here in
+          let (before, stood, same) = map_back (closed_as_planned found.plan) was.groups index group (subst (λ (s : ShardState). slice_get s.groups index ≡ Some group) (sym is) at) in
+          subst (λ (g : GroupState). g.closed ≡ plans_onto found.plan g.head.id) same refl;
+      under_way =
+          IsUnderWay-marked old marked found.snapshot found.plan largest.seen.abandoned largest.seen.owned largest.best.plan
+          (λ head group is. record { index = is.index; head_of = is.head_of }) owned_still;
+    };
+  }
+
+  pub shown-marked : shown marked ≡ shown old
+  shown-marked = shown-flagged flag old sound.groups
+
+-- a close
+
+module _ (old : CoreState) (sound : IsSound old) where
+  pub IsSound-closed : IsSound (with_plan_closed old)
+  IsSound-closed = record {
+    groups = HasSoundGroups-retold (with_all_flags (λ group. false) old) false None (HasSoundGroups-flagged (λ group. false) old sound.groups);
+    plan = KeepsPlan-none (with_plan_closed old) refl refl (λ number shard here index group at.
+        let (was, there, is) = map_back reopened old.shards number shard here in
+        let (before, stood, same) = map_back opened_group was.groups index group (subst (λ (s : ShardState). slice_get s.groups index ≡ Some group) (sym is) at) in
+        subst (λ (g : GroupState). g.closed ≡ false) same refl);
+  }
+
+  pub shown-closed : shown (with_plan_closed old) ≡ shown old
+  shown-closed = shown-flagged (λ group. false) old sound.groups
+
+-- the fields
+
+pub state_of-mapped : (c now : Inside) (change : ShardState → ShardState) → now.page_limit ≡ c.page_limit → now.ring_capacity ≡ c.ring_capacity → now.gens ≡ c.gens → now.shards.items ≡ map change c.shards.items
+    → state_of now ≡ record (state_of c) { shards = map change c.shards.items; pool = now.pool; plan = now.plan }
+state_of-mapped c now change pages ring gens items = λ i. record {
+  limits = record { shards = (ap length items ∙ length-map c.shards.items change) i; page_limit = pages i; ring_capacity = ring i; gens = gens i };
+  shards = items i;
+  pool = now.pool;
+  plan = now.plan;
+}
+
+-- the pair that comes next
+pub next-IsNext : (core : CoreState) (pair : SpanId × SpanId) → next_pair core.plan ≡ Some pair → (plan : OpenPlan) × IsNext core plan pair
+next-IsNext core pair e = by_plan core.plan refl e
+  where
+    by_plan : (o : Option OpenPlan) → core.plan ≡ o → next_pair o ≡ Some pair → (plan : OpenPlan) × IsNext core plan pair
+    by_plan None is none = absurd cc
+    by_plan (Some plan) is some = (plan, record { plan_is = is; pair_is = some })
+
+-- the group of the next pair's owned head
+
+-- the shard that was named has the span
+pub shard-named : (core : CoreState) (id : SpanId) (number : ℕ) (shard : ShardState) → HasSoundGroups core → StandsAt core id (owner.Shard number) → shard ≡ get_or core.shards number shard → (slice_get core.shards number ≡ Some shard) × (has_span id shard ≡ true)
+shard-named core id number shard sound (other, here, some) read =
+    let same : other ≡ shard = sym (get_or_from_slice_get core.shards number other shard here) ∙ sym read in
+    subst (λ s. (slice_get core.shards number ≡ Some s) × (has_span id s ≡ true)) same (here, has_span-elsewhere other id (sound.shards number other here).sound some)
+
+-- a shard that was named is one of 64
+pub number-named : (core : CoreState) (id : SpanId) (number : ℕ) → HasSoundGroups core → StandsAt core id (owner.Shard number) → number < 64
+number-named core id number sound (other, here, some) = let within = get_within core.shards number other here in omega (arith, sound.within.shards.1, sound.count)
+
+-- the next pair's owned group is in a shard
+module _ (core : CoreState) (sound : IsSound core) (plan : OpenPlan) (pair : SpanId × SpanId) (next : IsNext core plan pair) where
+  owned_group : IsOwned core pair.1 (waits core sound plan pair next).owned
+  owned_group = (waits core sound plan pair next).is_owned
+
+  times_here : 1 ≤ times_owned pair.1 core.shards
+  times_here =
+      let there = owned_group in
+      let fine = sound.groups.shards there.number there.shard there.shard_is in
+      let has = has_span-here there.shard pair.1 there.index 0 (waits core sound plan pair next).owned (waits core sound plan pair next).owned.head fine.sound (record { group_is = there.head_of.here; span_is = refl; id_is = there.head_of.head_is }) in
+      omega (arith, times_in-found pair.1 there.shard has, times_in-le pair.1 core.shards there.number there.shard there.shard_is)
+
+  pub not-pooled : StandsAt core pair.1 owner.Pool → ⊥
+  not-pooled some = omega (arith, pooled-somewhere core.pool pair.1 some, times_here, times-parts pair.1 core, at_most_once core sound.groups pair.1)
+
+  pub not-nowhere : IsNowhere core pair.1 → ⊥
+  not-nowhere nowhere =
+      let there = owned_group in
+      nowhere.shards there.number there.shard there.shard_is there.index (waits core sound plan pair next).owned there.head_of.here 0 ((waits core sound plan pair next).owned.head, refl, there.head_of.head_is)
+
+-- the fields after a step
+abbrev pub with_step_at : Inside → ℕ → ShardState → PoolState → Option OpenPlan → Guesses → Inside
+with_step_at c number after pool plan guesses = record c { shards = with_item c.shards number after; pool = pool; plan = plan; guesses = guesses }
+
+state_of-with_step_at : (c : Inside) (number : ℕ) (after : ShardState) (pool : PoolState) (plan : Option OpenPlan) (guesses : Guesses) → state_of (with_step_at c number after pool plan guesses) ≡ with_plan (with_pool (with_shard (state_of c) number after) pool) plan
+state_of-with_step_at c number after pool plan guesses = λ i. record {
+  limits = record { shards = length-set c.shards.items number after i; page_limit = c.page_limit; ring_capacity = c.ring_capacity; gens = c.gens };
+  shards = set c.shards.items number after;
+  pool = pool;
+  plan = plan;
+}
+
+pub IsSoundStep-fold_fields : (c : Inside) (plan : OpenPlan) (pair : SpanId × SpanId) (number : ℕ) (before after : ShardState) (pool : PoolState) (current : Option OpenPlan) (guesses : Guesses) (step : Outcome) → IsSound (state_of c) → IsNext (state_of c) plan pair
+    → StandsAt (state_of c) pair.1 (owner.Shard number) → before ≡ get_or c.shards.items number before → Steps c.pool before pair.0 pair.1 step pool after → IsSoundShard after → IsSoundPool pool → current ≡ advanced c.plan
+    → IsSoundStep (state_of c) Step (Stepped pair.0 pair.1 step) (state_of (with_step_at c number after pool current guesses))
+IsSoundStep-fold_fields c plan pair number before after pool current guesses step sound next there read steps sound_after sound_pool current_is =
+    let named = shard-named (state_of c) pair.1 number before sound.groups there read in
+    subst (IsSoundStep (state_of c) Step (Stepped pair.0 pair.1 step)) (sym (state_of-with_step_at c number after pool current guesses))
+    (subst (λ p. IsSoundStep (state_of c) Step (Stepped pair.0 pair.1 step) (with_plan (with_pool (with_shard (state_of c) number after) pool) p)) (sym (current_is ∙ ap advanced next.plan_is))
+    (IsSoundStep-Steps (state_of c) sound plan pair next number before named.0 named.1 step after pool steps sound_after sound_pool))
+
+-- a step that wants memory leaves the fields as they were
+pub state_of-refused : (c : Inside) (id : SpanId) (number : ℕ) (before after : ShardState) (pool : PoolState) → IsSound (state_of c) → StandsAt (state_of c) id (owner.Shard number) → before ≡ get_or c.shards.items number before → after ≡ before → pool ≡ c.pool
+    → state_of (with_step_at c number after pool c.plan c.guesses) ≡ state_of c
+state_of-refused c id number before after pool sound there read same pool_is =
+    let named = shard-named (state_of c) id number before sound.groups there read in
+    let shards : set c.shards.items number after ≡ c.shards.items = ap (set c.shards.items number) same ∙ set-slice_get c.shards.items number before named.0 in
+    λ i. record { limits = record { shards = length (shards i); page_limit = c.page_limit; ring_capacity = c.ring_capacity; gens = c.gens }; shards = shards i; pool = pool_is i; plan = c.plan }

@@ -1,0 +1,181 @@
+-- What a step does to the open plan: the next pair is carried out, and the others are as they were.
+use Rattle.std.proofs.Common.{◌≡◌, ◌≢◌, ℕ, zero, suc, ◌+◌, ◌<◌, ◌≤◌, List, [], ◌∷◌, ◌++◌, ◌⊎◌, inl, inr, refl, sym, ap, subst, ◌∙◌, arith, Some, set, slice_get, length}
+use Rattle.std.specs.Prelude.{remove}
+use Rattle.std.proofs.lemmas.Bool.{cases_eq}
+use Rattle.span.specs.declared.id.SpanId.{SpanId}
+use Rattle.span.specs.State.{SpanState}
+use Rattle.shard.specs.Group.{GroupState, IsSpanAt, occupied}
+use Rattle.shard.specs.Moves.{IsHeadOf}
+use Rattle.shard.specs.State.{ShardState}
+use Rattle.shard.proofs.Lists.{cases-set, get_within, same_some}
+use Rattle.abandoned.specs.State.{IsHeadOf as IsPooledHeadOf, PoolState, PooledState}
+use Rattle.abandoned.proofs.Removed.{after-remove}
+use Rattle.arena_core.specs.Plan.{IsCarriedOut, IsEmptied, IsGuest, IsOwned, IsPooled, IsUnderWay, IsWaiting, KeepsPlan, is_planned, with_next_done}
+use Rattle.arena_core.specs.State.{CoreState, OpenPlan, with_plan, with_pool, with_shard}
+use Rattle.arena_core.proofs.Lists.{slice_get-set_other, slice_get-set_same}
+use Rattle.arena_core.proofs.PlanSteps.{AreAllClosedAsPlanned, AreAllClosedAsPlanned-set}
+
+get-append : {X : Type 0} (xs ys : List X) (at : ℕ) (x : X) → slice_get ys at ≡ Some x → slice_get (xs ++ ys) (length xs + at) ≡ Some x
+get-append {X = X} [] ys at x here = subst (λ n. slice_get ys n ≡ Some x) (let e : at ≡ length {A = X} [] + at = omega arith in e) here
+get-append (z ∷ xs) ys at x here = subst (λ n. slice_get (z ∷ (xs ++ ys)) n ≡ Some x) (let e : suc (length xs + at) ≡ length (z ∷ xs) + at = omega arith in e) (get-append xs ys at x here)
+
+-- the pair's abandoned group leaves the pool, and its spans are the last guests of the owned one
+pub record IsFold (old : CoreState) (pair : SpanId × SpanId) (number : ℕ) (after : ShardState) (pool : PoolState) : Type 0 where
+  pub before : ShardState
+  pub from : ℕ
+  pub abandoned : PooledState
+  pub at : ℕ
+  pub owned : GroupState
+  pub head : SpanState
+  pub guests : List SpanState
+  pub here : slice_get old.shards number ≡ Some before
+  pub is_abandoned : IsPooledHeadOf old.pool.groups pair.0 from abandoned
+  pub is_owned : IsHeadOf before.groups pair.1 at owned
+  pub head_is : head.id ≡ pair.0
+  pub pool_is : pool.groups ≡ remove old.pool.groups from
+  pub shard_is : after.groups ≡ set before.groups at (record owned { guests = owned.guests ++ head ∷ guests })
+
+module _ (old : CoreState) (plan : OpenPlan) (pair : SpanId × SpanId) (number : ℕ) (after : ShardState) (pool : PoolState) (fold : IsFold old pair number after pool) where
+  abbrev new : CoreState
+  new = with_plan (with_pool (with_shard old number after) pool) (Some (with_next_done plan))
+
+  abbrev joined : GroupState
+  joined = record fold.owned { guests = fold.owned.guests ++ fold.head ∷ fold.guests }
+
+  -- the other groups stay
+
+  IsPooled-other : (head : SpanId) (group : PooledState) → (head ≡ pair.0 → ⊥) → IsPooled old head group → IsPooled new head group
+  IsPooled-other head group other is =
+      let (now, there) = after-remove old.pool.groups fold.from is.index group is.head_of.here apart in
+      record { index = now; head_of = record { here = ap (λ gs. slice_get gs now) fold.pool_is ∙ there; head_is = is.head_of.head_is } }
+    where
+      apart : is.index ≡ fold.from → ⊥
+      apart same =
+          let one : group ≡ fold.abandoned = same_some (sym is.head_of.here ∙ ap (slice_get old.pool.groups) same ∙ fold.is_abandoned.here) in
+          other (sym is.head_of.head_is ∙ ap (λ (g : PooledState). g.head.id) one ∙ fold.is_abandoned.head_is)
+
+  IsOwned-other : (head : SpanId) (group : GroupState) → (head ≡ pair.1 → ⊥) → IsOwned old head group → IsOwned new head group
+  IsOwned-other head group other is = by_number (cases_eq is.number number)
+    where
+      by_index : slice_get fold.before.groups is.index ≡ Some group → (is.index ≡ fold.at) ⊎ (is.index ≢ fold.at) → slice_get after.groups is.index ≡ Some group
+      by_index there (inl same) =
+          let one : group ≡ fold.owned = same_some (sym there ∙ ap (slice_get fold.before.groups) same ∙ fold.is_owned.here) in
+          absurd (other (sym is.head_of.head_is ∙ ap (λ (g : GroupState). g.head.id) one ∙ fold.is_owned.head_is))
+      by_index there (inr differ) = ap (λ gs. slice_get gs is.index) fold.shard_is ∙ slice_get-set_other fold.before.groups fold.at is.index joined differ ∙ there
+
+      by_number : (is.number ≡ number) ⊎ (is.number ≢ number) → IsOwned new head group
+      by_number (inl same) =
+          let one : is.shard ≡ fold.before = same_some (sym is.shard_is ∙ ap (slice_get old.shards) same ∙ fold.here) in
+          record {
+            number = number;
+            shard = after;
+            index = is.index;
+            shard_is = slice_get-set_same old.shards number fold.before after fold.here;
+            head_of = record { here = by_index (ap (λ (s : ShardState). slice_get s.groups is.index) (sym one) ∙ is.head_of.here) (cases_eq is.index fold.at); head_is = is.head_of.head_is };
+          }
+      by_number (inr differ) = record {
+        number = is.number;
+        shard = is.shard;
+        index = is.index;
+        shard_is = slice_get-set_other old.shards number is.number after differ ∙ is.shard_is;
+        head_of = is.head_of;
+      }
+
+  IsOwned-joined : IsOwned new pair.1 joined
+  IsOwned-joined = record {
+    number = number;
+    shard = after;
+    index = fold.at;
+    shard_is = slice_get-set_same old.shards number fold.before after fold.here;
+    head_of = record { here = ap (λ gs. slice_get gs fold.at) fold.shard_is ∙ slice_get-set_same fold.before.groups fold.at fold.owned joined fold.is_owned.here; head_is = fold.is_owned.head_is };
+  }
+
+  pub IsGuest-folded : IsGuest new pair
+  IsGuest-folded = record {
+    owned = joined;
+    place = length fold.owned.guests + 0;
+    is_owned = IsOwned-joined;
+    guest = (fold.head, get-append fold.owned.guests (fold.head ∷ fold.guests) 0 fold.head refl, fold.head_is);
+  }
+
+  -- the plan goes on
+  module _ (under : IsUnderWay old plan) (next : slice_get plan.pairs plan.done ≡ Some pair) where
+    other_abandoned : (k : ℕ) (p : SpanId × SpanId) → slice_get plan.pairs k ≡ Some p → (k ≡ plan.done → ⊥) → p.0 ≡ pair.0 → ⊥
+    other_abandoned k p at differ same = differ (under.abandoned_once k plan.done p pair at next same)
+
+    other_owned : (k : ℕ) (p : SpanId × SpanId) → slice_get plan.pairs k ≡ Some p → (k ≡ plan.done → ⊥) → p.1 ≡ pair.1 → ⊥
+    other_owned k p at differ same = differ (under.owned_once k plan.done p pair at next same)
+
+    stands_still : (k : ℕ) (p : SpanId × SpanId) → slice_get plan.pairs k ≡ Some p → (k ≡ plan.done) ⊎ (k ≢ plan.done) → (group : GroupState) × IsOwned new p.1 group
+    stands_still k p at (inl same) = let one : pair ≡ p = same_some (sym next ∙ ap (slice_get plan.pairs) (sym same) ∙ at) in (joined, subst (λ (q : SpanId × SpanId). IsOwned new q.1 joined) one IsOwned-joined)
+    stands_still k p at (inr differ) = let (group, is) = under.stands k p at in (group, IsOwned-other p.1 group (other_owned k p at differ) is)
+
+    carried_still : (k : ℕ) (p : SpanId × SpanId) → slice_get plan.pairs k ≡ Some p → (k ≡ plan.done → ⊥) → IsCarriedOut old p → IsCarriedOut new p
+    carried_still k p at differ (inl guest) = inl (record { owned = guest.owned; place = guest.place; is_owned = IsOwned-other p.1 guest.owned (other_owned k p at differ) guest.is_owned; guest = guest.guest })
+    carried_still k p at differ (inr emptied) = inr (record { abandoned = emptied.abandoned; is_abandoned = IsPooled-other p.0 emptied.abandoned (other_abandoned k p at differ) emptied.is_abandoned; no_page = emptied.no_page })
+
+    carried_now : (k : ℕ) (p : SpanId × SpanId) → k < plan.done + 1 → slice_get plan.pairs k ≡ Some p → (k ≡ plan.done) ⊎ (k ≢ plan.done) → IsCarriedOut new p
+    carried_now k p below at (inl same) = let one : pair ≡ p = same_some (sym next ∙ ap (slice_get plan.pairs) (sym same) ∙ at) in subst (IsCarriedOut new) one (inl IsGuest-folded)
+    carried_now k p below at (inr differ) = carried_still k p at differ (under.carried_out k p (omega arith) at)
+
+    waiting_still : (k : ℕ) (p : SpanId × SpanId) → plan.done + 1 ≤ k → slice_get plan.pairs k ≡ Some p → IsWaiting new p
+    waiting_still k p past at =
+        let differ : k ≡ plan.done → ⊥ = (λ e. omega arith) in
+        let waits = under.waiting k p (omega arith) at in
+        record {
+          abandoned = waits.abandoned;
+          owned = waits.owned;
+          is_abandoned = IsPooled-other p.0 waits.abandoned (other_abandoned k p at differ) waits.is_abandoned;
+          is_owned = IsOwned-other p.1 waits.owned (other_owned k p at differ) waits.is_owned;
+          apart = waits.apart;
+        }
+
+    pub IsUnderWay-folded : IsUnderWay new (with_next_done plan)
+    IsUnderWay-folded = record {
+      within = let inside = get_within plan.pairs plan.done pair next in omega arith;
+      abandoned_once = under.abandoned_once;
+      owned_once = under.owned_once;
+      stands = λ k p at. stands_still k p at (cases_eq k plan.done);
+      carried_out = λ k p below at. carried_now k p below at (cases_eq k plan.done);
+      waiting = waiting_still;
+    }
+
+    pub AreAllClosedAsPlanned-folded : AreAllClosedAsPlanned (Some plan) old.shards → AreAllClosedAsPlanned (Some (with_next_done plan)) new.shards
+    AreAllClosedAsPlanned-folded all =
+        AreAllClosedAsPlanned-set (Some (with_next_done plan)) old.shards number after all (λ index group there.
+        elim (cases-set fold.before.groups fold.at joined index group (ap (λ gs. slice_get gs index) (sym fold.shard_is) ∙ there)) [
+          | inl now ↦ subst (λ (g : GroupState). g.closed ≡ is_planned (Some plan) g.head.id) now.1 (all number fold.before fold.here fold.at fold.owned fold.is_owned.here)
+          | inr was ↦ all number fold.before fold.here index group was.1
+        ])
+
+-- a pair whose abandoned group is empty
+
+module _ (old : CoreState) (plan : OpenPlan) (under : IsUnderWay old plan) (pair : SpanId × SpanId) (next : slice_get plan.pairs plan.done ≡ Some pair) (emptied : IsEmptied old pair) where
+  abbrev passed : CoreState
+  passed = with_plan old (Some (with_next_done plan))
+
+  owned_too : (head : SpanId) (group : GroupState) → IsOwned old head group → IsOwned passed head group
+  owned_too head group is = record { number = is.number; shard = is.shard; index = is.index; shard_is = is.shard_is; head_of = is.head_of }
+
+  pooled_too : (head : SpanId) (group : PooledState) → IsPooled old head group → IsPooled passed head group
+  pooled_too head group is = record { index = is.index; head_of = is.head_of }
+
+  carried_too : (p : SpanId × SpanId) → IsCarriedOut old p → IsCarriedOut passed p
+  carried_too p (inl guest) = inl (record { owned = guest.owned; place = guest.place; is_owned = owned_too p.1 guest.owned guest.is_owned; guest = guest.guest })
+  carried_too p (inr empty) = inr (record { abandoned = empty.abandoned; is_abandoned = pooled_too p.0 empty.abandoned empty.is_abandoned; no_page = empty.no_page })
+
+  carried_next : (k : ℕ) (p : SpanId × SpanId) → k < plan.done + 1 → slice_get plan.pairs k ≡ Some p → (k ≡ plan.done) ⊎ (k ≢ plan.done) → IsCarriedOut passed p
+  carried_next k p below at (inl same) = let one : pair ≡ p = same_some (sym next ∙ ap (slice_get plan.pairs) (sym same) ∙ at) in carried_too p (subst (IsCarriedOut old) one (inr emptied))
+  carried_next k p below at (inr differ) = carried_too p (under.carried_out k p (omega arith) at)
+
+  pub IsUnderWay-passed : IsUnderWay passed (with_next_done plan)
+  IsUnderWay-passed = record {
+    within = let inside = get_within plan.pairs plan.done pair next in omega arith;
+    abandoned_once = under.abandoned_once;
+    owned_once = under.owned_once;
+    stands = λ k p at. let (group, is) = under.stands k p at in (group, owned_too p.1 group is);
+    carried_out = λ k p below at. carried_next k p below at (cases_eq k plan.done);
+    waiting = λ k p past at.
+        let waits = under.waiting k p (omega arith) at in
+        record { abandoned = waits.abandoned; owned = waits.owned; is_abandoned = pooled_too p.0 waits.abandoned waits.is_abandoned; is_owned = owned_too p.1 waits.owned waits.is_owned; apart = waits.apart };
+  }

@@ -1,0 +1,300 @@
+-- What an event that is no fold does to the groups that an open plan names: each stays, and none grows.
+use Rattle.std.proofs.Common.{◌≡◌, ◌≢◌, ℕ, zero, suc, ◌<◌, Bool, true, false, ◌&&◌, ◌||◌, eqb, List, [], ◌∷◌, ◌⊎◌, inl, inr, refl, sym, ap, subst, ◌∙◌, arith, Option, Some, None, set, slice_get, eq-eqb, insert}
+use Rattle.std.specs.List.{list_any}
+use Rattle.std.specs.FinSet as set_of
+use Rattle.std.specs.FinSet.{contains}
+use Rattle.std.specs.Cmp.{nat_cmp_total}
+use Rattle.std.specs.FinSet.{contains-union, contains-remove}
+use Rattle.std.proofs.lemmas.Bool.{cases_eq}
+use Rattle.bitmap.specs.Slots.{SlotSet, AreDisjoint}
+use Rattle.bitmap.specs.Operations.{AreDisjoint-at, AreDisjoint-by_slot}
+use Rattle.span.specs.declared.id.SpanId.{SpanId}
+use Rattle.span.specs.declared.key.Key.{Key}
+use Rattle.span.specs.Ids.{same_span}
+use Rattle.span.specs.Log.{Value as Word, live_slots}
+use Rattle.span.specs.State.{SpanState}
+use Rattle.span.proofs.Slots.{live_slots-free}
+use Rattle.shard.specs.Calls.{Frees, Puts}
+use Rattle.shard.specs.Group.{GroupState, IsSpanAt, occupied, spans_of, union_of, with_free, with_put, with_span}
+use Rattle.shard.specs.Moves.{IsHeadOf, WholeState, whole_of}
+use Rattle.shard.specs.State.{ShardState}
+use Rattle.shard.specs.declared.shard.Freed.TheVariants.{Yes}
+use Rattle.shard.proofs.Lists.{after-insert, after-set, same_some}
+use Rattle.shard.proofs.Standing.{spans_of-with_span}
+use Rattle.abandoned.specs.Calls.{Frees as FreesPooled, Receives, TakesAll, TakesIn, with_rooms}
+use Rattle.abandoned.specs.Sound.{IsSound as IsSoundPool}
+use Rattle.abandoned.specs.State.{IsHeadOf as IsPooledHeadOf, PoolState, PooledState, spans_of as pooled_spans_of, with_span as pooled_with_span}
+use Rattle.abandoned.proofs.Freed.{groups-Leaves}
+use Rattle.abandoned.proofs.Released.{has_page_if_held}
+use Rattle.abandoned.proofs.Standing.{page-with_span}
+use Rattle.abandoned.proofs.TakenIn.{empty_or_not}
+use Rattle.arena_core.specs.Plan.{IsCarriedOut, IsEmptied, IsGuest, IsOwned, IsPooled, IsUnderWay, IsWaiting, plans_onto}
+use Rattle.arena_core.specs.State.{CoreState, OpenPlan, with_pool, with_shard}
+use Rattle.arena_core.proofs.Lists.{slice_get-set_other, slice_get-set_same}
+use Rattle.arena_core.proofs.Spans.{same_span-self}
+
+-- sets of slots
+
+-- no slot more than the other set has
+abbrev pub IsWithin : SlotSet → SlotSet → Type 0
+IsWithin now before = (slot : ℕ) → contains now slot ≡ true → contains before slot ≡ true
+
+pub AreDisjoint-within : (a a_now b b_now : SlotSet) → IsWithin a_now a → IsWithin b_now b → AreDisjoint a b → AreDisjoint a_now b_now
+AreDisjoint-within a a_now b b_now less_a less_b apart = AreDisjoint-by_slot a_now b_now (λ q in_a in_b. AreDisjoint-at a b apart q (less_a q in_a) (less_b q in_b))
+
+second_of : (a b : Bool) → (a && b) ≡ true → b ≡ true
+second_of true b e = e
+second_of false b e = absurd cc
+
+live_slots-fewer : (span : SpanState) (key : Key) → IsWithin (live_slots (with_free span key).log) (live_slots span.log)
+live_slots-fewer span key slot live =
+    second_of _ _ (sym (contains-remove nat_cmp_total (live_slots span.log) key.slot slot) ∙ ap (λ s. contains s slot) (sym (live_slots-free span.log key.slot key.generation)) ∙ live)
+
+-- a span that loses slots makes the union lose slots
+union_of-fewer : (spans : List SpanState) (place : ℕ) (span now : SpanState) → slice_get spans place ≡ Some span → IsWithin (live_slots now.log) (live_slots span.log) → IsWithin (union_of (set spans place now)) (union_of spans)
+union_of-fewer [] place span now here fewer slot live = absurd cc
+union_of-fewer (first ∷ spans) zero span now here fewer slot live =
+    let same : first ≡ span = same_some here in
+    contains-union nat_cmp_total (live_slots first.log) (union_of spans) slot
+    ∙ first_or (contains (live_slots now.log) slot) (contains (live_slots first.log) slot) (contains (union_of spans) slot) (λ e. ap (λ (s : SpanState). contains (live_slots s.log) slot) same ∙ fewer slot e)
+    (sym (contains-union nat_cmp_total (live_slots now.log) (union_of spans) slot) ∙ live)
+  where
+    first_or : (a b c : Bool) → (a ≡ true → b ≡ true) → (a || c) ≡ true → (b || c) ≡ true
+    first_or true true c to e = refl
+    first_or true false c to e = absurd (let never : false ≡ true = to refl in cc)
+    first_or false true c to e = refl
+    first_or false false c to e = e
+union_of-fewer (first ∷ spans) (suc place) span now here fewer slot live =
+    contains-union nat_cmp_total (live_slots first.log) (union_of spans) slot
+    ∙ second_or (contains (live_slots first.log) slot) (contains (union_of (set spans place now)) slot) (contains (union_of spans) slot) (union_of-fewer spans place span now here fewer slot)
+    (sym (contains-union nat_cmp_total (live_slots first.log) (union_of (set spans place now)) slot) ∙ live)
+  where
+    second_or : (a b c : Bool) → (b ≡ true → c ≡ true) → (a || b) ≡ true → (a || c) ≡ true
+    second_or true b c to e = refl
+    second_or false b c to e = to e
+
+-- the groups that a plan names
+
+-- every group of the pool stays, none grows, and none without a page gets one
+abbrev pub KeepsPooled : List PooledState → List PooledState → Type 0
+KeepsPooled old new = (index : ℕ) (group : PooledState) → slice_get old index ≡ Some group
+    → (place : ℕ) × (now : PooledState) × (slice_get new place ≡ Some now) × (now.head.id ≡ group.head.id) × IsWithin (union_of (pooled_spans_of now)) (union_of (pooled_spans_of group)) × (group.page ≡ None → now.page ≡ None)
+
+-- the group is as it was, save that it may have lost slots
+pub record IsFewer (group now : GroupState) : Type 0 where
+  pub head_is : now.head.id ≡ group.head.id
+  pub slots : IsWithin (occupied now) (occupied group)
+  pub guests : (id : SpanId) (place : ℕ) → IsSpanAt group.guests id place → IsSpanAt now.guests id place
+  pub closed_is : now.closed ≡ group.closed
+
+pub IsFewer-same : (group : GroupState) → IsFewer group group
+IsFewer-same group = record { head_is = refl; slots = λ slot e. e; guests = λ id place e. e; closed_is = refl }
+
+-- every closed group stays, and none grows
+abbrev pub KeepsClosed : List GroupState → List GroupState → Type 0
+KeepsClosed old new = (index : ℕ) (group : GroupState) → slice_get old index ≡ Some group → group.closed ≡ true → (place : ℕ) × (now : GroupState) × (slice_get new place ≡ Some now) × IsFewer group now
+
+-- every closed group of every shard stays, and none grows
+abbrev pub KeepsAllClosed : List ShardState → List ShardState → Type 0
+KeepsAllClosed old new = (number : ℕ) (shard : ShardState) → slice_get old number ≡ Some shard → (now : ShardState) × (slice_get new number ≡ Some now) × KeepsClosed shard.groups now.groups
+
+KeepsClosed-same : (groups : List GroupState) → KeepsClosed groups groups
+KeepsClosed-same groups index group here closed = (index, group, here, IsFewer-same group)
+
+pub KeepsAllClosed-same : (shards : List ShardState) → KeepsAllClosed shards shards
+KeepsAllClosed-same shards number shard here = (shard, here, KeepsClosed-same shard.groups)
+
+pub KeepsAllClosed-set : (shards : List ShardState) (number : ℕ) (before after : ShardState) → slice_get shards number ≡ Some before → KeepsClosed before.groups after.groups → KeepsAllClosed shards (set shards number after)
+KeepsAllClosed-set shards number before after here keeps other shard there = by_place (cases_eq other number)
+  where
+    by_place : (other ≡ number) ⊎ (other ≢ number) → (now : ShardState) × (slice_get (set shards number after) other ≡ Some now) × KeepsClosed shard.groups now.groups
+    by_place (inl same) =
+        let is : before ≡ shard = same_some (sym here ∙ ap (slice_get shards) (sym same) ∙ there) in
+        (after, ap (slice_get (set shards number after)) same ∙ slice_get-set_same shards number before after here, subst (λ (s : ShardState). KeepsClosed s.groups after.groups) is keeps)
+    by_place (inr differ) = (shard, slice_get-set_other shards number other after differ ∙ there, KeepsClosed-same shard.groups)
+
+pub KeepsPooled-same : (groups : List PooledState) → KeepsPooled groups groups
+KeepsPooled-same groups index group here = (index, group, here, refl, (λ slot e. e), λ none. none)
+
+-- a pair of the plan folds onto its owned group
+pub plans_onto-pair : (pairs : List (SpanId × SpanId)) (k : ℕ) (pair : SpanId × SpanId) → slice_get pairs k ≡ Some pair → plans_onto pairs pair.1 ≡ true
+plans_onto-pair [] k pair here = absurd cc
+plans_onto-pair (first ∷ pairs) zero pair here =
+    let same : first ≡ pair = same_some here in
+    ap (λ b. b || plans_onto pairs pair.1) (ap (λ (p : SpanId × SpanId). same_span p.1 pair.1) same ∙ same_span-self pair.1)
+plans_onto-pair (first ∷ pairs) (suc k) pair here = ap (λ b. same_span first.1 pair.1 || b) (plans_onto-pair pairs k pair here) ∙ or_true (same_span first.1 pair.1)
+  where
+    or_true : (b : Bool) → (b || true) ≡ true
+    or_true true = refl
+    or_true false = refl
+
+-- the plan goes on
+module _ (old new : CoreState) (pooled : KeepsPooled old.pool.groups new.pool.groups) (owned : KeepsAllClosed old.shards new.shards) where
+  IsPooled-kept : (head : SpanId) (group : PooledState) → IsPooled old head group → (now : PooledState) × IsPooled new head now × IsWithin (union_of (pooled_spans_of now)) (union_of (pooled_spans_of group)) × (group.page ≡ None → now.page ≡ None)
+  IsPooled-kept head group is =
+      let (place, now, there, head_is, fewer, no_page) = pooled is.index group is.head_of.here in
+      (now, record { index = place; head_of = record { here = there; head_is = head_is ∙ is.head_of.head_is } }, fewer, no_page)
+
+  IsOwned-kept : (head : SpanId) (group : GroupState) → IsOwned old head group → group.closed ≡ true → (now : GroupState) × IsOwned new head now × IsFewer group now
+  IsOwned-kept head group is closed =
+      let (shard, at, keeps) = owned is.number is.shard is.shard_is in
+      let (place, now, there, fewer) = keeps is.index group is.head_of.here closed in
+      (now, record { number = is.number; shard = shard; index = place; shard_is = at; head_of = record { here = there; head_is = fewer.head_is ∙ is.head_of.head_is } }, fewer)
+
+  module _ (plan : OpenPlan) (closed : (k : ℕ) (pair : SpanId × SpanId) → slice_get plan.pairs k ≡ Some pair → (group : GroupState) → IsOwned old pair.1 group → group.closed ≡ true) where
+    IsWaiting-kept : (k : ℕ) (pair : SpanId × SpanId) → slice_get plan.pairs k ≡ Some pair → IsWaiting old pair → IsWaiting new pair
+    IsWaiting-kept k pair at waits =
+        let (a, a_is, fewer_a, no_page) = IsPooled-kept pair.0 waits.abandoned waits.is_abandoned in
+        let (b, b_is, fewer_b) = IsOwned-kept pair.1 waits.owned waits.is_owned (closed k pair at waits.owned waits.is_owned) in
+        record {
+          abandoned = a;
+          owned = b;
+          is_abandoned = a_is;
+          is_owned = b_is;
+          apart = AreDisjoint-within (union_of (pooled_spans_of waits.abandoned)) (union_of (pooled_spans_of a)) (occupied waits.owned) (occupied b) fewer_a fewer_b.slots waits.apart;
+        }
+
+    IsCarriedOut-kept : (k : ℕ) (pair : SpanId × SpanId) → slice_get plan.pairs k ≡ Some pair → IsCarriedOut old pair → IsCarriedOut new pair
+    IsCarriedOut-kept k pair at (inl guest) =
+        let (b, b_is, fewer_b) = IsOwned-kept pair.1 guest.owned guest.is_owned (closed k pair at guest.owned guest.is_owned) in
+        inl (record { owned = b; place = guest.place; is_owned = b_is; guest = fewer_b.guests pair.0 guest.place guest.guest })
+    IsCarriedOut-kept k pair at (inr emptied) =
+        let (a, a_is, fewer_a, no_page) = IsPooled-kept pair.0 emptied.abandoned emptied.is_abandoned in
+        inr (record { abandoned = a; is_abandoned = a_is; no_page = no_page emptied.no_page })
+
+    pub IsUnderWay-kept : IsUnderWay old plan → IsUnderWay new plan
+    IsUnderWay-kept under = record {
+      within = under.within;
+      abandoned_once = under.abandoned_once;
+      owned_once = under.owned_once;
+      stands = λ k pair at.
+          let (group, is) = under.stands k pair at in
+          let (now, now_is, fewer) = IsOwned-kept pair.1 group is (closed k pair at group is) in
+          (now, now_is);
+      carried_out = λ k pair done at. IsCarriedOut-kept k pair at (under.carried_out k pair done at);
+      waiting = λ k pair left at. IsWaiting-kept k pair at (under.waiting k pair left at);
+    }
+
+-- what each event keeps
+
+pub KeepsClosed-Puts : (before after : ShardState) (value : Word) (key : Key) (at : ℕ) → Puts before value key at after → KeepsClosed before.groups after.groups
+KeepsClosed-Puts before after value key at (running, inl (index, group, room, span_is, generation_is, at_is, after_is)) other there here closed = by_place (cases_eq other index)
+  where
+    groups_are : after.groups ≡ set before.groups index (record group { head = with_put group.head key.slot value })
+    groups_are = ap (λ (s : ShardState). s.groups) after_is
+
+    by_place : (other ≡ index) ⊎ (other ≢ index) → (place : ℕ) × (now : GroupState) × (slice_get after.groups place ≡ Some now) × IsFewer there now
+    by_place (inl same) =
+        let is : group ≡ there = same_some (sym room.here ∙ ap (slice_get before.groups) (sym same) ∙ here) in
+        absurd (let both : true ≡ false = sym closed ∙ ap (λ (g : GroupState). g.closed) (sym is) ∙ room.slot_is.0 in cc)
+    by_place (inr differ) = (other, there, ap (λ gs. slice_get gs other) groups_are ∙ slice_get-set_other before.groups index other _ differ ∙ here, IsFewer-same there)
+KeepsClosed-Puts before after value key at (running, inr (full, pages, spans, (shard_is, serial_is, slot_is, generation_is, at_is, (page, index, new_page, place, after_is)))) other there here closed =
+    let (now, moved) = after-insert before.groups index _ other there here in
+    (now, there, ap (λ (s : ShardState). slice_get s.groups now) after_is ∙ moved, IsFewer-same there)
+
+guests-with_span : (group : GroupState) (place : ℕ) (span now : SpanState) → slice_get (spans_of group) place ≡ Some span → now.id ≡ span.id
+    → (id : SpanId) (other : ℕ) → IsSpanAt group.guests id other → IsSpanAt (with_span group place now).guests id other
+guests-with_span group zero span now here same id other at = at
+guests-with_span group (suc place) span now here same id other (guest, there, is) =
+    let (after, at_now, id_is) = after-set (λ (a b : SpanState). b.id ≡ a.id) (λ s. refl) group.guests place span now here same other guest there in
+    (after, at_now, id_is ∙ is)
+
+head-with_span : (group : GroupState) (place : ℕ) (span now : SpanState) → slice_get (spans_of group) place ≡ Some span → now.id ≡ span.id → (with_span group place now).head.id ≡ group.head.id
+head-with_span group zero span now here same = let is : group.head ≡ span = same_some here in same ∙ ap (λ (s : SpanState). s.id) (sym is)
+head-with_span group (suc place) span now here same = refl
+
+closed-with_span : (group : GroupState) (place : ℕ) (now : SpanState) → (with_span group place now).closed ≡ group.closed
+closed-with_span group zero now = refl
+closed-with_span group (suc place) now = refl
+
+pub IsFewer-freed : (group : GroupState) (place : ℕ) (span : SpanState) (key : Key) → slice_get (spans_of group) place ≡ Some span → IsFewer group (with_span group place (with_free span key))
+IsFewer-freed group place span key here = record {
+  head_is = head-with_span group place span (with_free span key) here refl;
+  slots = λ slot live. union_of-fewer (spans_of group) place span (with_free span key) here (live_slots-fewer span key) slot (ap (λ spans. contains (union_of spans) slot) (sym (spans_of-with_span group place (with_free span key))) ∙ live);
+  guests = guests-with_span group place span (with_free span key) here refl;
+  closed_is = closed-with_span group place (with_free span key);
+}
+
+pub KeepsClosed-Frees : (before after : ShardState) (key : Key) (at : ℕ) → Frees before key (Yes at) after → KeepsClosed before.groups after.groups
+KeepsClosed-Frees before after key at (index, place, group, span, here, holds, at_is, after_is) other there at_other closed =
+    let (now, there_now, fewer) = after-set IsFewer IsFewer-same before.groups index group (with_span group place (with_free span key)) here.group_is (IsFewer-freed group place span key here.span_is) other there at_other in
+    (other, now, ap (λ (s : ShardState). slice_get s.groups other) after_is ∙ there_now, fewer)
+
+-- the pool
+
+pooled_head : (now group : PooledState) (place : ℕ) (span after : SpanState) → slice_get (pooled_spans_of group) place ≡ Some span → after.id ≡ span.id → pooled_spans_of now ≡ set (pooled_spans_of group) place after → now.head.id ≡ group.head.id
+pooled_head now group zero span after here same is =
+    let first : group.head ≡ span = same_some here in
+    let head : now.head ≡ after = same_some (ap (λ spans. slice_get spans 0) is) in
+    ap (λ (s : SpanState). s.id) head ∙ same ∙ ap (λ (s : SpanState). s.id) (sym first)
+pooled_head now group (suc place) span after here same is = let head : now.head ≡ group.head = same_some (ap (λ spans. slice_get spans 0) is) in ap (λ (s : SpanState). s.id) head
+
+pub KeepsPooled-Frees : (before after : PoolState) (key : Key) (at : ℕ) → IsSoundPool before → FreesPooled before key (Yes at) after → KeepsPooled before.groups after.groups
+KeepsPooled-Frees before after key at sound (index, place, group, span, here, holds, at_is, leaves) other there at_other = by_place (cases_eq other index)
+  where
+    changed : (now : PooledState) × (after.groups ≡ set before.groups index now) × (pooled_spans_of now ≡ set (pooled_spans_of group) place (with_free span key))
+    changed = groups-Leaves before sound index place group span key (here.group_is, here.span_is) holds after leaves
+
+    by_place : (other ≡ index) ⊎ (other ≢ index) → (place : ℕ) × (now : PooledState) × (slice_get after.groups place ≡ Some now) × (now.head.id ≡ there.head.id) × IsWithin (union_of (pooled_spans_of now)) (union_of (pooled_spans_of there)) × (there.page ≡ None → now.page ≡ None)
+    by_place (inl same) =
+        let is : group ≡ there = same_some (sym here.group_is ∙ ap (slice_get before.groups) (sym same) ∙ at_other) in (
+          index,
+          changed.0,
+          ap (λ gs. slice_get gs index) changed.1 ∙ slice_get-set_same before.groups index group changed.0 here.group_is,
+          pooled_head changed.0 group place span (with_free span key) here.span_is refl changed.2 ∙ ap (λ (g : PooledState). g.head.id) is,
+          (λ slot live. ap (λ (g : PooledState). contains (union_of (pooled_spans_of g)) slot) (sym is)
+              ∙ union_of-fewer (pooled_spans_of group) place span (with_free span key) here.span_is (live_slots-fewer span key) slot (ap (λ spans. contains (union_of spans) slot) (sym changed.2) ∙ live)),
+          (λ none. absurd (has_page_if_held before sound index place group span key.slot key.generation here.group_is here.span_is holds (ap (λ (g : PooledState). g.page) is ∙ none))),
+        )
+    by_place (inr differ) = (other, there, ap (λ gs. slice_get gs other) changed.1 ∙ slice_get-set_other before.groups index other changed.0 differ ∙ at_other, refl, (λ slot e. e), λ none. none)
+
+-- the pool knows of the plan as before
+pub has_plan-Frees : (before after : PoolState) (key : Key) (at : ℕ) → IsSoundPool before → FreesPooled before key (Yes at) after → after.has_plan ≡ before.has_plan
+has_plan-Frees before after key at sound (index, place, group, span, here, holds, at_is, leaves) = by_case (empty_or_not (union_of (pooled_spans_of (pooled_with_span group place (with_free span key)))))
+  where
+    by_page : (o : Option ℕ) → group.page ≡ o → union_of (pooled_spans_of (pooled_with_span group place (with_free span key))) ≡ set_of.empty → after.has_plan ≡ before.has_plan
+    by_page None is none = absurd (has_page_if_held before sound index place group span key.slot key.generation here.group_is here.span_is holds is)
+    by_page (Some page) is none = ap (λ (p : PoolState). p.has_plan) (leaves.emptied none page (page-with_span group place (with_free span key) ∙ is))
+
+    by_case : (union_of (pooled_spans_of (pooled_with_span group place (with_free span key))) ≡ set_of.empty) ⊎ (union_of (pooled_spans_of (pooled_with_span group place (with_free span key))) ≢ set_of.empty) → after.has_plan ≡ before.has_plan
+    by_case (inl none) = by_page group.page refl none
+    by_case (inr live) = ap (λ (p : PoolState). p.has_plan) (leaves.live live)
+
+-- the groups of before are there still
+abbrev HasStill : List PooledState → List PooledState → Type 0
+HasStill old new = (index : ℕ) (group : PooledState) → slice_get old index ≡ Some group → (place : ℕ) × (slice_get new place ≡ Some group)
+
+HasStill-TakesIn : (old new : PoolState) (whole : WholeState) → TakesIn old whole new → HasStill old.groups new.groups
+HasStill-TakesIn old new whole takes index group here = by_case (empty_or_not (union_of (whole.head ∷ whole.guests)))
+  where
+    inserted : (x : PooledState) → new.groups ≡ insert old.groups takes.index x → (place : ℕ) × (slice_get new.groups place ≡ Some group)
+    inserted x is = let (now, there) = after-insert old.groups takes.index x index group here in (now, ap (λ gs. slice_get gs now) is ∙ there)
+
+    by_case : (union_of (whole.head ∷ whole.guests) ≡ set_of.empty) ⊎ (union_of (whole.head ∷ whole.guests) ≢ set_of.empty) → (place : ℕ) × (slice_get new.groups place ≡ Some group)
+    by_case (inl none) = inserted _ (ap (λ (p : PoolState). p.groups) (takes.emptied none))
+    by_case (inr live) = inserted _ (ap (λ (p : PoolState). p.groups) (takes.live live).4)
+
+HasStill-TakesAll : (wholes : List WholeState) (old new : PoolState) → TakesAll old wholes new → HasStill old.groups new.groups
+HasStill-TakesAll [] old new same index group here = (index, ap (λ (p : PoolState). slice_get p.groups index) same ∙ here)
+HasStill-TakesAll (whole ∷ wholes) old new (mid, takes, rest) index group here =
+    let (place, there) = HasStill-TakesIn old mid whole takes index group here in
+    HasStill-TakesAll wholes mid new rest place group there
+
+pub KeepsPooled-Receives : (old new : PoolState) (before after : ShardState) → Receives old before new after → KeepsPooled old.groups new.groups
+KeepsPooled-Receives old new before after receives index group here =
+    let (place, there) = HasStill-TakesAll _ (with_rooms old receives.page_room receives.span_room) new receives.moved index group here in
+    (place, group, there, refl, (λ slot e. e), λ none. none)
+
+has_plan-TakesIn : (old new : PoolState) (whole : WholeState) → TakesIn old whole new → new.has_plan ≡ old.has_plan
+has_plan-TakesIn old new whole takes = by_case (empty_or_not (union_of (whole.head ∷ whole.guests)))
+  where
+    by_case : (union_of (whole.head ∷ whole.guests) ≡ set_of.empty) ⊎ (union_of (whole.head ∷ whole.guests) ≢ set_of.empty) → new.has_plan ≡ old.has_plan
+    by_case (inl none) = ap (λ (p : PoolState). p.has_plan) (takes.emptied none)
+    by_case (inr live) = ap (λ (p : PoolState). p.has_plan) (takes.live live).4
+
+has_plan-TakesAll : (wholes : List WholeState) (old new : PoolState) → TakesAll old wholes new → new.has_plan ≡ old.has_plan
+has_plan-TakesAll [] old new same = ap (λ (p : PoolState). p.has_plan) same
+has_plan-TakesAll (whole ∷ wholes) old new (mid, takes, rest) = has_plan-TakesAll wholes mid new rest ∙ has_plan-TakesIn old mid whole takes
+
+pub has_plan-Receives : (old new : PoolState) (before after : ShardState) → Receives old before new after → new.has_plan ≡ old.has_plan
+has_plan-Receives old new before after receives = has_plan-TakesAll _ (with_rooms old receives.page_room receives.span_room) new receives.moved

@@ -1,0 +1,186 @@
+-- A mark's pairs wait: what it sees are groups of the pool and of the shards.
+use Rattle.std.proofs.Common.{◌≡◌, ◌≢◌, ℕ, zero, suc, ◌<◌, ◌≤◌, Bool, true, false, cond, ◌&&◌, ◌||◌, List, [], ◌∷◌, ◌++◌, ◌⊎◌, inl, inr, refl, sym, ap, subst, ◌∙◌, arith, Option, Some, None, slice_get, map, length, get_or, is_some, eqb-true}
+use Rattle.std.specs.Prelude.{filter}
+use Rattle.std.specs.List.{All, AllByRecursion, IsDistinct, flat_map, list_any}
+use Rattle.std.specs.List.Sorted.{IsPermutation}
+use Rattle.std.proofs.lemmas.Bool.{and_parts, cases_eq, cases_lt}
+use Rattle.std.proofs.lemmas.List.{length-map}
+use Rattle.std.proofs.lemmas.List.Elements.{All-from_recursion, recursion_from_All}
+use Rattle.std.proofs.lemmas.Map.Keys.{apart_from_distinct}
+use Rattle.std.proofs.lemmas.Map.Views.{All-map-IsPermutation}
+use Rattle.std.specs.FinSet.{intersection, len, empty_of_len}
+use Rattle.bitmap.specs.Slots.{AreDisjoint}
+use Rattle.span.specs.declared.id.SpanId.{SpanId}
+use Rattle.span.specs.Ids.{same_span}
+use Rattle.span.proofs.Ids.{same_id_from_test, test_from_same_id}
+use Rattle.shard.specs.Group.{GroupState, occupied}
+use Rattle.shard.specs.State.{ShardState, summary}
+use Rattle.shard.proofs.Lists.{get_within, same_some}
+use Rattle.abandoned.specs.State.{PoolState, PooledState, paged_groups, summary as pooled_summary}
+use Rattle.mesh_graph.specs.Groups.{Groups, any_compatible, are_compatible}
+use Rattle.mesh_graph.specs.declared.entry.Entry.{Entry}
+use Rattle.certificate.specs.Plans.{IsPlanOf, sides_of}
+use Rattle.arena_core.specs.Plan.{IsOwned, IsPooled, IsUnderWay, IsWaiting, abandoned_entries, entry_of, owned_entries}
+use Rattle.arena_core.specs.State.{CoreState, OpenPlan}
+
+-- lists
+
+each-to : {X : Type 0} {P Q : X → Type 0} (xs : List X) → ((x : X) → P x → Q x) → AllByRecursion P xs → AllByRecursion Q xs
+each-to [] to all = tt
+each-to (x ∷ xs) to all = (to x all.0, each-to xs to all.1)
+
+each-append : {X : Type 0} (P : X → Type 0) (xs ys : List X) → AllByRecursion P xs → AllByRecursion P ys → AllByRecursion P (xs ++ ys)
+each-append P [] ys left right = right
+each-append P (x ∷ xs) ys left right = (left.0, each-append P xs ys left.1 right)
+
+map_same : {X : Type 0} (xs : List X) → map (λ x. x) xs ≡ xs
+map_same [] = refl
+map_same (x ∷ xs) = ap (λ l. x ∷ l) (map_same xs)
+
+each-permuted : {X : Type 0} (P : X → Type 0) (xs ys : List X) → IsPermutation xs ys → AllByRecursion P xs → AllByRecursion P ys
+each-permuted P xs ys moved all =
+    subst (AllByRecursion P) (map_same ys) (recursion_from_All P (map (λ x. x) ys) (All-map-IsPermutation (λ x. x) P xs ys moved (All-from_recursion P (map (λ x. x) xs) (subst (AllByRecursion P) (sym (map_same xs)) all))))
+
+-- the element by which a test of the list passes
+any-which : {X : Type 0} {P : X → Type 0} (test : X → Bool) (xs : List X) → AllByRecursion P xs → list_any test xs ≡ true → (x : X) × (test x ≡ true) × P x
+any-which test [] all some = absurd cc
+any-which {X = X} {P = P} test (x ∷ xs) all some = by_test (test x) refl some (any-which test xs all.1)
+  where
+    by_test : (b : Bool) → test x ≡ b → (b || list_any test xs) ≡ true → (list_any test xs ≡ true → (y : X) × (test y ≡ true) × P y) → (y : X) × (test y ≡ true) × P y
+    by_test true e some rest = (x, e, all.0)
+    by_test false e some rest = rest some
+
+-- what the entries tell
+
+-- the entry is that of a group of the pool
+abbrev pub TellsPooled : List PooledState → Entry → Type 0
+TellsPooled groups entry = (index : ℕ) × (group : PooledState) × (slice_get groups index ≡ Some group) × (entry_of (pooled_summary group) ≡ entry)
+
+tells_pooled : (groups : List PooledState) → AllByRecursion (TellsPooled groups) (map (λ group. entry_of (pooled_summary group)) (filter (λ group. is_some group.page) groups))
+tells_pooled [] = tt
+tells_pooled (group ∷ groups) = by_page (is_some group.page) (each-to _ (λ entry tells. (suc tells.0, tells.1, tells.2, tells.3)) (tells_pooled groups))
+  where
+    by_page : (b : Bool) → AllByRecursion (TellsPooled (group ∷ groups)) (map (λ g. entry_of (pooled_summary g)) (filter (λ g. is_some g.page) groups))
+        → AllByRecursion (TellsPooled (group ∷ groups)) (map (λ g. entry_of (pooled_summary g)) (cond b (group ∷ filter (λ g. is_some g.page) groups) (filter (λ g. is_some g.page) groups)))
+    by_page true rest = ((0, group, refl, refl), rest)
+    by_page false rest = rest
+
+-- the entry is that of a group of these
+abbrev pub TellsGroup : List GroupState → Entry → Type 0
+TellsGroup groups entry = (index : ℕ) × (group : GroupState) × (slice_get groups index ≡ Some group) × (entry_of (summary group) ≡ entry)
+
+-- the entry is that of a group of a shard
+abbrev pub TellsOwned : List ShardState → Entry → Type 0
+TellsOwned shards entry = (number : ℕ) × (shard : ShardState) × (slice_get shards number ≡ Some shard) × TellsGroup shard.groups entry
+
+tells_groups : (groups : List GroupState) → AllByRecursion (TellsGroup groups) (map (λ group. entry_of (summary group)) groups)
+tells_groups [] = tt
+tells_groups (group ∷ groups) = ((0, group, refl, refl), each-to _ (λ entry tells. (suc tells.0, tells.1, tells.2, tells.3)) (tells_groups groups))
+
+tells_owned : (shards : List ShardState) → AllByRecursion (TellsOwned shards) (owned_entries shards)
+tells_owned [] = tt
+tells_owned (shard ∷ shards) =
+    each-append (TellsOwned (shard ∷ shards)) (map (λ group. entry_of (summary group)) shard.groups) (owned_entries shards)
+    (each-to _ (λ entry tells. (0, shard, refl, tells)) (tells_groups shard.groups))
+    (each-to _ (λ entry tells. (suc tells.0, tells.1, tells.2, tells.3)) (tells_owned shards))
+
+-- two groups that the test calls compatible share no slot
+apart_from_test : (x y : Entry) → are_compatible x y ≡ true → AreDisjoint x.occupied y.occupied
+apart_from_test x y e = empty_of_len (intersection x.occupied y.occupied) (eqb-true (len (intersection x.occupied y.occupied)) 0 e)
+
+-- a compatible pair
+
+-- the groups of a pair, which share no slot
+pub record IsCompatiblePair (core : CoreState) (pair : SpanId × SpanId) : Type 0 where
+  pub abandoned : PooledState
+  pub owned : GroupState
+  pub is_abandoned : IsPooled core pair.0 abandoned
+  pub is_owned : IsOwned core pair.1 owned
+  pub apart : AreDisjoint (pooled_summary abandoned).1 (occupied owned)
+
+pub IsCompatiblePair-seen : (core : CoreState) (seen : Groups) → IsPermutation (abandoned_entries core.pool) seen.abandoned → IsPermutation (owned_entries core.shards) seen.owned
+    → (pair : SpanId × SpanId) → any_compatible seen pair.0 pair.1 ≡ true → IsCompatiblePair core pair
+IsCompatiblePair-seen core seen abandoned owned pair compatible =
+    let left = any-which (λ x. same_span x.id pair.0 && list_any (λ y. same_span y.id pair.1 && are_compatible x y) seen.owned) seen.abandoned
+    (each-permuted (TellsPooled core.pool.groups) (abandoned_entries core.pool) seen.abandoned abandoned (tells_pooled core.pool.groups)) compatible in
+    let x = left.0 in
+    let parts = and_parts (same_span x.id pair.0) (list_any (λ y. same_span y.id pair.1 && are_compatible x y) seen.owned) left.1 in
+    let right = any-which (λ y. same_span y.id pair.1 && are_compatible x y) seen.owned
+    (each-permuted (TellsOwned core.shards) (owned_entries core.shards) seen.owned owned (tells_owned core.shards)) parts.1 in
+    let y = right.0 in
+    let both = and_parts (same_span y.id pair.1) (are_compatible x y) right.1 in
+    let (i, a, at_a, tells_a) = left.2 in
+    let (n, shard, at_shard, (j, b, at_b, tells_b)) = right.2 in
+    record {
+      abandoned = a;
+      owned = b;
+      is_abandoned = record { index = i; head_of = record { here = at_a; head_is = ap (λ (e : Entry). e.id) tells_a ∙ same_id_from_test x.id pair.0 parts.0 } };
+      is_owned = record { number = n; shard = shard; index = j; shard_is = at_shard; head_of = record { here = at_b; head_is = ap (λ (e : Entry). e.id) tells_b ∙ same_id_from_test y.id pair.1 both.0 } };
+      apart = subst (λ (e : Entry). AreDisjoint e.occupied (occupied b)) (sym tells_a) (subst (λ (e : Entry). AreDisjoint x.occupied e.occupied) (sym tells_b) (apart_from_test x y both.1));
+    }
+
+-- ids that stand once
+
+read_at : {X : Type 0} (xs : List X) (k : ℕ) (x : X) → slice_get xs k ≡ Some x → get_or xs k x ≡ x
+read_at [] k x here = absurd cc
+read_at (y ∷ ys) zero x here = same_some here
+read_at (y ∷ ys) (suc k) x here = read_at ys k x here
+
+map_at : {X Y : Type 0} (f : X → Y) (xs : List X) (k : ℕ) (x : X) → slice_get xs k ≡ Some x → slice_get (map f xs) k ≡ Some (f x)
+map_at f [] k x here = absurd cc
+map_at f (y ∷ ys) zero x here = ap (λ z. Some (f z)) (same_some here)
+map_at f (y ∷ ys) (suc k) x here = map_at f ys k x here
+
+default_at : {X : Type 0} (xs : List X) (k : ℕ) (x d : X) → slice_get xs k ≡ Some x → get_or xs k d ≡ x
+default_at [] k x d here = absurd cc
+default_at (y ∷ ys) zero x d here = same_some here
+default_at (y ∷ ys) (suc k) x d here = default_at ys k x d here
+
+pub once-IsDistinct : {X : Type 0} (f : X → SpanId) (xs : List X) → IsDistinct same_span (map f xs) → (i j : ℕ) (p q : X) → slice_get xs i ≡ Some p → slice_get xs j ≡ Some q → f p ≡ f q → i ≡ j
+once-IsDistinct f xs distinct i j p q at_i at_j same = by_order (cases_lt i j) (cases_lt j i)
+  where
+    never : (a b : ℕ) (x y : _) → slice_get xs a ≡ Some x → slice_get xs b ≡ Some y → f x ≡ f y → a < b → ⊥
+    never a b x y at_a at_b is below =
+        let apart : same_span (get_or (map f xs) a (f x)) (get_or (map f xs) b (f x)) ≡ false =
+        apart_from_distinct same_span (map f xs) a b (f x) distinct below (let inside = get_within xs b y at_b in omega (arith, length-map xs f)) in
+        let one : same_span (f x) (f y) ≡ true = test_from_same_id (f x) (f y) is in
+        let e : true ≡ false = sym one ∙ ap (λ id. same_span id (f y)) (sym (default_at (map f xs) a (f x) (f x) (map_at f xs a x at_a))) ∙ ap (same_span (get_or (map f xs) a (f x))) (sym (default_at (map f xs) b (f y) (f x) (map_at f xs b y at_b))) ∙ apart in
+        cc
+
+    by_order : (i < j) ⊎ (j ≤ i) → (j < i) ⊎ (i ≤ j) → i ≡ j
+    by_order (inl below) other = absurd (never i j p q at_i at_j same below)
+    by_order (inr past) (inl below) = absurd (never j i q p at_j at_i (sym same) below)
+    by_order (inr past) (inr low) = omega arith
+
+-- the plan that a mark opens
+
+compatible-sides_of : (seen : Groups) (a b : SpanId) → (sides_of seen).compatible a b ≡ any_compatible seen a b
+unfolding sides_of
+compatible-sides_of seen a b = refl
+
+pub IsUnderWay-marked : (old new : CoreState) (seen : Groups) (pairs : List (SpanId × SpanId)) → IsPermutation (abandoned_entries old.pool) seen.abandoned → IsPermutation (owned_entries old.shards) seen.owned → IsPlanOf seen pairs
+    → ((head : SpanId) (group : PooledState) → IsPooled old head group → IsPooled new head group)
+    → ((head : SpanId) (group : GroupState) → IsOwned old head group → (now : GroupState) × IsOwned new head now × (occupied now ≡ occupied group))
+    → IsUnderWay new (record { pairs = pairs; done = 0 })
+IsUnderWay-marked old new seen pairs abandoned owned plan pooled_still owned_still = record {
+  within = omega arith;
+  abandoned_once = once-IsDistinct (λ p. p.0) pairs plan.left.distinct;
+  owned_once = once-IsDistinct (λ p. p.1) pairs plan.right.distinct;
+  stands = λ k pair at. let waits = waits_at k pair at in (waits.owned, waits.is_owned);
+  carried_out = λ k pair below at. absurd (omega arith);
+  waiting = λ k pair past at. waits_at k pair at;
+}
+  where
+    waits_at : (k : ℕ) (pair : SpanId × SpanId) → slice_get pairs k ≡ Some pair → IsWaiting new pair
+    waits_at k pair at =
+        let inside = get_within pairs k pair at in
+        let compatible : any_compatible seen pair.0 pair.1 ≡ true = subst (λ (p : SpanId × SpanId). any_compatible seen p.0 p.1 ≡ true) (read_at pairs k pair at) (sym (compatible-sides_of seen (get_or pairs k pair).0 (get_or pairs k pair).1) ∙ plan.compatible k pair inside) in
+        let found = IsCompatiblePair-seen old seen abandoned owned pair compatible in
+        let (now, now_is, same) = owned_still pair.1 found.owned found.is_owned in
+        record {
+          abandoned = found.abandoned;
+          owned = now;
+          is_abandoned = pooled_still pair.0 found.abandoned found.is_abandoned;
+          is_owned = now_is;
+          apart = subst (AreDisjoint (pooled_summary found.abandoned).1) (sym same) found.apart;
+        }

@@ -1,0 +1,246 @@
+-- What each event does to the open plan.
+use Rattle.std.proofs.Common.{◌≡◌, ◌≢◌, ℕ, zero, suc, ◌+◌, ◌<◌, ◌≤◌, Bool, true, false, cond, eqb, ◌&&◌, ◌||◌, List, [], ◌∷◌, ◌++◌, ◌⊎◌, inl, inr, refl, sym, ap, subst, ◌∙◌, arith, Option, Some, None, set, slice_get, insert, length, eqb-true, is_some}
+use Rattle.std.specs.Prelude.{MatchOption}
+use Rattle.std.proofs.lemmas.Bool.{cases_eq, cases_lt}
+use Rattle.span.specs.declared.id.SpanId.{SpanId}
+use Rattle.span.specs.declared.key.Key.{Key}
+use Rattle.span.specs.Ids.{same_span}
+use Rattle.span.specs.Log.{Value as Word}
+use Rattle.span.specs.State.{SpanState}
+use Rattle.span.specs.PlainMap.{with_put as with_key, without}
+use Rattle.shard.specs.Calls.{Frees, Puts, new_group, was_freed}
+use Rattle.shard.specs.Group.{GroupState, IsSpanAt, spans_of, with_free, with_put, with_span}
+use Rattle.shard.specs.Moves.{IsHeadOf}
+use Rattle.shard.specs.State.{ShardState}
+use Rattle.shard.specs.Shown.{shown as shown_by}
+use Rattle.shard.specs.Sound.{IsSound as IsSoundShard}
+use Rattle.shard.specs.declared.shard.Freed.{Freed}
+use Rattle.shard.specs.declared.shard.Freed.TheVariants as freed
+use Rattle.shard.specs.declared.shard.Freed.TheVariants.{Yes}
+use Rattle.shard.proofs.Lists.{cases-insert, cases-set, same_some}
+use Rattle.abandoned.specs.Calls.{Adopts, Frees as FreesPooled, Receives}
+use Rattle.abandoned.specs.Shown.{shown as shown_by_pool}
+use Rattle.abandoned.specs.Sound.{IsSound as IsSoundPool}
+use Rattle.abandoned.specs.State.{PoolState}
+use Rattle.abandoned.proofs.HeadPlaces.{id_from_rank}
+use Rattle.arena_core.specs.Plan.{AreClosedAsPlanned, IsOwned, IsUnderWay, KeepsPlan, is_planned, plans_onto}
+use Rattle.arena_core.specs.Plain.{ErasedStep}
+use Rattle.arena_core.specs.Sound.{IsSound}
+use Rattle.arena_core.specs.State.{CoreState, OpenPlan, has_span, opened_by, opened_of, shown, with_pool, with_shard}
+use Rattle.arena_core.specs.Step.{CoreStep}
+use Rattle.arena_core.specs.declared.event.Event.{Event}
+use Rattle.arena_core.specs.declared.event.Event.TheVariants.{Put, Free, End, Adopt}
+use Rattle.arena_core.specs.declared.reply.Reply.{Reply}
+use Rattle.arena_core.specs.declared.reply.Reply.TheVariants as reply
+use Rattle.arena_core.proofs.Changes.{opened-somewhere}
+use Rattle.arena_core.proofs.Lists.{each-set}
+use Rattle.arena_core.proofs.PlanKept.{IsFewer-freed, IsUnderWay-kept, KeepsAllClosed, KeepsAllClosed-same, KeepsAllClosed-set, KeepsClosed, KeepsClosed-Frees, KeepsClosed-Puts, KeepsPooled, KeepsPooled-Frees, KeepsPooled-Receives, KeepsPooled-same, has_plan-Frees, has_plan-Receives, plans_onto-pair}
+use Rattle.arena_core.proofs.Moves.{IsStep-Adopts, IsStep-Receives}
+use Rattle.arena_core.proofs.Spans.{times-parts, times_in-found, times_in-le, times_pooled}
+use Rattle.arena_core.proofs.Steps.{IsStep, IsStep-Frees, IsStep-FreesPooled, IsStep-Puts, IsStep-dead, has_span-here, with_pool-same, with_shard-same}
+
+-- what the core keeps, its own step, and that of the plain map, if the plain map knows the event
+pub record IsSoundStep (old : CoreState) (event : Event) (answer : Reply) (new : CoreState) : Type 0 where
+  pub kept : IsSound new
+  pub exact : CoreStep old event answer new
+  pub plain : ErasedStep (shown old) event answer (shown new)
+
+with_plan_kept : (old : CoreState) (event : Event) (answer : Reply) (new : CoreState) → IsStep old event answer new → KeepsPlan new → IsSoundStep old event answer new
+with_plan_kept old event answer new step keeps = record { kept = record { groups = step.kept; plan = keeps }; exact = step.exact; plain = step.plain }
+
+abbrev pub AreAllClosedAsPlanned : Option OpenPlan → List ShardState → Type 0
+AreAllClosedAsPlanned plan shards = (number : ℕ) (shard : ShardState) → slice_get shards number ≡ Some shard → AreClosedAsPlanned plan shard.groups
+
+pub AreAllClosedAsPlanned-set : (plan : Option OpenPlan) (shards : List ShardState) (number : ℕ) (after : ShardState) → AreAllClosedAsPlanned plan shards → AreClosedAsPlanned plan after.groups → AreAllClosedAsPlanned plan (set shards number after)
+AreAllClosedAsPlanned-set plan shards number after all here = each-set (λ k shard. AreClosedAsPlanned plan shard.groups) shards number after here all
+
+-- the group of a pair's owned head is closed
+closed_if_planned : (core : CoreState) (plan : OpenPlan) → AreAllClosedAsPlanned (Some plan) core.shards
+    → (k : ℕ) (pair : SpanId × SpanId) → slice_get plan.pairs k ≡ Some pair → (group : GroupState) → IsOwned core pair.1 group → group.closed ≡ true
+closed_if_planned core plan all k pair at group is = all is.number is.shard is.shard_is is.index group is.head_of.here ∙ ap (plans_onto plan.pairs) is.head_of.head_is ∙ plans_onto-pair plan.pairs k pair at
+
+-- where the plan stays and the groups that it names stay, all that holds of it holds still
+pub KeepsPlan-kept : (old new : CoreState) → KeepsPlan old → new.plan ≡ old.plan → new.pool.has_plan ≡ old.pool.has_plan → KeepsPooled old.pool.groups new.pool.groups → KeepsAllClosed old.shards new.shards → AreAllClosedAsPlanned old.plan new.shards → KeepsPlan new
+KeepsPlan-kept old new keeps plan_is told pooled owned closed = record {
+  told = told ∙ keeps.told ∙ ap is_some (sym plan_is);
+  closed = subst (λ plan. AreAllClosedAsPlanned plan new.shards) (sym plan_is) closed;
+  under_way = subst (λ plan. MatchOption plan (Unit {0}) (IsUnderWay new)) (sym plan_is) (by_plan old.plan keeps.closed keeps.under_way);
+}
+  where
+    by_plan : (plan : Option OpenPlan) → AreAllClosedAsPlanned plan old.shards → MatchOption plan (Unit {0}) (IsUnderWay old) → MatchOption plan (Unit {0}) (IsUnderWay new)
+    by_plan None all under = tt
+    by_plan (Some plan) all under = IsUnderWay-kept old new pooled owned plan (closed_if_planned old plan all) under
+
+-- without a plan, no group is closed
+pub KeepsPlan-none : (new : CoreState) → new.plan ≡ None → new.pool.has_plan ≡ false → AreAllClosedAsPlanned None new.shards → KeepsPlan new
+KeepsPlan-none new plan_is told closed = record {
+  told = told ∙ ap is_some (sym plan_is);
+  closed = subst (λ plan. AreAllClosedAsPlanned plan new.shards) (sym plan_is) closed;
+  under_way = subst (λ plan. MatchOption plan (Unit {0}) (IsUnderWay new)) (sym plan_is) tt;
+}
+
+-- a span that no plan knows
+
+same_id : (a b : SpanId) → same_span a b ≡ true → a ≡ b
+same_id a b e =
+    let parts : (eqb a.shard b.shard ≡ true) × (eqb a.serial b.serial ≡ true) = both_of _ _ e in
+    id_from_rank a b (omega (arith, eqb-true a.shard b.shard parts.0, eqb-true a.serial b.serial parts.1))
+  where
+    both_of : (x y : Bool) → (x && y) ≡ true → (x ≡ true) × (y ≡ true)
+    both_of true true e = (refl, refl)
+    both_of true false e = absurd cc
+    both_of false y e = absurd cc
+
+plans_onto-none : (pairs : List (SpanId × SpanId)) (id : SpanId) → ((k : ℕ) (pair : SpanId × SpanId) → slice_get pairs k ≡ Some pair → pair.1 ≡ id → ⊥) → plans_onto pairs id ≡ false
+plans_onto-none [] id never = refl
+plans_onto-none (pair ∷ pairs) id never = by_test (same_span pair.1 id) refl (plans_onto-none pairs id (λ k other at. never (suc k) other at))
+  where
+    by_test : (b : Bool) → same_span pair.1 id ≡ b → plans_onto pairs id ≡ false → (b || plans_onto pairs id) ≡ false
+    by_test true e rest = absurd (never 0 pair refl (same_id pair.1 id e))
+    by_test false e rest = rest
+
+-- an owned group's span was opened
+opened-IsOwned : (core : CoreState) → IsSound core → (head : SpanId) (group : GroupState) → IsOwned core head group → head.serial < opened_by core.shards head.shard
+opened-IsOwned core sound head group is =
+    let has = has_span-here is.shard head is.index 0 group group.head (sound.groups.shards is.number is.shard is.shard_is).sound (record { group_is = is.head_of.here; span_is = refl; id_is = is.head_of.head_is }) in
+    opened-somewhere core sound.groups head (omega (arith, times_in-found head is.shard has, times_in-le head core.shards is.number is.shard is.shard_is, times-parts head core))
+
+unplanned-next : (core : CoreState) → IsSound core → (id : SpanId) → opened_by core.shards id.shard ≤ id.serial → is_planned core.plan id ≡ false
+unplanned-next core sound id past = by_plan core.plan refl sound.plan.under_way
+  where
+    by_plan : (plan : Option OpenPlan) → core.plan ≡ plan → MatchOption plan (Unit {0}) (IsUnderWay core) → is_planned plan id ≡ false
+    by_plan None e under = refl
+    by_plan (Some plan) e under = plans_onto-none plan.pairs id (λ k pair at same.
+        let (group, is) = under.stands k pair at in
+        let opened = opened-IsOwned core sound pair.1 group is in
+        let here : id.serial < opened_by core.shards id.shard = subst (λ (i : SpanId). i.serial < opened_by core.shards i.shard) same opened in
+        omega arith)
+
+-- puts
+
+AreClosedAsPlanned-Puts : (plan : Option OpenPlan) (before after : ShardState) (value : Word) (key : Key) (at : ℕ) → Puts before value key at after → (before.opened ≤ key.span.serial → key.span.shard ≡ before.number → is_planned plan key.span ≡ false)
+    → AreClosedAsPlanned plan before.groups → AreClosedAsPlanned plan after.groups
+AreClosedAsPlanned-Puts plan before after value key at (running, inl (index, group, room, span_is, generation_is, at_is, after_is)) fresh all other now here =
+    elim (cases-set before.groups index (record group { head = with_put group.head key.slot value }) other now (ap (λ gs. slice_get gs other) (sym (ap (λ (s : ShardState). s.groups) after_is)) ∙ here)) [
+      | inl new ↦ subst (λ (g : GroupState). g.closed ≡ is_planned plan g.head.id) new.1 (all index group room.here)
+      | inr old ↦ all other now old.1
+    ]
+AreClosedAsPlanned-Puts plan before after value key at (running, inr (full, pages, spans, (shard_is, serial_is, slot_is, generation_is, at_is, (page, index, new_page, place, after_is)))) fresh all other now here =
+    elim (cases-insert before.groups index (new_group key.span before.gens page value) place.within other now (ap (λ (s : ShardState). slice_get s.groups other) (sym after_is) ∙ here)) [
+      | inl low ↦ all other now low.1
+      | inr (inl new) ↦ subst (λ (g : GroupState). g.closed ≡ is_planned plan g.head.id) new.1 (sym (fresh (omega (arith, serial_is)) shard_is))
+      | inr (inr high) ↦ all high.0 now high.3
+    ]
+
+pub KeepsPlan-Puts : (old : CoreState) → IsSound old → (number : ℕ) (value : Word) (key : Key) (at : ℕ) (before after : ShardState) → slice_get old.shards number ≡ Some before → Puts before value key at after → KeepsPlan (with_shard old number after)
+KeepsPlan-Puts old sound number value key at before after here puts =
+    KeepsPlan-kept old (with_shard old number after) sound.plan refl refl (KeepsPooled-same old.pool.groups) (KeepsAllClosed-set old.shards number before after here (KeepsClosed-Puts before after value key at puts))
+    (AreAllClosedAsPlanned-set old.plan old.shards number after sound.plan.closed (AreClosedAsPlanned-Puts old.plan before after value key at puts fresh (sound.plan.closed number before here)))
+  where
+    fresh : before.opened ≤ key.span.serial → key.span.shard ≡ before.number → is_planned old.plan key.span ≡ false
+    fresh past shard_is =
+        let opened : opened_by old.shards key.span.shard ≡ before.opened = ap (opened_by old.shards) (shard_is ∙ (sound.groups.shards number before here).number_is) ∙ ap opened_of here in
+        unplanned-next old sound key.span (omega arith)
+
+-- frees
+
+AreClosedAsPlanned-Frees : (plan : Option OpenPlan) (before after : ShardState) (key : Key) (at : ℕ) → Frees before key (Yes at) after → AreClosedAsPlanned plan before.groups → AreClosedAsPlanned plan after.groups
+AreClosedAsPlanned-Frees plan before after key at (index, place, group, span, here, holds, at_is, after_is) all other now there =
+    elim (cases-set before.groups index (with_span group place (with_free span key)) other now (ap (λ gs. slice_get gs other) (sym (ap (λ (s : ShardState). s.groups) after_is)) ∙ there)) [
+      | inl new ↦ let fewer = IsFewer-freed group place span key here.span_is in
+          subst (λ (g : GroupState). g.closed ≡ is_planned plan g.head.id) new.1 (fewer.closed_is ∙ all index group here.group_is ∙ ap (is_planned plan) (sym fewer.head_is))
+      | inr old ↦ all other now old.1
+    ]
+
+pub KeepsPlan-Frees : (old : CoreState) → IsSound old → (number : ℕ) (key : Key) (at : ℕ) (before after : ShardState) → slice_get old.shards number ≡ Some before → Frees before key (Yes at) after → KeepsPlan (with_shard old number after)
+KeepsPlan-Frees old sound number key at before after here frees =
+    KeepsPlan-kept old (with_shard old number after) sound.plan refl refl (KeepsPooled-same old.pool.groups) (KeepsAllClosed-set old.shards number before after here (KeepsClosed-Frees before after key at frees))
+    (AreAllClosedAsPlanned-set old.plan old.shards number after sound.plan.closed (AreClosedAsPlanned-Frees old.plan before after key at frees (sound.plan.closed number before here)))
+
+pub KeepsPlan-FreesPooled : (old : CoreState) → IsSound old → (key : Key) (at : ℕ) (pool : PoolState) → FreesPooled old.pool key (Yes at) pool → KeepsPlan (with_pool old pool)
+KeepsPlan-FreesPooled old sound key at pool frees =
+    KeepsPlan-kept old (with_pool old pool) sound.plan refl (has_plan-Frees old.pool pool key at sound.groups.pool frees) (KeepsPooled-Frees old.pool pool key at sound.groups.pool frees) (KeepsAllClosed-same old.shards) sound.plan.closed
+
+-- ends
+
+pub KeepsPlan-Receives : (old : CoreState) → IsSound old → (number : ℕ) (before after : ShardState) (pool : PoolState) → slice_get old.shards number ≡ Some before → ((index : ℕ) (group : GroupState) → slice_get before.groups index ≡ Some group → group.closed ≡ false)
+    → Receives old.pool before pool after → KeepsPlan (with_pool (with_shard old number after) pool)
+KeepsPlan-Receives old sound number before after pool here unclosed receives =
+    KeepsPlan-kept old (with_pool (with_shard old number after) pool) sound.plan refl (has_plan-Receives old.pool pool before after receives) (KeepsPooled-Receives old.pool pool before after receives)
+    (KeepsAllClosed-set old.shards number before after here (λ index group at closed. absurd (let both : true ≡ false = sym closed ∙ unclosed index group at in cc)))
+    (AreAllClosedAsPlanned-set old.plan old.shards number after sound.plan.closed (λ index group at. absurd (let none : slice_get [] index ≡ Some group = ap (λ (s : ShardState). slice_get s.groups index) (sym receives.after) ∙ at in by_nil index none)))
+  where
+    by_nil : {X : Type 0} {x : X} (index : ℕ) → slice_get [] index ≡ Some x → ⊥
+    by_nil zero e = cc
+    by_nil (suc index) e = cc
+
+-- adoptions
+
+pub KeepsPlan-Adopts : (old : CoreState) → IsSound old → old.plan ≡ None → (number : ℕ) (head : SpanId) (before after : ShardState) (pool : PoolState) → slice_get old.shards number ≡ Some before → Adopts old.pool before head pool after → KeepsPlan (with_pool (with_shard old number after) pool)
+KeepsPlan-Adopts old sound no_plan number head before after pool here adopts =
+    KeepsPlan-none (with_pool (with_shard old number after) pool) no_plan told (AreAllClosedAsPlanned-set None old.shards number after all adopted)
+  where
+    told : pool.has_plan ≡ false
+    told = let (index, group, head_of, whole_is, after_is) = adopts.lifts in ap (λ (p : PoolState). p.has_plan) after_is ∙ sound.plan.told ∙ ap is_some no_plan
+
+    all : AreAllClosedAsPlanned None old.shards
+    all = subst (λ plan. AreAllClosedAsPlanned plan old.shards) no_plan sound.plan.closed
+
+    adopted : AreClosedAsPlanned None after.groups
+    adopted index group at =
+        elim (cases-insert before.groups adopts.takes_in.index _ adopts.takes_in.place.within index group (ap (λ (s : ShardState). slice_get s.groups index) (sym adopts.takes_in.after) ∙ at)) [
+          | inl low ↦ all number before here index group low.1
+          | inr (inl new) ↦ ap (λ (g : GroupState). g.closed) (sym new.1)
+          | inr (inr high) ↦ all number before here high.0 group high.3
+        ]
+
+-- the steps, with the plan
+
+pub IsSoundStep-Puts : (old : CoreState) (number : ℕ) (value : Word) (key : Key) (at : ℕ) (before after : ShardState) → IsSound old → slice_get old.shards number ≡ Some before → Puts before value key at after
+    → (shown_by before).is_issued key ≡ false → shown_by after ≡ with_key (shown_by before) key value → IsSoundShard after
+    → IsSoundStep old (Put number value) (reply.Issued key) (with_shard old number after)
+IsSoundStep-Puts old number value key at before after sound here puts fresh plain sound_after =
+    with_plan_kept old (Put number value) (reply.Issued key) (with_shard old number after) (IsStep-Puts old number value key at before after sound.groups here puts fresh plain sound_after) (KeepsPlan-Puts old sound number value key at before after here puts)
+
+-- a key that is not live is not freed
+pub IsSoundStep-dead : (old : CoreState) (key : Key) → IsSound old → (shown old).value_of key ≡ None → IsSoundStep old (Free key) (reply.Freed false) old
+IsSoundStep-dead old key sound none = with_plan_kept old (Free key) (reply.Freed false) old (IsStep-dead old key sound.groups none) sound.plan
+
+pub IsSoundStep-Frees : (old : CoreState) (key : Key) (number : ℕ) (before after : ShardState) (answer : Freed) → IsSound old → slice_get old.shards number ≡ Some before → has_span key.span before ≡ true → Frees before key answer after
+    → was_freed answer ≡ is_some ((shown_by before).value_of key) → shown_by after ≡ cond (was_freed answer) (without (shown_by before) key) (shown_by before) → IsSoundShard after
+    → IsSoundStep old (Free key) (reply.Freed (was_freed answer)) (with_shard old number after)
+IsSoundStep-Frees old key number before after answer sound here has frees found plain sound_after =
+    with_plan_kept old (Free key) (reply.Freed (was_freed answer)) (with_shard old number after) (IsStep-Frees old key number before after answer sound.groups here has frees found plain sound_after) (by_answer answer frees)
+  where
+    same : after ≡ before → KeepsPlan (with_shard old number after)
+    same is = subst KeepsPlan (sym (with_shard-same old number before after here is)) sound.plan
+
+    by_answer : (a : Freed) → Frees before key a after → KeepsPlan (with_shard old number after)
+    by_answer (freed.Yes at) f = KeepsPlan-Frees old sound number key at before after here f
+    by_answer (freed.No at) (index, place, group, span, there, dead, at_is, is) = same is
+    by_answer freed.NotHere (elsewhere, is) = same is
+
+pub IsSoundStep-FreesPooled : (old : CoreState) (key : Key) (pool : PoolState) (answer : Freed) → IsSound old → 1 ≤ times_pooled key.span old.pool → FreesPooled old.pool key answer pool
+    → was_freed answer ≡ is_some ((shown_by_pool old.pool).value_of key) → shown_by_pool pool ≡ cond (was_freed answer) (without (shown_by_pool old.pool) key) (shown_by_pool old.pool) → IsSoundPool pool
+    → IsSoundStep old (Free key) (reply.Freed (was_freed answer)) (with_pool old pool)
+IsSoundStep-FreesPooled old key pool answer sound some frees found plain sound_pool =
+    with_plan_kept old (Free key) (reply.Freed (was_freed answer)) (with_pool old pool) (IsStep-FreesPooled old key pool answer sound.groups some frees found plain sound_pool) (by_answer answer frees)
+  where
+    same : pool ≡ old.pool → KeepsPlan (with_pool old pool)
+    same is = subst KeepsPlan (sym (with_pool-same old pool is)) sound.plan
+
+    by_answer : (a : Freed) → FreesPooled old.pool key a pool → KeepsPlan (with_pool old pool)
+    by_answer (freed.Yes at) f = KeepsPlan-FreesPooled old sound key at pool f
+    by_answer (freed.No at) (index, place, group, span, there, dead, at_is, is) = same is
+    by_answer freed.NotHere (elsewhere, is) = same is
+
+pub IsSoundStep-Receives : (old : CoreState) (number : ℕ) (before after : ShardState) (pool : PoolState) → IsSound old → slice_get old.shards number ≡ Some before → ((index : ℕ) (group : GroupState) → slice_get before.groups index ≡ Some group → group.closed ≡ false)
+    → Receives old.pool before pool after → IsSoundShard after → IsSoundPool pool
+    → IsSoundStep old (End number) reply.ShardEnded (with_pool (with_shard old number after) pool)
+IsSoundStep-Receives old number before after pool sound here unclosed receives sound_after sound_pool =
+    with_plan_kept old (End number) reply.ShardEnded (with_pool (with_shard old number after) pool) (IsStep-Receives old number before after pool sound.groups here receives sound_after sound_pool) (KeepsPlan-Receives old sound number before after pool here unclosed receives)
+
+pub IsSoundStep-Adopts : (old : CoreState) (number : ℕ) (head : SpanId) (before after : ShardState) (pool : PoolState) → IsSound old → old.plan ≡ None → slice_get old.shards number ≡ Some before → before.ended ≡ false → Adopts old.pool before head pool after → IsSoundShard after → IsSoundPool pool
+    → IsSoundStep old (Adopt number) (reply.Adopted head) (with_pool (with_shard old number after) pool)
+IsSoundStep-Adopts old number head before after pool sound no_plan here running adopts sound_after sound_pool =
+    with_plan_kept old (Adopt number) (reply.Adopted head) (with_pool (with_shard old number after) pool) (IsStep-Adopts old number head before after pool sound.groups here running adopts sound_after sound_pool) (KeepsPlan-Adopts old sound no_plan number head before after pool here adopts)

@@ -1,0 +1,186 @@
+-- The next pair of the open plan is carried out: it is neither absent nor a clash.
+use Rattle.std.proofs.Common.{◌≡◌, ◌≢◌, ℕ, zero, suc, ◌+◌, ◌<◌, ◌≤◌, true, false, List, [], ◌∷◌, ◌++◌, ◌⊎◌, inl, inr, refl, sym, ap, subst, ◌∙◌, arith, Option, Some, None, set, slice_get, length, is_some, Bool}
+use Rattle.std.specs.Prelude.{MatchOption, remove, sum_by}
+use Rattle.std.proofs.lemmas.List.Sums.{sum_by-append, sum_by-cons}
+use Rattle.bitmap.specs.Slots.{SlotSet, AreDisjoint}
+use Rattle.bitmap.specs.Operations.{AreDisjoint-at, AreDisjoint-by_slot}
+use Rattle.span.specs.declared.id.SpanId.{SpanId}
+use Rattle.span.specs.State.{SpanState}
+use Rattle.shard.specs.Group.{GroupState, occupied, spans_of, union_of}
+use Rattle.shard.specs.Moves.{IsHeadOf, WholeState, spans_moved, with_guests}
+use Rattle.shard.specs.Sound.{IsSound as IsSoundShard}
+use Rattle.shard.specs.State.{ShardState}
+use Rattle.shard.proofs.HeadsHere.{same_group}
+use Rattle.shard.proofs.Lists.{same_some}
+use Rattle.abandoned.specs.Sound.{IsSound as IsSoundPool}
+use Rattle.abandoned.specs.State.{IsHeadOf as IsPooledHeadOf, PoolState, PooledState, spans_of as pooled_spans_of}
+use Rattle.abandoned.proofs.Adopted.{one_head}
+use Rattle.fold.specs.Folds as fold
+use Rattle.fold.specs.Folds.{Folds, Steps}
+use Rattle.fold.specs.declared.step.Step.{Step as Outcome}
+use Rattle.fold.specs.declared.step.Step.TheVariants.{Absent, Emptied, Clash, Folded}
+use Rattle.arena_core.specs.Plan.{IsEmptied, IsNext, IsUnderWay, IsWaiting, KeepsPlan, with_next_done}
+use Rattle.arena_core.specs.Sound.{IsSound}
+use Rattle.arena_core.specs.State.{CoreState, OpenPlan, has_span, shard_with, shown, with_plan, with_pool, with_shard}
+use Rattle.arena_core.specs.Step.{CoreStep, TakesNext}
+use Rattle.arena_core.specs.declared.event.Event.TheVariants.{Step}
+use Rattle.arena_core.specs.declared.reply.Reply.TheVariants.{Stepped}
+use Rattle.arena_core.proofs.Changes.{HasSoundGroups-moved, at_most_once, sum_all-moved}
+use Rattle.arena_core.proofs.Groups.{IsMove}
+use Rattle.arena_core.proofs.Lists.{flat-remove, flat-set}
+use Rattle.arena_core.proofs.Logged.{shown-same}
+use Rattle.arena_core.proofs.PlanFolds.{AreAllClosedAsPlanned-folded, IsFold, IsUnderWay-folded, IsUnderWay-passed}
+use Rattle.arena_core.proofs.PlanSteps.{AreAllClosedAsPlanned, IsSoundStep}
+use Rattle.arena_core.proofs.Spans.{shard_with-here, sum_in, sum_pooled, times-parts, times_owned}
+use Rattle.arena_core.proofs.Steps.{has_span-here, not_doubled_in, with_pool-same, with_shard-same}
+
+-- a fold as a move of spans from the pool to the shard
+
+moved_in : (w : SpanState → ℕ) (group : GroupState) (moved : List SpanState) → sum_by w (spans_of (with_guests group moved)) ≡ sum_by w (spans_of group) + sum_by w moved
+moved_in w group moved = omega (arith, sum_by-cons w group.head (group.guests ++ moved), sum_by-cons w group.head group.guests, sum_by-append w group.guests moved)
+
+pub IsMove-Folds : (pool_before pool_after : PoolState) (before after : ShardState) (a b : SpanId) → before.ended ≡ false → Folds pool_before before a b pool_after after → IsMove before after pool_before pool_after
+IsMove-Folds pool_before pool_after before after a b running folds = record {
+  number_is = ap (λ (s : ShardState). s.number) folds.grafts.after;
+  page_limit_is = ap (λ (s : ShardState). s.page_limit) folds.grafts.after;
+  gens_is = ap (λ (s : ShardState). s.gens) folds.grafts.after;
+  opened_is = ap (λ (s : ShardState). s.opened) folds.grafts.after;
+  running = running;
+  sums = λ w. omega (arith, came w, left w);
+  more = λ still w. omega (arith, came w);
+}
+  where
+    came : (w : SpanState → ℕ) → sum_in w after ≡ sum_in w before + sum_by w (spans_moved folds.whole)
+    came w =
+        omega (
+          arith,
+          ap (λ (s : ShardState). sum_in w s) folds.grafts.after,
+          flat-set w spans_of before.groups folds.grafts.index folds.grafts.group (with_guests folds.grafts.group (spans_moved folds.whole)) folds.grafts.here.here,
+          moved_in w folds.grafts.group (spans_moved folds.whole),
+        )
+
+    left : (w : SpanState → ℕ) → sum_pooled w pool_after + sum_by w (spans_moved folds.whole) ≡ sum_pooled w pool_before
+    left w =
+        let (index, group, here, whole_is, after_is) = folds.lifts in
+        omega (arith, ap (λ (p : PoolState). sum_pooled w p) after_is, flat-remove w pooled_spans_of pool_before.groups index group here.here, ap (λ (m : WholeState). sum_by w (spans_moved m)) whole_is)
+
+IsFold-Folds : (old : CoreState) (pair : SpanId × SpanId) (number : ℕ) (before after : ShardState) (pool : PoolState) → slice_get old.shards number ≡ Some before → Folds old.pool before pair.0 pair.1 pool after → IsFold old pair number after pool
+IsFold-Folds old pair number before after pool here folds =
+    let (index, group, head_of, whole_is, after_is) = folds.lifts in
+    record {
+      before = before;
+      from = index;
+      abandoned = group;
+      at = folds.grafts.index;
+      owned = folds.grafts.group;
+      head = folds.whole.head;
+      guests = folds.whole.guests;
+      here = here;
+      is_abandoned = head_of;
+      is_owned = record { here = folds.grafts.here.here; head_is = folds.grafts.here.head_is };
+      head_is = ap (λ (m : WholeState). m.head.id) whole_is ∙ head_of.head_is;
+      pool_is = ap (λ (p : PoolState). p.groups) after_is;
+      shard_is = ap (λ (s : ShardState). s.groups) folds.grafts.after;
+    }
+
+disjoint_swap : (a b : SlotSet) → AreDisjoint a b → AreDisjoint b a
+disjoint_swap a b apart = AreDisjoint-by_slot b a (λ q in_b in_a. AreDisjoint-at a b apart q in_a in_b)
+
+-- the next pair
+module _ (old : CoreState) (sound : IsSound old) (plan : OpenPlan) (pair : SpanId × SpanId) (next : IsNext old plan pair) where
+  pub under_way : IsUnderWay old plan
+  under_way = subst (λ p. MatchOption p (Unit {0}) (IsUnderWay old)) next.plan_is sound.plan.under_way
+
+  pub waits : IsWaiting old pair
+  waits = under_way.waiting plan.done pair (omega arith) next.pair_is
+
+  module _ (number : ℕ) (before : ShardState) (here : slice_get old.shards number ≡ Some before) (has : has_span pair.1 before ≡ true) where
+    owned_once_at_most : times_owned pair.1 old.shards ≤ 1
+    owned_once_at_most = omega (arith, times-parts pair.1 old, at_most_once old sound.groups pair.1)
+
+    -- the shard that has the owned head is that of its group
+    same_shard : waits.is_owned.shard ≡ before
+    same_shard =
+        let there = waits.is_owned in
+        let fine = sound.groups.shards there.number there.shard there.shard_is in
+        let has_there = has_span-here there.shard pair.1 there.index 0 waits.owned waits.owned.head fine.sound (record { group_is = there.head_of.here; span_is = refl; id_is = there.head_of.head_is }) in
+        same_some (sym (shard_with-here pair.1 old.shards there.number there.shard there.shard_is has_there owned_once_at_most) ∙ shard_with-here pair.1 old.shards number before here has owned_once_at_most)
+
+    owned_here : IsHeadOf before.groups pair.1 waits.is_owned.index waits.owned
+    owned_here = subst (λ (s : ShardState). IsHeadOf s.groups pair.1 waits.is_owned.index waits.owned) same_shard waits.is_owned.head_of
+
+    sound_before : IsSoundShard before
+    sound_before = (sound.groups.shards number before here).sound
+
+    running : before.ended ≡ false
+    running = by_end before.ended refl
+      where
+        nothing : (index : ℕ) → slice_get [] index ≡ Some waits.owned → ⊥
+        nothing zero e = cc
+        nothing (suc index) e = cc
+
+        by_end : (b : Bool) → before.ended ≡ b → b ≡ false
+        by_end true e = absurd (nothing waits.is_owned.index (ap (λ gs. slice_get gs waits.is_owned.index) (sym (sound_before.none_left e)) ∙ owned_here.here))
+        by_end false e = refl
+
+    present : fold.IsAbsent old.pool before pair.0 pair.1 → ⊥
+    present (inl none) = none waits.is_abandoned.index waits.abandoned waits.is_abandoned.head_of
+    present (inr (inl none)) = none waits.is_owned.index waits.owned owned_here
+    present (inr (inr (index, group, head_of, doubled))) = not_doubled_in old sound.groups number before here running index group head_of.here doubled
+
+    no_clash : fold.AreClashing old.pool before pair.0 pair.1 → ⊥
+    no_clash (index, place, group, onto, head_a, head_b, clash) =
+        let one_a : waits.abandoned ≡ group = one_head old.pool sound.groups.pool waits.is_abandoned.index index waits.abandoned group waits.is_abandoned.head_of.here head_a.here (waits.is_abandoned.head_of.head_is ∙ sym head_a.head_is) in
+        let one_b : waits.owned ≡ onto = same_group before.groups sound_before.ascending pair.1 waits.is_owned.index place waits.owned onto owned_here head_b in
+        clash (subst (λ (g : GroupState). AreDisjoint (occupied g) (union_of (pooled_spans_of group))) one_b
+        (subst (λ (g : PooledState). AreDisjoint (occupied waits.owned) (union_of (pooled_spans_of g))) one_a
+        (disjoint_swap (union_of (pooled_spans_of waits.abandoned)) (occupied waits.owned) waits.apart)))
+
+    folded : (after : ShardState) (pool : PoolState) → Folds old.pool before pair.0 pair.1 pool after → pool.has_plan ≡ old.pool.has_plan → IsSoundShard after → IsSoundPool pool
+        → IsSoundStep old Step (Stepped pair.0 pair.1 Folded) (with_plan (with_pool (with_shard old number after) pool) (Some (with_next_done plan)))
+    folded after pool folds told sound_after sound_pool =
+        let new = with_plan (with_pool (with_shard old number after) pool) (Some (with_next_done plan)) in
+        let move = IsMove-Folds old.pool pool before after pair.0 pair.1 running folds in
+        let groups = HasSoundGroups-moved old sound.groups number before after pool here move sound_after sound_pool in
+        let fold = IsFold-Folds old pair number before after pool here folds in
+        record {
+          kept = record {
+            groups = record { within = groups.within; count = groups.count; shards = groups.shards; pool = groups.pool; gens = groups.gens; once = groups.once };
+            plan = record {
+              told = told ∙ sound.plan.told ∙ ap is_some next.plan_is;
+              closed = AreAllClosedAsPlanned-folded old plan pair number after pool fold under_way next.pair_is (subst (λ p. AreAllClosedAsPlanned p old.shards) next.plan_is sound.plan.closed);
+              under_way = IsUnderWay-folded old plan pair number after pool fold under_way next.pair_is;
+            };
+          };
+          exact = record { plan = plan; number = number; before = before; after = after; pool = pool; next = next; here = here; folds = folds; rest = refl };
+          plain = shown-same old (with_pool (with_shard old number after) pool) sound.groups groups (sum_all-moved old sound.groups number before after pool here move);
+        }
+
+    both_same : (after : ShardState) (pool : PoolState) → pool ≡ old.pool → after ≡ before → with_pool (with_shard old number after) pool ≡ old
+    both_same after pool pool_is shard_is = ap (λ p. with_pool (with_shard old number after) p) pool_is ∙ with_shard-same old number before after here shard_is
+
+    emptied : IsEmptied old pair → IsSoundStep old Step (Stepped pair.0 pair.1 Emptied) (with_plan old (Some (with_next_done plan)))
+    emptied empty = record {
+      kept = record {
+        groups = record { within = sound.groups.within; count = sound.groups.count; shards = sound.groups.shards; pool = sound.groups.pool; gens = sound.groups.gens; once = sound.groups.once };
+        plan = record {
+          told = sound.plan.told ∙ ap is_some next.plan_is;
+          closed = subst (λ p. AreAllClosedAsPlanned p old.shards) next.plan_is sound.plan.closed;
+          under_way = IsUnderWay-passed old plan under_way pair next.pair_is empty;
+        };
+      };
+      exact = record { plan = plan; next = next; emptied = empty; rest = refl };
+      plain = refl;
+    }
+
+    -- whatever the fold came to, the step is sound
+    pub IsSoundStep-Steps : (step : Outcome) (after : ShardState) (pool : PoolState) → Steps old.pool before pair.0 pair.1 step pool after → IsSoundShard after → IsSoundPool pool
+        → IsSoundStep old Step (Stepped pair.0 pair.1 step) (with_plan (with_pool (with_shard old number after) pool) (Some (with_next_done plan)))
+    IsSoundStep-Steps Absent after pool steps sound_after sound_pool = absurd (present steps.0)
+    IsSoundStep-Steps Emptied after pool ((still, (index, group, head_of, none)), pool_is, shard_is) sound_after sound_pool =
+        subst (λ c. IsSoundStep old Step (Stepped pair.0 pair.1 Emptied) (with_plan c (Some (with_next_done plan)))) (sym (both_same after pool pool_is shard_is))
+        (emptied (record { abandoned = group; is_abandoned = record { index = index; head_of = head_of }; no_page = none }))
+    IsSoundStep-Steps Clash after pool ((still, paged, clash), pool_is, shard_is) sound_after sound_pool = absurd (no_clash clash)
+    IsSoundStep-Steps Folded after pool (may, folds) sound_after sound_pool =
+        let (index, group, head_of, whole_is, after_is) = folds.lifts in
+        folded after pool folds (ap (λ (p : PoolState). p.has_plan) after_is) sound_after sound_pool

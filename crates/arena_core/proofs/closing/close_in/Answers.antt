@@ -1,0 +1,19 @@
+use Rattle.std.proofs.Common.{◌∙◌, ◌++◌, ◌∷◌, [], List, ap, subst, sym, take}
+use Rattle.std.proofs.lemmas.List.{take_more}
+use Rattle.span.specs.declared.id.SpanId.{SpanId}
+use Rattle.shard.specs.Closes.{Closes}
+use Rattle.shard.specs.State.{ShardState}
+use Rattle.arena_core.specs.Closings.{closed_onto}
+use Rattle.arena_core.proofs.Closings.{closed_onto-more, closed_onto-none}
+use Rattle.arena_core.proofs.closing.close_in.Goals as goal
+
+pub loop-pair-init : goal.loop-pair-init
+loop-pair-init c = closed_onto-none c.args.shard.now c.requires
+
+pub loop-pair-preserved : goal.loop-pair-preserved
+loop-pair-preserved c =
+    let done = take c.loop-pair.pair-index c.args.pairs.now in
+    closed_onto-more c.args.shard.now done c.pair-item.result c.close.result c.close.new.self c.close.ensures.sound.ascending
+    (subst (λ (shard : ShardState). Closes shard c.pair-item.result.1 c.close.result c.close.new.self) c.loop-pair.invariant c.close.ensures.closes)
+    ∙ ap (λ (pairs : List (SpanId × SpanId)). closed_onto pairs c.args.shard.now)
+    (ap (λ pair. done ++ pair ∷ []) c.pair-item.is ∙ sym (take_more c.args.pairs.now c.loop-pair.pair-index c.pair-item.result c.loop-pair-test.true))

@@ -1,0 +1,31 @@
+use Rattle.std.proofs.Common.{◌≡◌, ap, length, map, refl, subst, sym, ◌∙◌}
+use Rattle.std.proofs.lemmas.List.{length-map, with_items_is}
+use Rattle.std.specs.Vec.{with_items}
+use Rattle.arena_core.specs.Closings.{reopened}
+use Rattle.arena_core.specs.Kept.{state_of}
+use Rattle.arena_core.specs.Sound.{IsSound}
+use Rattle.arena_core.specs.State.{shown}
+use Rattle.arena_core.specs.Step.{with_plan_closed}
+use Rattle.arena_core.specs.declared.machine.Core.TheInside.{Inside}
+use Rattle.arena_core.proofs.MarkSteps.{IsSound-closed, shown-closed, state_of-mapped}
+use Rattle.arena_core.proofs.machine.Core.close.Goals as goal
+
+-- the fields after the close
+abbrev fields : goal.After-end → Inside
+fields c = record c.self.inside { shards = with_items c.self.inside.shards c.reopen_all.new.shards; pool = c.plan_closed.new.self; plan = c.end.new.self }
+
+is_closed : (c : goal.After-end) → state_of (fields c) ≡ with_plan_closed (state_of c.self.inside)
+is_closed c =
+    state_of-mapped c.self.inside (fields c) reopened refl refl refl
+    (with_items_is c.self.inside.shards c.reopen_all.new.shards (ap length c.reopen_all.ensures ∙ length-map c.deref_mut.result.now reopened ∙ c.deref_mut.ensures.len)
+    ∙ c.reopen_all.ensures ∙ ap (map reopened) c.deref_mut.ensures.value)
+    ∙ (λ i. record (state_of c.self.inside) { shards = map reopened c.self.inside.shards.items; pool = c.plan_closed.ensures.closed i; plan = c.end.ensures i })
+
+pub invariant_of-self : goal.invariant_of-self
+invariant_of-self c = subst IsSound (sym (is_closed c)) (IsSound-closed (state_of c.self.inside) c.self.invariant)
+
+pub returns-clause-same : goal.returns-clause-same
+returns-clause-same c = ap shown (is_closed c) ∙ shown-closed (state_of c.self.inside) c.self.invariant ∙ ap shown c.self.view_is
+
+pub returns-clause-sound : goal.returns-clause-sound
+returns-clause-sound c = invariant_of-self c

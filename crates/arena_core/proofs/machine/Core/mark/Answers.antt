@@ -1,0 +1,47 @@
+use Rattle.std.proofs.Common.{◌≡◌, Some, ap, length, map, subst, sym, ◌∙◌, refl}
+use Rattle.std.proofs.lemmas.List.{length-map, with_items_is}
+use Rattle.std.specs.Vec.{with_items}
+use Rattle.arena_core.specs.Closings.{AreOpen, closed_onto}
+use Rattle.arena_core.specs.Kept.{state_of}
+use Rattle.arena_core.specs.Marks.{AreDistinct, IsLargest}
+use Rattle.arena_core.specs.Sound.{IsSound}
+use Rattle.arena_core.specs.State.{shown}
+use Rattle.arena_core.specs.declared.machine.Core.TheInside.{Inside}
+use Rattle.arena_core.proofs.MarkSteps.{AreOpen-none, IsSound-marked, marked, shown-marked, state_of-mapped}
+use Rattle.arena_core.proofs.Marks.{AreDistinct-sound}
+use Rattle.arena_core.proofs.Steps.{none_from_is_some}
+use Rattle.arena_core.proofs.machine.Core.mark.Goals as goal
+
+pub largest_plan-requires-clause-distinct : goal.largest_plan-requires-clause-distinct
+largest_plan-requires-clause-distinct c = subst (AreDistinct c.self.inside.pool) (sym c.deref-2.ensures.value) (AreDistinct-sound (state_of c.self.inside) c.self.invariant)
+
+pub close_planned-requires : goal.close_planned-requires
+close_planned-requires c =
+    subst AreOpen (sym c.deref_mut.ensures.value) (AreOpen-none (state_of c.self.inside) c.self.invariant (none_from_is_some c.self.inside.plan (sym c.is_open.ensures ∙ c.if-is_open.false)))
+
+largest : (c : goal.After-begin) → IsLargest c.self.inside.pool c.self.inside.shards.items c.in-Ok.certificate
+largest c = subst (λ shards. IsLargest c.self.inside.pool shards c.in-Ok.certificate) c.deref-2.ensures.value (c.in-Ok.ensures {u = tt})
+
+-- the fields after the mark
+abbrev fields : goal.After-begin → Inside
+fields c = record c.self.inside { shards = with_items c.self.inside.shards c.close_planned.new.shards; pool = c.plan_opened.new.self; plan = c.begin.new.self }
+
+is_marked : (c : goal.After-begin) → state_of (fields c) ≡ marked (state_of c.self.inside) c.self.invariant c.in-Ok.certificate (largest c)
+is_marked c =
+    state_of-mapped c.self.inside (fields c) (closed_onto c.in-Ok.certificate.plan) refl refl refl
+    (with_items_is c.self.inside.shards c.close_planned.new.shards (ap length c.close_planned.ensures ∙ length-map c.deref_mut.result.now (closed_onto c.pairs-pairs.result.now) ∙ c.deref_mut.ensures.len)
+    ∙ c.close_planned.ensures ∙ ap (λ pairs. map (closed_onto pairs) c.deref_mut.result.now) c.pairs-pairs.ensures ∙ ap (map (closed_onto c.in-Ok.certificate.plan)) c.deref_mut.ensures.value)
+    ∙ (λ i. record (state_of c.self.inside) {
+      shards = map (closed_onto c.in-Ok.certificate.plan) c.self.inside.shards.items;
+      pool = c.plan_opened.ensures.opened i;
+      plan = (c.begin.ensures ∙ ap (λ pairs. Some (record { pairs = pairs; done = 0 })) c.pairs-pairs.ensures) i;
+    })
+
+pub invariant_of-self : goal.invariant_of-self
+invariant_of-self c = subst IsSound (sym (is_marked c)) (IsSound-marked (state_of c.self.inside) c.self.invariant c.in-Ok.certificate (largest c))
+
+pub returns-clause-same : goal.returns-clause-same
+returns-clause-same c = ap shown (is_marked c) ∙ shown-marked (state_of c.self.inside) c.self.invariant c.in-Ok.certificate (largest c) ∙ ap shown c.self.view_is
+
+pub returns-clause-sound : goal.returns-clause-sound
+returns-clause-sound c = invariant_of-self c

@@ -1,0 +1,112 @@
+// Marks, the steps of their plans, and closes.
+ghost use Rattle.std.specs.Prelude.{◌≡◌, ◌<◌, MatchResult};
+ghost use Rattle.arena_core.specs.Owner.{StandsAt};
+ghost use Rattle.arena_core.specs.Plan.{IsNext};
+ghost use Rattle.arena_core.specs.Sound.{IsSound};
+ghost use Rattle.arena_core.specs.State.{OpenPlan, shown};
+ghost use Rattle.arena_core.specs.Step.{CoreStep};
+ghost use Rattle.arena_core.specs.declared.event.Event.TheVariants as event;
+ghost use Rattle.arena_core.specs.declared.machine.Owner.TheVariants as owner;
+ghost use Rattle.arena_core.specs.declared.reply.Refusal.TheVariants as refusal;
+ghost use Rattle.arena_core.specs.declared.reply.Reply.TheVariants as reply;
+
+use super::{Core, Owner, guess};
+use crate::closing::{close_planned, reopen_all};
+use crate::marking::{has_too_many, largest_plan};
+use crate::reply::{Refusal, Reply};
+use certificate::Certificate;
+use fold::{Step, fold_one};
+use span::SpanId;
+use std::alloc::AllocError;
+
+impl Core {
+    // Makes a plan of as many folds as can be of what stands now, opens it, and closes the groups that it folds onto.
+    // The plan is made before anything changes.
+    pub(super) fn mark(&mut self) -> Result<Certificate, Refusal>
+        ensures exact { MatchResult result
+            (λ certificate. CoreStep self.old event.Mark (reply.Marked certificate) self.new)
+            (λ refusal. CoreStep self.old event.Mark (reply.Refused refusal) self.new) }
+        ensures same { shown self.new ≡ shown self.old }
+        ensures sound { IsSound self.new }
+    {
+        if self.plan.is_open() {
+            return Err(Refusal::PlanOpen);
+        }
+        if has_too_many(&self.pool, &self.shards) {
+            return Err(Refusal::TooMany);
+        }
+        let certificate = match largest_plan(self.alloc, &self.pool, &self.shards) {
+            Ok(certificate) => certificate,
+            Err(_) => return Err(Refusal::OutOfMemory),
+        };
+        let pairs = certificate.plan.pairs();
+        close_planned(&mut self.shards, pairs);
+        self.pool.plan_opened();
+        self.plan.begin(pairs);
+        Ok(certificate)
+    }
+
+    // Carries out the next pair of the open plan.
+    pub(super) fn take_step(&mut self) -> Reply
+        ensures exact { CoreStep self.old event.Step result self.new }
+        ensures same { shown self.new ≡ shown self.old }
+        ensures sound { IsSound self.new }
+    {
+        if !self.plan.is_open() {
+            return Reply::NoPlan;
+        }
+        let Some((abandoned, owned)) = self.plan.next() else {
+            return Reply::NoPairLeft;
+        };
+        let number = match self.owner_of(owned) {
+            Some(Owner::Shard(number)) => number,
+            Some(Owner::Pool) => unreachable!(),
+            None => unreachable!(),
+        };
+        match self.fold_next(number, abandoned, owned) {
+            Ok(step) => Reply::Stepped(abandoned, owned, step),
+            Err(_) => Reply::Refused(Refusal::OutOfMemory),
+        }
+    }
+
+    // Folds the next pair, whose owned group stands in the shard of this number, and guesses from now on that the
+    // spans that came are there.
+    fn fold_next(
+        &mut self,
+        number: usize,
+        abandoned: SpanId,
+        owned: SpanId,
+    ) -> Result<Step, AllocError>
+        requires next { (plan : OpenPlan) × IsNext self.old plan (abandoned, owned) }
+        requires there { StandsAt self.old owned (owner.Shard number) }
+        ensures exact { MatchResult result
+            (λ step. CoreStep self.old event.Step (reply.Stepped abandoned owned step) self.new)
+            (λ _. CoreStep self.old event.Step (reply.Refused refusal.OutOfMemory) self.new) }
+        ensures same { shown self.new ≡ shown self.old }
+        ensures sound { IsSound self.new }
+    {
+        let shard = &mut self.shards[number];
+        let step = match fold_one(&mut self.pool, shard, abandoned, owned) {
+            Ok(step) => step,
+            Err(error) => return Err(error),
+        };
+        guess(&mut self.guesses, number as u8, shard, owned);
+        self.plan.advance();
+        Ok(step)
+    }
+
+    // Ends the open plan, whatever of it is left, and opens all groups.
+    pub(super) fn close(&mut self) -> Reply
+        ensures exact { CoreStep self.old event.Close result self.new }
+        ensures same { shown self.new ≡ shown self.old }
+        ensures sound { IsSound self.new }
+    {
+        if !self.plan.is_open() {
+            return Reply::NoPlan;
+        }
+        reopen_all(&mut self.shards);
+        self.pool.plan_closed();
+        self.plan.end();
+        Reply::Closed
+    }
+}
