@@ -8,6 +8,7 @@ pub mod Knowing
 pub mod Texts
 pub mod Exclusion
 pub mod Taken
+pub mod Given
 pub mod Entered
 pub mod Refused
 pub mod Making

@@ -10,7 +10,7 @@ use Rattle.arena_core.specs.Sound.{IsSound}
 use Rattle.trace_runner.specs.Recalls.{Abandons, Makes, MakesLine, Recalls}
 use Rattle.trace_runner.specs.Runs.{Asked, Calls, Keyless, Leaves, Did, IsAnswered, Made, answers_from, Called, Unbound, Left, IsTold, asked_of, ends_asked, event_made, reply_made, events_of, replies_of, on_line}
 use Rattle.arena_core.specs.declared.event.Event.{Event}
-use Rattle.arena_core.specs.declared.event.Event.TheVariants.{Put, Get, Free, End, Adopt}
+use Rattle.arena_core.specs.declared.event.Event.TheVariants.{Put, Get, Free, End, Adopt, Mark, Step, Close}
 use Rattle.arena_core.specs.declared.reply.Reply.TheVariants.{ShardEnded}
 use Rattle.arena_core.specs.declared.reply.Reply.{Reply}
 use Rattle.trace_runner.specs.declared.report.LineAnswer.{LineAnswer}
@@ -52,6 +52,9 @@ erased-one a b (Get key) reply step = (b, step, refl)
 erased-one a b (Free key) reply step = (b, step, refl)
 erased-one a b (End shard) reply step = step
 erased-one a b (Adopt shard) reply step = step
+erased-one a b Mark reply step = step
+erased-one a b Step reply step = step
+erased-one a b Close reply step = step
 
 All-append : {X : Type 0} (P : X → Type 0) (xs ys : List X) → AllByRecursion P xs → AllByRecursion P ys → AllByRecursion P (xs ++ ys)
 All-append P [] ys first second = second

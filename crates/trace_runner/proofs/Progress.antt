@@ -141,6 +141,7 @@ module _ (h : Header) (lines : List Line) (count : ℕ) (old core : CoreState) (
 
   HasCome-CanLeave : CanLeave h.shards core leaving
   HasCome-CanLeave t below leaves = record {
+    unplanned = come.unplanned;
     within = omega (arith, below, come.enough);
     running = come.ended_are t below ∙ rw (sym (come.leaving_are t) ∙ leaves) (and_false (has_ended (take count lines) t));
   }
@@ -150,6 +151,7 @@ module _ (h : Header) (lines : List Line) (count : ℕ) (old core : CoreState) (
   HasCome-IsReady l fine = record {
     within = (first_cause-none h (take count lines) l fine).0;
     running = λ t is. record {
+      unplanned = come.unplanned;
       within = omega (arith, thread_below h (take count lines) l fine t is, come.enough);
       running = come.ended_are t (thread_below h (take count lines) l fine t is) ∙ rw (running_above h (take count lines) l fine t is) refl;
     };
@@ -194,6 +196,7 @@ module _ (h : Header) (lines : List Line) (count : ℕ) (old core : CoreState) (
             let within : place ≤ length come.done = omega (arith, come.count_is) in
             HasCome-recalls.starts_are place within ∙ ap (λ d. length (answers_from 6 d)) (sym (take-append-le place come.done (did ∷ []) within));
         enough = rw ended.limits come.enough;
+        unplanned = ended.plan ∙ come.unplanned;
         leaving_are = λ t. left t ∙ ap (λ b. not (is_barrier l) && (ends t l || b)) (come.leaving_are t) ∙ sym (waits t);
         ended_are = λ t below.
             let less : nat_lt t h.shards ≡ true = grind (arith, nat_tests, below) in
@@ -234,6 +237,7 @@ HasCome-start h lines core leaving serves none = record {
   long = refl;
   starts_are = λ place less. absurd (omega (arith, less));
   enough = serves.enough;
+  unplanned = serves.unplanned;
   leaving_are = none;
   ended_are = serves.running;
 }

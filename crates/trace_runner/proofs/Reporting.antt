@@ -23,6 +23,7 @@ not_ended page_limit gens (Some number) = refl
 -- the core that a run starts with has the header's shards, and none has ended
 pub Serves-start : (header : Header) → Serves header.shards (start_of header)
 Serves-start header = record {
+  unplanned = refl;
   enough = omega arith;
   running = λ number below.
       ap (λ o. option_map_or (λ (shard : ShardState). shard.ended) o false) (slice_get-map (new_shard header.pages header.gens) (range_with_len 0 header.shards) number)

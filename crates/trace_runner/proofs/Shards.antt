@@ -9,13 +9,13 @@ use Rattle.trace_runner.proofs.Lines.{either}
 use Rattle.trace_runner.proofs.Making.{Abandons-append}
 
 pub KeepsShards-refl : (core : CoreState) → KeepsShards core core
-KeepsShards-refl core = record { limits = refl; ended = λ number. refl }
+KeepsShards-refl core = record { plan = refl; limits = refl; ended = λ number. refl }
 
 pub KeepsShards-trans : (a b c : CoreState) → KeepsShards a b → KeepsShards b c → KeepsShards a c
-KeepsShards-trans a b c first second = record { limits = second.limits ∙ first.limits; ended = λ number. second.ended number ∙ first.ended number }
+KeepsShards-trans a b c first second = record { plan = second.plan ∙ first.plan; limits = second.limits ∙ first.limits; ended = λ number. second.ended number ∙ first.ended number }
 
 pub IsOpen-kept : (old new : CoreState) (number : ℕ) → KeepsShards old new → IsOpen old number → IsOpen new number
-IsOpen-kept old new number keeps is_open = record { within = rw keeps.limits is_open.within; running = keeps.ended number ∙ is_open.running }
+IsOpen-kept old new number keeps is_open = record { unplanned = keeps.plan ∙ is_open.unplanned; within = rw keeps.limits is_open.within; running = keeps.ended number ∙ is_open.running }
 
 and_false : (b : Bool) → (b && false) ≡ false
 and_false true = refl
@@ -24,20 +24,22 @@ and_false false = refl
 -- where no shard ended, none of those that pass a test that none passes did
 pub EndsBelow-kept : (old new : CoreState) (bound : ℕ) (test : ℕ → Bool) → ((number : ℕ) → test number ≡ false) → KeepsShards old new → EndsBelow old bound test new
 EndsBelow-kept old new bound test none keeps = record {
+  plan = keeps.plan;
   limits = keeps.limits;
   ended = λ number. keeps.ended number ∙ ap (λ b. b || ended_at old number) (sym (ap (λ b. nat_lt number bound && b) (none number) ∙ and_false (nat_lt number bound)));
 }
 
 pub EndsBelow-then : (old mid new : CoreState) (bound : ℕ) (test : ℕ → Bool) → EndsBelow old bound test mid → KeepsShards mid new → EndsBelow old bound test new
-EndsBelow-then old mid new bound test ended keeps = record { limits = keeps.limits ∙ ended.limits; ended = λ number. keeps.ended number ∙ ended.ended number }
+EndsBelow-then old mid new bound test ended keeps = record { plan = keeps.plan ∙ ended.plan; limits = keeps.limits ∙ ended.limits; ended = λ number. keeps.ended number ∙ ended.ended number }
 
 pub EndsBelow-none : (core : CoreState) (test : ℕ → Bool) → EndsBelow core 0 test core
-EndsBelow-none core test = record { limits = refl; ended = λ number. let e : nat_lt number 0 ≡ false = grind (arith, nat_tests) in rw e refl }
+EndsBelow-none core test = record { plan = refl; limits = refl; ended = λ number. let e : nat_lt number 0 ≡ false = grind (arith, nat_tests) in rw e refl }
 
 module _ (old mid : CoreState) (bound : ℕ) (test : ℕ → Bool) (below : EndsBelow old bound test mid) where
   -- a shard that is not reached yet is open as before
   pub IsOpen-reached : IsOpen old bound → IsOpen mid bound
   IsOpen-reached is_open = record {
+    unplanned = below.plan ∙ is_open.unplanned;
     within = rw below.limits is_open.within;
     running = let e : nat_lt bound bound ≡ false = grind (arith, nat_tests) in below.ended bound ∙ rw e is_open.running;
   }
@@ -45,13 +47,14 @@ module _ (old mid : CoreState) (bound : ℕ) (test : ℕ → Bool) (below : Ends
   -- a shard that passes no test is open as before
   pub IsOpen-others : (number : ℕ) → test number ≡ false → IsOpen old number → IsOpen mid number
   IsOpen-others number fails is_open = record {
+    unplanned = below.plan ∙ is_open.unplanned;
     within = rw below.limits is_open.within;
     running = below.ended number ∙ ap (λ b. b || ended_at old number) (ap (λ b. nat_lt number bound && b) fails ∙ and_false (nat_lt number bound)) ∙ is_open.running;
   }
 
   -- the shard of this number passes no test, and stays
   pub EndsBelow-skip : test bound ≡ false → EndsBelow old (bound + 1) test mid
-  EndsBelow-skip fails = record { limits = below.limits; ended = λ number. below.ended number ∙ ap (λ b. b || ended_at old number) (more number) }
+  EndsBelow-skip fails = record { plan = below.plan; limits = below.limits; ended = λ number. below.ended number ∙ ap (λ b. b || ended_at old number) (more number) }
     where
       more : (number : ℕ) → (nat_lt number bound && test number) ≡ (nat_lt number (bound + 1) && test number)
       more number = elim (either (bound == number)) [
@@ -64,7 +67,7 @@ module _ (old mid : CoreState) (bound : ℕ) (test : ℕ → Bool) (below : Ends
 
   -- or it passes, and ends
   pub EndsBelow-end : (new : CoreState) → test bound ≡ true → EndsOne mid bound new → EndsBelow old (bound + 1) test new
-  EndsBelow-end new passes ends = record { limits = ends.limits ∙ below.limits; ended = λ number. ends.ended number ∙ ap (λ b. bound == number || b) (below.ended number) ∙ more number }
+  EndsBelow-end new passes ends = record { plan = ends.plan ∙ below.plan; limits = ends.limits ∙ below.limits; ended = λ number. ends.ended number ∙ ap (λ b. bound == number || b) (below.ended number) ∙ more number }
     where
       more : (number : ℕ) → (bound == number || ((nat_lt number bound && test number) || ended_at old number)) ≡ ((nat_lt number (bound + 1) && test number) || ended_at old number)
       more number = elim (either (bound == number)) [

@@ -1,5 +1,5 @@
 -- The commands of the program, and the job that words name.
-use Rattle.std.specs.Prelude.{◌≡◌, ℕ, Bool, true, false, List, Option, Some, None, option_map, codes, if◌then◌else◌, ⊤}
+use Rattle.std.specs.Prelude.{◌≡◌, ◌⊎◌, ℕ, Bool, true, false, List, Option, Some, None, is_some, option_map, codes, if◌then◌else◌, ⊤}
 use Rattle.std.specs.Borrow.{Bor}
 use Rattle.clap.specs.Words.{App, IsAmong, Kinds, Row, Rule, Text, app_of, fault_of, first_of, kind_of, one_of, new_app, new_rule, subcommand_of, with_rule, with_subcommand}
 use Rattle.clap.specs.declared.builder.Command.{Command}
@@ -9,13 +9,17 @@ use Rattle.clap.specs.declared.error.Error.{Error}
 use Rattle.clap.specs.declared.error.kind.ErrorKind.{ErrorKind}
 use Rattle.clap.specs.declared.error.kind.ErrorKind.TheVariants as kind
 use Rattle.trace_runner.specs.declared.job.Job.{Job}
-use Rattle.trace_runner.specs.declared.job.Job.TheVariants.{Run}
+use Rattle.trace_runner.specs.declared.job.Job.TheVariants.{Run, Check}
 use Rattle.trace_runner.specs.declared.job.JobError.{JobError}
 use Rattle.trace_runner.specs.declared.job.JobError.TheVariants.{OutOfMemory, Words}
 
 -- `NAME`
 abbrev pub positional : Text → Rule
 positional name = new_rule name
+
+-- `NAME`, which has to be given
+abbrev pub needed : Text → Rule
+needed name = record (new_rule name) { required = true }
 
 -- `--NAME`
 abbrev pub flag : Text → Rule
@@ -25,13 +29,17 @@ flag name = record (new_rule name) { long = Some name; action = Some SetTrue }
 abbrev pub run_app : App
 run_app = with_rule (with_rule (with_rule (new_app (codes "run")) (positional (codes "TRACE"))) (flag (codes "serial"))) (flag (codes "replies"))
 
+-- `check FILE`
+abbrev pub check_app : App
+check_app = with_rule (new_app (codes "check")) (needed (codes "FILE"))
+
 -- a command is required, `help` is none, and the words have no name of the program before them
 abbrev pub bare_program : App
 bare_program = let a = new_app (codes "meshrun") in record a { top = record a.top { no_binary_name = true; disable_help_subcommand = true; subcommand_required = true } }
 
--- the program's only command is `run`
+-- the program's commands are `run` and `check`
 abbrev pub program_app : App
-program_app = with_subcommand bare_program run_app.top
+program_app = with_subcommand (with_subcommand bare_program run_app.top) check_app.top
 
 -- the command is this one, and has no argument that goes down to subcommands
 abbrev pub IsApp : App → Command → Type 0
@@ -50,10 +58,24 @@ shown text = option_map (λ t. t.now) text
 -- the job is `run` with these values of its arguments
 abbrev pub IsRun : List Row → Job → Type 0
 IsRun rows (Run trace serial replies) = (shown trace ≡ first_of (codes "TRACE") rows) × IsFlag (one_of (codes "serial") rows) serial × IsFlag (one_of (codes "replies") rows) replies
+IsRun rows (Check file) = ⊥
+
+-- the job is `check` with this value of its argument
+abbrev pub IsCheck : List Row → Job → Type 0
+IsCheck rows (Run trace serial replies) = ⊥
+IsCheck rows (Check file) = first_of (codes "FILE") rows ≡ Some file.now
+
+-- the job is the command that was entered, with its values
+abbrev pub IsJob : Option (Text × List Row) → Job → Type 0
+IsJob entered job = (rows : List Row) × (((entered ≡ Some (codes "run", rows)) × IsRun rows job) ⊎ ((entered ≡ Some (codes "check", rows)) × IsCheck rows job))
+
+-- a command was entered, and `check` has its file
+abbrev pub NamesJob : Option (Text × List Row) → Type 0
+NamesJob entered = (rows : List Row) × ((entered ≡ Some (codes "run", rows)) ⊎ ((entered ≡ Some (codes "check", rows)) × (is_some (first_of (codes "FILE") rows) ≡ true)))
 
 -- the words name the job: they enter its command, with its values
 abbrev pub IsJobOf : List Text → Job → Type 0
-IsJobOf words job = (rows : List Row) × (subcommand_of program_app words ≡ Some (codes "run", rows)) × IsRun rows job
+IsJobOf words job = IsJob (subcommand_of program_app words) job
 
 -- what is wrong with the words: nothing, or the kinds of which the fault has one
 abbrev pub kinds_of : List Text → Kinds

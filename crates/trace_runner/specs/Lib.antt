@@ -16,3 +16,5 @@ pub mod Barrier
 pub mod Runs
 pub mod Recalls
 pub mod Replay
+pub mod Verdict
+pub mod Done

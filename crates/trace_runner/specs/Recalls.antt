@@ -9,10 +9,10 @@ use Rattle.trace_runner.specs.Causes.{has_ended, is_call, is_call_over, thread_o
 use Rattle.arena_core.specs.State.{CoreState}
 use Rattle.trace_runner.specs.Runs.{Asked, Did, DoLines, IsAnswered, Made, all_made, answers_from, asked_of, ends_asked, key_made, on_line}
 use Rattle.arena_core.specs.declared.event.Event.{Event}
-use Rattle.arena_core.specs.declared.event.Event.TheVariants.{Put, End, Adopt}
+use Rattle.arena_core.specs.declared.event.Event.TheVariants.{Put, End, Adopt, Mark, Step, Close}
 use Rattle.arena_core.specs.declared.reply.Reply.{Reply}
-use Rattle.arena_core.specs.declared.reply.Reply.TheVariants.{Refused}
-use Rattle.arena_core.specs.declared.reply.Refusal.TheVariants.{Ended, Config}
+use Rattle.arena_core.specs.declared.reply.Reply.TheVariants.{Marked, Stepped, NoPairLeft, Closed, NoPlan, Refused}
+use Rattle.arena_core.specs.declared.reply.Refusal.TheVariants.{Ended, PlanOpen, TooMany, Config}
 use Rattle.trace_runner.specs.declared.report.LineAnswer.{LineAnswer}
 use Rattle.trace_runner.specs.declared.text.line.Line.{Line}
 
@@ -57,37 +57,51 @@ MakesLine number threads asked old before new after = (mid : CoreState) × Aband
 abbrev pub ended_at : CoreState → ℕ → Bool
 ended_at core number = option_map_or (λ shard. shard.ended) (slice_get core.shards number) false
 
--- the shard of this number is one of the core's, and has not ended
+-- the shard of this number is one of the core's, and has not ended; and no plan is open
 pub record IsOpen (core : CoreState) (number : ℕ) : Type 0 where
+  pub unplanned : core.plan ≡ None
   pub within : number < core.limits.shards
   pub running : ended_at core number ≡ false
 
--- no shard came, and none ended
+-- no shard came, none ended, and the plan is as it was
 pub record KeepsShards (old new : CoreState) : Type 0 where
+  pub plan : new.plan ≡ old.plan
   pub limits : new.limits ≡ old.limits
   pub ended : (number : ℕ) → ended_at new number ≡ ended_at old number
 
 -- of the shards, that of this number ended
 pub record EndsOne (old : CoreState) (ending : ℕ) (new : CoreState) : Type 0 where
+  pub plan : new.plan ≡ old.plan
   pub limits : new.limits ≡ old.limits
   pub ended : (number : ℕ) → ended_at new number ≡ (ending == number || ended_at old number)
 
 -- of the shards below a number, those that pass the test ended
 pub record EndsBelow (old : CoreState) (bound : ℕ) (test : ℕ → Bool) (new : CoreState) : Type 0 where
+  pub plan : new.plan ≡ old.plan
   pub limits : new.limits ≡ old.limits
   pub ended : (number : ℕ) → ended_at new number ≡ ((nat_lt number bound && test number) || ended_at old number)
 
--- the event may be called for a line: its shard is open; the barrier alone ends shards
+-- the event may be called for a line: its shard is open; the barrier alone ends shards, and no line marks yet
 abbrev pub MayCall : CoreState → Event → Type 0
 MayCall core (Put shard value) = IsOpen core shard
 MayCall core (Adopt shard) = IsOpen core shard
 MayCall core (End shard) = ⊥
+MayCall core Mark = ⊥
+MayCall core Step = ⊥
+MayCall core Close = ⊥
 MayCall core event = Unit {0}
 
--- the shard that was asked for is there and has not ended
+-- the shard that was asked for is there and has not ended, and no plan is spoken of
 abbrev pub IsServed : Reply → Type 0
 IsServed (Refused Ended) = ⊥
+IsServed (Refused PlanOpen) = ⊥
+IsServed (Refused TooMany) = ⊥
 IsServed (Refused Config) = ⊥
+IsServed (Marked certificate) = ⊥
+IsServed (Stepped abandoned owned step) = ⊥
+IsServed NoPairLeft = ⊥
+IsServed Closed = ⊥
+IsServed NoPlan = ⊥
 IsServed reply = Unit {0}
 
 -- ---- the threads that leave
@@ -119,11 +133,13 @@ pub record HasCome (shards : ℕ) (lines : List Line) (count : ℕ) (old core : 
   pub long : length starts ≡ count
   pub starts_are : (place : ℕ) → place < count → slice_index starts place ≡ length (answers_from 6 (take place done))
   pub enough : shards ≤ core.limits.shards
+  pub unplanned : core.plan ≡ None
   -- the threads that leave are those that ended behind the last barrier, and the shards of those that ended above it have ended
   pub leaving_are : (thread : ℕ) → leaving thread ≡ has_ended (open_lines (take count lines)) thread
   pub ended_are : (thread : ℕ) → thread < shards → ended_at core thread ≡ (has_ended (take count lines) thread && not (has_ended (open_lines (take count lines)) thread))
 
--- the core has so many shards, and none of them has ended
+-- the core has so many shards, none of them has ended, and no plan is open
 pub record Serves (shards : ℕ) (core : CoreState) : Type 0 where
+  pub unplanned : core.plan ≡ None
   pub enough : shards ≤ core.limits.shards
   pub running : (number : ℕ) → number < shards → ended_at core number ≡ false

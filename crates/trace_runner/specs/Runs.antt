@@ -11,7 +11,7 @@ use Rattle.arena_core.specs.declared.event.Event.{Event}
 use Rattle.arena_core.specs.declared.event.Event.TheVariants as event
 use Rattle.arena_core.specs.declared.reply.Refusal.TheVariants.{PagesSpent, NothingToAdopt}
 use Rattle.arena_core.specs.declared.reply.Reply.{Reply}
-use Rattle.arena_core.specs.declared.reply.Reply.TheVariants.{Issued, Found, Freed, ShardEnded, Adopted, Refused}
+use Rattle.arena_core.specs.declared.reply.Reply.TheVariants.{Issued, Found, Freed, ShardEnded, Adopted, Marked, Stepped, NoPairLeft, Closed, NoPlan, Refused}
 use Rattle.trace_runner.specs.declared.report.Answer.{Answer}
 use Rattle.trace_runner.specs.declared.report.Answer.TheVariants as answer
 use Rattle.trace_runner.specs.declared.report.LineAnswer.{LineAnswer}
@@ -111,6 +111,11 @@ abbrev pub IsTold : Reply → Type 0
 IsTold (Refused PagesSpent) = Unit {0}
 IsTold (Refused NothingToAdopt) = Unit {0}
 IsTold (Refused cause) = ⊥
+IsTold (Marked certificate) = ⊥
+IsTold (Stepped abandoned owned step) = ⊥
+IsTold NoPairLeft = ⊥
+IsTold Closed = ⊥
+IsTold NoPlan = ⊥
 IsTold reply = Unit {0}
 
 -- the core answers the calls so, which without ends and adoptions is a run of the plain map that it shows
@@ -149,6 +154,8 @@ answer_to (Called event ShardEnded) = answer.Ended
 answer_to (Called event (Adopted head)) = answer.Adopted head
 answer_to (Called event (Refused NothingToAdopt)) = answer.NothingToAdopt
 answer_to (Called event (Refused cause)) = answer.PagesSpent
+-- no line has another reply
+answer_to (Called event reply) = answer.Unbound
 answer_to Unbound = answer.Unbound
 answer_to Left = answer.Ended
 

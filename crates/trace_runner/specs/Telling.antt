@@ -5,14 +5,18 @@ use Rattle.std.specs.Io.KnownBytes.{Appends}
 use Rattle.clap.specs.Words.{kind_of}
 use Rattle.clap.specs.declared.error.kind.ErrorKind.{ErrorKind}
 use Rattle.clap.specs.declared.error.kind.ErrorKind.TheVariants as kind
+use Rattle.certificate.specs.Causes as certificate_causes
+use Rattle.certificate.specs.declared.text.cause.ReadError.{ReadError}
+use Rattle.certificate.specs.declared.text.cause.ReadError.TheVariants as read_error
 use Rattle.trace_runner.specs.Causes.{word_of}
-use Rattle.trace_runner.specs.declared.text.cause.Cause.{Cause}
 use Rattle.trace_runner.specs.declared.text.cause.ParseError.{ParseError}
 use Rattle.trace_runner.specs.declared.text.cause.ParseError.TheVariants as parse_error
 use Rattle.trace_runner.specs.declared.fault.Fault.{Fault}
 use Rattle.trace_runner.specs.declared.fault.Fault.TheVariants as fault
 use Rattle.trace_runner.specs.declared.fault.ReplayError.{ReplayError}
 use Rattle.trace_runner.specs.declared.fault.ReplayError.TheVariants as replay_error
+use Rattle.trace_runner.specs.declared.fault.CheckError.{CheckError}
+use Rattle.trace_runner.specs.declared.fault.CheckError.TheVariants as check_error
 use Rattle.trace_runner.specs.declared.job.JobError.{JobError}
 use Rattle.trace_runner.specs.declared.job.JobError.TheVariants as job_error
 use Rattle.trace_runner.specs.declared.telling.TellError.{TellError}
@@ -24,11 +28,22 @@ abbrev pub stop_of_parse : ParseError → ReplayError
 stop_of_parse parse_error.OutOfMemory = replay_error.OutOfMemory
 stop_of_parse (parse_error.BadTrace line c) = replay_error.BadTrace line c
 
+-- where a text is no certificate, the check stops
+abbrev pub stop_of_read : ReadError → CheckError
+stop_of_read read_error.OutOfMemory = check_error.OutOfMemory
+stop_of_read (read_error.BadCertificate line c) = check_error.BadCertificate line c
+
 -- the program's fault where a replay stopped
 abbrev pub fault_of_replay : ReplayError → Fault
 fault_of_replay replay_error.OutOfMemory = fault.OutOfMemory
 fault_of_replay (replay_error.BadTrace line c) = fault.BadTrace line c
 fault_of_replay replay_error.SinkFailed = fault.SinkFailed
+
+-- the program's fault where a check stopped
+abbrev pub fault_of_check : CheckError → Fault
+fault_of_check check_error.OutOfMemory = fault.OutOfMemory
+fault_of_check (check_error.BadCertificate line c) = fault.BadCertificate line c
+fault_of_check check_error.SinkFailed = fault.SinkFailed
 
 -- the program's fault where the words name no job
 abbrev pub fault_of_job : JobError → Fault
@@ -49,6 +64,7 @@ asks_for_help _ = false
 -- the status with which the program ends
 abbrev pub status_of : Fault → ℕ
 status_of (fault.BadTrace line c) = 1
+status_of (fault.BadCertificate line c) = 1
 status_of (fault.Words error) = if is_request (kind_of error) then 0 else 2
 status_of fault.OutOfMemory = 3
 status_of fault.SinkFailed = 5
@@ -60,12 +76,13 @@ status_where_untold tell_error.OutOfMemory = 3
 status_where_untold tell_error.SinkFailed = 5
 
 -- `line N: CAUSE`
-abbrev pub line_message : ℕ → Cause → List ℕ
-line_message line c = codes "line " ++ decimal line ++ codes ": " ++ word_of c ++ codes "\n"
+abbrev pub line_message : ℕ → List ℕ → List ℕ
+line_message line word = codes "line " ++ decimal line ++ codes ": " ++ word ++ codes "\n"
 
 -- the text says the fault; what it says of words is the parser's own
 abbrev pub Says : Fault → List ℕ → Type 0
-Says (fault.BadTrace line c) text = text ≡ line_message line c
+Says (fault.BadTrace line c) text = text ≡ line_message line (word_of c)
+Says (fault.BadCertificate line c) text = text ≡ line_message line (certificate_causes.word_of c)
 Says (fault.Words error) text = ⊤
 Says fault.OutOfMemory text = text ≡ codes "memory\n"
 Says fault.SinkFailed text = text ≡ codes "io\n"

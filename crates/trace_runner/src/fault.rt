@@ -1,13 +1,15 @@
-//! What stops a replay, and what stops the program.
+//! What stops a replay or a check, and what stops the program.
 
 ghost use Rattle.std.specs.Prelude.{◌≡◌};
 ghost use Rattle.trace_runner.specs.declared.fault.Fault.TheVariants as fault;
 ghost use Rattle.trace_runner.specs.declared.fault.ReplayError.TheVariants as replay_error;
-ghost use Rattle.trace_runner.specs.Telling.{fault_of_replay, fault_of_job, stop_of_parse};
+ghost use Rattle.trace_runner.specs.declared.fault.CheckError.TheVariants as check_error;
+ghost use Rattle.trace_runner.specs.Telling.{fault_of_check, fault_of_job, fault_of_replay, stop_of_parse, stop_of_read};
 
 use crate::job::JobError;
 use crate::sink::SinkFailed;
 use crate::text::{Cause, ParseError};
+use certificate::ReadError;
 use std::alloc::{AllocError, AllocFailed};
 use std::io;
 use thiserror::Error;
@@ -62,6 +64,43 @@ impl From<SinkFailed> for ReplayError {
     }
 }
 
+/// Why a certificate was not checked.
+#[derive(Clone, Copy, Debug, PartialEq, Eq, Error)]
+pub enum CheckError {
+    /// Memory ran out. Nothing was written.
+    #[error("memory ran out before the verdict was written")]
+    OutOfMemory,
+    /// The text is no certificate. `line` is the first line at fault, where the first line is 1, and
+    /// nothing was written.
+    #[error("line {line} of the certificate is at fault: {cause}")]
+    BadCertificate {
+        line: usize,
+        cause: certificate::Cause,
+    },
+    /// The sink did not take the whole line. It took a front of it.
+    #[error("the verdict could not be written whole: look for a full disk or a closed pipe")]
+    SinkFailed,
+}
+
+impl From<ReadError> for CheckError {
+    ghost from_gives = { λ error stop. stop ≡ stop_of_read error };
+
+    fn from(error: ReadError) -> CheckError {
+        match error {
+            ReadError::OutOfMemory => CheckError::OutOfMemory,
+            ReadError::BadCertificate { line, cause } => CheckError::BadCertificate { line, cause },
+        }
+    }
+}
+
+impl From<AllocError> for CheckError {
+    ghost from_gives = { λ _ error. error ≡ check_error.OutOfMemory };
+
+    fn from(_error: AllocError) -> CheckError {
+        CheckError::OutOfMemory
+    }
+}
+
 /// Why the program did not do its job, or what it shows in place of one.
 #[derive(Debug, Drop, Error)]
 pub enum Fault {
@@ -70,15 +109,24 @@ pub enum Fault {
     OutOfMemory,
     /// The text is no trace. `line` is the first line at fault, where the first line is 1.
     #[error("line {line} of the trace is at fault: {cause}")]
-    BadTrace { line: usize, cause: Cause },
-    /// The sink did not take the whole report.
+    BadTrace {
+        line: usize,
+        cause: Cause,
+    },
+    /// The text is no certificate. `line` is the first line at fault, where the first line is 1.
+    #[error("line {line} of the certificate is at fault: {cause}")]
+    BadCertificate {
+        line: usize,
+        cause: certificate::Cause,
+    },
+    /// The sink did not take the whole report, or the whole verdict.
     #[error("the report could not be written whole: look for a full disk or a closed pipe")]
     SinkFailed,
     /// The words of the command line name no job, or they ask for help.
     #[error(transparent)]
     Words(clap::Error),
-    /// The words or the trace could not be read.
-    #[error("the trace could not be read: look whether the file is there and may be read")]
+    /// The words or the file could not be read.
+    #[error("the file could not be read: look whether it is there and may be read")]
     Io,
 }
 
@@ -96,13 +144,14 @@ impl Fault {
     }
 
     /// The status with which the program ends: 0 where help was asked for, 1 where the text is no
-    /// trace, 2 where the words name no job, 3 where memory ran out, and 5 where a read or a write
-    /// failed.
+    /// trace or no certificate, 2 where the words name no job, 3 where memory ran out, and 5 where a
+    /// read or a write failed.
     pub fn status(&self) -> u8
         ensures { result ≡ status_of self.now }
     {
         match self {
             Fault::BadTrace { .. } => 1,
+            Fault::BadCertificate { .. } => 1,
             Fault::Words(error) if error.use_stderr() => 2,
             Fault::Words(_) => 0,
             Fault::OutOfMemory => 3,
@@ -119,6 +168,18 @@ impl From<ReplayError> for Fault {
             ReplayError::OutOfMemory => Fault::OutOfMemory,
             ReplayError::BadTrace { line, cause } => Fault::BadTrace { line, cause },
             ReplayError::SinkFailed => Fault::SinkFailed,
+        }
+    }
+}
+
+impl From<CheckError> for Fault {
+    ghost from_gives = { λ error stop. stop ≡ fault_of_check error };
+
+    fn from(error: CheckError) -> Fault {
+        match error {
+            CheckError::OutOfMemory => Fault::OutOfMemory,
+            CheckError::BadCertificate { line, cause } => Fault::BadCertificate { line, cause },
+            CheckError::SinkFailed => Fault::SinkFailed,
         }
     }
 }

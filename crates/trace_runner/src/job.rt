@@ -2,9 +2,9 @@
 
 ghost use Rattle.std.specs.Prelude.{◌≡◌, IfOk, IfErr, OnOk, []};
 ghost use Rattle.clap.specs.Walk.{texts};
-ghost use Rattle.clap.specs.Words.{found_of, rows_of};
+ghost use Rattle.clap.specs.Words.{found_of, rows_of, subcommand_rows_of};
 ghost use Rattle.trace_runner.specs.declared.job.JobError.TheVariants as job_error;
-ghost use Rattle.trace_runner.specs.Job.{IsApp, IsFaultIn, IsJobOf, IsRun, fault_from, kinds_of, program_app, run_app};
+ghost use Rattle.trace_runner.specs.Job.{IsApp, IsFaultIn, IsJob, IsJobOf, IsRun, NamesJob, bare_program, check_app, fault_from, kinds_of, program_app, run_app};
 
 use clap::error::ErrorKind;
 use clap::{Arg, ArgAction, ArgMatches, Command};
@@ -22,6 +22,11 @@ pub enum Job<'a> {
         serial: bool,
         /// The report has a line for what each call answered.
         replies: bool,
+    },
+    /// `check FILE`: check a certificate and write the verdict.
+    Check {
+        /// The file of the certificate.
+        file: &'a str,
     },
 }
 
@@ -78,17 +83,38 @@ fn run_command<'a>(alloc: Global) -> Result<Command<'a>, AllocError>
     Ok(run)
 }
 
-fn program_command<'a>(alloc: Global) -> Result<Command<'a>, AllocError>
-    ensures { IfOk result (IsApp program_app) }
+fn check_command<'a>(alloc: Global) -> Result<Command<'a>, AllocError>
+    ensures { IfOk result (IsApp check_app) }
 {
-    let run = run_command(alloc)?;
+    let file = Arg::new(alloc, "FILE")
+        .required(true)
+        .help("The file of the certificate");
+    let check = Command::new(alloc, "check")
+        .about("Checks a certificate, and writes accepted, with its counts, or rejected")
+        .arg(file)?;
+    Ok(check)
+}
+
+/// The program without its commands.
+fn bare_program<'a>(alloc: Global) -> Result<Command<'a>, AllocError>
+    ensures { IfOk result (IsApp bare_program) }
+{
     let program = Command::new(alloc, "meshrun")
-        .about("Replays traces: texts with one call on a line")
+        .about("Replays traces, texts with one call on a line, and checks certificates")
         .bin_name("meshrun")?
         .no_binary_name(true)
         .disable_help_subcommand(true)
-        .subcommand_required(true)
-        .subcommand(run)?;
+        .subcommand_required(true);
+    Ok(program)
+}
+
+fn program_command<'a>(alloc: Global) -> Result<Command<'a>, AllocError>
+    ensures { IfOk result (IsApp program_app) }
+{
+    let bare = bare_program(alloc)?;
+    let run = run_command(alloc)?;
+    let check = check_command(alloc)?;
+    let program = bare.subcommand(run)?.subcommand(check)?;
     Ok(program)
 }
 
@@ -103,11 +129,25 @@ fn run_job<'a>(run: &ArgMatches<'a>) -> Job<'a>
     }
 }
 
+/// The job that the words name, of which these are the matches.
+fn job_of<'a>(matches: &ArgMatches<'a>) -> Job<'a>
+    requires { NamesJob (subcommand_rows_of matches.now) }
+    ensures { IsJob (subcommand_rows_of matches.now) result }
+{
+    if let Some(run) = matches.subcommand_matches("run") {
+        return run_job(run);
+    }
+    // A command is required, and there is no third; and so is its file.
+    let check = matches.subcommand_matches("check").unwrap();
+    let file = check.get_str("FILE").unwrap();
+    Job::Check { file }
+}
+
 impl<'a> Job<'a> {
     /// Reads the words after the program's own name.
     ///
-    /// `Words` comes where they are not `run [TRACE] [--serial] [--replies]`, or where they ask for
-    /// help by `--help` or `-h`.
+    /// `Words` comes where they are neither `run [TRACE] [--serial] [--replies]` nor `check FILE`, or
+    /// where they ask for help by `--help` or `-h`.
     pub fn from_words(alloc: Global, words: &'a [&'a str]) -> Result<Job<'a>, JobError>
         ensures named { IfOk result (IsJobOf (texts words.entry.now)) }
         ensures accepted { OnOk result (kinds_of (texts words.entry.now) ≡ []) }
@@ -115,9 +155,7 @@ impl<'a> Job<'a> {
     {
         let program = program_command(alloc)?;
         let matches = program.try_get_matches_from(words)?;
-        // A command is required, and there is no other.
-        let run = matches.subcommand_matches("run").unwrap();
-        Ok(run_job(run))
+        Ok(job_of(&matches))
     }
 }
 

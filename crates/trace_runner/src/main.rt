@@ -1,18 +1,25 @@
 //! Reads traces of puts, gets and frees by threads that end, runs them, and reports what each call answered and what
-//! the run left.
+//! the run left. Beside that it checks certificates of plans.
 //!
 //! A trace is a text with one call on a line, in sections that marks part. `replay_serial` reads it and runs its calls on
 //! a `Core`, which keeps one word of 128 bits under each key and answers as a plain map of keys does. At a mark the shards
 //! of threads that have ended are abandoned, and other shards adopt what they left. Its report goes to any `Sink`.
 //!
-//! `meshrun`, the program, does so for a file or for its standard input: `meshrun run [TRACE] [--serial] [--replies]`.
-//! It ends with status 0 where the report was written, or help was asked for; 1 where the text is no trace, 2 where the
-//! words name no job, 3 where memory ran out, and 5 where a read or a write failed.
+//! `check_text` reads a certificate, tests it by the checker of the crate `certificate`, and says in one line whether it is
+//! accepted.
+//!
+//! `meshrun`, the program, does so for a file: `meshrun run [TRACE] [--serial] [--replies]`, where without a file the trace
+//! is its standard input, and `meshrun check FILE`. It ends with status 0 where the report was written, the certificate is
+//! accepted, or help was asked for; 1 where the text is no trace or no certificate, or the certificate is rejected; 2 where
+//! the words name no job, 3 where memory ran out, and 5 where a read or a write failed.
 #![tactic(auto)]
 
-ghost use Rattle.std.specs.Prelude.{◌≡◌, ◌<◌, ◌≤◌, ◌+◌, ◌-◌, ◌^◌, Bool, List, OnOk, ℕ};
+ghost use Rattle.std.specs.Prelude.{◌≡◌, ◌<◌, ◌≤◌, ◌+◌, ◌-◌, ◌^◌, List, IfOk, OnOk, ℕ};
+ghost use Rattle.trace_runner.specs.Done.{IsDone, status_of_verdict};
 ghost use Rattle.trace_runner.specs.Replay.{WritesReport};
+ghost use Rattle.trace_runner.specs.Verdict.{WritesVerdict};
 
+mod checking;
 mod fault;
 mod job;
 mod replay;
@@ -23,7 +30,8 @@ mod telling;
 mod text;
 mod writing;
 
-pub use fault::{Fault, ReplayError};
+pub use checking::check_text;
+pub use fault::{CheckError, Fault, ReplayError};
 pub use job::{Job, JobError};
 pub use replay::replay_serial;
 pub use report::{Answer, Ending, LineAnswer};
@@ -60,10 +68,51 @@ fn trace_text(rt: &(impl Files + Input + AllocGlobal), path: Option<&str>) -> io
     }
 }
 
-/// Does the job that the words name, and writes to `out`.
-fn do_job<R: Env + Files + Input + AllocGlobal, S: Sink>(rt: &R, out: &mut S) -> Result<(), Fault>
+/// Replays the trace of the file, or of standard input where no file is named, and writes its report to `out`.
+fn run_trace<R: Files + Input + AllocGlobal, S: Sink>(
+    rt: &R,
+    path: Option<&str>,
+    replies: bool,
+    out: &mut S,
+) -> Result<(), Fault>
     requires { S.failures out.old < 2 ^ 64 - 1 }
-    ensures done { OnOk result ((text : List ℕ) × (replies : Bool) × WritesReport text replies (S.taken out.old) (S.taken out.new)) }
+    ensures done { OnOk result ((text : List ℕ) × WritesReport text replies (S.taken out.old) (S.taken out.new)) }
+    ensures succeeded { OnOk result (S.failures out.new ≡ S.failures out.old) }
+    ensures failures { S.failures out.new ≤ S.failures out.old + 1 }
+{
+    let text = trace_text(rt, path)?;
+    replay_serial(rt.alloc(), &text, replies, out, &mut Vec::new(rt.alloc()))?;
+    Ok(())
+}
+
+/// Checks the certificate of the file, writes the verdict to `out`, and answers whether it is accepted.
+fn check_file<R: Files + AllocGlobal, S: Sink>(
+    rt: &R,
+    path: &str,
+    out: &mut S,
+) -> Result<bool, Fault>
+    requires { S.failures out.old < 2 ^ 64 - 1 }
+    ensures done { IfOk result (λ accepted. (text : List ℕ) × WritesVerdict text (S.taken out.old) (S.taken out.new) accepted) }
+    ensures succeeded { OnOk result (S.failures out.new ≡ S.failures out.old) }
+    ensures failures { S.failures out.new ≤ S.failures out.old + 1 }
+{
+    let text = fs::read(rt, path)?;
+    let accepted = check_text(rt.alloc(), &text, out)?;
+    Ok(accepted)
+}
+
+/// The status with which the program ends after a check.
+fn verdict_status(accepted: bool) -> u8
+    ensures { result ≡ status_of_verdict accepted }
+{
+    if accepted { 0 } else { 1 }
+}
+
+/// Does the job that the words name, writes to `out`, and answers the status with which the program ends: 1 where a
+/// certificate is rejected, and else 0.
+fn do_job<R: Env + Files + Input + AllocGlobal, S: Sink>(rt: &R, out: &mut S) -> Result<u8, Fault>
+    requires { S.failures out.old < 2 ^ 64 - 1 }
+    ensures done { IfOk result (IsDone (S.taken out.old) (S.taken out.new)) }
     ensures succeeded { OnOk result (S.failures out.new ≡ S.failures out.old) }
     ensures failures { S.failures out.new ≤ S.failures out.old + 1 }
 {
@@ -72,22 +121,28 @@ fn do_job<R: Env + Files + Input + AllocGlobal, S: Sink>(rt: &R, out: &mut S) ->
     for word in &words {
         texts.push(word.as_str())?;
     }
-    // Until calls run on threads, every run is serial.
-    let Job::Run {
-        trace,
-        serial: _,
-        replies,
-    } = Job::from_words(rt.alloc(), &texts)?;
-    let text = trace_text(rt, trace)?;
-    replay_serial(rt.alloc(), &text, replies, out, &mut Vec::new(rt.alloc()))?;
-    Ok(())
+    match Job::from_words(rt.alloc(), &texts)? {
+        // Until calls run on threads, every run is serial.
+        Job::Run {
+            trace,
+            serial: _,
+            replies,
+        } => {
+            run_trace(rt, trace, replies, out)?;
+            Ok(0)
+        }
+        Job::Check { file } => {
+            let accepted = check_file(rt, file, out)?;
+            Ok(verdict_status(accepted))
+        }
+    }
 }
 
 fn main(rt: HostRuntime) -> ExitCode {
     let mut out = Out::new(rt.stdout());
     let mut err = Out::new(rt.stderr());
     let status = match do_job(&rt, &mut out) {
-        Ok(()) => 0,
+        Ok(status) => status,
         Err(fault) => match tell(rt.alloc(), &fault, &mut out, &mut err) {
             Ok(status) => status,
             Err(error) => error.status(),
@@ -98,3 +153,5 @@ fn main(rt: HostRuntime) -> ExitCode {
 
 #[cfg(test)]
 mod tests;
+#[cfg(test)]
+mod tour;

@@ -392,7 +392,10 @@ fn answer_to(reply: Reply) -> Result<Answer, AllocError>
         Reply::Refused(Refusal::PagesSpent) => Ok(Answer::PagesSpent),
         Reply::Refused(Refusal::NothingToAdopt) => Ok(Answer::NothingToAdopt),
         Reply::Refused(Refusal::OutOfMemory) => Err(AllocError),
-        // A trace asks for its own shards alone, and for none that has ended.
-        Reply::Refused(Refusal::Ended | Refusal::Config) => unreachable!(),
+        // A trace asks for its own shards alone, for none that has ended, and marks nothing yet.
+        Reply::Refused(Refusal::Ended | Refusal::PlanOpen | Refusal::TooMany | Refusal::Config) =>
+            unreachable!(),
+        Reply::Marked(_) | Reply::Stepped(..) | Reply::NoPairLeft | Reply::Closed | Reply::NoPlan =>
+            unreachable!(),
     }
 }

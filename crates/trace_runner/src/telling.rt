@@ -6,7 +6,6 @@ ghost use Rattle.trace_runner.specs.Telling.{Says, TakesFront, TakesMessage, ask
 
 use crate::fault::Fault;
 use crate::sink::{Sink, SinkFailed, give};
-use crate::text::Cause;
 use itoa::Buffer;
 use std::alloc::{AllocError, Global};
 use thiserror::Error;
@@ -50,14 +49,14 @@ impl From<SinkFailed> for TellError {
     }
 }
 
-fn line_message(alloc: Global, line: usize, cause: Cause) -> Result<Vec<u8>, AllocError>
-    ensures { IfOk result (λ text. text.items ≡ line_message line cause) }
+fn line_message(alloc: Global, line: usize, word: &str) -> Result<Vec<u8>, AllocError>
+    ensures { IfOk result (λ text. text.items ≡ line_message line word.now) }
 {
     let mut buffer = Buffer::new();
     let mut text = Vec::from_slice(alloc, b"line ")?;
     text.extend_from_slice(buffer.format(line).as_bytes())?;
     text.extend_from_slice(b": ")?;
-    text.extend_from_slice(cause.word().as_bytes())?;
+    text.extend_from_slice(word.as_bytes())?;
     text.extend_from_slice(b"\n")?;
     Ok(text)
 }
@@ -66,7 +65,8 @@ fn message(alloc: Global, fault: &Fault) -> Result<Vec<u8>, AllocError>
     ensures { IfOk result (λ text. Says fault.now text.items) }
 {
     match fault {
-        Fault::BadTrace { line, cause } => line_message(alloc, *line, *cause),
+        Fault::BadTrace { line, cause } => line_message(alloc, *line, cause.word()),
+        Fault::BadCertificate { line, cause } => line_message(alloc, *line, cause.word()),
         Fault::Words(error) => Ok(error.to_string(alloc)?.into_bytes()),
         Fault::OutOfMemory => Vec::from_slice(alloc, b"memory\n"),
         Fault::SinkFailed | Fault::Io => Vec::from_slice(alloc, b"io\n"),

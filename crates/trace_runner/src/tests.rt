@@ -1,4 +1,4 @@
-//! Traces and what their reports say, texts that are no traces, and what a refused growth leaves.
+//! Traces and what their reports say, texts that are no traces, sinks that fail, and what a refused growth leaves.
 ghost use Rattle.std.specs.Prelude.{◌≡◌, None};
 
 use super::*;
@@ -398,6 +398,30 @@ fn a_sink_that_fails_is_told(rt: HostRuntime) -> Result<(), Fail> {
         assert_eq!(rt; out.failures(), u64::from(room < 27));
     }
     Ok(())
+}
+
+/// A certificate of one group, which is left out.
+const NO_PARTNER: &[u8] =
+    b"meshcert 1\nabandoned 1\n0.0 0100000000000000000000000000000000000000000000000000000000000000\nowned 0\nfolds 0\nshort 0\nend\n";
+
+#[test]
+fn a_sink_that_fails_in_a_check_is_told(rt: HostRuntime) {
+    for room in 0..11usize {
+        let mut out = Narrow {
+            taken: 0,
+            room,
+            failures: 0,
+        };
+        let result = check_text(rt.alloc(), NO_PARTNER, &mut out);
+        let wanted = if room < 9 {
+            Err(CheckError::SinkFailed)
+        } else {
+            Ok(false)
+        };
+        assert_eq!(rt; result, wanted);
+        assert_eq!(rt; out.taken, room.min(9));
+        assert_eq!(rt; out.failures(), u64::from(room < 9));
+    }
 }
 
 // Replays the text. Where a growth is refused, nothing is written and the certificate stays, and the same call is made again.

@@ -8,7 +8,7 @@ use itoa::{Buffer, Integer};
 use span::{Key, SpanId};
 use std::alloc::{AllocError, Global};
 
-fn push_number<I: Integer>(out: &mut Vec<u8>, number: I) -> Result<(), AllocError>
+pub(crate) fn push_number<I: Integer>(out: &mut Vec<u8>, number: I) -> Result<(), AllocError>
     ensures { OnOk result (out.new.items ≡ out.old.items ++ I.text number) }
 {
     let mut buffer = Buffer::new();

@@ -11,7 +11,7 @@ fn run(trace: Option<&'static str>, serial: bool, replies: bool) -> Job<'static>
 
 #[test]
 fn words_of_jobs(rt: HostRuntime) -> Result<(), Fail> {
-    let cases: [(&'static [&'static str], Job<'static>); 7] = [
+    let cases: [(&'static [&'static str], Job<'static>); 9] = [
         (&["run"], run(None, false, false)),
         (&["run", "a.trace"], run(Some("a.trace"), false, false)),
         (&["run", "--serial"], run(None, true, false)),
@@ -28,6 +28,8 @@ fn words_of_jobs(rt: HostRuntime) -> Result<(), Fail> {
             &["run", "--", "--serial"],
             run(Some("--serial"), false, false),
         ),
+        (&["check", "a.cert"], Job::Check { file: "a.cert" }),
+        (&["check", "--", "--help"], Job::Check { file: "--help" }),
     ];
     for (words, job) in cases {
         assert_eq!(rt; Job::from_words(rt.alloc(), words)?, job, "{words:?}");
@@ -45,10 +47,14 @@ fn exit_code(alloc: Global, words: &'static [&'static str]) -> Option<i32> {
 
 #[test]
 fn other_words(rt: HostRuntime) {
-    let cases: [(&'static [&'static str], i32); 12] = [
+    let cases: [(&'static [&'static str], i32); 17] = [
         (&[], 2),
         (&["help"], 2),
-        (&["check", "x"], 2),
+        (&["check"], 2),
+        (&["check", "--"], 2),
+        (&["check", "a.cert", "b.cert"], 2),
+        (&["check", "--serial", "a.cert"], 2),
+        (&["--check", "a.cert"], 2),
         (&["a.trace"], 2),
         (&["--serial"], 2),
         (&["run", "--certificate", "f"], 2),
@@ -58,6 +64,7 @@ fn other_words(rt: HostRuntime) {
         (&["--help"], 0),
         (&["-h"], 0),
         (&["run", "--help"], 0),
+        (&["check", "--help"], 0),
     ];
     for (words, code) in cases {
         assert_eq!(rt; exit_code(rt.alloc(), words), Some(code), "{words:?}");

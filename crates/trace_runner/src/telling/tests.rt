@@ -2,11 +2,12 @@ use super::*;
 use crate::fault::ReplayError;
 use crate::job::Job;
 use crate::sink::Memory;
+use crate::text::Cause;
 use std::process::Abort;
 use std::test::Fail;
 
 const NO_COMMAND: &[u8] =
-    b"error: 'meshrun' requires a subcommand but one was not provided\n  [subcommands: run]\n\nUsage: meshrun <COMMAND>\n\nFor more information, try '--help'.\n";
+    b"error: 'meshrun' requires a subcommand but one was not provided\n  [subcommands: run, check]\n\nUsage: meshrun <COMMAND>\n\nFor more information, try '--help'.\n";
 
 // What the fault is told as: the status, standard output and standard error.
 fn told(alloc: Global, fault: &Fault) -> Result<(u8, Memory, Memory), TellError> {

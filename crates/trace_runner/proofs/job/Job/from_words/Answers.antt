@@ -1,19 +1,20 @@
-use Rattle.std.proofs.Common.{◌≡◌, ◌∙◌, ap, option_map, subst, sym, codes, Some}
-use Rattle.std.specs.Prelude.{IfSome}
+use Rattle.std.proofs.Common.{◌≡◌, ◌∙◌, [], ap, subst, sym}
 use Rattle.clap.specs.Walk.{texts}
-use Rattle.clap.specs.Words.{HasKind, found_of, rows_of, subcommand_rows_of}
+use Rattle.clap.specs.Words.{HasKind}
 use Rattle.clap.specs.Faults.{fault_of, is_simple_and_free}
-use Rattle.trace_runner.specs.Job.{kinds_of}
-use Rattle.trace_runner.proofs.Entered.{entered, joined, subcommand_name_of-rows}
+use Rattle.trace_runner.specs.Job.{IsJob, kinds_of}
+use Rattle.trace_runner.proofs.Entered.{entered}
 use Rattle.trace_runner.proofs.Refused.{refused}
 use Rattle.trace_runner.proofs.job.Job.from_words.Goals as goal
 
-pub unwrap-run-requires : goal.unwrap-run-requires
-unwrap-run-requires c =
+pub job_of-requires : goal.job_of-requires
+job_of-requires c =
+    let words = texts c.args.words.now in
+    let program = c.in_ok-program.ensures in
     let m = c.in_ok-matches.matches in
     let parsed = c.in_ok-matches.ensures.parsed in
-    let run = entered c.in_ok-program.program parsed.built _ m c.in_ok-program.ensures parsed.from parsed.parsed c.in_ok-matches.ensures.matches in
-    c.subcommand_matches.ensures.found.1 (subcommand_name_of-rows m ∙ ap (option_map (λ p. p.0)) run.1)
+    let fault : kinds_of words ≡ [] = sym (ap (λ a. fault_of a words) program.0) ∙ c.in_ok-matches.ensures.kinds (ap is_simple_and_free program.0) in
+    (entered c.in_ok-program.program parsed.built words m program parsed.from parsed.parsed c.in_ok-matches.ensures.matches fault).1
 
 pub returns-in_err-matches-clause-refused : goal.returns-in_err-matches-clause-refused
 returns-in_err-matches-clause-refused c =
@@ -25,13 +26,12 @@ returns-in_err-matches-clause-refused c =
 
 pub returns-clause-named : goal.returns-clause-named
 returns-clause-named c =
+    let words = texts c.args.words.now in
+    let program = c.in_ok-program.ensures in
     let m = c.in_ok-matches.matches in
     let parsed = c.in_ok-matches.ensures.parsed in
-    let words = texts c.args.words.now in
-    let run = entered c.in_ok-program.program parsed.built words m c.in_ok-program.ensures parsed.from parsed.parsed c.in_ok-matches.ensures.matches in
-    let rows : option_map (λ p. p.1) (subcommand_rows_of m) ≡ Some (rows_of (found_of c.unwrap-run.result.now)) = subst (λ o. IfSome o (λ inner. option_map (λ p. p.1) (subcommand_rows_of m) ≡ Some (rows_of (found_of inner.now)))) c.unwrap-run.ensures c.subcommand_matches.ensures.rows in
-    let whole : subcommand_rows_of m ≡ Some (codes "run", rows_of (found_of c.unwrap-run.result.now)) = joined (subcommand_rows_of m) (codes "run") _ (ap (option_map (λ p. p.0)) run.1) rows in
-    (rows_of (found_of c.unwrap-run.result.now), run.2 ∙ sym run.1 ∙ whole, c.run_job.ensures)
+    let fault : kinds_of words ≡ [] = sym (ap (λ a. fault_of a words) program.0) ∙ c.in_ok-matches.ensures.kinds (ap is_simple_and_free program.0) in
+    subst (λ entered. IsJob entered c.job_of.result) (entered c.in_ok-program.program parsed.built words m program parsed.from parsed.parsed c.in_ok-matches.ensures.matches fault).0 c.job_of.ensures
 
 pub returns-clause-accepted : goal.returns-clause-accepted
 returns-clause-accepted c =
