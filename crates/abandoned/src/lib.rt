@@ -19,6 +19,9 @@
 //! That shards are left behind by their threads, and taken up by others, is mimalloc's abandonment of
 //! segments; that a group moves whole, with its guests and its page, is this library's own.
 //!
+//! While a plan of folds is open, nothing is adopted, and no shard with a closed group ends: the pool
+//! is told of the plan, and keeps that (`PlanOpen`).
+//!
 //! The public fact of the crate is that a pool is a plain map of keys: [`Pool::get`] and
 //! [`Pool::free`] answer and do what a map would (`shown` in `specs/Shown.antt`), and
 //! [`Pool::receive`] and [`Pool::adopt`] change nothing of what pool and shard show together.
