@@ -1,0 +1,30 @@
+# What `run` and `check` share. Nothing here is meant to be called alone.
+
+here=$(cd "$(dirname "${BASH_SOURCE[0]}")" && pwd)
+top=$(dirname "$here")
+built="$here/out/target/release"
+program="$top/crates/trace_runner/out/trace_runner"
+packages="librust-slab-dev librust-slotmap-dev librust-sharded-slab-dev libmimalloc2.0 libjemalloc2"
+
+# The peers, from Debian's packages; where all are there, nothing is asked of the network.
+install_peers() {
+    local missing="" name
+    for name in $packages; do
+        dpkg-query -W -f '${Status}' "$name" 2>/dev/null | grep -q 'ok installed' || missing="$missing $name"
+    done
+    if [ -z "$missing" ]; then return; fi
+    echo "bench: installing$missing" >&2
+    local root=""
+    [ "$(id -u)" = 0 ] || root=sudo
+    $root apt-get update -qq >&2
+    # shellcheck disable=SC2086
+    $root apt-get install -y -qq --no-install-recommends $missing >&2
+}
+
+# Proves and builds meshrun where it has changed, and builds the rest. The program is then called without the script
+# around it, which looks at the sources first.
+build() {
+    mkdir -p "$here/out/traces" "$here/out/check"
+    "$top/meshrun" run --help >/dev/null
+    (cd "$here" && cargo build --quiet --release)
+}

@@ -1,0 +1,246 @@
+//! Random texts for the check: traces that come to the edges of the rules soon, and texts that are no traces.
+
+use crate::random::Random;
+use crate::written::header;
+use std::fmt::Write;
+
+/// What a text has bound so far.
+struct Bound {
+    name: String,
+    /// None for a put.
+    count: Option<usize>,
+    thread: usize,
+    section: usize,
+}
+
+struct Draw {
+    random: Random,
+    text: String,
+    shards: usize,
+    ended: Vec<bool>,
+    bound: Vec<Bound>,
+    section: usize,
+    /// Whether a thread may ask for what it can't know.
+    careless: bool,
+    /// Whether pages come to be full.
+    crowded: bool,
+}
+
+/// The text of a seed. Every third one is broken somewhere.
+pub fn text(seed: u64) -> Vec<u8> {
+    let mut random = Random::new(seed);
+    for _ in 0..8 {
+        random.next();
+    }
+    let shards = [1, 3, 6, 12, 20][random.below(5)];
+    let pages = 1 + random.below(4);
+    let gens = [1, 2, 3, 9, u32::MAX][random.below(5)];
+    let lines = 5 + random.below(80);
+    let mut draw = Draw {
+        random,
+        text: header(shards, pages, gens),
+        shards,
+        ended: vec![false; shards],
+        bound: Vec::new(),
+        section: 0,
+        careless: seed % 12 == 0,
+        crowded: seed % 5 == 0,
+    };
+    for _ in 0..lines {
+        match draw.section {
+            0 if !draw.crowded => draw.opening(),
+            _ => draw.line(),
+        }
+    }
+    let Draw { text, mut random, .. } = draw;
+    let mut text = text.into_bytes();
+    if seed % 3 == 0 {
+        for _ in 0..1 + random.below(2) {
+            spoil(&mut random, &mut text);
+        }
+    }
+    text
+}
+
+impl Draw {
+    fn say(&mut self, text: std::fmt::Arguments) {
+        // A String takes all that it is given.
+        let _ = writeln!(self.text, "{text}");
+    }
+
+    fn line(&mut self) {
+        match self.random.below(40) {
+            0 => self.text.push_str("# a remark\n\n"),
+            1 | 2 => self.barrier(),
+            3 | 4 => self.end(),
+            5..=12 => {
+                if let Some(thread) = self.running() {
+                    self.part(thread);
+                }
+            }
+            _ => self.call(),
+        }
+    }
+
+    /// Each thread keeps a few values, some of the threads end, and a mark folds what they left.
+    fn opening(&mut self) {
+        for thread in 0..self.shards {
+            self.part(thread);
+        }
+        for _ in 0..self.shards / 2 {
+            self.end();
+        }
+        self.barrier();
+    }
+
+    fn running(&mut self) -> Option<usize> {
+        let running: Vec<usize> = (0..self.shards).filter(|t| !self.ended[*t]).collect();
+        (!running.is_empty()).then(|| running[self.random.below(running.len())])
+    }
+
+    fn barrier(&mut self) {
+        for _ in 0..self.random.below(3) {
+            if let Some(shard) = self.running() {
+                self.say(format_args!("adopt {shard}"));
+            }
+        }
+        self.text.push_str("mark\n");
+        self.section += 1;
+        // What a plan is to fold may be empty when its turn comes.
+        for _ in 0..self.random.below(3) {
+            if let Some(thread) = self.running() {
+                self.use_key(thread);
+            }
+        }
+    }
+
+    /// Keeps a few of many values, so that groups come to fit each other.
+    fn part(&mut self, thread: usize) {
+        let (count, kept) = (3 + self.random.below(6), self.random.below(3));
+        let name = format!("n{}", self.bound.len());
+        self.say(format_args!("{thread} fill {name} {count} 7"));
+        self.say(format_args!("{thread} sweep {name} 0 {kept}"));
+        self.say(format_args!("{thread} sweep {name} {} {count}", kept + 1));
+        self.bound.push(Bound {
+            name,
+            count: Some(count),
+            thread,
+            section: self.section,
+        });
+    }
+
+    fn end(&mut self) {
+        if let Some(thread) = self.running() {
+            self.ended[thread] = true;
+            self.say(format_args!("{thread} end"));
+        }
+    }
+
+    fn call(&mut self) {
+        let Some(thread) = self.running() else { return };
+        match self.random.below(10) {
+            0 => self.bind(thread, None),
+            1 => {
+                let most = if self.crowded { 500 } else { 6 };
+                let count = 1 + self.random.below(most);
+                self.bind(thread, Some(count));
+            }
+            _ => self.use_key(thread),
+        }
+    }
+
+    fn bind(&mut self, thread: usize, count: Option<usize>) {
+        let name = format!("n{}", self.bound.len());
+        let value = [self.random.next() as u128, u128::MAX - 500, 0][self.random.below(3)];
+        match count {
+            None => self.say(format_args!("{thread} put {name} {value}")),
+            Some(count) => self.say(format_args!("{thread} fill {name} {count} {value}")),
+        }
+        self.bound.push(Bound {
+            name,
+            count,
+            thread,
+            section: self.section,
+        });
+    }
+
+    /// Reads, frees or sweeps a name that this thread may know.
+    fn use_key(&mut self, thread: usize) {
+        let (section, careless) = (self.section, self.careless && self.random.one_in(8));
+        let known = |b: &&Bound| careless || b.thread == thread || b.section < section;
+        let known: Vec<&Bound> = self.bound.iter().filter(known).collect();
+        if known.is_empty() {
+            return;
+        }
+        let bound = known[self.random.below(known.len())];
+        let (name, count) = (bound.name.clone(), bound.count);
+        let word = if self.random.one_in(2) { "get" } else { "free" };
+        match count {
+            None => self.say(format_args!("{thread} {word} {name}")),
+            Some(count) if self.random.one_in(3) => {
+                let to = self.random.below(count + 1);
+                let from = self.random.below(to + 1);
+                self.say(format_args!("{thread} sweep {name} {from} {to}"));
+            }
+            Some(count) => {
+                let at = self.random.below(count);
+                self.say(format_args!("{thread} {word} {name}.{at}"));
+            }
+        }
+    }
+}
+
+/// Words that stand where others should.
+const WORDS: [&str; 24] = [
+    "0",
+    "1",
+    "63",
+    "64",
+    "00",
+    "01",
+    "-1",
+    "+1",
+    "",
+    " ",
+    "put",
+    "fill",
+    "end",
+    "mark",
+    "adopt",
+    "n0",
+    "n1.0",
+    "n2.",
+    "N",
+    "262144",
+    "262145",
+    "340282366920938463463374607431768211456",
+    "99999999999999999999999999999999999999999999999999",
+    "abcdefghijklmnopq",
+];
+
+/// Makes one fault, or what may be one.
+fn spoil(random: &mut Random, text: &mut Vec<u8>) {
+    let mut lines: Vec<Vec<u8>> = text.split(|b| *b == b'\n').map(<[u8]>::to_vec).collect();
+    let at = random.below(lines.len());
+    match random.below(7) {
+        0 => drop(lines.remove(at)),
+        1 => lines.insert(at, lines[at].clone()),
+        2 => {
+            let to = random.below(lines.len());
+            lines.swap(at, to);
+        }
+        3 => lines.truncate(at),
+        4 => {
+            let byte = [b' ', b'\r', 0, 255, b'0', b'9', b'.', b'z'][random.below(8)];
+            let place = random.below(lines[at].len() + 1);
+            lines[at].insert(place, byte);
+        }
+        _ => {
+            let mut words: Vec<Vec<u8>> = lines[at].split(|b| *b == b' ').map(<[u8]>::to_vec).collect();
+            let place = random.below(words.len());
+            words[place] = WORDS[random.below(WORDS.len())].into();
+            lines[at] = words.join(&b' ');
+        }
+    }
+    *text = lines.join(&b'\n');
+}

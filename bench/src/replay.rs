@@ -1,0 +1,230 @@
+//! Runs a trace, and builds its report.
+
+use crate::core::{AdoptError, Core, MarkError, PagesSpent, Stepped};
+use crate::ids::{Key, SpanId};
+use crate::report::{push_id, push_ids, push_key, push_number};
+use crate::trace::{Call, Line, Trace};
+use std::io::Write;
+
+/// How to run a trace.
+#[derive(Default)]
+pub struct How {
+    pub replies: bool,
+    /// A mark is a barrier alone: it plans nothing and has no lines.
+    pub barriers: bool,
+    /// The pairs that each mark is to take, in place of its own.
+    pub plans: Option<Vec<Vec<(SpanId, SpanId)>>>,
+}
+
+/// The plan that a mark was to take is no largest one.
+#[derive(Debug)]
+pub struct NotLargest {
+    pub mark: usize,
+}
+
+struct Run<'h> {
+    how: &'h How,
+    core: Core,
+    keys: Vec<Option<Key>>,
+    out: Vec<u8>,
+    /// The lines of the steps, which stand behind all replies of their section.
+    steps: Vec<u8>,
+    calls: usize,
+    marks: usize,
+    /// The number of the mark whose plan is open.
+    open: Option<usize>,
+    leaving: Vec<usize>,
+    /// Lines and shards of the adoptions that wait for their mark.
+    adoptions: Vec<(usize, usize)>,
+}
+
+pub fn run(trace: &Trace, how: &How) -> Result<Vec<u8>, NotLargest> {
+    let mut run = Run {
+        how,
+        core: Core::new(trace.header),
+        keys: vec![None; trace.keys],
+        out: Vec::new(),
+        steps: Vec::new(),
+        calls: 0,
+        marks: 0,
+        open: None,
+        leaving: Vec::new(),
+        adoptions: Vec::new(),
+    };
+    for (number, line) in &trace.lines {
+        run.line(*number, line)?;
+    }
+    run.finish_section();
+    let (pages, live, calls) = (run.core.pages(), run.core.live(), run.calls);
+    run.say(format_args!("end pages {pages} live {live} calls {calls}\n"));
+    Ok(run.out)
+}
+
+impl Run<'_> {
+    fn line(&mut self, number: usize, line: &Line) -> Result<(), NotLargest> {
+        match line {
+            Line::Call { thread, call } => {
+                self.call(number, *thread, call);
+                self.step();
+            }
+            Line::Adopt { shard } => self.adoptions.push((number, *shard)),
+            Line::Mark => self.mark()?,
+        }
+        Ok(())
+    }
+
+    fn call(&mut self, number: usize, thread: usize, call: &Call) {
+        match *call {
+            Call::Put { key, value } => self.put(number, thread, key, value),
+            Call::Fill { first, count, value } => {
+                for i in 0..count {
+                    self.put(number, thread, first + i as usize, value + u128::from(i));
+                }
+            }
+            Call::Get { key } => self.get(number, key),
+            Call::Free { key } => self.free(number, key),
+            Call::Sweep { from, to } => (from..to).for_each(|key| self.free(number, key)),
+            Call::End => {
+                self.leaving.push(thread);
+                self.reply(number, |out| out.extend_from_slice(b"ended"));
+            }
+        }
+    }
+
+    /// Counts a call, and writes its reply where replies are asked for.
+    fn reply(&mut self, number: usize, text: impl FnOnce(&mut Vec<u8>)) {
+        self.calls += 1;
+        self.write_reply(number, text);
+    }
+
+    fn write_reply(&mut self, number: usize, text: impl FnOnce(&mut Vec<u8>)) {
+        if self.how.replies {
+            push_number(&mut self.out, number as u64);
+            self.out.push(b' ');
+            text(&mut self.out);
+            self.out.push(b'\n');
+        }
+    }
+
+    fn put(&mut self, number: usize, thread: usize, place: usize, value: u128) {
+        match self.core.put(thread, value) {
+            Ok(key) => {
+                self.keys[place] = Some(key);
+                self.reply(number, |out| {
+                    out.extend_from_slice(b"key ");
+                    push_key(out, key);
+                });
+            }
+            Err(PagesSpent) => self.reply(number, |out| out.extend_from_slice(b"refused pages")),
+        }
+    }
+
+    fn get(&mut self, number: usize, place: usize) {
+        let found = self.keys[place].map(|key| self.core.get(key));
+        self.reply(number, |out| match found {
+            None => out.extend_from_slice(b"unbound"),
+            Some(None) => out.extend_from_slice(b"none"),
+            Some(Some(value)) => push_value(out, value),
+        });
+    }
+
+    fn free(&mut self, number: usize, place: usize) {
+        let text: &[u8] = match self.keys[place].map(|key| self.core.free(key)) {
+            None => b"unbound",
+            Some(false) => b"no",
+            Some(true) => b"yes",
+        };
+        self.reply(number, |out| out.extend_from_slice(text));
+    }
+
+    /// Takes a step of the open plan; whether there was one to take.
+    fn step(&mut self) -> bool {
+        let Some((from, onto, stepped)) = self.core.step() else {
+            return false;
+        };
+        if self.how.replies {
+            let result = match stepped {
+                Stepped::Folded => "folded",
+                Stepped::Emptied => "emptied",
+            };
+            self.steps
+                .extend_from_slice(format!("step {from} onto {onto} {result}\n").as_bytes());
+        }
+        true
+    }
+
+    /// The plan is carried out and closed, and the shards of ended threads are abandoned.
+    fn finish_section(&mut self) {
+        while self.step() {}
+        self.out.append(&mut self.steps);
+        if let Some(mark) = self.open.take() {
+            self.core.close();
+            let pages = self.core.pages();
+            self.say(format_args!("closed {mark} pages {pages}\n"));
+        }
+        self.leaving.sort_unstable();
+        for shard in std::mem::take(&mut self.leaving) {
+            self.core.end(shard);
+        }
+    }
+
+    fn adopt(&mut self, number: usize, shard: usize) {
+        let adopted = self.core.adopt(shard);
+        self.write_reply(number, |out| match adopted {
+            Ok(head) => {
+                out.extend_from_slice(b"adopted ");
+                push_id(out, head);
+            }
+            Err(AdoptError::PagesSpent) => out.extend_from_slice(b"refused pages"),
+            Err(AdoptError::NothingToAdopt) => out.extend_from_slice(b"refused nothing"),
+        });
+    }
+
+    fn mark(&mut self) -> Result<(), NotLargest> {
+        self.finish_section();
+        for (number, shard) in std::mem::take(&mut self.adoptions) {
+            self.adopt(number, shard);
+        }
+        self.marks += 1;
+        if self.how.barriers {
+            return Ok(());
+        }
+        let mark = self.marks;
+        let given = self
+            .how
+            .plans
+            .as_ref()
+            .map(|plans| plans.get(mark - 1).map_or(&[][..], Vec::as_slice));
+        match self.core.mark(given) {
+            Err(MarkError::TooMany) => self.say(format_args!("mark {mark} refused many\n")),
+            Err(MarkError::NotLargest) => return Err(NotLargest { mark }),
+            Ok(marked) => {
+                self.open = Some(mark);
+                let (abandoned, owned, folds) = (marked.abandoned, marked.owned, marked.folds.len());
+                let pages = self.core.pages();
+                self.say(format_args!(
+                    "mark {mark} abandoned {abandoned} owned {owned} folds {folds} pages {pages}\n"
+                ));
+                for (from, onto) in &marked.folds {
+                    self.say(format_args!("fold {from} onto {onto}\n"));
+                }
+                push_ids(&mut self.out, "short", &marked.short);
+                push_ids(&mut self.out, "partners", &marked.partners);
+            }
+        }
+        Ok(())
+    }
+
+    fn say(&mut self, text: std::fmt::Arguments) {
+        // A Vec takes all that it is given.
+        let _ = self.out.write_fmt(text);
+    }
+}
+
+fn push_value(out: &mut Vec<u8>, value: u128) {
+    out.extend_from_slice(b"value ");
+    match u64::try_from(value) {
+        Ok(small) => push_number(out, small),
+        Err(_) => out.extend_from_slice(value.to_string().as_bytes()),
+    }
+}

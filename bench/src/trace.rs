@@ -1,0 +1,391 @@
+//! Reads the text of a trace.
+
+use std::collections::HashMap;
+use std::fmt;
+use std::ops::RangeInclusive;
+
+/// The most puts of one `fill`.
+const LONGEST_FILL: u128 = 262_144;
+
+/// Why a line is refused. The first that holds, in this order, is told.
+#[derive(Clone, Copy, Debug, PartialEq, Eq)]
+pub enum Cause {
+    Header,
+    Form,
+    Limit,
+    Thread,
+    Ended,
+    Adopt,
+    Bound,
+    Unknown,
+    Early,
+}
+
+/// The first line at fault.
+#[derive(Clone, Copy, Debug, PartialEq, Eq)]
+pub struct Fault {
+    pub line: usize,
+    pub cause: Cause,
+}
+
+impl fmt::Display for Fault {
+    fn fmt(&self, out: &mut fmt::Formatter) -> fmt::Result {
+        let cause = match self.cause {
+            Cause::Header => "header",
+            Cause::Form => "form",
+            Cause::Limit => "limit",
+            Cause::Thread => "thread",
+            Cause::Ended => "ended",
+            Cause::Adopt => "adopt",
+            Cause::Bound => "bound",
+            Cause::Unknown => "unknown",
+            Cause::Early => "early",
+        };
+        write!(out, "line {}: {cause}", self.line)
+    }
+}
+
+#[derive(Clone, Copy, Debug, Default)]
+pub struct Header {
+    pub shards: usize,
+    pub pages: usize,
+    pub gens: u32,
+}
+
+/// A call of a thread. Keys are places in one table of all keys that the trace may bind, so that no name is looked up twice.
+#[derive(Clone, Copy, Debug)]
+pub enum Call {
+    Put { key: usize, value: u128 },
+    Fill { first: usize, count: u32, value: u128 },
+    Get { key: usize },
+    Free { key: usize },
+    Sweep { from: usize, to: usize },
+    End,
+}
+
+#[derive(Clone, Copy, Debug)]
+pub enum Line {
+    Call { thread: usize, call: Call },
+    Adopt { shard: usize },
+    Mark,
+}
+
+/// A trace: its lines with their numbers, without remarks and empty lines, and how many keys it may bind.
+pub struct Trace {
+    pub header: Header,
+    pub lines: Vec<(usize, Line)>,
+    pub keys: usize,
+}
+
+/// A number of any length. What doesn't fit is above every range.
+#[derive(Clone, Copy)]
+enum Number {
+    Fits(u128),
+    Above,
+}
+
+impl Number {
+    fn of(word: &[u8]) -> Option<Number> {
+        let digits = !word.is_empty() && word.iter().all(u8::is_ascii_digit);
+        if !digits || (word[0] == b'0' && word.len() > 1) {
+            return None;
+        }
+        let step = |sum: u128, digit: &u8| sum.checked_mul(10)?.checked_add(u128::from(digit - b'0'));
+        Some(word.iter().try_fold(0, step).map_or(Number::Above, Number::Fits))
+    }
+
+    fn within(self, range: RangeInclusive<u128>) -> Option<u128> {
+        match self {
+            Number::Fits(n) if range.contains(&n) => Some(n),
+            _ => None,
+        }
+    }
+}
+
+fn is_name(word: &[u8]) -> bool {
+    (1..=16).contains(&word.len())
+        && word[0].is_ascii_lowercase()
+        && word.iter().all(|b| b.is_ascii_lowercase() || b.is_ascii_digit())
+}
+
+/// A name, or a name and an index.
+#[derive(Clone, Copy)]
+struct Reference<'t> {
+    name: &'t [u8],
+    index: Option<Number>,
+}
+
+impl<'t> Reference<'t> {
+    fn of(word: &'t [u8]) -> Option<Reference<'t>> {
+        let (name, index) = match word.iter().position(|b| *b == b'.') {
+            None => (word, None),
+            Some(at) => (&word[..at], Some(Number::of(&word[at + 1..])?)),
+        };
+        is_name(name).then_some(Reference { name, index })
+    }
+}
+
+/// A thread's call as it is spelled.
+enum Spelled<'t> {
+    Put(&'t [u8], Number),
+    Fill(&'t [u8], Number, Number),
+    Get(Reference<'t>),
+    Free(Reference<'t>),
+    Sweep(&'t [u8], Number, Number),
+    End,
+}
+
+/// A line as it is spelled.
+enum Form<'t> {
+    Call(Number, Spelled<'t>),
+    Adopt(Number),
+    Mark,
+}
+
+fn name_of(word: &[u8]) -> Option<&[u8]> {
+    is_name(word).then_some(word)
+}
+
+fn form_of(line: &[u8]) -> Option<Form<'_>> {
+    let mut room = [&line[..0]; 5];
+    let mut count = 0;
+    for word in line.split(|b| *b == b' ') {
+        *room.get_mut(count)? = word;
+        count += 1;
+    }
+    let spelled = match &room[..count] {
+        [b"mark"] => return Some(Form::Mark),
+        [b"adopt", shard] => return Some(Form::Adopt(Number::of(shard)?)),
+        [_, b"put", name, value] => Spelled::Put(name_of(name)?, Number::of(value)?),
+        [_, b"fill", name, count, value] => Spelled::Fill(name_of(name)?, Number::of(count)?, Number::of(value)?),
+        [_, b"get", key] => Spelled::Get(Reference::of(key)?),
+        [_, b"free", key] => Spelled::Free(Reference::of(key)?),
+        [_, b"sweep", name, from, to] => Spelled::Sweep(name_of(name)?, Number::of(from)?, Number::of(to)?),
+        [_, b"end"] => Spelled::End,
+        _ => return None,
+    };
+    Some(Form::Call(Number::of(room[0])?, spelled))
+}
+
+/// What a name is bound to: `count` keys by a fill, or one by a put.
+#[derive(Clone, Copy)]
+struct Binding {
+    first: usize,
+    count: Option<u32>,
+    thread: usize,
+    section: usize,
+}
+
+struct Reader<'t> {
+    header: Header,
+    names: HashMap<&'t [u8], Binding>,
+    ended: Vec<bool>,
+    section: usize,
+    awaits_mark: bool,
+    keys: usize,
+}
+
+impl<'t> Reader<'t> {
+    fn thread(&self, number: Number) -> Result<usize, Cause> {
+        let below = self.header.shards as u128 - 1;
+        let thread = number.within(0..=below).ok_or(Cause::Thread)? as usize;
+        if self.ended[thread] {
+            return Err(Cause::Ended);
+        }
+        Ok(thread)
+    }
+
+    fn bind(&mut self, name: &'t [u8], count: Option<u32>, thread: usize) -> Result<usize, Cause> {
+        let first = self.keys;
+        let binding = Binding {
+            first,
+            count,
+            thread,
+            section: self.section,
+        };
+        match self.names.entry(name) {
+            std::collections::hash_map::Entry::Occupied(_) => return Err(Cause::Bound),
+            std::collections::hash_map::Entry::Vacant(place) => place.insert(binding),
+        };
+        self.keys += count.unwrap_or(1) as usize;
+        Ok(first)
+    }
+
+    /// What a name is bound to; `Early` comes after all that is unknown, so the caller asks for it.
+    fn binding(&self, name: &[u8]) -> Result<Binding, Cause> {
+        self.names.get(name).copied().ok_or(Cause::Unknown)
+    }
+
+    fn in_time(&self, binding: Binding, thread: usize) -> Result<(), Cause> {
+        if binding.section == self.section && binding.thread != thread {
+            return Err(Cause::Early);
+        }
+        Ok(())
+    }
+
+    fn key(&self, reference: Reference, thread: usize) -> Result<usize, Cause> {
+        let binding = self.binding(reference.name)?;
+        let place = match (reference.index, binding.count) {
+            (None, None) => 0,
+            (Some(index), Some(count)) => index.within(0..=u128::from(count) - 1).ok_or(Cause::Unknown)?,
+            _ => return Err(Cause::Unknown),
+        };
+        self.in_time(binding, thread)?;
+        Ok(binding.first + place as usize)
+    }
+
+    fn sweep(&self, name: &[u8], from: Number, to: Number, thread: usize) -> Result<Call, Cause> {
+        let binding = self.binding(name)?;
+        let count = u128::from(binding.count.ok_or(Cause::Unknown)?);
+        let to = to.within(0..=count).ok_or(Cause::Unknown)?;
+        let from = from.within(0..=to).ok_or(Cause::Unknown)?;
+        self.in_time(binding, thread)?;
+        Ok(Call::Sweep {
+            from: binding.first + from as usize,
+            to: binding.first + to as usize,
+        })
+    }
+
+    fn call(&mut self, thread: usize, spelled: Spelled<'t>) -> Result<Call, Cause> {
+        Ok(match spelled {
+            Spelled::Put(name, value) => {
+                let value = value.within(0..=u128::MAX).ok_or(Cause::Limit)?;
+                Call::Put {
+                    key: self.bind(name, None, thread)?,
+                    value,
+                }
+            }
+            Spelled::Fill(name, count, value) => {
+                let (count, value) = fill_numbers(count, value).ok_or(Cause::Limit)?;
+                Call::Fill {
+                    first: self.bind(name, Some(count), thread)?,
+                    count,
+                    value,
+                }
+            }
+            Spelled::Get(key) => Call::Get {
+                key: self.key(key, thread)?,
+            },
+            Spelled::Free(key) => Call::Free {
+                key: self.key(key, thread)?,
+            },
+            Spelled::Sweep(name, from, to) => self.sweep(name, from, to, thread)?,
+            Spelled::End => {
+                self.ended[thread] = true;
+                Call::End
+            }
+        })
+    }
+
+    fn line(&mut self, form: Form<'t>) -> Result<Line, Cause> {
+        match form {
+            Form::Mark => {
+                self.awaits_mark = false;
+                self.section += 1;
+                Ok(Line::Mark)
+            }
+            Form::Adopt(shard) => {
+                let shard = self.thread(shard)?;
+                self.awaits_mark = true;
+                Ok(Line::Adopt { shard })
+            }
+            Form::Call(thread, spelled) => {
+                check_limits(&spelled)?;
+                let thread = self.thread(thread)?;
+                if self.awaits_mark {
+                    return Err(Cause::Adopt);
+                }
+                let call = self.call(thread, spelled)?;
+                Ok(Line::Call { thread, call })
+            }
+        }
+    }
+}
+
+fn fill_numbers(count: Number, value: Number) -> Option<(u32, u128)> {
+    let count = count.within(1..=LONGEST_FILL)?;
+    let value = value.within(0..=u128::MAX - (count - 1))?;
+    Some((count as u32, value))
+}
+
+/// The limits stand before all causes that need the lines above.
+fn check_limits(spelled: &Spelled) -> Result<(), Cause> {
+    let within = match spelled {
+        Spelled::Put(_, value) => value.within(0..=u128::MAX).is_some(),
+        Spelled::Fill(_, count, value) => fill_numbers(*count, *value).is_some(),
+        _ => true,
+    };
+    if within {
+        Ok(())
+    } else {
+        Err(Cause::Limit)
+    }
+}
+
+fn header_number(line: Option<&[u8]>, word: &str, most: u128) -> Result<u128, Cause> {
+    let rest = line.and_then(|line| line.strip_prefix(word.as_bytes()));
+    let number = rest.and_then(|rest| Number::of(rest.strip_prefix(b" ")?));
+    number.ok_or(Cause::Header)?.within(1..=most).ok_or(Cause::Limit)
+}
+
+fn header<'t>(lines: &mut impl Iterator<Item = &'t [u8]>) -> Result<Header, Fault> {
+    if lines.next() != Some(b"mesh 1") {
+        return Err(Fault {
+            line: 1,
+            cause: Cause::Header,
+        });
+    }
+    let mut number = |line, word, most| header_number(lines.next(), word, most).map_err(|cause| Fault { line, cause });
+    let shards = number(2, "shards", 64)? as usize;
+    let pages = number(3, "pages", 1024)? as usize;
+    // The rings are for deferred frees, which have no line yet.
+    number(4, "ring", 1024)?;
+    let gens = number(5, "gens", u128::from(u32::MAX))? as u32;
+    Ok(Header { shards, pages, gens })
+}
+
+/// The lines of a text: an LF ends one, and opens none behind the last.
+fn lines_of(text: &[u8]) -> impl Iterator<Item = &[u8]> {
+    let body = text.strip_suffix(b"\n").unwrap_or(text);
+    let lines = if text.is_empty() {
+        None
+    } else {
+        Some(body.split(|b| *b == b'\n'))
+    };
+    lines.into_iter().flatten()
+}
+
+pub fn read(text: &[u8]) -> Result<Trace, Fault> {
+    let mut lines = lines_of(text);
+    let header = header(&mut lines)?;
+    let mut reader = Reader {
+        header,
+        names: HashMap::new(),
+        ended: vec![false; header.shards],
+        section: 0,
+        awaits_mark: false,
+        keys: 0,
+    };
+    let mut read = Vec::new();
+    let mut number = 5;
+    for line in lines {
+        number += 1;
+        if line.is_empty() || line[0] == b'#' {
+            continue;
+        }
+        let at = |cause| Fault { line: number, cause };
+        let form = form_of(line).ok_or(at(Cause::Form))?;
+        read.push((number, reader.line(form).map_err(at)?));
+    }
+    if reader.awaits_mark {
+        return Err(Fault {
+            line: number + 1,
+            cause: Cause::Adopt,
+        });
+    }
+    Ok(Trace {
+        header,
+        lines: read,
+        keys: reader.keys,
+    })
+}
