@@ -30,7 +30,7 @@ struct Draw {
 pub fn text(seed: u64) -> Vec<u8> {
     let mut random = Random::new(seed);
     for _ in 0..8 {
-        random.next();
+        random.draw();
     }
     let shards = [1, 3, 6, 12, 20][random.below(5)];
     let pages = 1 + random.below(4);
@@ -151,7 +151,7 @@ impl Draw {
 
     fn bind(&mut self, thread: usize, count: Option<usize>) {
         let name = format!("n{}", self.bound.len());
-        let value = [self.random.next() as u128, u128::MAX - 500, 0][self.random.below(3)];
+        let value = [self.random.draw() as u128, u128::MAX - 500, 0][self.random.below(3)];
         match count {
             None => self.say(format_args!("{thread} put {name} {value}")),
             Some(count) => self.say(format_args!("{thread} fill {name} {count} {value}")),

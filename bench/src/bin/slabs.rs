@@ -1,11 +1,12 @@
 //! `slabs time MIX WHO` and `slabs memory WHO`: stores that do less than Teurlaks, on the same calls.
 
+use beside::clock;
 use beside::core::Core;
 use beside::ids::Key;
 use beside::mixes::{Mix, Store, MIXES};
 use beside::trace::Header;
 use std::process::ExitCode;
-use std::time::{Duration, Instant};
+use std::time::Duration;
 
 impl Store for Slab {
     type Key = usize;
@@ -95,9 +96,9 @@ fn time<S: Store>(mix: &Mix, new: impl Fn() -> S) -> Duration {
     let run = |_| {
         let mut store = new();
         let keys = mix.prepare(&mut store);
-        let start = Instant::now();
+        let start = clock::used();
         std::hint::black_box(mix.run(&mut store, keys));
-        start.elapsed()
+        clock::used() - start
     };
     (0..5).map(run).min().unwrap_or_default()
 }
@@ -162,8 +163,8 @@ fn answer(words: &[&str]) -> Option<String> {
     match words {
         ["time", mix, who] => {
             let mix = MIXES.iter().find(|known| known.name == *mix)?;
-            let picos = time_of(mix, who)?.as_nanos() as f64 / mix.calls as f64;
-            Some(format!("{picos:.3}"))
+            let nanos = time_of(mix, who)?.as_nanos() as f64 / mix.calls as f64;
+            Some(format!("{nanos:.3}"))
         }
         ["memory", who] => {
             let (value, change) = memory_of(who)?;
