@@ -1,5 +1,5 @@
 -- What a mark sees of the pool and the shards, what it answers, and how its plan goes on.
-use Rattle.std.specs.Prelude.{◌⊎◌, ℕ, ◌+◌, ◌<◌, ◌≤◌, Bool, true, false, List, length, map, Option, Some, None, slice_get}
+use Rattle.std.specs.Prelude.{◌⊎◌, ℕ, ◌+◌, ◌<◌, Bool, true, false, List, length, Option, Some, None, slice_get}
 use Rattle.std.specs.List.{IsDistinct}
 use Rattle.std.specs.List.Sorted.{IsPermutation}
 use Rattle.span.specs.declared.id.SpanId.{SpanId}
@@ -9,6 +9,7 @@ use Rattle.abandoned.specs.State.{PoolState}
 use Rattle.mesh_graph.specs.Groups.{Groups, IsAscending, ids}
 use Rattle.certificate.specs.declared.certificate.Certificate.{Certificate}
 use Rattle.certificate.specs.Plans.{IsBestPlanOf, IsCertificateOf, IsShortOf}
+use Rattle.certificate.specs.Text.{IsWritable}
 use Rattle.arena_core.specs.Plan.{abandoned_entries, owned_entries}
 use Rattle.arena_core.specs.State.{OpenPlan}
 
@@ -43,12 +44,10 @@ pub record AreDistinct (pool : PoolState) (shards : List ShardState) : Type 0 wh
 abbrev pub AreTooMany : PoolState → List ShardState → Type 0
 AreTooMany pool shards = (4096 < length (abandoned_entries pool)) ⊎ (4096 < length (owned_entries shards))
 
--- a snapshot of the pool and the shards, a plan of it with the most pairs, and the short set that shows this, both by ascending abandoned ids
+-- a snapshot of the pool and the shards, a plan of it with the most pairs, and the short set that shows this; the whole can be written as a text
 pub record IsLargest (pool : PoolState) (shards : List ShardState) (found : Certificate) : Type 0 where
   pub seen : IsSeen pool shards found.snapshot
   pub best : IsBestPlanOf found.snapshot found.plan
   pub short : IsShortOf found.snapshot found.plan found.short
   pub certificate : IsCertificateOf found.snapshot found.plan found.short
-  pub ascending : IsAscending (map (λ pair. pair.0) found.plan)
-  pub short_ascending : IsAscending found.short
-  pub at_most : length found.plan ≤ 4096
+  pub writable : IsWritable found

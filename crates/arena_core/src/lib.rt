@@ -23,9 +23,9 @@
 //! The public facts: without ends, adoptions, marks, steps and closes, the replies are those of a
 //! plain map of keys, which knows no shards, pages or spans (`specs/Plain.antt`), and those events
 //! change nothing of the map that the core shows. A mark that is not refused plans as many folds as
-//! any plan, shown by the short set (`specs/Marks.antt`), and what it plans is carried out
-//! (`specs/Plan.antt`). Each step is besides an exact step of shards and pool (`specs/Step.antt`), and
-//! leads from a sound core to a sound core (`specs/Sound.antt`).
+//! any plan, shown by the short set, and the whole can be written as a certificate (`specs/Marks.antt`);
+//! what it plans is carried out (`specs/Plan.antt`). Each step is besides an exact step of shards and
+//! pool (`specs/Step.antt`), and leads from a sound core to a sound core (`specs/Sound.antt`).
 #![tactic(auto)]
 
 mod closing;

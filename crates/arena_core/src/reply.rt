@@ -22,7 +22,8 @@ pub enum Reply {
     ShardEnded,
     /// The head of the group that the shard has adopted.
     Adopted(SpanId),
-    /// What the mark saw, a plan of it that has the most pairs, and the short set that shows it. The plan is open.
+    /// What the mark saw, a plan of it that has the most pairs, and the short set that shows it: all of it can be written.
+    /// The plan is open.
     Marked(Certificate),
     /// The pair that was next, its abandoned group first, and what came of it.
     Stepped(SpanId, SpanId, Step),

@@ -1,5 +1,5 @@
-use Rattle.certificate.specs.Plans.{IsBestPlanOf}
-use Rattle.arena_core.proofs.Marks.{few_pairs, few_seen}
+use Rattle.certificate.specs.Plans.{IsCertificateOf}
+use Rattle.arena_core.proofs.Marks.{IsWritable-few, few_seen}
 use Rattle.arena_core.proofs.marking.largest_plan.Goals as goal
 
 pub graph_of-requires-clause-abandoned : goal.graph_of-requires-clause-abandoned
@@ -11,13 +11,13 @@ graph_of-requires-clause-owned c = (few_seen c.args.pool.now c.args.shards.now c
 pub returns : goal.returns
 returns c =
     let groups = c.in_ok-snapshot.snapshot in
-    let best : IsBestPlanOf groups c.in_ok-plan.plan = rw c.in_ok-graph.ensures at c.in_ok-plan.ensures.best in
+    let certificate : IsCertificateOf groups c.in_ok-plan.plan c.in_ok-plan.short = rw c.in_ok-graph.ensures at c.in_ok-plan.ensures.certificate in
     record {
       seen = c.in_ok-snapshot.ensures;
-      best = best;
+      best = rw c.in_ok-graph.ensures at c.in_ok-plan.ensures.best;
       short = rw c.in_ok-graph.ensures at c.in_ok-plan.ensures.short;
-      certificate = rw c.in_ok-graph.ensures at c.in_ok-plan.ensures.certificate;
-      ascending = c.in_ok-plan.ensures.ascending;
-      short_ascending = c.in_ok-plan.ensures.short_ascending;
-      at_most = few_pairs groups c.in_ok-plan.plan best.plan (few_seen c.args.pool.now c.args.shards.now groups c.in_ok-snapshot.ensures c.requires.few).0;
+      certificate = certificate;
+      writable =
+          IsWritable-few (record { snapshot = groups; plan = c.in_ok-plan.plan; short = c.in_ok-plan.short }) certificate
+          (few_seen c.args.pool.now c.args.shards.now groups c.in_ok-snapshot.ensures c.requires.few) c.in_ok-plan.ensures.ascending c.in_ok-plan.ensures.short_ascending;
     }
