@@ -86,10 +86,7 @@ impl Core {
         ensures sound { IsSound self.new }
     {
         let shard = &mut self.shards[number];
-        let step = match fold_one(&mut self.pool, shard, abandoned, owned) {
-            Ok(step) => step,
-            Err(error) => return Err(error),
-        };
+        let step = fold_one(&mut self.pool, shard, abandoned, owned)?;
         guess(&mut self.guesses, number as u8, shard, owned);
         self.plan.advance();
         Ok(step)
