@@ -1,7 +1,7 @@
 //! Folds from a pool onto a shard.
 use crate::{Step, fold_one};
 use abandoned::Pool;
-use shard::{Found, PutError, Shard};
+use shard::{Brief, Found, PutError, Shard};
 use span::{Key, SpanId};
 use std::alloc::Global;
 use std::process::Abort;
@@ -12,16 +12,37 @@ fn key(shard: u32, slot: u8) -> Result<Key, Fail> {
     Ok(Key::new(id, slot, 1).ok_or("generations count from 1")?)
 }
 
-// A shard that has put the values, each growth asked for again where memory was refused.
-fn shard_with(alloc: Global, number: u32, values: &[u128]) -> Result<Shard, Fail> {
-    let mut shard = match Shard::new(alloc, number, 4, 2) {
-        Ok(shard) => shard,
-        Err(_) => Shard::new(alloc, number, 4, 2)?,
+// A shard with no group.
+fn empty_shard(alloc: Global, number: u32) -> Result<Shard, Fail> {
+    Ok(Shard::new(alloc, number, 4, 2)?)
+}
+
+// Puts the value, and asks again where memory was refused.
+fn put(shard: &mut Shard, value: u128) -> Result<Key, Fail> {
+    let (key, _) = match shard.put(value) {
+        Err(PutError::OutOfMemory) => shard.put(value)?,
+        done => done?,
     };
+    Ok(key)
+}
+
+// A shard that has put the values.
+fn shard_with(alloc: Global, number: u32, values: &[u128]) -> Result<Shard, Fail> {
+    let mut shard = empty_shard(alloc, number)?;
     for value in values {
-        if shard.put(*value) == Err(PutError::OutOfMemory) {
-            shard.put(*value)?;
-        }
+        put(&mut shard, *value)?;
+    }
+    Ok(shard)
+}
+
+// A shard of so many groups, each closed so that the next put opens another. In each the value is live at slot 1.
+fn shard_of(alloc: Global, number: u32, groups: u32, value: u128) -> Result<Shard, Fail> {
+    let mut shard = empty_shard(alloc, number)?;
+    for _ in 0..groups {
+        let first = put(&mut shard, 5)?;
+        put(&mut shard, value)?;
+        shard.close(first.span());
+        shard.free(&first);
     }
     Ok(shard)
 }
@@ -36,14 +57,47 @@ fn pool_with(alloc: Global, value: u128) -> Result<Pool, Fail> {
     Ok(pool)
 }
 
+// What is seen of pool and shard: their pages, their live keys, how many spans the two groups have, and what a key of
+// each finds in both.
+#[derive(Clone, Copy, PartialEq, Eq, Debug)]
+struct Seen {
+    pages: (usize, usize),
+    live: (usize, usize),
+    spans: (usize, usize),
+    pooled: (Found, Found),
+    owned: (Found, Found),
+}
+
+fn spans_of(brief: Option<Brief>) -> usize {
+    match brief {
+        Some(brief) => brief.spans,
+        None => 0,
+    }
+}
+
+fn look(pool: &Pool, shard: &Shard, onto: u32) -> Result<Seen, Fail> {
+    let (pooled, owned) = (key(0, 0)?, key(onto, 1)?);
+    Ok(Seen {
+        pages: (pool.pages(), shard.pages()),
+        live: (pool.live(), shard.live()),
+        spans: (
+            spans_of(pool.brief(pooled.span())),
+            spans_of(shard.brief(owned.span())),
+        ),
+        pooled: (pool.get(&pooled), shard.get(&pooled)),
+        owned: (pool.get(&owned), shard.get(&owned)),
+    })
+}
+
 // Folds the group of shard 0 onto that of the shard. Where memory was refused, nothing has changed, and the fold is
 // asked for again.
 fn fold(rt: &impl Abort, pool: &mut Pool, shard: &mut Shard, onto: u32) -> Result<Step, Fail> {
     let (a, b) = (key(0, 0)?.span(), key(onto, 0)?.span());
-    let before = (pool.pages(), pool.live(), shard.pages(), shard.live());
+    let before = look(pool, shard, onto)?;
     let step = fold_one(pool, shard, a, b);
     if step != Ok(Step::Folded) {
-        assert!(rt; (pool.pages(), pool.live(), shard.pages(), shard.live()) == before);
+        let after = look(pool, shard, onto)?;
+        assert!(rt; after == before);
     }
     match step {
         Ok(step) => Ok(step),
@@ -62,6 +116,20 @@ fn folds_two_groups(rt: HostRuntime) -> Result<(), Fail> {
     assert_eq!(rt; pool.get(&key(0, 0)?), Found::NotHere);
     assert_eq!(rt; shard.get(&key(0, 0)?), Found::Value(7, 1));
     assert_eq!(rt; shard.get(&key(1, 1)?), Found::Value(8, 3));
+    Ok(())
+}
+
+// The shard's maps are full at three groups, and its lists at four.
+#[test]
+fn folds_where_there_is_no_room(rt: HostRuntime) -> Result<(), Fail> {
+    for groups in [3, 4] {
+        let mut pool = pool_with(rt.alloc(), 7)?;
+        let mut shard = shard_of(rt.alloc(), 1, groups, 8)?;
+        let step = fold(&rt, &mut pool, &mut shard, 1)?;
+        assert_eq!(rt; step, Step::Folded);
+        assert_eq!(rt; shard.get(&key(0, 0)?), Found::Value(7, 1));
+        assert_eq!(rt; shard.get(&key(1, 1)?), Found::Value(8, 3));
+    }
     Ok(())
 }
 
