@@ -15,6 +15,8 @@ pub mod Making
 pub mod Shards
 pub mod Barriers
 pub mod Recalling
+pub mod Notes
 pub mod Progress
 pub mod Reporting
 pub mod Serving
+pub mod PlanSteps

@@ -3,12 +3,18 @@ use Rattle.std.proofs.Common.{◌≡◌, ℕ, suc, Bool, true, false, cond, leng
 use Rattle.std.specs.List.{AllByRecursion}
 use Rattle.std.proofs.lemmas.List.{map-append, append-nil}
 use Rattle.std.proofs.lemmas.List.Elements.{filter_map-append}
+use Rattle.std.proofs.lemmas.List.Sums.{fold-append}
 use Rattle.arena_core.specs.State.{CoreState, shown}
 use Rattle.arena_core.specs.Step.{CoreStep, CoreRun}
 use Rattle.arena_core.specs.Plain.{ErasedStep, PlainRun, erased, is_plain}
 use Rattle.arena_core.specs.Sound.{IsSound}
-use Rattle.trace_runner.specs.Recalls.{Abandons, Makes, MakesLine, Recalls}
-use Rattle.trace_runner.specs.Runs.{Asked, Calls, Keyless, Leaves, Did, IsAnswered, Made, answers_from, Called, Unbound, Left, IsTold, asked_of, ends_asked, event_made, reply_made, events_of, replies_of, on_line}
+use Rattle.trace_runner.specs.Made.{Asked, Calls, Keyless, Leaves, Made, Called, Unbound, Left, Did, asked_of, core_after, event_made, reply_made, events_of, replies_of}
+use Rattle.trace_runner.specs.News.{News, with_all_made, with_made}
+use Rattle.trace_runner.specs.Recalls.{Carries, Makes, MakesLine, Recalls, news_at, settling_with}
+use Rattle.trace_runner.specs.Runs.{Happens, IsAnswered, IsTold, answers_from, ends_asked, finishing, on_line, stepping}
+use Rattle.trace_runner.specs.declared.plans.Plans.{Plans}
+use Rattle.trace_runner.specs.declared.text.line.Call.{Call}
+use Rattle.trace_runner.specs.declared.text.line.Line.TheVariants as line
 use Rattle.arena_core.specs.declared.event.Event.{Event}
 use Rattle.arena_core.specs.declared.event.Event.TheVariants.{Put, Get, Free, End, Adopt, Mark, Step, Close}
 use Rattle.arena_core.specs.declared.reply.Reply.TheVariants.{ShardEnded}
@@ -41,9 +47,22 @@ erased-append (e ∷ es) fs (r ∷ rs) ss same =
 -- each event has its reply
 replies-length : (made : List Made) → length (events_of made) ≡ length (replies_of made)
 replies-length [] = refl
-replies-length (Called event reply ∷ made) = ap suc (replies-length made)
+replies-length (Called event reply core ∷ made) = ap suc (replies-length made)
 replies-length (Unbound ∷ made) = replies-length made
 replies-length (Left ∷ made) = replies-length made
+
+-- the core that two lists leave, one after the other
+pub core_after-append : (core : CoreState) (first second : List Made) → core_after core (first ++ second) ≡ core_after (core_after core first) second
+core_after-append core [] second = refl
+core_after-append core (Called event reply after ∷ first) second = core_after-append after first second
+core_after-append core (Unbound ∷ first) second = core_after-append core first second
+core_after-append core (Left ∷ first) second = core_after-append core first second
+
+Happens-append : (core : CoreState) (first second : List Made) → Happens core first → Happens (core_after core first) second → Happens core (first ++ second)
+Happens-append core [] second before after = after
+Happens-append core (Called event reply next ∷ first) second before after = (before.0, Happens-append next first second before.1 after)
+Happens-append core (Unbound ∷ first) second before after = Happens-append core first second before after
+Happens-append core (Left ∷ first) second before after = Happens-append core first second before after
 
 -- one event, as the plain map has it
 erased-one : (a b : PlainMap) (event : Event) (reply : Reply) → ErasedStep a event reply b → PlainRun a (erased (event ∷ []) (reply ∷ [])) b
@@ -61,13 +80,19 @@ All-append P [] ys first second = second
 All-append P (x ∷ xs) ys first second = (first.0, All-append P xs ys first.1 second)
 
 pub IsAnswered-none : (core : CoreState) → IsAnswered core [] core
-IsAnswered-none core = record { core = refl; plain = refl; told = tt }
+IsAnswered-none core = record { each = tt; last = refl; core = refl; plain = refl; told = tt }
+
+pub IsAnswered-one : (event : Event) (reply : Reply) (old new : CoreState) → CoreStep old event reply new → IsSound new → ErasedStep (shown old) event reply (shown new) → IsTold reply
+    → IsAnswered old (Called event reply new ∷ []) new
+IsAnswered-one event reply old new step sound plain told = record { each = (step, tt); last = refl; core = (new, step, sound, refl); plain = erased-one (shown old) (shown new) event reply plain; told = (told, tt) }
 
 pub IsAnswered-append : (a b c : CoreState) (first second : List Made) → IsAnswered a first b → IsAnswered b second c → IsAnswered a (first ++ second) c
 IsAnswered-append a b c first second before after =
     let events = filter_map-append event_made first second in
     let replies = filter_map-append reply_made first second in
     record {
+      each = Happens-append a first second before.each (subst (λ (core : CoreState). Happens core second) before.last after.each);
+      last = after.last ∙ ap (λ core. core_after core second) before.last ∙ sym (core_after-append a first second);
       core = rw (events, replies) (CoreRun-append a b c (events_of first) (events_of second) (replies_of first) (replies_of second) before.core after.core);
       plain = rw (events, replies, erased-append (events_of first) (events_of second) (replies_of first) (replies_of second) (replies-length first)) (PlainRun-append (shown a) (shown b) (shown c) (erased (events_of first) (replies_of first)) (erased (events_of second) (replies_of second)) before.plain after.plain);
       told = rw replies (All-append IsTold (replies_of first) (replies_of second) before.told after.told);
@@ -76,17 +101,17 @@ IsAnswered-append a b c first second before after =
 -- one call, and the answer behind the earlier ones
 pub Makes-called : (number : ℕ) (event : Event) (reply : Reply) (old new : CoreState) (before : List LineAnswer)
     → CoreStep old event reply new → IsSound new → ErasedStep (shown old) event reply (shown new) → IsTold reply
-    → Makes number (Calls event ∷ []) old before new (before ++ on_line number (Called event reply) ∷ [])
+    → Makes number (Calls event ∷ []) old before new (before ++ on_line number (Called event reply new) ∷ [])
 Makes-called number event reply old new before step sound plain told =
-    (Called event reply ∷ [], refl, record { core = (new, step, sound, refl); plain = erased-one (shown old) (shown new) event reply plain; told = (told, tt) }, refl)
+    (Called event reply new ∷ [], refl, IsAnswered-one event reply old new step sound plain told, refl)
 
 -- no call, since its key was never given out
 pub Makes-unbound : (number : ℕ) (core : CoreState) (before : List LineAnswer) → Makes number (Keyless ∷ []) core before core (before ++ on_line number Unbound ∷ [])
-Makes-unbound number core before = (Unbound ∷ [], refl, record { core = refl; plain = refl; told = tt }, refl)
+Makes-unbound number core before = (Unbound ∷ [], refl, record { each = tt; last = refl; core = refl; plain = refl; told = tt }, refl)
 
 -- no call, since the thread ends
 pub Makes-left : (number : ℕ) (core : CoreState) (before : List LineAnswer) → Makes number (Leaves ∷ []) core before core (before ++ on_line number Left ∷ [])
-Makes-left number core before = (Left ∷ [], refl, record { core = refl; plain = refl; told = tt }, refl)
+Makes-left number core before = (Left ∷ [], refl, record { each = tt; last = refl; core = refl; plain = refl; told = tt }, refl)
 
 pub Makes-none : (number : ℕ) (core : CoreState) (before : List LineAnswer) → Makes number [] core before core before
 Makes-none number core before = ([], refl, IsAnswered-none core, sym (append-nil before))
@@ -110,30 +135,76 @@ Recalls-makes done number asked old new before after starts recalls (made, asks,
   starts_are = recalls.starts_are;
 }
 
--- ---- shards that are abandoned
+-- ---- what is done about plans and at barriers
 
-pub Abandons-none : (core : CoreState) → Abandons [] core core
-Abandons-none core = ([], refl, IsAnswered-none core)
+pub Carries-none : (core : CoreState) (news : News) → Carries [] core news core news
+Carries-none core news = ([], refl, IsAnswered-none core, refl)
 
-pub Abandons-one : (shard : ℕ) (old new : CoreState) → CoreStep old (End shard) ShardEnded new → IsSound new → ErasedStep (shown old) (End shard) ShardEnded (shown new) → Abandons (shard ∷ []) old new
-Abandons-one shard old new step sound plain = (Called (End shard) ShardEnded ∷ [], refl, record { core = (new, step, sound, refl); plain = plain; told = (tt, tt) })
+-- one event, with what it tells
+pub Carries-one : (event : Event) (reply : Reply) (old new : CoreState) (news : News) → CoreStep old event reply new → IsSound new → ErasedStep (shown old) event reply (shown new) → IsTold reply
+    → Carries (Calls event ∷ []) old news new (with_made news (Called event reply new))
+Carries-one event reply old new news step sound plain told = (Called event reply new ∷ [], refl, IsAnswered-one event reply old new step sound plain told, refl)
 
-pub Abandons-append : (first second : List ℕ) (a b c : CoreState) → Abandons first a b → Abandons second b c → Abandons (first ++ second) a c
-Abandons-append first second a b c (made, asks, answered) (more, asks_more, answered_more) = (
+pub Carries-append : (first second : List Asked) (a b c : CoreState) (x y z : News) → Carries first a x b y → Carries second b y c z → Carries (first ++ second) a x c z
+Carries-append first second a b c x y z (made, asks, answered, news) (more, asks_more, answered_more, news_more) = (
   made ++ more,
-  map-append asked_of made more ∙ ap (λ l. l ++ map asked_of more) asks ∙ ap (λ l. ends_asked first ++ l) asks_more ∙ sym (map-append (λ thread. Calls (End thread)) first second),
+  map-append asked_of made more ∙ ap (λ l. l ++ map asked_of more) asks ∙ ap (λ l. first ++ l) asks_more,
   IsAnswered-append a b c made more answered answered_more,
+  news_more ∙ ap (λ n. with_all_made n more) news ∙ sym (fold-append with_made x made more),
 )
 
--- a line that begins no barrier, and one that calls nothing
-pub MakesLine-call : (number : ℕ) (asked : List Asked) (old new : CoreState) (before after : List LineAnswer) → Makes number asked old before new after → MakesLine number [] asked old before new after
-MakesLine-call number asked old new before after makes = (old, Abandons-none old, makes)
+-- the end of a shard, which tells nothing
+pub Carries-end : (shard : ℕ) (old new : CoreState) (news : News) → CoreStep old (End shard) ShardEnded new → IsSound new → ErasedStep (shown old) (End shard) ShardEnded (shown new)
+    → Carries (ends_asked (shard ∷ [])) old news new news
+Carries-end shard old new news step sound plain = Carries-one (End shard) ShardEnded old new news step sound plain tt
 
-pub MakesLine-adopt : (number : ℕ) (threads : List ℕ) (asked : List Asked) (old mid new : CoreState) (before after : List LineAnswer) → Abandons threads old mid → Makes number asked mid before new after → MakesLine number threads asked old before new after
-MakesLine-adopt number threads asked old mid new before after abandons makes = (mid, abandons, makes)
+-- ---- what a line asks for, by its kind
 
-pub MakesLine-mark : (number : ℕ) (threads : List ℕ) (old new : CoreState) (before : List LineAnswer) → Abandons threads old new → MakesLine number threads [] old before new before
-MakesLine-mark number threads old new before abandons = (new, abandons, Makes-none number new before)
+module _ (number : ℕ) (threads : List ℕ) (old : CoreState) (before : List LineAnswer) (plans : Plans) where
+  pub MakesLine-silent : MakesLine number (settling_with threads old line.Silent) [] line.Silent old before (news_at (length before) plans) old before (news_at (length before) plans)
+  MakesLine-silent = record {
+    settled_core = old;
+    called_core = old;
+    news = news_at (length before) plans;
+    settles = Carries-none old _;
+    makes = Makes-none number old before;
+    plans = Carries-none old _;
+  }
+
+  pub MakesLine-call : (thread : ℕ) (call : Call) (asked : List Asked) (mid new : CoreState) (after : List LineAnswer) (plans_after : Plans)
+      → Makes number asked old before mid after → Carries (stepping mid.plan) mid (news_at (length after) plans) new (news_at (length after) plans_after)
+      → MakesLine number (settling_with threads old (line.Call thread call)) asked (line.Call thread call) old before (news_at (length before) plans) new after (news_at (length after) plans_after)
+  MakesLine-call thread call asked mid new after plans_after makes follows = record {
+    settled_core = old;
+    called_core = mid;
+    news = news_at (length before) plans;
+    settles = Carries-none old _;
+    makes = makes;
+    plans = follows;
+  }
+
+  module _ (mid : CoreState) (settled : Plans) (settles : Carries (finishing old.plan ++ ends_asked threads) old (news_at (length before) plans) mid (news_at (length before) settled)) where
+    pub MakesLine-adopt : (shard : ℕ) (asked : List Asked) (new : CoreState) (after : List LineAnswer) → Makes number asked mid before new after
+        → MakesLine number (settling_with threads old (line.Adopt shard)) asked (line.Adopt shard) old before (news_at (length before) plans) new after (news_at (length after) settled)
+    MakesLine-adopt shard asked new after makes = record {
+      settled_core = mid;
+      called_core = new;
+      news = news_at (length before) settled;
+      settles = settles;
+      makes = makes;
+      plans = Carries-none new _;
+    }
+
+    pub MakesLine-mark : (new : CoreState) (plans_after : Plans) → Carries (Calls Mark ∷ []) mid (news_at (length before) settled) new (news_at (length before) plans_after)
+        → MakesLine number (settling_with threads old line.Mark) [] line.Mark old before (news_at (length before) plans) new before (news_at (length before) plans_after)
+    MakesLine-mark new plans_after marks = record {
+      settled_core = mid;
+      called_core = mid;
+      news = news_at (length before) settled;
+      settles = settles;
+      makes = Makes-none number mid before;
+      plans = marks;
+    }
 
 pub OnOk-map : {T E P Q : Type 0} (r : Result T E) → (P → Q) → OnOk r P → OnOk r Q
 OnOk-map (Ok x) f p = f p

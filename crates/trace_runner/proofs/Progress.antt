@@ -1,18 +1,22 @@
 -- One more line is run.
-use Rattle.std.proofs.Common.{◌≡◌, ℕ, ◌+◌, ◌<◌, ◌≤◌, ◌&&◌, ◌||◌, ◌==◌, nat_lt, nat_le, not, Bool, true, false, cond, filter, List, [], ◌∷◌, ◌++◌, map, length, take, get_or, Some, None, slice_get, refl, sym, ap, ap₂, subst, ◌∙◌, arith, inl, inr, append_assoc, length-append, add-zero}
+use Rattle.std.proofs.Common.{◌≡◌, ℕ, ◌+◌, ◌<◌, ◌≤◌, ◌&&◌, ◌||◌, ◌==◌, nat_lt, nat_le, not, Bool, true, false, filter, List, [], ◌∷◌, ◌++◌, map, length, take, get_or, Some, None, slice_get, refl, sym, ap, ap₂, subst, ◌∙◌, arith, inl, inr, append_assoc, length-append, add-zero}
 use Rattle.std.proofs.Math.Seq.{get_or-append_seam, take-length}
 use Rattle.std.specs.List.{range_with_len}
-use Rattle.std.specs.Option.{option_map_or}
+use Rattle.std.specs.Option.{option_map, option_map_or}
 use Rattle.std.proofs.lemmas.Bool.{cases_lt}
 use Rattle.std.proofs.lemmas.Bool.Decides.{nat_tests}
 use Rattle.std.proofs.lemmas.Grind.{flat_map-append}
+use Rattle.std.proofs.lemmas.List.Sums.{fold-append}
 use Rattle.std.proofs.lemmas.List.Elements.{filter-append}
 use Rattle.std.proofs.lemmas.List.{append-nil, get_or_append_left, length-map, length_push, take-append-le}
 use Rattle.arena_core.specs.State.{CoreState}
 use Rattle.trace_runner.specs.Barrier.{is_barrier, leavers, open_lines}
 use Rattle.trace_runner.specs.Causes.{ends, has_ended, first_cause, is_adopt, thread_of}
-use Rattle.trace_runner.specs.Recalls.{Abandons, CanLeave, EndsBelow, HasCome, IsReady, MakesLine, Recalls, Serves}
-use Rattle.trace_runner.specs.Runs.{Did, DoLines, Does, IsRun, abandoned_at, all_made, answers_from, asked_by, asked_of, calls_at, calls_in, ends_asked, made_by, on_line}
+use Rattle.trace_runner.specs.Recalls.{CanLeave, Carries, EndsBelow, HasCome, IsReady, KnowsPlan, MakesLine, Recalls, Serves, news_at, settling_with}
+use Rattle.trace_runner.specs.Made.{Did, all_made, asked_of, made_by}
+use Rattle.trace_runner.specs.News.{News, news_of, no_news, with_all_made, with_answers, with_line}
+use Rattle.trace_runner.specs.Runs.{DoLines, Does, IsRun, answers_from, asked_by, calls_at, calls_in, ends_asked, finishing, on_line, pairs_left_of, planning_at, settling_at}
+use Rattle.trace_runner.specs.declared.plans.Plans.{Plans}
 use Rattle.trace_runner.specs.declared.report.LineAnswer.{LineAnswer}
 use Rattle.trace_runner.specs.declared.text.header.Header.{Header}
 use Rattle.trace_runner.specs.declared.text.line.Call.TheVariants.{Put, Fill, Get, Free, Sweep, End}
@@ -23,20 +27,17 @@ use Rattle.trace_runner.proofs.Clips.{AllFine, all_fine}
 use Rattle.trace_runner.proofs.Knowing.{has_ended-push}
 use Rattle.trace_runner.proofs.Lines.{either}
 use Rattle.trace_runner.proofs.Making.{IsAnswered-append, IsAnswered-none}
+use Rattle.trace_runner.proofs.Notes.{above-all_made}
 use Rattle.trace_runner.proofs.Recalling.{answers_from-append, take_line}
 use Rattle.trace_runner.proofs.Texts.{first_cause-none}
 
-DoLines-push : (shards : ℕ) (all lines : List Line) (line : Line) (done after : List Did) (did : Did) → DoLines shards all lines done after → Does shards all after line did
-    → DoLines shards all (lines ++ line ∷ []) done (after ++ did ∷ [])
-DoLines-push shards all [] line done after did is does = (did, subst (λ (d : List Did). Does shards all d line did) is does, ap (λ d. d ++ did ∷ []) is)
-DoLines-push shards all (first ∷ lines) line done after did (here, does_here, later) does = (here, does_here, DoLines-push shards all lines line (done ++ here ∷ []) after did later does)
+DoLines-push : (shards : ℕ) (all : List Line) (start : CoreState) (lines : List Line) (line : Line) (done after : List Did) (did : Did) → DoLines shards all start lines done after → Does shards all start after line did
+    → DoLines shards all start (lines ++ line ∷ []) done (after ++ did ∷ [])
+DoLines-push shards all start [] line done after did is does = (did, subst (λ (d : List Did). Does shards all start d line did) is does, ap (λ d. d ++ did ∷ []) is)
+DoLines-push shards all start (first ∷ lines) line done after did (here, does_here, later) does = (here, does_here, DoLines-push shards all start lines line (done ++ here ∷ []) after did later does)
 
 all_made-push : (done : List Did) (did : Did) → all_made (done ++ did ∷ []) ≡ all_made done ++ made_by did
 all_made-push done did = flat_map-append made_by done (did ∷ []) ∙ ap (λ l. all_made done ++ l) (append-nil (made_by did))
-
--- the shards to abandon, by the threads that leave
-abbrev pub leaving_at : (shards : ℕ) (leaving : ℕ → Bool) → Line → List ℕ
-leaving_at shards leaving line = cond (is_barrier line) (filter leaving (range_with_len 0 shards)) []
 
 and_false : (b : Bool) → (b && not true) ≡ false
 and_false true = refl
@@ -96,8 +97,8 @@ ends-thread (line.Adopt s) t e = cc
 ends-thread line.Mark t e = cc
 
 -- the answers of a line, as many as it is a thread's and one more for an adoption
-calls_of_line : (shards : ℕ) (all : List Line) (done : List Did) (l : Line) (did : Did) → Does shards all done l did → length did.calls ≡ calls_at l did + length (filter is_adopt (l ∷ []))
-calls_of_line shards all done l did does = by_line l (sym (length-map did.calls asked_of) ∙ ap length does.calls)
+calls_of_line : (shards : ℕ) (all : List Line) (start : CoreState) (done : List Did) (l : Line) (did : Did) → Does shards all start done l did → length did.calls ≡ calls_at l did + length (filter is_adopt (l ∷ []))
+calls_of_line shards all start done l did does = by_line l (sym (length-map did.calls asked_of) ∙ ap length does.calls)
   where
     by_line : (l : Line) → length did.calls ≡ length (asked_by all done l) → length did.calls ≡ calls_at l did + length (filter is_adopt (l ∷ []))
     by_line line.Silent e = e
@@ -108,18 +109,21 @@ calls_of_line shards all done l did does = by_line l (sym (length-map did.calls 
 adopts-cons : (l : Line) (ls : List Line) → length (filter is_adopt (l ∷ ls)) ≡ length (filter is_adopt (l ∷ [])) + length (filter is_adopt ls)
 adopts-cons l ls = ap length (filter-append is_adopt (l ∷ []) ls) ∙ length-append (filter is_adopt (l ∷ [])) (filter is_adopt ls)
 
-DoLines-rest : (shards : ℕ) (all lines : List Line) (done after : List Did) → DoLines shards all lines done after
+DoLines-rest : (shards : ℕ) (all : List Line) (start : CoreState) (lines : List Line) (done after : List Did) → DoLines shards all start lines done after
     → (rest : List Did) × (after ≡ done ++ rest) × ((number : ℕ) → length (answers_from number rest) ≡ calls_in lines rest + length (filter is_adopt lines))
-DoLines-rest shards all [] done after is = ([], is ∙ sym (append-nil done), λ number. refl)
-DoLines-rest shards all (l ∷ ls) done after (did, does, later) =
-    let more = DoLines-rest shards all ls (done ++ did ∷ []) after later in (
+DoLines-rest shards all start [] done after is = ([], is ∙ sym (append-nil done), λ number. refl)
+DoLines-rest shards all start (l ∷ ls) done after (did, does, later) =
+    let more = DoLines-rest shards all start ls (done ++ did ∷ []) after later in (
       did ∷ more.0,
       more.1 ∙ append_assoc done (did ∷ []) more.0,
       λ number. length-append (map (on_line number) did.calls) (answers_from (number + 1) more.0)
-          ∙ omega (arith, length-map did.calls (on_line number), more.2 (number + 1), calls_of_line shards all done l did does, adopts-cons l ls),
+          ∙ omega (arith, length-map did.calls (on_line number), more.2 (number + 1), calls_of_line shards all start done l did does, adopts-cons l ls),
     )
 
-module _ (h : Header) (lines : List Line) (count : ℕ) (old core : CoreState) (answers : List LineAnswer) (starts : List ℕ) (leaving : ℕ → Bool) (come : HasCome h.shards lines count old core answers starts leaving) where
+news_of-push : (done : List Did) (did : Did) → news_of (done ++ did ∷ []) ≡ with_line (news_of done) did
+news_of-push done did = fold-append with_line no_news done (did ∷ [])
+
+module _ (h : Header) (lines : List Line) (count : ℕ) (old core : CoreState) (answers : List LineAnswer) (starts : List ℕ) (leaving : ℕ → Bool) (plans : Plans) (come : HasCome h.shards lines count old core answers starts leaving plans) where
   -- once the start of the next line is kept
   pub HasCome-recalls : Recalls come.done answers (starts ++ length answers ∷ [])
   HasCome-recalls = record {
@@ -139,9 +143,8 @@ module _ (h : Header) (lines : List Line) (count : ℕ) (old core : CoreState) (
   waiting_ended : (t : ℕ) → has_ended (open_lines (take count lines)) t ≡ true → has_ended (take count lines) t ≡ true
   waiting_ended t = has_ended-open (take count lines) t
 
-  HasCome-CanLeave : CanLeave h.shards core leaving
+  pub HasCome-CanLeave : CanLeave h.shards core leaving
   HasCome-CanLeave t below leaves = record {
-    unplanned = come.unplanned;
     within = omega (arith, below, come.enough);
     running = come.ended_are t below ∙ rw (sym (come.leaving_are t) ∙ leaves) (and_false (has_ended (take count lines) t));
   }
@@ -151,7 +154,6 @@ module _ (h : Header) (lines : List Line) (count : ℕ) (old core : CoreState) (
   HasCome-IsReady l fine = record {
     within = (first_cause-none h (take count lines) l fine).0;
     running = λ t is. record {
-      unplanned = come.unplanned;
       within = omega (arith, thread_below h (take count lines) l fine t is, come.enough);
       running = come.ended_are t (thread_below h (take count lines) l fine t is) ∙ rw (running_above h (take count lines) l fine t is) refl;
     };
@@ -167,36 +169,53 @@ module _ (h : Header) (lines : List Line) (count : ℕ) (old core : CoreState) (
   leaving_is = λ i t. come.leaving_are t i
 
   -- once the next line was run
-  pub HasCome-more : (l : Line) (new : CoreState) (after : List LineAnswer) (now : ℕ → Bool) → slice_get lines count ≡ Some l → first_cause h (take count lines) l ≡ None
-      → MakesLine (count + 6) (leaving_at h.shards leaving l) (asked_by lines come.done l) core answers new after
+  pub HasCome-more : (l : Line) (new : CoreState) (after : List LineAnswer) (now : ℕ → Bool) (plans_now : Plans) → slice_get lines count ≡ Some l → first_cause h (take count lines) l ≡ None
+      → MakesLine (count + 6) (settling_with (filter leaving (range_with_len 0 h.shards)) core l) (asked_by lines come.done l) l core answers (news_at (length answers) plans) new after (news_at (length after) plans_now)
       → EndsBelow core h.shards (λ t. is_barrier l && leaving t) new → ((t : ℕ) → now t ≡ (not (is_barrier l) && (ends t l || leaving t)))
-      → HasCome h.shards lines (count + 1) old new after (starts ++ length answers ∷ []) now
-  HasCome-more l new after now here fine (mid, (abandoned, asks_ends, answered_ends), (made, asks, answered, more)) ended left =
-      let did : Did = record { ends = abandoned; calls = made } in
+      → KnowsPlan plans_now new → plans_now.marks ≤ plans.marks + 1
+      → HasCome h.shards lines (count + 1) old new after (starts ++ length answers ∷ []) now plans_now
+  HasCome-more l new after now plans_now here fine makes ended left knows marks =
+      let (settled, asks_settled, answered_settled, news_settled) = makes.settles in
+      let (made, asks, answered, more) = makes.makes in
+      let (planned, asks_planned, answered_planned, news_planned) = makes.plans in
+      let did : Did = record { settled = settled; calls = made; plans = planned } in
       let next = take_line lines count l here in
       let above : take (length come.done) lines ≡ take count lines = ap (λ n. take n lines) come.count_is in
-      let does : Does h.shards lines come.done l did = record {
-        ends = asks_ends ∙ ap (λ (f : ℕ → Bool). ends_asked (leaving_at h.shards f l)) leaving_is ∙ ap (λ ls. ends_asked (abandoned_at h.shards ls l)) (sym above);
+      let called = IsAnswered-append core makes.settled_core makes.called_core settled made answered_settled answered in
+      let called_all = IsAnswered-append old core makes.called_core (all_made come.done) (settled ++ made) come.answered called in
+      let does : Does h.shards lines old come.done l did = record {
+        settled = asks_settled ∙ ap (λ (f : ℕ → Bool). settling_with (filter f (range_with_len 0 h.shards)) core l) leaving_is
+            ∙ ap (λ ls. settling_at h.shards ls core l) (sym above) ∙ ap (λ c. settling_at h.shards (take (length come.done) lines) c l) come.answered.last;
         calls = asks;
+        plans = asks_planned ∙ ap (λ c. planning_at c l) called_all.last;
       } in
       let waits : (t : ℕ) → has_ended (open_lines (take (count + 1) lines)) t ≡ (not (is_barrier l) && (ends t l || has_ended (open_lines (take count lines)) t)) =
       λ t. ap (λ ls. has_ended (open_lines ls) t) next.0 ∙ has_ended-open-push (take count lines) l t in
       record {
         done = come.done ++ did ∷ [];
         count_is = length_push come.done did ∙ ap (λ n. n + 1) come.count_is;
-        lines_do = subst (λ (some : List Line). DoLines h.shards lines some [] (come.done ++ did ∷ [])) (sym next.0) (DoLines-push h.shards lines (take count lines) l [] come.done did come.lines_do does);
-        answered = rw all_made-push (IsAnswered-append old core new (all_made come.done) (made_by did) come.answered (IsAnswered-append core mid new abandoned made answered_ends answered));
+        lines_do = subst (λ (some : List Line). DoLines h.shards lines old some [] (come.done ++ did ∷ [])) (sym next.0) (DoLines-push h.shards lines old (take count lines) l [] come.done did come.lines_do does);
+        answered = rw all_made-push (IsAnswered-append old core new (all_made come.done) (made_by did) come.answered
+            (IsAnswered-append core makes.called_core new (settled ++ made) planned called answered_planned));
         answers_are =
             let number : 6 + length come.done ≡ count + 6 = omega (arith, come.count_is) in
             more ∙ ap (λ ls. ls ++ map (on_line (count + 6)) made) come.answers_are
             ∙ sym (answers_from-append 6 come.done (did ∷ []) ∙ ap (λ n. answers_from 6 come.done ++ (map (on_line n) made ++ [])) number
             ∙ ap (λ ls. answers_from 6 come.done ++ ls) (append-nil (map (on_line (count + 6)) made)));
+        news_are =
+            let stands : makes.news.above ≡ length answers = ap (λ (n : News). n.above) news_settled ∙ above-all_made (news_at (length answers) plans) settled in
+            let longer : length after ≡ makes.news.above + length made = ap length more ∙ length-append answers (map (on_line (count + 6)) made)
+            ∙ ap₂ (λ a b. a + b) (sym stands) (length-map made (on_line (count + 6))) in
+            news_planned ∙ ap (λ n. with_all_made (record makes.news { above = n }) planned) longer
+            ∙ ap (λ n. with_all_made (with_answers (length made) n) planned) (news_settled ∙ ap (λ n. with_all_made n settled) come.news_are)
+            ∙ sym (news_of-push come.done did);
+        knows = knows;
+        marks = omega (arith, marks, come.marks);
         long = length_push starts (length answers) ∙ ap (λ n. n + 1) come.long;
         starts_are = λ place less.
             let within : place ≤ length come.done = omega (arith, come.count_is) in
             HasCome-recalls.starts_are place within ∙ ap (λ d. length (answers_from 6 d)) (sym (take-append-le place come.done (did ∷ []) within));
         enough = rw ended.limits come.enough;
-        unplanned = ended.plan ∙ come.unplanned;
         leaving_are = λ t. left t ∙ ap (λ b. not (is_barrier l) && (ends t l || b)) (come.leaving_are t) ∙ sym (waits t);
         ended_are = λ t below.
             let less : nat_lt t h.shards ≡ true = grind (arith, nat_tests, below) in
@@ -210,25 +229,28 @@ module _ (h : Header) (lines : List Line) (count : ℕ) (old core : CoreState) (
   pub HasCome-calls : count ≡ length lines → length answers ≡ calls_in lines come.done + length (filter is_adopt lines)
   HasCome-calls all =
       let whole : take count lines ≡ lines = ap (λ n. take n lines) all ∙ take-length lines in
-      let rest = DoLines-rest h.shards lines lines [] come.done (subst (λ (some : List Line). DoLines h.shards lines some [] come.done) whole come.lines_do) in
+      let rest = DoLines-rest h.shards lines old lines [] come.done (subst (λ (some : List Line). DoLines h.shards lines old some [] come.done) whole come.lines_do) in
       ap length come.answers_are ∙ subst (λ (d : List Did). length (answers_from 6 d) ≡ calls_in lines d + length (filter is_adopt lines)) (sym rest.1) (rest.2 6)
 
-  -- once the shards of the threads that still leave are abandoned, the run is whole
-  pub HasCome-IsRun : (new : CoreState) (calls : ℕ) → count ≡ length lines → Abandons (filter leaving (range_with_len 0 h.shards)) core new → calls ≡ calls_in lines come.done → IsRun h.shards lines old new answers calls
-  HasCome-IsRun new calls all (made, asks, answered) calls_are =
+  -- once the last section is settled, the run is whole
+  pub HasCome-IsRun : (new : CoreState) (calls : ℕ) (news : News) → count ≡ length lines → Carries (finishing core.plan ++ ends_asked (filter leaving (range_with_len 0 h.shards))) core (news_at (length answers) plans) new news → calls ≡ calls_in lines come.done
+      → IsRun h.shards lines old new answers calls news
+  HasCome-IsRun new calls news all (made, asks, answered, told) calls_are =
       let whole : take count lines ≡ lines = ap (λ n. take n lines) all ∙ take-length lines in record {
         done = come.done;
         last = made;
-        lines_do = subst (λ (some : List Line). DoLines h.shards lines some [] come.done) whole come.lines_do;
-        ends = asks ∙ ap (λ (f : ℕ → Bool). ends_asked (filter f (range_with_len 0 h.shards))) leaving_is ∙ ap (λ ls. ends_asked (leavers h.shards ls)) whole;
+        lines_do = subst (λ (some : List Line). DoLines h.shards lines old some [] come.done) whole come.lines_do;
+        settled = asks ∙ ap (λ (f : ℕ → Bool). finishing core.plan ++ ends_asked (filter f (range_with_len 0 h.shards))) leaving_is ∙ ap (λ ls. finishing core.plan ++ ends_asked (leavers h.shards ls)) whole
+            ∙ ap (λ (c : CoreState). finishing c.plan ++ ends_asked (leavers h.shards lines)) come.answered.last;
         answered = IsAnswered-append old core new (all_made come.done) made come.answered answered;
         answers_are = come.answers_are;
         calls_are = calls_are;
+        news_are = told ∙ ap (λ n. with_all_made n made) come.news_are;
       }
 
 -- before the first line
-pub HasCome-start : (h : Header) (lines : List Line) (core : CoreState) (leaving : ℕ → Bool) → Serves h.shards core → ((t : ℕ) → leaving t ≡ false) → HasCome h.shards lines 0 core core [] [] leaving
-HasCome-start h lines core leaving serves none = record {
+pub HasCome-start : (h : Header) (lines : List Line) (core : CoreState) (leaving : ℕ → Bool) (plans : Plans) → Serves h.shards core → ((t : ℕ) → leaving t ≡ false) → news_at 0 plans ≡ no_news → plans.left ≡ None → HasCome h.shards lines 0 core core [] [] leaving plans
+HasCome-start h lines core leaving plans serves none news left = record {
   done = [];
   count_is = refl;
   lines_do = refl;
@@ -237,7 +259,9 @@ HasCome-start h lines core leaving serves none = record {
   long = refl;
   starts_are = λ place less. absurd (omega (arith, less));
   enough = serves.enough;
-  unplanned = serves.unplanned;
   leaving_are = none;
   ended_are = serves.running;
+  news_are = news;
+  knows = left ∙ sym (ap (option_map pairs_left_of) serves.unplanned);
+  marks = let e : plans.marks ≡ 0 = ap (λ (n : News). n.marks) news in omega (arith, e);
 }

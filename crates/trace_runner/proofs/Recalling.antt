@@ -4,7 +4,8 @@ use Rattle.std.proofs.Math.Seq.{drop-append_seam, take-append_seam}
 use Rattle.std.proofs.lemmas.List.{append-nil, get_or_default, take-append-drop}
 use Rattle.std.proofs.lemmas.Option.{slice_get-get_or, slice_get_past}
 use Rattle.trace_runner.specs.Recalls.{Recalls, answers_if_run}
-use Rattle.trace_runner.specs.Runs.{Did, answers_from, on_line}
+use Rattle.trace_runner.specs.Made.{Did}
+use Rattle.trace_runner.specs.Runs.{answers_from, on_line}
 use Rattle.trace_runner.specs.declared.report.LineAnswer.{LineAnswer}
 
 pub answers_from-append : (number : ℕ) (first second : List Did) → answers_from number (first ++ second) ≡ answers_from number first ++ answers_from (number + length first) second
@@ -69,7 +70,7 @@ module _ (number : ℕ) (done : List Did) (running : List LineAnswer) (place : �
         ap (λ n. take n (drop start (answers_from number done ++ running))) long ∙ ap (take (length said)) rest ∙ take-append_seam said behind
 
 nothing : Did
-nothing = record { ends = []; calls = [] }
+nothing = record { settled = []; calls = []; plans = [] }
 
 module _ (done : List Did) (answers : List LineAnswer) (starts : List ℕ) (recalls : Recalls done answers starts) (place : ℕ) where
   -- a line that was not run to its end

@@ -1,11 +1,12 @@
 -- The start of a run, and the report of one.
-use Rattle.std.proofs.Common.{◌≡◌, ℕ, Bool, false, List, Option, Some, None, option_map, Result, Ok, Err, IfOk, map, refl, ap, subst, sym, ◌∙◌, arith, slice_get}
+use Rattle.std.proofs.Common.{◌≡◌, ℕ, Bool, false, List, Option, Some, None, option_map, refl, ap, subst, ◌∙◌, arith, slice_get}
 use Rattle.std.specs.List.{range_with_len}
 use Rattle.std.specs.Option.{option_map_or}
 use Rattle.std.proofs.lemmas.Option.{slice_get-map}
 use Rattle.span.specs.PlainMap.{empty_map}
 use Rattle.shard.specs.State.{ShardState}
 use Rattle.arena_core.specs.State.{CoreState, HasKeys, live_keys, new_shard, pages, shown}
+use Rattle.trace_runner.specs.News.{News}
 use Rattle.trace_runner.specs.Recalls.{Serves}
 use Rattle.trace_runner.specs.Replay.{IsReportOf, ending_of, start_of}
 use Rattle.trace_runner.specs.Report.{report_text}
@@ -30,23 +31,21 @@ Serves-start header = record {
       ∙ not_ended header.pages header.gens (slice_get (range_with_len 0 header.shards) number);
 }
 
-module _ (trace : Trace) (replies : Bool) (start last : CoreState) (answers : List LineAnswer) (ending : Ending) where
+module _ (trace : Trace) (replies : Bool) (start last : CoreState) (answers : List LineAnswer) (ending : Ending) (news : News) where
   -- what is written of a run is its report
-  pub IsReportOf-run : start ≡ start_of trace.header → shown (start_of trace.header) ≡ empty_map → IsRun trace.header.shards trace.lines.items start last answers ending.calls
+  pub IsReportOf-run : start ≡ start_of trace.header → shown (start_of trace.header) ≡ empty_map → IsRun trace.header.shards trace.lines.items start last answers ending.calls news
       → ending.pages ≡ pages last → ending.live ≡ live_keys last → HasKeys (shown last) ending.live
-      → (bytes : List ℕ) → bytes ≡ report_text replies answers ending → IsReportOf trace replies bytes
-  IsReportOf-run starts empty run pages_are live_are keys bytes spelled =
+      → (bytes certificate : List ℕ) → bytes ≡ report_text replies answers news.notes ending → certificate ≡ news.certificate → IsReportOf trace replies bytes certificate
+  IsReportOf-run starts empty run pages_are live_are keys bytes certificate spelled certified =
       let same : ending ≡ ending_of last ending.calls = λ i. record { pages = pages_are i; live = live_are i; calls = ending.calls } in
       record {
         last = last;
         answers = answers;
         calls = ending.calls;
+        news = news;
         empty = empty;
-        run = subst (λ (c : CoreState). IsRun trace.header.shards trace.lines.items c last answers ending.calls) starts run;
+        run = subst (λ (c : CoreState). IsRun trace.header.shards trace.lines.items c last answers ending.calls news) starts run;
         live = subst (HasKeys (shown last)) live_are keys;
-        spelled = spelled ∙ ap (report_text replies answers) same;
+        spelled = spelled ∙ ap (report_text replies answers news.notes) same;
+        certificate_is = certified;
       }
-
-pub IfOk-map : {A E : Type 0} {P Q : A → Type 0} (r : Result A E) → ((x : A) → P x → Q x) → IfOk r P → IfOk r Q
-IfOk-map (Ok x) f p = f x p
-IfOk-map (Err e) f p = tt

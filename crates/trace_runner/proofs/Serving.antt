@@ -8,7 +8,7 @@ use Rattle.shard.specs.declared.shard.Freed.TheVariants.{Yes}
 use Rattle.span.specs.declared.key.Key.{Key}
 use Rattle.arena_core.specs.State.{CoreState, with_shard}
 use Rattle.arena_core.specs.Step.{CoreStep}
-use Rattle.trace_runner.specs.Recalls.{EndsOne, IsOpen, IsServed, KeepsShards, MayCall, ended_at}
+use Rattle.trace_runner.specs.Recalls.{EndsOne, IsOpen, IsServed, KeepsPlan, KeepsShards, MayCall, ended_at}
 use Rattle.trace_runner.proofs.Lines.{either}
 use Rattle.arena_core.specs.declared.event.Event.{Event}
 use Rattle.arena_core.specs.declared.event.Event.TheVariants.{Put, Get, Free, End, Adopt, Mark, Step, Close}
@@ -17,7 +17,7 @@ use Rattle.arena_core.specs.declared.reply.Reply.TheVariants.{Issued, Found, Fre
 use Rattle.arena_core.specs.declared.reply.Refusal.TheVariants.{OutOfMemory, PagesSpent, Ended, PlanOpen, NothingToAdopt, Config}
 
 -- the shard of this number is there and has ended
-abbrev ended_in : List ShardState → ℕ → Bool
+abbrev pub ended_in : List ShardState → ℕ → Bool
 ended_in shards number = option_map_or (λ shard. shard.ended) (slice_get shards number) false
 
 zero_other : (other : ℕ) → (zero == suc other) ≡ false
@@ -39,9 +39,8 @@ same_number : (m n : ℕ) → (m == n) ≡ true → m ≡ n
 same_number m n e = grind (arith, nat_tests)
 
 module _ (old : CoreState) (number : ℕ) (before after : ShardState) (here : slice_get old.shards number ≡ Some before) where
-  KeepsShards-with_shard : after.ended ≡ before.ended → KeepsShards old (with_shard old number after)
+  pub KeepsShards-with_shard : after.ended ≡ before.ended → KeepsShards old (with_shard old number after)
   KeepsShards-with_shard same = record {
-    plan = refl;
     limits = refl;
     ended = λ other. ended_in-set old.shards number before after here other ∙ elim (either (number == other)) [
       | inl is ↦
@@ -53,7 +52,6 @@ module _ (old : CoreState) (number : ℕ) (before after : ShardState) (here : sl
 
   EndsOne-with_shard : after.ended ≡ true → EndsOne old number (with_shard old number after)
   EndsOne-with_shard ended = record {
-    plan = refl;
     limits = refl;
     ended = λ other. ended_in-set old.shards number before after here other ∙ elim (either (number == other)) [
       | inl is ↦ rw is ended
@@ -62,7 +60,10 @@ module _ (old : CoreState) (number : ℕ) (before after : ShardState) (here : sl
   }
 
 KeepsShards-same : (old new : CoreState) → new ≡ old → KeepsShards old new
-KeepsShards-same old new same = record { plan = ap (λ (c : CoreState). c.plan) same; limits = ap (λ (c : CoreState). c.limits) same; ended = λ number. ap (λ c. ended_at c number) same }
+KeepsShards-same old new same = record { limits = ap (λ (c : CoreState). c.limits) same; ended = λ number. ap (λ c. ended_at c number) same }
+
+KeepsPlan-same : (old new : CoreState) → new ≡ old → KeepsPlan old new
+KeepsPlan-same old new same = record { shards = KeepsShards-same old new same; plan = ap (λ (c : CoreState). c.plan) same }
 
 ended-Puts : (old new : ShardState) (value : ℕ) (key : Key) (at : ℕ) → Puts old value key at new → new.ended ≡ old.ended
 ended-Puts old new value key at (running, inl (index, group, room, span, generation, count, is)) = ap (λ (s : ShardState). s.ended) is
@@ -71,38 +72,42 @@ ended-Puts old new value key at (running, inr (full, pages, opened, (shard, seri
 ended-Frees : (old new : ShardState) (key : Key) (at : ℕ) → Frees old key (Yes at) new → new.ended ≡ old.ended
 ended-Frees old new key at (index, place, group, span, here, holds, count, is) = ap (λ (s : ShardState). s.ended) is
 
--- a call of a line ends no shard
-pub KeepsShards-step : (old new : CoreState) (event : Event) (reply : Reply) → MayCall old event → CoreStep old event reply new → KeepsShards old new
-KeepsShards-step old new (Put shard value) (Issued key) may step = subst (KeepsShards old) (sym step.rest) (KeepsShards-with_shard old shard step.before step.after step.here (ended-Puts step.before step.after value key step.at step.puts))
-KeepsShards-step old new (Put shard value) (Refused Config) may step = KeepsShards-same old new step.1
-KeepsShards-step old new (Put shard value) (Refused Ended) may step = KeepsShards-same old new step.1
-KeepsShards-step old new (Put shard value) (Refused PagesSpent) may step = KeepsShards-same old new step.1
-KeepsShards-step old new (Put shard value) (Refused OutOfMemory) may step = KeepsShards-same old new step.1
-KeepsShards-step old new (Get key) (Found value) may step = KeepsShards-same old new step.1
-KeepsShards-step old new (Free key) (Freed true) may (inl step) = subst (KeepsShards old) (sym step.rest) (KeepsShards-with_shard old step.number step.before step.after step.here (ended-Frees step.before step.after key step.at step.frees))
-KeepsShards-step old new (Free key) (Freed true) may (inr step) = subst (KeepsShards old) (sym step.rest) (record { plan = refl; limits = refl; ended = λ number. refl })
-KeepsShards-step old new (Free key) (Freed false) may step = KeepsShards-same old new step.1
-KeepsShards-step old new (End shard) reply may step = absurd may
-KeepsShards-step old new (Adopt shard) (Adopted head) may step =
+-- a call of a line ends no shard, and leaves the plan
+pub KeepsPlan-step : (old new : CoreState) (event : Event) (reply : Reply) → MayCall old event → CoreStep old event reply new → KeepsPlan old new
+KeepsPlan-step old new (Put shard value) (Issued key) may step = subst (KeepsPlan old) (sym step.rest) (record { shards = KeepsShards-with_shard old shard step.before step.after step.here (ended-Puts step.before step.after value key step.at step.puts); plan = refl })
+KeepsPlan-step old new (Put shard value) (Refused Config) may step = KeepsPlan-same old new step.1
+KeepsPlan-step old new (Put shard value) (Refused Ended) may step = KeepsPlan-same old new step.1
+KeepsPlan-step old new (Put shard value) (Refused PagesSpent) may step = KeepsPlan-same old new step.1
+KeepsPlan-step old new (Put shard value) (Refused OutOfMemory) may step = KeepsPlan-same old new step.1
+KeepsPlan-step old new (Get key) (Found value) may step = KeepsPlan-same old new step.1
+KeepsPlan-step old new (Free key) (Freed true) may (inl step) = subst (KeepsPlan old) (sym step.rest) (record { shards = KeepsShards-with_shard old step.number step.before step.after step.here (ended-Frees step.before step.after key step.at step.frees); plan = refl })
+KeepsPlan-step old new (Free key) (Freed true) may (inr step) = subst (KeepsPlan old) (sym step.rest) (record { shards = record { limits = refl; ended = λ number. refl }; plan = refl })
+KeepsPlan-step old new (Free key) (Freed false) may step = KeepsPlan-same old new step.1
+KeepsPlan-step old new (End shard) reply may step = absurd may
+KeepsPlan-step old new (Adopt shard) (Adopted head) may step =
     let adopted = ap (λ (s : ShardState). s.ended) step.adopts.takes_in.after in
     let keeps = KeepsShards-with_shard old shard step.before step.after step.here adopted in
-    subst (KeepsShards old) (sym step.rest) (record { plan = refl; limits = keeps.limits; ended = keeps.ended })
-KeepsShards-step old new (Adopt shard) (Refused Config) may step = KeepsShards-same old new step.3
-KeepsShards-step old new (Adopt shard) (Refused PlanOpen) may step = KeepsShards-same old new step.2
-KeepsShards-step old new (Adopt shard) (Refused Ended) may step = KeepsShards-same old new step.1
-KeepsShards-step old new (Adopt shard) (Refused PagesSpent) may step = KeepsShards-same old new step.1
-KeepsShards-step old new (Adopt shard) (Refused NothingToAdopt) may step = KeepsShards-same old new step.3
-KeepsShards-step old new (Adopt shard) (Refused OutOfMemory) may step = KeepsShards-same old new step.1
-KeepsShards-step old new Mark reply may step = absurd may
-KeepsShards-step old new Step reply may step = absurd may
-KeepsShards-step old new Close reply may step = absurd may
-KeepsShards-step old new event reply may step = absurd step
+    subst (KeepsPlan old) (sym step.rest) (record { shards = record { limits = keeps.limits; ended = keeps.ended }; plan = refl })
+KeepsPlan-step old new (Adopt shard) (Refused Config) may step = KeepsPlan-same old new step.3
+KeepsPlan-step old new (Adopt shard) (Refused PlanOpen) may step = KeepsPlan-same old new step.2
+KeepsPlan-step old new (Adopt shard) (Refused Ended) may step = KeepsPlan-same old new step.1
+KeepsPlan-step old new (Adopt shard) (Refused PagesSpent) may step = KeepsPlan-same old new step.1
+KeepsPlan-step old new (Adopt shard) (Refused NothingToAdopt) may step = KeepsPlan-same old new step.3
+KeepsPlan-step old new (Adopt shard) (Refused OutOfMemory) may step = KeepsPlan-same old new step.1
+KeepsPlan-step old new Mark reply may step = absurd may
+KeepsPlan-step old new Step reply may step = absurd may
+KeepsPlan-step old new Close reply may step = absurd may
+KeepsPlan-step old new event reply may step = absurd step
 
 -- the end of a shard is its own alone
 pub EndsOne-step : (old new : CoreState) (shard : ℕ) → CoreStep old (End shard) ShardEnded new → EndsOne old shard new
 EndsOne-step old new shard step =
     let ends = EndsOne-with_shard old shard step.before step.after step.here (ap (λ (s : ShardState). s.ended) step.receives.after) in
-    subst (EndsOne old shard) (sym step.rest) (record { plan = refl; limits = ends.limits; ended = ends.ended })
+    subst (EndsOne old shard) (sym step.rest) (record { limits = ends.limits; ended = ends.ended })
+
+-- and it leaves the plan
+pub plan-end : (old new : CoreState) (shard : ℕ) → CoreStep old (End shard) ShardEnded new → new.plan ≡ old.plan
+plan-end old new shard step = ap (λ (core : CoreState). core.plan) step.rest
 
 clash : true ≡ false → ⊥
 clash e = cc
@@ -119,9 +124,9 @@ IsServed-step old new (Put shard value) (Issued key) may step = tt
 IsServed-step old new (Get key) (Found value) may step = tt
 IsServed-step old new (Free key) (Freed freed) may step = tt
 IsServed-step old new (End shard) reply may step = absurd may
-IsServed-step old new (Adopt shard) (Refused Config) may step = omega (arith, may.within, step.0)
-IsServed-step old new (Adopt shard) (Refused Ended) may step = has_ended-clash old shard step.0.0 may step.0.1 step.0.2
-IsServed-step old new (Adopt shard) (Refused PlanOpen) may step = clash (sym step.1 ∙ ap is_some may.unplanned)
+IsServed-step old new (Adopt shard) (Refused Config) may step = omega (arith, may.0.within, step.0)
+IsServed-step old new (Adopt shard) (Refused Ended) may step = has_ended-clash old shard step.0.0 may.0 step.0.1 step.0.2
+IsServed-step old new (Adopt shard) (Refused PlanOpen) may step = clash (sym step.1 ∙ ap is_some may.1)
 IsServed-step old new (Adopt shard) (Refused PagesSpent) may step = tt
 IsServed-step old new (Adopt shard) (Refused NothingToAdopt) may step = tt
 IsServed-step old new (Adopt shard) (Refused OutOfMemory) may step = tt
@@ -130,17 +135,3 @@ IsServed-step old new Mark reply may step = absurd may
 IsServed-step old new Step reply may step = absurd may
 IsServed-step old new Close reply may step = absurd may
 IsServed-step old new event reply may step = absurd step
-
--- what an open shard answers to its end
-abbrev pub EndsOrNoMemory : Reply → Type 0
-EndsOrNoMemory ShardEnded = Unit {0}
-EndsOrNoMemory (Refused OutOfMemory) = Unit {0}
-EndsOrNoMemory reply = ⊥
-
-pub EndsOrNoMemory-step : (old new : CoreState) (shard : ℕ) (reply : Reply) → IsOpen old shard → CoreStep old (End shard) reply new → EndsOrNoMemory reply
-EndsOrNoMemory-step old new shard ShardEnded is_open step = tt
-EndsOrNoMemory-step old new shard (Refused OutOfMemory) is_open step = tt
-EndsOrNoMemory-step old new shard (Refused Config) is_open step = absurd (omega (arith, is_open.within, step.0))
-EndsOrNoMemory-step old new shard (Refused Ended) is_open step = absurd (has_ended-clash old shard step.0.0 is_open step.0.1 step.0.2)
-EndsOrNoMemory-step old new shard (Refused PlanOpen) is_open step = absurd (clash (sym step.0 ∙ ap is_some is_open.unplanned))
-EndsOrNoMemory-step old new shard reply is_open step = absurd step

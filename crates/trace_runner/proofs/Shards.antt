@@ -1,21 +1,35 @@
 -- Which shards have ended, after several steps.
 use Rattle.std.proofs.Common.{◌≡◌, ◌==◌, ◌&&◌, ◌||◌, ◌+◌, ℕ, Bool, true, false, cond, nat_lt, List, [], ◌∷◌, ◌++◌, map, filter, refl, sym, ap, ap₂, subst, ◌∙◌, arith, inl, inr, zero-add, append-nil}
+use Rattle.std.proofs.lemmas.List.{map-append}
 use Rattle.std.specs.List.{range_with_len}
 use Rattle.std.proofs.lemmas.List.FromFn.{filter_of_map_range_with_len_more}
 use Rattle.std.proofs.lemmas.Bool.Decides.{nat_tests}
 use Rattle.arena_core.specs.State.{CoreState}
-use Rattle.trace_runner.specs.Recalls.{Abandons, EndsBelow, EndsOne, IsOpen, KeepsShards, ended_at}
+use Rattle.trace_runner.specs.Recalls.{CanLeave, Carries, EndsBelow, EndsOne, IsOpen, KeepsPlan, KeepsShards, ended_at}
+use Rattle.trace_runner.specs.Made.{Asked, Calls}
+use Rattle.trace_runner.specs.News.{News}
+use Rattle.trace_runner.specs.Runs.{ends_asked}
+use Rattle.arena_core.specs.declared.event.Event.TheVariants.{End}
 use Rattle.trace_runner.proofs.Lines.{either}
-use Rattle.trace_runner.proofs.Making.{Abandons-append}
+use Rattle.trace_runner.proofs.Making.{Carries-append}
 
 pub KeepsShards-refl : (core : CoreState) → KeepsShards core core
-KeepsShards-refl core = record { plan = refl; limits = refl; ended = λ number. refl }
+KeepsShards-refl core = record { limits = refl; ended = λ number. refl }
 
 pub KeepsShards-trans : (a b c : CoreState) → KeepsShards a b → KeepsShards b c → KeepsShards a c
-KeepsShards-trans a b c first second = record { plan = second.plan ∙ first.plan; limits = second.limits ∙ first.limits; ended = λ number. second.ended number ∙ first.ended number }
+KeepsShards-trans a b c first second = record { limits = second.limits ∙ first.limits; ended = λ number. second.ended number ∙ first.ended number }
+
+pub KeepsPlan-refl : (core : CoreState) → KeepsPlan core core
+KeepsPlan-refl core = record { shards = KeepsShards-refl core; plan = refl }
+
+pub KeepsPlan-trans : (a b c : CoreState) → KeepsPlan a b → KeepsPlan b c → KeepsPlan a c
+KeepsPlan-trans a b c first second = record { shards = KeepsShards-trans a b c first.shards second.shards; plan = second.plan ∙ first.plan }
 
 pub IsOpen-kept : (old new : CoreState) (number : ℕ) → KeepsShards old new → IsOpen old number → IsOpen new number
-IsOpen-kept old new number keeps is_open = record { unplanned = keeps.plan ∙ is_open.unplanned; within = rw keeps.limits is_open.within; running = keeps.ended number ∙ is_open.running }
+IsOpen-kept old new number keeps is_open = record { within = rw keeps.limits is_open.within; running = keeps.ended number ∙ is_open.running }
+
+pub CanLeave-kept : (shards : ℕ) (old new : CoreState) (leaving : ℕ → Bool) → KeepsShards old new → CanLeave shards old leaving → CanLeave shards new leaving
+CanLeave-kept shards old new leaving keeps can thread below leaves = IsOpen-kept old new thread keeps (can thread below leaves)
 
 and_false : (b : Bool) → (b && false) ≡ false
 and_false true = refl
@@ -24,22 +38,23 @@ and_false false = refl
 -- where no shard ended, none of those that pass a test that none passes did
 pub EndsBelow-kept : (old new : CoreState) (bound : ℕ) (test : ℕ → Bool) → ((number : ℕ) → test number ≡ false) → KeepsShards old new → EndsBelow old bound test new
 EndsBelow-kept old new bound test none keeps = record {
-  plan = keeps.plan;
   limits = keeps.limits;
   ended = λ number. keeps.ended number ∙ ap (λ b. b || ended_at old number) (sym (ap (λ b. nat_lt number bound && b) (none number) ∙ and_false (nat_lt number bound)));
 }
 
 pub EndsBelow-then : (old mid new : CoreState) (bound : ℕ) (test : ℕ → Bool) → EndsBelow old bound test mid → KeepsShards mid new → EndsBelow old bound test new
-EndsBelow-then old mid new bound test ended keeps = record { plan = keeps.plan ∙ ended.plan; limits = keeps.limits ∙ ended.limits; ended = λ number. keeps.ended number ∙ ended.ended number }
+EndsBelow-then old mid new bound test ended keeps = record { limits = keeps.limits ∙ ended.limits; ended = λ number. keeps.ended number ∙ ended.ended number }
+
+pub EndsBelow-after : (old mid new : CoreState) (bound : ℕ) (test : ℕ → Bool) → KeepsShards old mid → EndsBelow mid bound test new → EndsBelow old bound test new
+EndsBelow-after old mid new bound test keeps ended = record { limits = ended.limits ∙ keeps.limits; ended = λ number. ended.ended number ∙ ap (λ b. (nat_lt number bound && test number) || b) (keeps.ended number) }
 
 pub EndsBelow-none : (core : CoreState) (test : ℕ → Bool) → EndsBelow core 0 test core
-EndsBelow-none core test = record { plan = refl; limits = refl; ended = λ number. let e : nat_lt number 0 ≡ false = grind (arith, nat_tests) in rw e refl }
+EndsBelow-none core test = record { limits = refl; ended = λ number. let e : nat_lt number 0 ≡ false = grind (arith, nat_tests) in rw e refl }
 
 module _ (old mid : CoreState) (bound : ℕ) (test : ℕ → Bool) (below : EndsBelow old bound test mid) where
   -- a shard that is not reached yet is open as before
   pub IsOpen-reached : IsOpen old bound → IsOpen mid bound
   IsOpen-reached is_open = record {
-    unplanned = below.plan ∙ is_open.unplanned;
     within = rw below.limits is_open.within;
     running = let e : nat_lt bound bound ≡ false = grind (arith, nat_tests) in below.ended bound ∙ rw e is_open.running;
   }
@@ -47,14 +62,13 @@ module _ (old mid : CoreState) (bound : ℕ) (test : ℕ → Bool) (below : Ends
   -- a shard that passes no test is open as before
   pub IsOpen-others : (number : ℕ) → test number ≡ false → IsOpen old number → IsOpen mid number
   IsOpen-others number fails is_open = record {
-    unplanned = below.plan ∙ is_open.unplanned;
     within = rw below.limits is_open.within;
     running = below.ended number ∙ ap (λ b. b || ended_at old number) (ap (λ b. nat_lt number bound && b) fails ∙ and_false (nat_lt number bound)) ∙ is_open.running;
   }
 
   -- the shard of this number passes no test, and stays
   pub EndsBelow-skip : test bound ≡ false → EndsBelow old (bound + 1) test mid
-  EndsBelow-skip fails = record { plan = below.plan; limits = below.limits; ended = λ number. below.ended number ∙ ap (λ b. b || ended_at old number) (more number) }
+  EndsBelow-skip fails = record { limits = below.limits; ended = λ number. below.ended number ∙ ap (λ b. b || ended_at old number) (more number) }
     where
       more : (number : ℕ) → (nat_lt number bound && test number) ≡ (nat_lt number (bound + 1) && test number)
       more number = elim (either (bound == number)) [
@@ -67,7 +81,7 @@ module _ (old mid : CoreState) (bound : ℕ) (test : ℕ → Bool) (below : Ends
 
   -- or it passes, and ends
   pub EndsBelow-end : (new : CoreState) → test bound ≡ true → EndsOne mid bound new → EndsBelow old (bound + 1) test new
-  EndsBelow-end new passes ends = record { plan = ends.plan ∙ below.plan; limits = ends.limits ∙ below.limits; ended = λ number. ends.ended number ∙ ap (λ b. bound == number || b) (below.ended number) ∙ more number }
+  EndsBelow-end new passes ends = record { limits = ends.limits ∙ below.limits; ended = λ number. ends.ended number ∙ ap (λ b. bound == number || b) (below.ended number) ∙ more number }
     where
       more : (number : ℕ) → (bound == number || ((nat_lt number bound && test number) || ended_at old number)) ≡ ((nat_lt number (bound + 1) && test number) || ended_at old number)
       more number = elim (either (bound == number)) [
@@ -91,10 +105,12 @@ filter-range_with_len_more test n =
     ap (filter test) (sym (map_same (range_with_len 0 (n + 1)))) ∙ filter_of_map_range_with_len_more test (λ k. k) 0 n n (zero-add n)
     ∙ ap (λ ks. filter test ks ++ cond (test n) (n ∷ []) []) (map_same (range_with_len 0 n))
 
-module _ (old mid : CoreState) (bound : ℕ) (test : ℕ → Bool) (abandons : Abandons (filter test (range_with_len 0 bound)) old mid) where
-  pub Abandons-skip : test bound ≡ false → Abandons (filter test (range_with_len 0 (bound + 1))) old mid
-  Abandons-skip fails = subst (λ (ts : List ℕ). Abandons ts old mid) (sym (filter-range_with_len_more test bound ∙ ap (λ b. filter test (range_with_len 0 bound) ++ cond b (bound ∷ []) []) fails ∙ append-nil (filter test (range_with_len 0 bound)))) abandons
+module _ (old mid : CoreState) (bound : ℕ) (test : ℕ → Bool) (news : News) (ends : Carries (ends_asked (filter test (range_with_len 0 bound))) old news mid news) where
+  pub Carries-skip : test bound ≡ false → Carries (ends_asked (filter test (range_with_len 0 (bound + 1)))) old news mid news
+  Carries-skip fails = subst (λ (ts : List ℕ). Carries (ends_asked ts) old news mid news) (sym (filter-range_with_len_more test bound ∙ ap (λ b. filter test (range_with_len 0 bound) ++ cond b (bound ∷ []) []) fails ∙ append-nil (filter test (range_with_len 0 bound)))) ends
 
-  pub Abandons-end : (new : CoreState) → test bound ≡ true → Abandons (bound ∷ []) mid new → Abandons (filter test (range_with_len 0 (bound + 1))) old new
-  Abandons-end new passes more = subst (λ (ts : List ℕ). Abandons ts old new) (sym (filter-range_with_len_more test bound ∙ ap (λ b. filter test (range_with_len 0 bound) ++ cond b (bound ∷ []) []) passes))
-      (Abandons-append (filter test (range_with_len 0 bound)) (bound ∷ []) old mid new abandons more)
+  pub Carries-more : (new : CoreState) → test bound ≡ true → Carries (ends_asked (bound ∷ [])) mid news new news → Carries (ends_asked (filter test (range_with_len 0 (bound + 1)))) old news new news
+  Carries-more new passes more =
+      let both = map-append (λ thread. Calls (End thread)) (filter test (range_with_len 0 bound)) (bound ∷ []) in
+      subst (λ (ts : List ℕ). Carries (ends_asked ts) old news new news) (sym (filter-range_with_len_more test bound ∙ ap (λ b. filter test (range_with_len 0 bound) ++ cond b (bound ∷ []) []) passes))
+      (subst (λ (asked : List Asked). Carries asked old news new news) (sym both) (Carries-append (ends_asked (filter test (range_with_len 0 bound))) (ends_asked (bound ∷ [])) old mid new news news news ends more))

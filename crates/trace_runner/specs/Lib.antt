@@ -1,6 +1,8 @@
 pub mod Number
 pub mod Words
 pub mod Name
+pub mod Made
+pub mod News
 pub mod Reference
 pub mod Form
 pub mod Causes
@@ -17,4 +19,5 @@ pub mod Runs
 pub mod Recalls
 pub mod Replay
 pub mod Verdict
+pub mod Store
 pub mod Done

@@ -1,13 +1,16 @@
 -- What a run keeps of what its lines did.
-use Rattle.std.specs.Prelude.{◌≡◌, ◌<◌, ◌≤◌, ◌+◌, ◌++◌, ◌&&◌, ◌||◌, ◌==◌, nat_eq, nat_lt, ℕ, Bool, true, false, not, List, [], length, map, take, slice_get, slice_index, Option, Some, None, option_and_then}
+use Rattle.std.specs.Prelude.{◌≡◌, ◌<◌, ◌≤◌, ◌+◌, ◌++◌, ◌&&◌, ◌||◌, ◌==◌, nat_eq, nat_lt, ℕ, Bool, true, false, not, List, [], length, map, take, slice_get, slice_index, if◌then◌else◌, Option, Some, None, option_and_then}
 use Rattle.std.specs.HashSet as bag
 use Rattle.std.specs.HashSet.{HashSet}
-use Rattle.std.specs.Option.{option_map_or}
+use Rattle.std.specs.Option.{option_map, option_map_or}
 use Rattle.span.specs.declared.key.Key.{Key}
-use Rattle.trace_runner.specs.Barrier.{open_lines}
+use Rattle.trace_runner.specs.Barrier.{is_barrier, open_lines}
 use Rattle.trace_runner.specs.Causes.{has_ended, is_call, is_call_over, thread_of}
 use Rattle.arena_core.specs.State.{CoreState}
-use Rattle.trace_runner.specs.Runs.{Asked, Did, DoLines, IsAnswered, Made, all_made, answers_from, asked_of, ends_asked, key_made, on_line}
+use Rattle.trace_runner.specs.Made.{Asked, Did, Made, all_made, asked_of}
+use Rattle.trace_runner.specs.News.{News, news_of, with_all_made}
+use Rattle.trace_runner.specs.Runs.{DoLines, IsAnswered, answers_from, ends_asked, finishing, key_made, on_line, pairs_left_of, planning_at}
+use Rattle.trace_runner.specs.declared.plans.Plans.{Plans}
 use Rattle.arena_core.specs.declared.event.Event.{Event}
 use Rattle.arena_core.specs.declared.event.Event.TheVariants.{Put, End, Adopt, Mark, Step, Close}
 use Rattle.arena_core.specs.declared.reply.Reply.{Reply}
@@ -43,48 +46,58 @@ IsRunning answers starts = (done : List Did) × Recalls done answers starts
 abbrev pub Makes : ℕ → List Asked → CoreState → List LineAnswer → CoreState → List LineAnswer → Type 0
 Makes number asked old before new after = (made : List Made) × (map asked_of made ≡ asked) × IsAnswered old made new × (after ≡ before ++ map (on_line number) made)
 
--- the shards of these threads were abandoned, from one core to the other
-abbrev pub Abandons : List ℕ → CoreState → CoreState → Type 0
-Abandons threads old new = (made : List Made) × (map asked_of made ≡ ends_asked threads) × IsAnswered old made new
+-- these were asked and done, from one core to the other, and what they tell of plans stands behind the earlier news
+abbrev pub Carries : List Asked → CoreState → News → CoreState → News → Type 0
+Carries asked old before new after = (made : List Made) × (map asked_of made ≡ asked) × IsAnswered old made new × (after ≡ with_all_made before made)
 
--- first these shards were abandoned, then the calls of the line were made
-abbrev pub MakesLine : ℕ → List ℕ → List Asked → CoreState → List LineAnswer → CoreState → List LineAnswer → Type 0
-MakesLine number threads asked old before new after = (mid : CoreState) × Abandons threads old mid × Makes number asked mid before new after
+-- what a line asks for was done: first what settles the section, then its calls, and then what follows them
+pub record MakesLine (number : ℕ) (settled asked : List Asked) (line : Line) (old : CoreState) (before : List LineAnswer) (news_before : News) (new : CoreState) (after : List LineAnswer) (news_after : News) : Type 0 where
+  pub settled_core : CoreState
+  pub called_core : CoreState
+  pub news : News
+  pub settles : Carries settled old news_before settled_core news
+  pub makes : Makes number asked settled_core before called_core after
+  pub plans : Carries (planning_at called_core line) called_core (record news { above = length after }) new news_after
 
--- ---- the shards that have ended
+-- what settles the section, where a barrier begins at the line and the threads leave
+abbrev pub settling_with : List ℕ → CoreState → Line → List Asked
+settling_with threads core line = if is_barrier line then finishing core.plan ++ ends_asked threads else []
+
+-- ---- the shards that have ended, and the open plan
 
 -- the shard of this number is there and has ended
 abbrev pub ended_at : CoreState → ℕ → Bool
 ended_at core number = option_map_or (λ shard. shard.ended) (slice_get core.shards number) false
 
--- the shard of this number is one of the core's, and has not ended; and no plan is open
+-- the shard of this number is one of the core's, and has not ended
 pub record IsOpen (core : CoreState) (number : ℕ) : Type 0 where
-  pub unplanned : core.plan ≡ None
   pub within : number < core.limits.shards
   pub running : ended_at core number ≡ false
 
--- no shard came, none ended, and the plan is as it was
+-- no shard came and none ended
 pub record KeepsShards (old new : CoreState) : Type 0 where
-  pub plan : new.plan ≡ old.plan
   pub limits : new.limits ≡ old.limits
   pub ended : (number : ℕ) → ended_at new number ≡ ended_at old number
 
+-- nor did the plan change
+pub record KeepsPlan (old new : CoreState) : Type 0 where
+  pub shards : KeepsShards old new
+  pub plan : new.plan ≡ old.plan
+
 -- of the shards, that of this number ended
 pub record EndsOne (old : CoreState) (ending : ℕ) (new : CoreState) : Type 0 where
-  pub plan : new.plan ≡ old.plan
   pub limits : new.limits ≡ old.limits
   pub ended : (number : ℕ) → ended_at new number ≡ (ending == number || ended_at old number)
 
 -- of the shards below a number, those that pass the test ended
 pub record EndsBelow (old : CoreState) (bound : ℕ) (test : ℕ → Bool) (new : CoreState) : Type 0 where
-  pub plan : new.plan ≡ old.plan
   pub limits : new.limits ≡ old.limits
   pub ended : (number : ℕ) → ended_at new number ≡ ((nat_lt number bound && test number) || ended_at old number)
 
--- the event may be called for a line: its shard is open; the barrier alone ends shards, and no line marks yet
+-- the event may be called for a line: its shard is open, and no plan is where it would be in the way; the barrier alone ends shards, steps and closes
 abbrev pub MayCall : CoreState → Event → Type 0
 MayCall core (Put shard value) = IsOpen core shard
-MayCall core (Adopt shard) = IsOpen core shard
+MayCall core (Adopt shard) = IsOpen core shard × (core.plan ≡ None)
 MayCall core (End shard) = ⊥
 MayCall core Mark = ⊥
 MayCall core Step = ⊥
@@ -103,6 +116,14 @@ IsServed NoPairLeft = ⊥
 IsServed Closed = ⊥
 IsServed NoPlan = ⊥
 IsServed reply = Unit {0}
+
+-- the news of a run behind so many answers
+abbrev pub news_at : ℕ → Plans → News
+news_at above plans = record { above = above; marks = plans.marks; taken = plans.taken; notes = plans.notes.items; certificate = plans.certificate.items }
+
+-- the run knows how many pairs of the open plan are left, and where none is open
+abbrev pub KnowsPlan : Plans → CoreState → Type 0
+KnowsPlan plans core = plans.left ≡ option_map pairs_left_of core.plan
 
 -- ---- the threads that leave
 
@@ -124,19 +145,22 @@ pub record IsReady (shards : ℕ) (core : CoreState) (leaving : ℕ → Bool) (l
 -- ---- how far a run has come
 
 -- so many lines of the trace were run to their end
-pub record HasCome (shards : ℕ) (lines : List Line) (count : ℕ) (old core : CoreState) (answers : List LineAnswer) (starts : List ℕ) (leaving : ℕ → Bool) : Type 0 where
+pub record HasCome (shards : ℕ) (lines : List Line) (count : ℕ) (old core : CoreState) (answers : List LineAnswer) (starts : List ℕ) (leaving : ℕ → Bool) (plans : Plans) : Type 0 where
   pub done : List Did
   pub count_is : length done ≡ count
-  pub lines_do : DoLines shards lines (take count lines) [] done
+  pub lines_do : DoLines shards lines old (take count lines) [] done
   pub answered : IsAnswered old (all_made done) core
   pub answers_are : answers ≡ answers_from 6 done
   pub long : length starts ≡ count
   pub starts_are : (place : ℕ) → place < count → slice_index starts place ≡ length (answers_from 6 (take place done))
   pub enough : shards ≤ core.limits.shards
-  pub unplanned : core.plan ≡ None
   -- the threads that leave are those that ended behind the last barrier, and the shards of those that ended above it have ended
   pub leaving_are : (thread : ℕ) → leaving thread ≡ has_ended (open_lines (take count lines)) thread
   pub ended_are : (thread : ℕ) → thread < shards → ended_at core thread ≡ (has_ended (take count lines) thread && not (has_ended (open_lines (take count lines)) thread))
+  -- the news is that of the lines, and the open plan is known
+  pub news_are : news_at (length answers) plans ≡ news_of done
+  pub knows : KnowsPlan plans core
+  pub marks : plans.marks ≤ count
 
 -- the core has so many shards, none of them has ended, and no plan is open
 pub record Serves (shards : ℕ) (core : CoreState) : Type 0 where

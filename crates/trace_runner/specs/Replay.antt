@@ -3,6 +3,7 @@ use Rattle.std.specs.Prelude.{◌≡◌, ◌+◌, ℕ, Bool, List, Option}
 use Rattle.std.specs.Io.KnownBytes.{Appends}
 use Rattle.span.specs.PlainMap.{empty_map}
 use Rattle.arena_core.specs.State.{CoreState, HasKeys, limits_of, live_keys, new_core, pages, shown}
+use Rattle.trace_runner.specs.News.{News}
 use Rattle.trace_runner.specs.Report.{report_text}
 use Rattle.trace_runner.specs.Runs.{IsRun}
 use Rattle.trace_runner.specs.Sink.{AppendsFront}
@@ -22,28 +23,30 @@ start_of header = new_core (limits_of header.shards header.pages header.ring hea
 abbrev pub ending_of : CoreState → ℕ → Ending
 ending_of core calls = record { pages = pages core; live = live_keys core; calls = calls }
 
--- the bytes are the report of a run of the trace: what its lines did, from the empty plain map on, with their answers, and the counts at its end,
--- of which that of the live keys is how many keys have a value in the plain map
-pub record IsReportOf (trace : Trace) (replies : Bool) (bytes : List ℕ) : Type 0 where
+-- the bytes are the report of a run of the trace: what its lines did, from the empty plain map on, with their answers, what is told of plans, and the counts at its end,
+-- of which that of the live keys is how many keys have a value in the plain map; and the certificate is that of the last mark that planned, or nothing
+pub record IsReportOf (trace : Trace) (replies : Bool) (bytes certificate : List ℕ) : Type 0 where
   pub last : CoreState
   pub answers : List LineAnswer
   pub calls : ℕ
+  pub news : News
   pub empty : shown (start_of trace.header) ≡ empty_map
-  pub run : IsRun trace.header.shards trace.lines.items (start_of trace.header) last answers calls
+  pub run : IsRun trace.header.shards trace.lines.items (start_of trace.header) last answers calls news
   pub live : HasKeys (shown last) (live_keys last)
-  pub spelled : bytes ≡ report_text replies answers (ending_of last calls)
+  pub spelled : bytes ≡ report_text replies answers news.notes (ending_of last calls)
+  pub certificate_is : certificate ≡ news.certificate
 
--- the text is a trace, and the bytes are the report of a run of it
-abbrev pub IsReport : List ℕ → Bool → List ℕ → Type 0
-IsReport text replies bytes = (trace : Trace) × IsTrace text trace × IsReportOf trace replies bytes
+-- the text is a trace, and the bytes are the report of a run of it, with its last certificate
+abbrev pub IsReport : List ℕ → Bool → List ℕ → List ℕ → Type 0
+IsReport text replies bytes certificate = (trace : Trace) × IsTrace text trace × IsReportOf trace replies bytes certificate
 
--- what was taken more than before is the report of a run of the text's trace, whole
-abbrev pub WritesReport : List ℕ → Bool → Option (List ℕ) → Option (List ℕ) → Type 0
-WritesReport text replies old new = (report : List ℕ) × IsReport text replies report × Appends old new report
+-- what was taken more than before is the report of a run of the text's trace, whole, and this is its last certificate
+abbrev pub WritesReport : List ℕ → Bool → Option (List ℕ) → Option (List ℕ) → List ℕ → Type 0
+WritesReport text replies old new certificate = (report : List ℕ) × IsReport text replies report certificate × Appends old new report
 
 -- a front of such a report was taken
 abbrev pub WritesFront : List ℕ → Bool → Option (List ℕ) → Option (List ℕ) → Type 0
-WritesFront text replies old new = (report : List ℕ) × IsReport text replies report × AppendsFront old new report
+WritesFront text replies old new = (report : List ℕ) × (certificate : List ℕ) × IsReport text replies report certificate × AppendsFront old new report
 
 -- where a replay stopped: for want of memory or at the first line at fault, with nothing taken; or at a sink that failed, once, with a front of the report taken
 abbrev pub Stops : List ℕ → Bool → (failures_old failures_new : ℕ) → (old new : Option (List ℕ)) → ReplayError → Type 0

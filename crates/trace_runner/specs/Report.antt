@@ -1,21 +1,21 @@
 -- The text of a report.
-use Rattle.std.specs.Prelude.{ℕ, Bool, List, [], ◌++◌, codes, if◌then◌else◌}
+use Rattle.std.specs.Prelude.{ℕ, ◌≤◌, Bool, List, [], ◌∷◌, ◌++◌, codes, drop, length, slice_range, if◌then◌else◌}
 use Rattle.std.specs.Fmt.{decimal}
 use Rattle.std.specs.List.{flat_map}
+use Rattle.span.specs.Texts.{id_text, key_text}
 use Rattle.span.specs.declared.id.SpanId.{SpanId}
-use Rattle.span.specs.declared.key.Key.{Key}
+use Rattle.fold.specs.declared.step.Step.{Step}
+use Rattle.fold.specs.declared.step.Step.TheVariants.{Absent, Emptied, Clash, Folded}
 use Rattle.trace_runner.specs.declared.report.Answer.{Answer}
 use Rattle.trace_runner.specs.declared.report.Answer.TheVariants as answer
 use Rattle.trace_runner.specs.declared.report.LineAnswer.{LineAnswer}
 use Rattle.trace_runner.specs.declared.report.Ending.{Ending}
-
--- `shard.serial`
-abbrev pub id_text : SpanId → List ℕ
-id_text id = decimal id.shard ++ codes "." ++ decimal id.serial
-
--- `shard.serial/slot/generation`
-abbrev pub key_text : Key → List ℕ
-key_text key = id_text key.span ++ codes "/" ++ decimal key.slot ++ codes "/" ++ decimal key.generation
+use Rattle.trace_runner.specs.declared.report.TakenStep.{TakenStep}
+use Rattle.trace_runner.specs.declared.report.MarkNews.{MarkNews}
+use Rattle.trace_runner.specs.declared.report.CloseNews.{CloseNews}
+use Rattle.trace_runner.specs.declared.report.PlanNews.{PlanNews}
+use Rattle.trace_runner.specs.declared.report.PlanNews.TheVariants.{Marked, TooMany, Closed}
+use Rattle.trace_runner.specs.declared.report.PlanNote.{PlanNote}
 
 -- an answer, without its line's number
 abbrev pub answer_text : Answer → List ℕ
@@ -42,6 +42,70 @@ answers_text replies answers = if replies then flat_map answer_line answers else
 abbrev pub end_line : Ending → List ℕ
 end_line e = codes "end pages " ++ decimal e.pages ++ codes " live " ++ decimal e.live ++ codes " calls " ++ decimal e.calls ++ codes "\n"
 
--- the answers in order, and the last line
-abbrev pub report_text : Bool → List LineAnswer → Ending → List ℕ
-report_text replies answers ending = answers_text replies answers ++ end_line ending
+-- ---- plans
+
+abbrev pub outcome_text : Step → List ℕ
+outcome_text Folded = codes "folded"
+outcome_text Emptied = codes "emptied"
+outcome_text Absent = codes "absent"
+outcome_text Clash = codes "clash"
+
+-- `step ID onto ID RESULT`
+abbrev pub step_line : TakenStep → List ℕ
+step_line step = codes "step " ++ id_text step.abandoned ++ codes " onto " ++ id_text step.owned ++ codes " " ++ outcome_text step.outcome ++ codes "\n"
+
+-- a line for each step, where replies are asked for
+abbrev pub steps_text : Bool → List TakenStep → List ℕ
+steps_text replies steps = if replies then flat_map step_line steps else []
+
+-- `closed M pages H`, behind the steps
+abbrev pub close_text : Bool → CloseNews → List ℕ
+close_text replies c = steps_text replies c.steps ++ (codes "closed " ++ decimal c.mark) ++ (codes " pages " ++ decimal c.pages) ++ codes "\n"
+
+-- `fold ID onto ID`
+abbrev pub fold_line : SpanId × SpanId → List ℕ
+fold_line pair = codes "fold " ++ id_text pair.0 ++ codes " onto " ++ id_text pair.1 ++ codes "\n"
+
+-- an id with a space before it
+abbrev pub id_word : SpanId → List ℕ
+id_word id = codes " " ++ id_text id
+
+-- each id with a space before it, or ` none`
+abbrev pub ids_text : List SpanId → List ℕ
+ids_text [] = codes " none"
+ids_text (id ∷ ids) = flat_map id_word (id ∷ ids)
+
+-- a title and its ids
+abbrev pub ids_line : List ℕ → List SpanId → List ℕ
+ids_line title ids = title ++ ids_text ids ++ codes "\n"
+
+-- `mark M abandoned A owned O folds F pages H`
+abbrev pub mark_line : MarkNews → List ℕ
+mark_line m =
+    codes "mark " ++ decimal m.mark ++ (codes " abandoned " ++ decimal m.abandoned) ++ (codes " owned " ++ decimal m.owned)
+    ++ (codes " folds " ++ decimal (length m.plan)) ++ (codes " pages " ++ decimal m.pages) ++ codes "\n"
+
+-- the mark's line, a line for each fold, and the lines of the short set and its partners
+abbrev pub mark_text : MarkNews → List ℕ
+mark_text m = mark_line m ++ flat_map fold_line m.plan ++ ids_line (codes "short") m.short ++ ids_line (codes "partners") m.partners
+
+abbrev pub news_text : Bool → PlanNews → List ℕ
+news_text replies (Marked m) = mark_text m
+news_text replies (TooMany mark) = codes "mark " ++ decimal mark ++ codes " refused many\n"
+news_text replies (Closed c) = close_text replies c
+
+-- ---- the whole
+
+-- the answers, of which so many are told already, with each note behind as many answers as it says
+abbrev pub body_text : Bool → ℕ → List LineAnswer → List PlanNote → List ℕ
+body_text replies told answers [] = answers_text replies (drop told answers)
+body_text replies told answers (note ∷ notes) = answers_text replies (slice_range answers told note.above) ++ news_text replies note.news ++ body_text replies note.above answers notes
+
+-- each note stands no higher than the one before it, and behind answers that are there
+abbrev pub AreInOrder : (told count : ℕ) → List PlanNote → Type 0
+AreInOrder told count [] = told ≤ count
+AreInOrder told count (note ∷ notes) = (told ≤ note.above) × AreInOrder note.above count notes
+
+-- the answers and the notes in order, and the last line
+abbrev pub report_text : Bool → List LineAnswer → List PlanNote → Ending → List ℕ
+report_text replies answers notes ending = body_text replies 0 answers notes ++ end_line ending

@@ -1,17 +1,19 @@
 -- What the lines of a trace do, and what the report tells of it.
-use Rattle.std.specs.Prelude.{◌≡◌, ◌+◌, ◌-◌, ℕ, true, false, List, [], ◌∷◌, ◌++◌, length, map, take, slice_get, Option, Some, None, option_and_then, unwrap_or, if◌then◌else◌}
-use Rattle.std.specs.List.{AllByRecursion, filter_map, flat_map, range_with_len}
+use Rattle.std.specs.Prelude.{◌≡◌, ◌+◌, ◌-◌, ℕ, true, false, nat_lt, List, [], ◌∷◌, ◌++◌, length, map, replicate, take, slice_get, Option, Some, None, option_and_then, unwrap_or, if◌then◌else◌}
+use Rattle.std.specs.List.{AllByRecursion, range_with_len}
 use Rattle.span.specs.declared.key.Key.{Key}
 use Rattle.trace_runner.specs.Barrier.{is_barrier, leavers}
+use Rattle.trace_runner.specs.Made.{Asked, Calls, Keyless, Leaves, Made, Called, Unbound, Left, Did, all_made, asked_of, core_after, events_of, replies_of}
+use Rattle.trace_runner.specs.News.{News, all_news}
 use Rattle.trace_runner.specs.Causes.{binding_of}
-use Rattle.arena_core.specs.State.{CoreState, shown}
-use Rattle.arena_core.specs.Step.{CoreRun}
+use Rattle.arena_core.specs.State.{CoreState, OpenPlan, shown}
+use Rattle.arena_core.specs.Step.{CoreRun, CoreStep}
 use Rattle.arena_core.specs.Plain.{PlainRun, erased}
 use Rattle.arena_core.specs.declared.event.Event.{Event}
 use Rattle.arena_core.specs.declared.event.Event.TheVariants as event
-use Rattle.arena_core.specs.declared.reply.Refusal.TheVariants.{PagesSpent, NothingToAdopt}
+use Rattle.arena_core.specs.declared.reply.Refusal.TheVariants.{PagesSpent, TooMany, NothingToAdopt}
 use Rattle.arena_core.specs.declared.reply.Reply.{Reply}
-use Rattle.arena_core.specs.declared.reply.Reply.TheVariants.{Issued, Found, Freed, ShardEnded, Adopted, Marked, Stepped, NoPairLeft, Closed, NoPlan, Refused}
+use Rattle.arena_core.specs.declared.reply.Reply.TheVariants.{Issued, Found, Freed, ShardEnded, Adopted, NoPairLeft, NoPlan, Refused}
 use Rattle.trace_runner.specs.declared.report.Answer.{Answer}
 use Rattle.trace_runner.specs.declared.report.Answer.TheVariants as answer
 use Rattle.trace_runner.specs.declared.report.LineAnswer.{LineAnswer}
@@ -21,31 +23,11 @@ use Rattle.trace_runner.specs.declared.text.line.Line.{Line}
 use Rattle.trace_runner.specs.declared.text.line.Line.TheVariants as line
 use Rattle.trace_runner.specs.declared.text.name.Reference.{Reference}
 
--- one thing that a line asks for
-pub data Asked : Type 0 where
-  -- an event of the core
-  Calls : Event → Asked
-  -- no event, since the key that the line names was never given out
-  Keyless : Asked
-  -- no event yet: the thread ends, and its shard is abandoned at the barrier
-  Leaves : Asked
-
--- what came of it
-pub data Made : Type 0 where
-  Called : Event → Reply → Made
-  Unbound : Made
-  Left : Made
-
--- what was done at a line: first the shards that were abandoned there, then the calls of the line
-pub record Did : Type 0 where
-  pub ends : List Made
-  pub calls : List Made
-
 -- ---- what a line asks for
 
 -- the key that a put gave out
 abbrev pub key_made : Made → Option Key
-key_made (Called event (Issued key)) = Some key
+key_made (Called event (Issued key) core) = Some key
 key_made made = None
 
 -- the key of a name and a place: what that put of the line that binds the name gave out
@@ -76,86 +58,94 @@ asked_by lines done (line.Call thread call) = asked_by_call lines done thread ca
 asked_by lines done (line.Adopt shard) = Calls (event.Adopt shard) ∷ []
 asked_by lines done _ = []
 
+-- how many pairs of the plan are not done with
+abbrev pub pairs_left_of : OpenPlan → ℕ
+pairs_left_of plan = length plan.pairs - plan.done
+
+-- how many pairs of the open plan are left, and none where no plan is open
+abbrev pub pairs_left : Option OpenPlan → ℕ
+pairs_left None = 0
+pairs_left (Some plan) = pairs_left_of plan
+
+-- a step for each pair that is left of the open plan, and its close
+abbrev pub finishing : Option OpenPlan → List Asked
+finishing None = []
+finishing (Some plan) = replicate (pairs_left_of plan) (Calls event.Step) ++ Calls event.Close ∷ []
+
 -- the ends of these shards
 abbrev pub ends_asked : List ℕ → List Asked
 ends_asked threads = map (λ thread. Calls (event.End thread)) threads
 
--- the shards that are abandoned at a line below those: where a barrier begins, those of the threads that ended in the section, ascending
-abbrev pub abandoned_at : (shards : ℕ) → List Line → Line → List ℕ
-abandoned_at shards above line = if is_barrier line then leavers shards above else []
+-- what a barrier or the end of the text begins with: the end of the open plan, and then those of the shards of the threads that ended in the section, ascending
+abbrev pub settling : (shards : ℕ) → List Line → CoreState → List Asked
+settling shards above core = finishing core.plan ++ ends_asked (leavers shards above)
+
+-- the same where a barrier begins at a line; behind its first line nothing is left of it
+abbrev pub settling_at : (shards : ℕ) → List Line → CoreState → Line → List Asked
+settling_at shards above core line = if is_barrier line then settling shards above core else []
+
+-- a step, where a pair of the open plan is left
+abbrev pub stepping : Option OpenPlan → List Asked
+stepping plan = if nat_lt 0 (pairs_left plan) then Calls event.Step ∷ [] else []
+
+-- what follows the calls of a line: a step behind a thread's, and the mark
+abbrev pub planning_at : CoreState → Line → List Asked
+planning_at core (line.Call thread call) = stepping core.plan
+planning_at core line.Mark = Calls event.Mark ∷ []
+planning_at core _ = []
 
 -- ---- what a line did
 
-abbrev pub asked_of : Made → Asked
-asked_of (Called event reply) = Calls event
-asked_of Unbound = Keyless
-asked_of Left = Leaves
-
-abbrev pub event_made : Made → Option Event
-event_made (Called event reply) = Some event
-event_made _ = None
-
-abbrev pub reply_made : Made → Option Reply
-reply_made (Called event reply) = Some reply
-reply_made _ = None
-
--- the events that were called, and their replies
-abbrev pub events_of : List Made → List Event
-events_of made = filter_map event_made made
-
-abbrev pub replies_of : List Made → List Reply
-replies_of made = filter_map reply_made made
-
--- no want of memory, and no shard that is not there or has ended: of the refusals, only those of a page and of an adoption that finds nothing come
+-- no want of memory, no shard that is not there or has ended, and no plan that is missed or in the way: of the refusals, only those of a page, of an adoption that finds nothing and of a mark that sees too much come
 abbrev pub IsTold : Reply → Type 0
 IsTold (Refused PagesSpent) = Unit {0}
+IsTold (Refused TooMany) = Unit {0}
 IsTold (Refused NothingToAdopt) = Unit {0}
 IsTold (Refused cause) = ⊥
-IsTold (Marked certificate) = ⊥
-IsTold (Stepped abandoned owned step) = ⊥
 IsTold NoPairLeft = ⊥
-IsTold Closed = ⊥
 IsTold NoPlan = ⊥
 IsTold reply = Unit {0}
 
--- the core answers the calls so, which without ends and adoptions is a run of the plain map that it shows
+-- each event was a step of the core, which left it as it says
+abbrev pub Happens : CoreState → List Made → Type 0
+Happens core [] = Unit {0}
+Happens core (Called event reply after ∷ made) = CoreStep core event reply after × Happens after made
+Happens core (Unbound ∷ made) = Happens core made
+Happens core (Left ∷ made) = Happens core made
+
+-- the core answers the calls so, which without ends, adoptions and what is done with plans is a run of the plain map that it shows
 pub record IsAnswered (old : CoreState) (made : List Made) (new : CoreState) : Type 0 where
+  pub each : Happens old made
+  pub last : new ≡ core_after old made
   pub core : CoreRun old (events_of made) (replies_of made) new
   pub plain : PlainRun (shown old) (erased (events_of made) (replies_of made)) (shown new)
   pub told : AllByRecursion IsTold (replies_of made)
 
--- after what was done, the line did this
-pub record Does (shards : ℕ) (lines : List Line) (done : List Did) (line : Line) (did : Did) : Type 0 where
-  pub ends : map asked_of did.ends ≡ ends_asked (abandoned_at shards (take (length done) lines) line)
+-- after what was done from the core on, the line did this
+pub record Does (shards : ℕ) (lines : List Line) (start : CoreState) (done : List Did) (line : Line) (did : Did) : Type 0 where
+  pub settled : map asked_of did.settled ≡ settling_at shards (take (length done) lines) (core_after start (all_made done)) line
   pub calls : map asked_of did.calls ≡ asked_by lines done line
+  pub plans : map asked_of did.plans ≡ planning_at (core_after start (all_made done ++ (did.settled ++ did.calls))) line
 
 -- after what was done, the lines do this one after another
-abbrev pub DoLines : (shards : ℕ) → List Line → List Line → List Did → List Did → Type 0
-DoLines shards all [] done after = after ≡ done
-DoLines shards all (line ∷ lines) done after = (did : Did) × Does shards all done line did × DoLines shards all lines (done ++ did ∷ []) after
+abbrev pub DoLines : (shards : ℕ) → List Line → CoreState → List Line → List Did → List Did → Type 0
+DoLines shards all start [] done after = after ≡ done
+DoLines shards all start (line ∷ lines) done after = (did : Did) × Does shards all start done line did × DoLines shards all start lines (done ++ did ∷ []) after
 
--- all that was done at a line
-abbrev pub made_by : Did → List Made
-made_by did = did.ends ++ did.calls
-
--- all that was done, in order
-abbrev pub all_made : List Did → List Made
-all_made done = flat_map made_by done
-
--- ---- what the report tells
+-- ---- the answers that the report tells
 
 abbrev pub answer_to : Made → Answer
-answer_to (Called event (Issued key)) = answer.Key key
-answer_to (Called event (Found (Some value))) = answer.Value value
-answer_to (Called event (Found None)) = answer.Absent
-answer_to (Called event (Freed true)) = answer.Freed
-answer_to (Called event (Freed false)) = answer.NotFreed
-answer_to (Called event ShardEnded) = answer.Ended
-answer_to (Called event (Adopted head)) = answer.Adopted head
-answer_to (Called event (Refused NothingToAdopt)) = answer.NothingToAdopt
-answer_to (Called event (Refused cause)) = answer.PagesSpent
--- no line has another reply
-answer_to (Called event reply) = answer.Unbound
+answer_to (Called event (Issued key) core) = answer.Key key
+answer_to (Called event (Found (Some value)) core) = answer.Value value
+answer_to (Called event (Found None) core) = answer.Absent
+answer_to (Called event (Freed true) core) = answer.Freed
+answer_to (Called event (Freed false) core) = answer.NotFreed
+answer_to (Called event ShardEnded core) = answer.Ended
+answer_to (Called event (Adopted head) core) = answer.Adopted head
+answer_to (Called event (Refused NothingToAdopt) core) = answer.NothingToAdopt
+answer_to (Called event (Refused cause) core) = answer.PagesSpent
+-- no call of a line has another reply
+answer_to (Called event reply core) = answer.Unbound
 answer_to Unbound = answer.Unbound
 answer_to Left = answer.Ended
 
@@ -178,13 +168,14 @@ abbrev pub calls_in : List Line → List Did → ℕ
 calls_in (line ∷ lines) (did ∷ done) = calls_at line did + calls_in lines done
 calls_in _ _ = 0
 
--- the lines of a trace were run, from one core to the other, with these answers, of which so many are those of threads' lines
-pub record IsRun (shards : ℕ) (lines : List Line) (old new : CoreState) (answers : List LineAnswer) (calls : ℕ) : Type 0 where
+-- the lines of a trace were run, from one core to the other, with these answers, of which so many are those of threads' lines, and this was told of plans
+pub record IsRun (shards : ℕ) (lines : List Line) (old new : CoreState) (answers : List LineAnswer) (calls : ℕ) (news : News) : Type 0 where
   pub done : List Did
-  -- the shards that are abandoned at the end of the text
+  -- what is done at the end of the text
   pub last : List Made
-  pub lines_do : DoLines shards lines lines [] done
-  pub ends : map asked_of last ≡ ends_asked (leavers shards lines)
+  pub lines_do : DoLines shards lines old lines [] done
+  pub settled : map asked_of last ≡ settling shards lines (core_after old (all_made done))
   pub answered : IsAnswered old (all_made done ++ last) new
   pub answers_are : answers ≡ answers_from 6 done
   pub calls_are : calls ≡ calls_in lines done
+  pub news_are : news ≡ all_news done last

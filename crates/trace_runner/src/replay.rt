@@ -1,6 +1,6 @@
 //! Replays a trace on a core of its own.
 
-ghost use Rattle.std.specs.Prelude.{◌≡◌, ◌<◌, ◌-◌, ◌^◌, IfOk, IfErr, List, OnOk};
+ghost use Rattle.std.specs.Prelude.{◌≡◌, ◌<◌, ◌-◌, ◌^◌, IfOk, IfErr, List, OnErr, OnOk};
 ghost use Rattle.span.specs.PlainMap.{empty_map};
 ghost use Rattle.arena_core.specs.State.{shown};
 ghost use Rattle.trace_runner.specs.Header.{IsWithinLimits};
@@ -19,11 +19,12 @@ use arena_core::{Core, CoreError};
 use std::alloc::{AllocError, Global};
 
 /// Replays a trace: reads the text whole, runs its calls one after another on a core of its own, and gives the report to
-/// `out`, with a line for each call where `replies` asks for them. `cert` is as it was: no trace has a certificate yet.
+/// `out`, with a line for each call where `replies` asks for them. `cert` is then the text of the certificate of the last
+/// mark that planned, or empty where none did.
 ///
 /// `BadTrace` comes exactly for a text that is no trace, with its first line at fault and the first cause that holds of it.
 /// `SinkFailed` comes where `out` failed; it has then taken a front of the report. `OutOfMemory` comes where a
-/// growth was refused. After the first and the last `out` has taken nothing.
+/// growth was refused. After the first and the last `out` has taken nothing. After each of them `cert` is as it was.
 pub fn replay_serial<S: Sink>(
     alloc: Global,
     text: &[u8],
@@ -32,24 +33,35 @@ pub fn replay_serial<S: Sink>(
     cert: &mut Vec<u8>,
 ) -> Result<(), ReplayError>
     requires { S.failures out.old < 2 ^ 64 - 1 }
-    ensures ok { OnOk result (WritesReport text.now replies (S.taken out.old) (S.taken out.new)) }
+    ensures ok { OnOk result (WritesReport text.now replies (S.taken out.old) (S.taken out.new) cert.new.items) }
     ensures accepted { (header : Header) (lines : List Line) → Spells text.now header lines → IfErr result IsNoFault }
     ensures succeeded { OnOk result (S.failures out.new ≡ S.failures out.old) }
     ensures err { IfErr result (Stops text.now replies (S.failures out.old) (S.failures out.new) (S.taken out.old) (S.taken out.new)) }
-    ensures certificate { cert.new ≡ cert.old }
+    ensures err_certificate { OnErr result (cert.new ≡ cert.old) }
 {
-    let _ = cert;
     let trace = parse(alloc, text)?;
-    let report = report(alloc, &trace, replies)?;
-    match give(out, report.as_slice()) {
-        Ok(()) => Ok(()),
+    let replayed = replay(alloc, &trace, replies)?;
+    match give(out, replayed.report.as_slice()) {
+        Ok(()) => {
+            *cert = replayed.certificate;
+            Ok(())
+        }
         Err(_) => Err(ReplayError::SinkFailed),
     }
 }
 
-/// The report of a run of the trace.
-fn report(alloc: Global, trace: &Trace, replies: bool) -> Result<Vec<u8>, AllocError>
-    ensures { IfOk result (λ report. IsReportOf trace.now replies report.items) }
+/// What a replay leaves.
+#[derive(Drop)]
+struct Replayed {
+    /// The report's text.
+    report: Vec<u8>,
+    /// The text of the certificate of the last mark that planned; empty where none did.
+    certificate: Vec<u8>,
+}
+
+/// The report of a run of the trace, and its last certificate.
+fn replay(alloc: Global, trace: &Trace, replies: bool) -> Result<Replayed, AllocError>
+    ensures { IfOk result (λ replayed. IsReportOf trace.now replies replayed.report.items replayed.certificate.items) }
 {
     let core = core_of(alloc, &trace.header)?;
     let ran = run_lines(alloc, trace, core)?;
@@ -59,7 +71,17 @@ fn report(alloc: Global, trace: &Trace, replies: bool) -> Result<Vec<u8>, AllocE
         live: totals.live,
         calls: ran.calls,
     };
-    report_text(alloc, replies, ran.answers.as_slice(), &ending)
+    let report = report_text(
+        alloc,
+        replies,
+        ran.answers.as_slice(),
+        ran.notes.as_slice(),
+        &ending,
+    )?;
+    Ok(Replayed {
+        report,
+        certificate: ran.certificate,
+    })
 }
 
 /// The core that the header asks for.

@@ -4,13 +4,16 @@ ghost use Rattle.std.specs.Prelude.{◌≡◌, ◌+◌, ◌-◌, ◌≤◌, ◌^
 ghost use Rattle.std.specs.List.{range_with_len};
 ghost use Rattle.arena_core.specs.State.{CoreState};
 ghost use Rattle.trace_runner.specs.Barrier.{is_barrier};
-ghost use Rattle.trace_runner.specs.Recalls.{Abandons, CanLeave, EndsBelow, EndsOne, HasCome, IsOpen, IsReady, IsRunning, IsServed, KeepsShards, Makes, MakesLine, MayCall, Recalls, Serves, answers_if_run, has, key_if_run};
+ghost use Rattle.trace_runner.specs.Recalls.{CanLeave, Carries, EndsBelow, EndsOne, HasCome, IsOpen, IsReady, IsRunning, IsServed, KeepsPlan, KnowsPlan, Makes, MakesLine, MayCall, Recalls, Serves, answers_if_run, has, key_if_run, news_at, settling_with};
 ghost use Rattle.trace_runner.specs.Causes.{call_ends, ends, first_cause, is_adopt, is_call_over};
-ghost use Rattle.trace_runner.specs.Runs.{IsRun, Did, answer_to, asked_by, asked_by_call, on_key, IsTold, key_at, key_of, Called, Calls, Keyless, Leaves};
+ghost use Rattle.trace_runner.specs.Made.{Did, Called, Calls, Keyless, Leaves};
+ghost use Rattle.trace_runner.specs.News.{News};
+ghost use Rattle.trace_runner.specs.Runs.{IsRun, answer_to, asked_by, asked_by_call, ends_asked, finishing, on_key, IsTold, key_at, key_of};
 ghost use Rattle.arena_core.specs.declared.event.Event.TheVariants as event;
 ghost use Rattle.arena_core.specs.declared.event.Event.{Event};
 
-use crate::report::{Answer, LineAnswer};
+use crate::plans::Plans;
+use crate::report::{Answer, LineAnswer, PlanNote};
 use crate::text::{Call, Line, Name, Reference, Trace};
 use arena_core::{Core, Event, Refusal, Reply};
 use span::Key;
@@ -28,6 +31,7 @@ struct Run<'t> {
     starts: Vec<usize>,
     /// The threads that have ended, and whose shards wait for the barrier to be abandoned.
     leaving: HashSet<u32>,
+    plans: Plans,
 }
 
 impl<'t> Run<'t> {
@@ -35,7 +39,7 @@ impl<'t> Run<'t> {
     fn new(alloc: Global, trace: &'t Trace, core: Core) -> Run<'t>
         requires { Serves trace.now.header.shards core }
         ensures trace { result.trace.now ≡ trace.now }
-        ensures come { HasCome trace.now.header.shards trace.now.lines.items 0 core result.core result.answers.items result.starts.items (has result.leaving) }
+        ensures come { HasCome trace.now.header.shards trace.now.lines.items 0 core result.core result.answers.items result.starts.items (has result.leaving) result.plans }
     {
         Run {
             trace,
@@ -43,6 +47,7 @@ impl<'t> Run<'t> {
             answers: Vec::new(alloc),
             starts: Vec::new(alloc),
             leaving: HashSet::new(alloc),
+            plans: Plans::new(alloc),
         }
     }
 
@@ -51,7 +56,8 @@ impl<'t> Run<'t> {
         requires { MayCall self.old.core event }
         ensures made { OnOk result (Makes number (Calls event ∷ []) self.old.core self.old.answers.items self.new.core self.new.answers.items) }
         ensures starts { self.new.starts ≡ self.old.starts }
-        ensures shards { KeepsShards self.old.core self.new.core }
+        ensures shards { KeepsPlan self.old.core self.new.core }
+        ensures plans { self.new.plans ≡ self.old.plans }
         ensures leaving { self.new.leaving ≡ self.old.leaving }
         ensures trace { self.new.trace.now ≡ self.old.trace.now }
     {
@@ -68,7 +74,8 @@ impl<'t> Run<'t> {
     fn skip(&mut self, number: usize) -> Result<(), AllocError>
         ensures made { OnOk result (Makes number (Keyless ∷ []) self.old.core self.old.answers.items self.new.core self.new.answers.items) }
         ensures starts { self.new.starts ≡ self.old.starts }
-        ensures shards { KeepsShards self.old.core self.new.core }
+        ensures shards { KeepsPlan self.old.core self.new.core }
+        ensures plans { self.new.plans ≡ self.old.plans }
         ensures leaving { self.new.leaving ≡ self.old.leaving }
         ensures trace { self.new.trace.now ≡ self.old.trace.now }
     {
@@ -91,7 +98,8 @@ impl<'t> Run<'t> {
         requires within { value + count ≤ 2 ^ 128 }
         ensures made { OnOk result (Makes number (map (λ i. Calls (event.Put thread (value + i))) (range_with_len 0 count)) self.old.core self.old.answers.items self.new.core self.new.answers.items) }
         ensures starts { self.new.starts ≡ self.old.starts }
-        ensures shards { KeepsShards self.old.core self.new.core }
+        ensures shards { KeepsPlan self.old.core self.new.core }
+        ensures plans { self.new.plans ≡ self.old.plans }
         ensures leaving { self.new.leaving ≡ self.old.leaving }
         ensures trace { self.new.trace.now ≡ self.old.trace.now }
     {
@@ -150,7 +158,8 @@ impl<'t> Run<'t> {
         ensures made { (done : List Did) → Recalls done self.old.answers.items self.old.starts.items
             → OnOk result (Makes number (on_key event.Free (key_at self.old.trace.now.lines.items done name.now place) ∷ []) self.old.core self.old.answers.items self.new.core self.new.answers.items) }
         ensures starts { self.new.starts ≡ self.old.starts }
-        ensures shards { KeepsShards self.old.core self.new.core }
+        ensures shards { KeepsPlan self.old.core self.new.core }
+        ensures plans { self.new.plans ≡ self.old.plans }
         ensures leaving { self.new.leaving ≡ self.old.leaving }
         ensures trace { self.new.trace.now ≡ self.old.trace.now }
     {
@@ -166,7 +175,8 @@ impl<'t> Run<'t> {
         ensures made { (done : List Did) → Recalls done self.old.answers.items self.old.starts.items
             → OnOk result (Makes number (on_key event.Get (key_of self.old.trace.now.lines.items done reference.now) ∷ []) self.old.core self.old.answers.items self.new.core self.new.answers.items) }
         ensures starts { self.new.starts ≡ self.old.starts }
-        ensures shards { KeepsShards self.old.core self.new.core }
+        ensures shards { KeepsPlan self.old.core self.new.core }
+        ensures plans { self.new.plans ≡ self.old.plans }
         ensures leaving { self.new.leaving ≡ self.old.leaving }
         ensures trace { self.new.trace.now ≡ self.old.trace.now }
     {
@@ -182,7 +192,8 @@ impl<'t> Run<'t> {
         ensures made { (done : List Did) → Recalls done self.old.answers.items self.old.starts.items
             → OnOk result (Makes number (map (λ place. on_key event.Free (key_at self.old.trace.now.lines.items done name.now place)) (range_with_len from (to - from))) self.old.core self.old.answers.items self.new.core self.new.answers.items) }
         ensures starts { self.new.starts ≡ self.old.starts }
-        ensures shards { KeepsShards self.old.core self.new.core }
+        ensures shards { KeepsPlan self.old.core self.new.core }
+        ensures plans { self.new.plans ≡ self.old.plans }
         ensures leaving { self.new.leaving ≡ self.old.leaving }
         ensures trace { self.new.trace.now ≡ self.old.trace.now }
     {
@@ -196,7 +207,8 @@ impl<'t> Run<'t> {
     fn leave(&mut self, number: usize, thread: u32) -> Result<(), AllocError>
         ensures made { OnOk result (Makes number (Leaves ∷ []) self.old.core self.old.answers.items self.new.core self.new.answers.items) }
         ensures starts { self.new.starts ≡ self.old.starts }
-        ensures shards { KeepsShards self.old.core self.new.core }
+        ensures shards { KeepsPlan self.old.core self.new.core }
+        ensures plans { self.new.plans ≡ self.old.plans }
         ensures leaving { OnOk result ((other : ℕ) → has self.new.leaving other ≡ (thread == other || has self.old.leaving other)) }
         ensures trace { self.new.trace.now ≡ self.old.trace.now }
     {
@@ -216,7 +228,8 @@ impl<'t> Run<'t> {
         ensures made { (done : List Did) → Recalls done self.old.answers.items self.old.starts.items
             → OnOk result (Makes number (asked_by_call self.old.trace.now.lines.items done thread call.now) self.old.core self.old.answers.items self.new.core self.new.answers.items) }
         ensures starts { self.new.starts ≡ self.old.starts }
-        ensures shards { KeepsShards self.old.core self.new.core }
+        ensures shards { KeepsPlan self.old.core self.new.core }
+        ensures plans { self.new.plans ≡ self.old.plans }
         ensures leaving { OnOk result ((other : ℕ) → has self.new.leaving other ≡ (call_ends other thread call.now || has self.old.leaving other)) }
         ensures trace { self.new.trace.now ≡ self.old.trace.now }
     {
@@ -238,9 +251,12 @@ impl<'t> Run<'t> {
 
     /// Abandons the shard of a thread that has ended.
     fn end(&mut self, shard: u32) -> Result<(), AllocError>
-        requires { IsOpen self.old.core shard }
-        ensures made { OnOk result (Abandons (shard ∷ []) self.old.core self.new.core) }
+        requires running { IsOpen self.old.core shard }
+        requires unplanned { self.old.core.plan ≡ None }
+        ensures made { (news : News) → OnOk result (Carries (ends_asked (shard ∷ [])) self.old.core news self.new.core news) }
         ensures shards { OnOk result (EndsOne self.old.core shard self.new.core) }
+        ensures plan { OnOk result (self.new.core.plan ≡ self.old.core.plan) }
+        ensures plans { self.new.plans ≡ self.old.plans }
         ensures answers { self.new.answers ≡ self.old.answers }
         ensures starts { self.new.starts ≡ self.old.starts }
         ensures leaving { self.new.leaving ≡ self.old.leaving }
@@ -255,9 +271,12 @@ impl<'t> Run<'t> {
 
     /// Abandons the shards of the threads that have ended since the last barrier, ascending.
     fn abandon(&mut self) -> Result<(), AllocError>
-        requires { CanLeave self.old.trace.now.header.shards self.old.core (has self.old.leaving) }
-        ensures made { OnOk result (Abandons (filter (has self.old.leaving) (range_with_len 0 self.old.trace.now.header.shards)) self.old.core self.new.core) }
+        requires leave { CanLeave self.old.trace.now.header.shards self.old.core (has self.old.leaving) }
+        requires unplanned { self.old.core.plan ≡ None }
+        ensures made { (news : News) → OnOk result (Carries (ends_asked (filter (has self.old.leaving) (range_with_len 0 self.old.trace.now.header.shards))) self.old.core news self.new.core news) }
         ensures shards { OnOk result (EndsBelow self.old.core self.old.trace.now.header.shards (has self.old.leaving) self.new.core) }
+        ensures plan { OnOk result (self.new.core.plan ≡ self.old.core.plan) }
+        ensures plans { self.new.plans ≡ self.old.plans }
         ensures answers { self.new.answers ≡ self.old.answers }
         ensures starts { self.new.starts ≡ self.old.starts }
         ensures leaving { OnOk result ((other : ℕ) → has self.new.leaving other ≡ false) }
@@ -273,14 +292,37 @@ impl<'t> Run<'t> {
         Ok(())
     }
 
-    /// Does what the line at that place below the header asks for. A barrier begins with its first
-    /// adoption, since no thread's line stands between that and the mark.
+    /// Settles the section: ends the open plan, and abandons the shards of the threads that have ended.
+    fn settle(&mut self) -> Result<(), AllocError>
+        requires leave { CanLeave self.old.trace.now.header.shards self.old.core (has self.old.leaving) }
+        requires knows { KnowsPlan self.old.plans self.old.core }
+        ensures made { OnOk result (Carries (finishing self.old.core.plan ++ ends_asked (filter (has self.old.leaving) (range_with_len 0 self.old.trace.now.header.shards))) self.old.core (news_at (length self.old.answers.items) self.old.plans) self.new.core (news_at (length self.old.answers.items) self.new.plans)) }
+        ensures shards { OnOk result (EndsBelow self.old.core self.old.trace.now.header.shards (has self.old.leaving) self.new.core) }
+        ensures unplanned { OnOk result (self.new.core.plan ≡ None) }
+        ensures left { OnOk result (self.new.plans.left ≡ None) }
+        ensures marks { self.new.plans.marks ≡ self.old.plans.marks }
+        ensures answers { self.new.answers ≡ self.old.answers }
+        ensures starts { self.new.starts ≡ self.old.starts }
+        ensures leaving { OnOk result ((other : ℕ) → has self.new.leaving other ≡ false) }
+        ensures trace { self.new.trace.now ≡ self.old.trace.now }
+    {
+        self.plans.finish(&mut self.core, self.answers.len())?;
+        self.abandon()
+    }
+
+    /// Does what the line at that place below the header asks for, and behind a thread's line takes a step while a pair
+    /// of the open plan is left. A barrier begins with its first adoption, since no thread's line stands between that
+    /// and the mark.
     fn line(&mut self, place: usize, line: &Line) -> Result<(), AllocError>
         requires running { IsRunning self.old.answers.items self.old.starts.items }
         requires numbered { place + 6 < 2 ^ 64 }
         requires ready { IsReady self.old.trace.now.header.shards self.old.core (has self.old.leaving) line.now }
+        requires knows { KnowsPlan self.old.plans self.old.core }
+        requires few { self.old.plans.marks ≤ place }
         ensures made { (done : List Did) → Recalls done self.old.answers.items self.old.starts.items
-            → OnOk result (MakesLine (place + 6) (if is_barrier line.now then filter (has self.old.leaving) (range_with_len 0 self.old.trace.now.header.shards) else []) (asked_by self.old.trace.now.lines.items done line.now) self.old.core self.old.answers.items self.new.core self.new.answers.items) }
+            → OnOk result (MakesLine (place + 6) (settling_with (filter (has self.old.leaving) (range_with_len 0 self.old.trace.now.header.shards)) self.old.core line.now) (asked_by self.old.trace.now.lines.items done line.now) line.now self.old.core self.old.answers.items (news_at (length self.old.answers.items) self.old.plans) self.new.core self.new.answers.items (news_at (length self.new.answers.items) self.new.plans)) }
+        ensures knows { OnOk result (KnowsPlan self.new.plans self.new.core) }
+        ensures marks { OnOk result (self.new.plans.marks ≤ self.old.plans.marks + 1) }
         ensures shards { OnOk result (EndsBelow self.old.core self.old.trace.now.header.shards (λ thread. is_barrier line.now && has self.old.leaving thread) self.new.core) }
         ensures starts { self.new.starts ≡ self.old.starts }
         ensures leaving { OnOk result ((other : ℕ) → has self.new.leaving other ≡ (not (is_barrier line.now) && (ends other line.now || has self.old.leaving other))) }
@@ -288,12 +330,18 @@ impl<'t> Run<'t> {
     {
         match line {
             Line::Silent => Ok(()),
-            Line::Call { thread, call } => self.thread_call(place + 6, *thread, call),
+            Line::Call { thread, call } => {
+                self.thread_call(place + 6, *thread, call)?;
+                self.plans.follow(&mut self.core)
+            }
             Line::Adopt { shard } => {
-                self.abandon()?;
+                self.settle()?;
                 self.call(place + 6, Event::Adopt { shard: *shard })
             }
-            Line::Mark => self.abandon(),
+            Line::Mark => {
+                self.settle()?;
+                self.plans.mark(&mut self.core, self.answers.len())
+            }
         }
     }
 
@@ -302,9 +350,9 @@ impl<'t> Run<'t> {
         requires numbered { place + 6 < 2 ^ 64 }
         requires here { slice_get self.old.trace.now.lines.items place ≡ Some line.now }
         requires fine { first_cause self.old.trace.now.header (take place self.old.trace.now.lines.items) line.now ≡ None }
-        requires come { (start : CoreState) × HasCome self.old.trace.now.header.shards self.old.trace.now.lines.items place start self.old.core self.old.answers.items self.old.starts.items (has self.old.leaving) }
-        ensures more { (start : CoreState) → HasCome self.old.trace.now.header.shards self.old.trace.now.lines.items place start self.old.core self.old.answers.items self.old.starts.items (has self.old.leaving)
-            → OnOk result (HasCome self.old.trace.now.header.shards self.old.trace.now.lines.items (place + 1) start self.new.core self.new.answers.items self.new.starts.items (has self.new.leaving)) }
+        requires come { (start : CoreState) × HasCome self.old.trace.now.header.shards self.old.trace.now.lines.items place start self.old.core self.old.answers.items self.old.starts.items (has self.old.leaving) self.old.plans }
+        ensures more { (start : CoreState) → HasCome self.old.trace.now.header.shards self.old.trace.now.lines.items place start self.old.core self.old.answers.items self.old.starts.items (has self.old.leaving) self.old.plans
+            → OnOk result (HasCome self.old.trace.now.header.shards self.old.trace.now.lines.items (place + 1) start self.new.core self.new.answers.items self.new.starts.items (has self.new.leaving) self.new.plans) }
         ensures trace { self.new.trace.now ≡ self.old.trace.now }
     {
         self.starts.push(self.answers.len())?;
@@ -322,33 +370,41 @@ pub struct Ran {
     pub answers: Vec<LineAnswer>,
     /// How many of them are those of threads' lines.
     pub calls: usize,
+    /// What the report tells of plans, in order.
+    pub notes: Vec<PlanNote>,
+    /// The text of the certificate of the last mark that planned; empty where none did.
+    pub certificate: Vec<u8>,
 }
 
-/// Runs the lines of a trace on the core, one after another, and abandons at the end of the text the
+/// Runs the lines of a trace on the core, one after another. At the end of the text it ends the open plan, and abandons the
 /// shards of the threads that ended behind the last mark.
 ///
 /// The error is want of memory, of a call or of the answers; the core is then dropped.
 pub fn run_lines(alloc: Global, trace: &Trace, core: Core) -> Result<Ran, AllocError>
     requires { Serves trace.now.header.shards core }
-    ensures { IfOk result (λ ran. IsRun trace.now.header.shards trace.now.lines.items core ran.core ran.answers.items ran.calls) }
+    ensures { IfOk result (λ ran. (news : News) × IsRun trace.now.header.shards trace.now.lines.items core ran.core ran.answers.items ran.calls news × (ran.notes.items ≡ news.notes) × (ran.certificate.items ≡ news.certificate)) }
 {
     let mut run = Run::new(alloc, trace, core);
     for place in 0..trace.lines.len() {
         run.next_line(place, &trace.lines[place])?;
     }
-    run.abandon()?;
+    run.settle()?;
     let Run {
         trace: _,
         core,
         answers,
         starts: _,
         leaving: _,
+        plans,
     } = run;
+    let (notes, certificate) = plans.told();
     let calls = answers.len() - adoptions(trace.lines.as_slice());
     Ok(Ran {
         core,
         answers,
         calls,
+        notes,
+        certificate,
     })
 }
 
@@ -374,12 +430,12 @@ fn part(answers: &[LineAnswer], start: usize, end: usize) -> &[LineAnswer]
     &answers[start..end]
 }
 
-/// What the report tells of a reply. Of the refusals it tells only that of a page and that of an adoption which finds
-/// nothing; want of memory ends the run.
+/// What the report tells of the reply to a call. Of the refusals it tells only that of a page and that of an adoption
+/// which finds nothing; want of memory ends the run.
 fn answer_to(reply: Reply) -> Result<Answer, AllocError>
     requires { IsServed reply }
     ensures told { OnOk result (IsTold reply) }
-    ensures answer { (event : Event) → IfOk result (λ answer. answer ≡ answer_to (Called event reply)) }
+    ensures answer { (event : Event) (core : CoreState) → IfOk result (λ answer. answer ≡ answer_to (Called event reply core)) }
 {
     match reply {
         Reply::Issued(key) => Ok(Answer::Key(key)),
@@ -392,7 +448,7 @@ fn answer_to(reply: Reply) -> Result<Answer, AllocError>
         Reply::Refused(Refusal::PagesSpent) => Ok(Answer::PagesSpent),
         Reply::Refused(Refusal::NothingToAdopt) => Ok(Answer::NothingToAdopt),
         Reply::Refused(Refusal::OutOfMemory) => Err(AllocError),
-        // A trace asks for its own shards alone, for none that has ended, and marks nothing yet.
+        // A trace asks for its own shards alone, for none that has ended, and adopts where no plan is open.
         Reply::Refused(Refusal::Ended | Refusal::PlanOpen | Refusal::TooMany | Refusal::Config) =>
             unreachable!(),
         Reply::Marked(_) | Reply::Stepped(..) | Reply::NoPairLeft | Reply::Closed | Reply::NoPlan =>

@@ -2,8 +2,8 @@ use Rattle.std.proofs.Common.{◌≡◌, ◌∙◌, ap, arith, filter, length, S
 use Rattle.std.specs.Prelude.{vec_len}
 use Rattle.std.proofs.lemmas.Option.{slice_get_read}
 use Rattle.trace_runner.specs.Causes.{is_adopt}
-use Rattle.trace_runner.specs.Recalls.{has}
-use Rattle.trace_runner.proofs.Progress.{HasCome-IsRun, HasCome-calls}
+use Rattle.trace_runner.specs.Recalls.{news_at}
+use Rattle.trace_runner.proofs.Progress.{HasCome-CanLeave, HasCome-IsRun, HasCome-calls}
 use Rattle.trace_runner.proofs.run.run_lines.Goals as goal
 
 here : (c : goal.After-index) → slice_get c.args.trace.now.lines.items c.loop-place.place ≡ Some c.index.result.now
@@ -18,19 +18,29 @@ next_line-requires-clause-fine c = rw c.loop-place.invariant.trace (c.args.trace
 pub next_line-requires-clause-come : goal.next_line-requires-clause-come
 next_line-requires-clause-come c = (c.args.core, rw c.loop-place.invariant.trace c.loop-place.invariant.come)
 
+pub settle-requires-clause-leave : goal.settle-requires-clause-leave
+settle-requires-clause-leave c = rw c.loop-place.invariant.trace (HasCome-CanLeave c.args.trace.now.header _ _ _ _ _ _ _ _ c.loop-place.invariant.come)
+
+pub settle-requires-clause-knows : goal.settle-requires-clause-knows
+settle-requires-clause-knows c = c.loop-place.invariant.come.knows
+
 pub overflow_sub-calls : goal.overflow_sub-calls
 overflow_sub-calls c =
     let all : c.loop-place.place ≡ length c.args.trace.now.lines.items = omega (arith, c.args.trace.now.lines.ok.0, c.len-place-end.ensures) in
-    let count = HasCome-calls c.args.trace.now.header c.args.trace.now.lines.items c.loop-place.place c.args.core c.loop-place.run.core c.loop-place.run.answers.items c.loop-place.run.starts.items (has c.loop-place.run.leaving) c.loop-place.invariant.come all in
+    let count = HasCome-calls c.args.trace.now.header _ _ _ _ _ _ _ _ c.loop-place.invariant.come all in
     let adopts : c.adoptions.result ≡ length (filter is_adopt c.args.trace.now.lines.items) = rw c.as_slice.ensures.value at c.adoptions.ensures in
-    let len : c.len.result ≡ length c.loop-place.run.answers.items = c.len.ensures ∙ ap vec_len c.abandon.ensures.answers ∙ c.loop-place.run.answers.ok.0 in
-    omega (arith, count, adopts, len)
+    let long : c.len.result ≡ length c.loop-place.run.answers.items = c.len.ensures ∙ ap vec_len c.settle.ensures.answers ∙ c.loop-place.run.answers.ok.0 in
+    omega (arith, count, adopts, long)
 
 pub returns : goal.returns
 returns c =
     let all : c.loop-place.place ≡ length c.args.trace.now.lines.items = omega (arith, c.args.trace.now.lines.ok.0, c.len-place-end.ensures) in
-    let count = HasCome-calls c.args.trace.now.header c.args.trace.now.lines.items c.loop-place.place c.args.core c.loop-place.run.core c.loop-place.run.answers.items c.loop-place.run.starts.items (has c.loop-place.run.leaving) c.loop-place.invariant.come all in
+    let count = HasCome-calls c.args.trace.now.header _ _ _ _ _ _ _ _ c.loop-place.invariant.come all in
     let adopts : c.adoptions.result ≡ length (filter is_adopt c.args.trace.now.lines.items) = rw c.as_slice.ensures.value at c.adoptions.ensures in
-    let len : c.len.result ≡ length c.loop-place.run.answers.items = c.len.ensures ∙ ap vec_len c.abandon.ensures.answers ∙ c.loop-place.run.answers.ok.0 in
-    rw c.abandon.ensures.answers (HasCome-IsRun c.args.trace.now.header c.args.trace.now.lines.items c.loop-place.place c.args.core c.loop-place.run.core c.loop-place.run.answers.items c.loop-place.run.starts.items (has c.loop-place.run.leaving) c.loop-place.invariant.come
-    c.abandon.new.self.core _ all (rw c.loop-place.invariant.trace at c.in_ok-abandon.ensures.made) (omega (arith, count, adopts, len)))
+    let long : c.len.result ≡ length c.loop-place.run.answers.items = c.len.ensures ∙ ap vec_len c.settle.ensures.answers ∙ c.loop-place.run.answers.ok.0 in (
+      news_at (length c.loop-place.run.answers.items) c.settle.new.self.plans,
+      rw c.settle.ensures.answers (HasCome-IsRun c.args.trace.now.header _ _ _ _ _ _ _ _ c.loop-place.invariant.come
+          c.settle.new.self.core _ _ all (rw c.loop-place.invariant.trace at c.in_ok-settle.ensures.made) (omega (arith, count, adopts, long))),
+      ap (λ v. v.items) c.told-notes.ensures.notes,
+      ap (λ v. v.items) c.told-notes.ensures.certificate,
+    )

@@ -1,6 +1,6 @@
-use Rattle.std.proofs.Common.{◌≡◌, ◌∙◌, true, false, sym}
+use Rattle.std.proofs.Common.{◌≡◌, ◌∙◌, true, false, sym, arith}
 use Rattle.trace_runner.specs.Recalls.{has}
-use Rattle.trace_runner.proofs.Shards.{Abandons-end, Abandons-skip, EndsBelow-end, EndsBelow-skip}
+use Rattle.trace_runner.proofs.Shards.{Carries-more, Carries-skip, EndsBelow-end, EndsBelow-skip}
 use Rattle.trace_runner.proofs.run.Run.abandon.Goals as goal
 use Rattle.trace_runner.proofs.run.Run.abandon.Goals.{then-contains+in_ok-end, else-contains}
 
@@ -9,7 +9,9 @@ loop-shard-preserved c = elim c.if-contains.branch [
   | then-contains+in_ok-end w ↦
       let passes : has c.args.self.now.leaving c.loop-shard.shard-counter ≡ true = rw (← c.loop-shard.invariant.leaving) (sym c.contains.ensures ∙ w.if-contains.true) in
       record {
-        made = rw w.self-is (Abandons-end _ _ c.loop-shard.shard-counter (has c.args.self.now.leaving) c.loop-shard.invariant.made _ passes w.in_ok-end.ensures.made);
+        made = λ news. rw w.self-is (Carries-more _ _ c.loop-shard.shard-counter (has c.args.self.now.leaving) news (c.loop-shard.invariant.made news) _ passes (w.in_ok-end.ensures.made news));
+        plan = rw w.self-is (w.in_ok-end.ensures.plan ∙ c.loop-shard.invariant.plan);
+        plans = rw w.self-is (w.end.ensures.plans ∙ c.loop-shard.invariant.plans);
         shards = rw w.self-is (EndsBelow-end _ _ c.loop-shard.shard-counter (has c.args.self.now.leaving) c.loop-shard.invariant.shards _ passes w.in_ok-end.ensures.shards);
         answers = rw w.self-is (w.end.ensures.answers ∙ c.loop-shard.invariant.answers);
         starts = rw w.self-is (w.end.ensures.starts ∙ c.loop-shard.invariant.starts);
@@ -19,7 +21,9 @@ loop-shard-preserved c = elim c.if-contains.branch [
   | else-contains w ↦
       let fails : has c.args.self.now.leaving c.loop-shard.shard-counter ≡ false = rw (← c.loop-shard.invariant.leaving) (sym c.contains.ensures ∙ w.if-contains.false) in
       record {
-        made = rw w.self-is (Abandons-skip _ _ c.loop-shard.shard-counter (has c.args.self.now.leaving) c.loop-shard.invariant.made fails);
+        made = λ news. rw w.self-is (Carries-skip _ _ c.loop-shard.shard-counter (has c.args.self.now.leaving) news (c.loop-shard.invariant.made news) fails);
+        plan = rw w.self-is c.loop-shard.invariant.plan;
+        plans = rw w.self-is c.loop-shard.invariant.plans;
         shards = rw w.self-is (EndsBelow-skip _ _ c.loop-shard.shard-counter (has c.args.self.now.leaving) c.loop-shard.invariant.shards fails);
         answers = rw w.self-is c.loop-shard.invariant.answers;
         starts = rw w.self-is c.loop-shard.invariant.starts;
@@ -27,3 +31,8 @@ loop-shard-preserved c = elim c.if-contains.branch [
         trace = rw w.self-is c.loop-shard.invariant.trace;
       }
 ]
+
+pub returns-clause-made : goal.returns-clause-made
+returns-clause-made c news =
+    let all : c.loop-shard.shard-counter ≡ c.args.self.now.trace.now.header.shards = omega arith in
+    rw (← all) (c.loop-shard.invariant.made news)

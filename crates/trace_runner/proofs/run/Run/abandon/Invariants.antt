@@ -1,13 +1,17 @@
 use Rattle.std.proofs.Common.{◌≡◌, filter}
 use Rattle.std.specs.List.{range_with_len}
-use Rattle.trace_runner.specs.Recalls.{Abandons, EndsBelow, has}
+use Rattle.trace_runner.specs.News.{News}
+use Rattle.trace_runner.specs.Recalls.{Carries, EndsBelow, has}
+use Rattle.trace_runner.specs.Runs.{ends_asked}
 use Rattle.trace_runner.proofs.run.Run.abandon.Given as goal
 
 -- the shards below this number are abandoned
 abbrev pub invariant-loop-shard : goal.invariant-loop-shard
 invariant-loop-shard l = record {
-  made : Abandons (filter (has l.fn.self.leaving) (range_with_len 0 l.shard-counter)) l.fn.self.core l.self.core;
+  made : (news : News) → Carries (ends_asked (filter (has l.fn.self.leaving) (range_with_len 0 l.shard-counter))) l.fn.self.core news l.self.core news;
   shards : EndsBelow l.fn.self.core l.shard-counter (has l.fn.self.leaving) l.self.core;
+  plan : l.self.core.plan ≡ l.fn.self.core.plan;
+  plans : l.self.plans ≡ l.fn.self.plans;
   answers : l.self.answers ≡ l.fn.self.answers;
   starts : l.self.starts ≡ l.fn.self.starts;
   leaving : l.self.leaving ≡ l.fn.self.leaving;

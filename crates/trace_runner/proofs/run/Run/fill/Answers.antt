@@ -2,10 +2,10 @@ use Rattle.std.proofs.Common.{◌+◌, ◌∙◌, ◌∷◌, [], List, map, subs
 use Rattle.std.specs.List.{range_with_len}
 use Rattle.std.proofs.lemmas.List.FromFn.{map-range_with_len_more}
 use Rattle.trace_runner.specs.Recalls.{Makes}
-use Rattle.trace_runner.specs.Runs.{Asked, Calls}
+use Rattle.trace_runner.specs.Made.{Asked, Calls}
 use Rattle.arena_core.specs.declared.event.Event.TheVariants as event
 use Rattle.trace_runner.proofs.Making.{Makes-append}
-use Rattle.trace_runner.proofs.Shards.{IsOpen-kept, KeepsShards-trans}
+use Rattle.trace_runner.proofs.Shards.{IsOpen-kept, KeepsPlan-trans}
 use Rattle.trace_runner.proofs.run.Run.fill.Goals as goal
 
 pub loop-i-preserved : goal.loop-i-preserved
@@ -20,8 +20,9 @@ loop-i-preserved c =
       starts = c.call.ensures.starts ∙ c.loop-i.invariant.starts;
       trace = c.call.ensures.trace ∙ c.loop-i.invariant.trace;
       leaving = c.call.ensures.leaving ∙ c.loop-i.invariant.leaving;
-      shards = KeepsShards-trans _ _ _ c.loop-i.invariant.shards c.call.ensures.shards;
+      shards = KeepsPlan-trans _ _ _ c.loop-i.invariant.shards c.call.ensures.shards;
+      plans = c.call.ensures.plans ∙ c.loop-i.invariant.plans;
     }
 
 pub call-requires : goal.call-requires
-call-requires c = IsOpen-kept _ _ c.args.thread c.loop-i.invariant.shards c.requires.running
+call-requires c = IsOpen-kept _ _ c.args.thread c.loop-i.invariant.shards.shards c.requires.running

@@ -1,7 +1,7 @@
 use Rattle.std.proofs.Common.{◌≡◌, ◌+◌, map}
 use Rattle.std.specs.List.{range_with_len}
-use Rattle.trace_runner.specs.Recalls.{KeepsShards, Makes}
-use Rattle.trace_runner.specs.Runs.{Calls}
+use Rattle.trace_runner.specs.Recalls.{KeepsPlan, Makes}
+use Rattle.trace_runner.specs.Made.{Calls}
 use Rattle.arena_core.specs.declared.event.Event.TheVariants as event
 use Rattle.trace_runner.proofs.run.Run.fill.Given as goal
 
@@ -11,5 +11,6 @@ invariant-loop-i l = record {
   starts : l.self.starts ≡ l.fn.self.starts;
   trace : l.self.trace.now ≡ l.fn.self.trace.now;
   leaving : l.self.leaving ≡ l.fn.self.leaving;
-  shards : KeepsShards l.fn.self.core l.self.core;
+  shards : KeepsPlan l.fn.self.core l.self.core;
+  plans : l.self.plans ≡ l.fn.self.plans;
 }

@@ -2,11 +2,12 @@ use Rattle.std.proofs.Common.{◌+◌, ◌-◌, ◌≡◌, ◌∙◌, ◌∷◌,
 use Rattle.std.specs.List.{range_with_len}
 use Rattle.std.proofs.lemmas.List.FromFn.{map-range_with_len_more}
 use Rattle.trace_runner.specs.Recalls.{Makes, Recalls}
-use Rattle.trace_runner.specs.Runs.{Asked, Did, key_at, on_key}
+use Rattle.trace_runner.specs.Made.{Asked, Did}
+use Rattle.trace_runner.specs.Runs.{key_at, on_key}
 use Rattle.trace_runner.specs.declared.text.line.Line.{Line}
 use Rattle.arena_core.specs.declared.event.Event.TheVariants as event
 use Rattle.trace_runner.proofs.Making.{Makes-append, Recalls-makes}
-use Rattle.trace_runner.proofs.Shards.{KeepsShards-trans}
+use Rattle.trace_runner.proofs.Shards.{KeepsPlan-trans}
 use Rattle.trace_runner.proofs.run.Run.sweep.Goals as goal
 
 module _ (c : goal.In_ok-free) where
@@ -42,7 +43,8 @@ loop-place-preserved c = record {
   starts = c.free.ensures.starts ∙ c.loop-place.invariant.starts;
   trace = c.free.ensures.trace ∙ c.loop-place.invariant.trace;
   leaving = c.free.ensures.leaving ∙ c.loop-place.invariant.leaving;
-  shards = KeepsShards-trans _ _ _ c.loop-place.invariant.shards c.free.ensures.shards;
+  shards = KeepsPlan-trans _ _ _ c.loop-place.invariant.shards c.free.ensures.shards;
+  plans = c.free.ensures.plans ∙ c.loop-place.invariant.plans;
 }
 
 pub returns-clause-made : goal.returns-clause-made

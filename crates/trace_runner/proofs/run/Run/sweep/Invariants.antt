@@ -1,7 +1,8 @@
 use Rattle.std.proofs.Common.{◌≡◌, ◌-◌, ◌≤◌, List, map}
 use Rattle.std.specs.List.{range_with_len}
-use Rattle.trace_runner.specs.Recalls.{IsRunning, KeepsShards, Makes, Recalls}
-use Rattle.trace_runner.specs.Runs.{Did, key_at, on_key}
+use Rattle.trace_runner.specs.Recalls.{IsRunning, KeepsPlan, Makes, Recalls}
+use Rattle.trace_runner.specs.Made.{Did}
+use Rattle.trace_runner.specs.Runs.{key_at, on_key}
 use Rattle.arena_core.specs.declared.event.Event.TheVariants as event
 use Rattle.trace_runner.proofs.run.Run.sweep.Given as goal
 
@@ -14,5 +15,6 @@ invariant-loop-place l = record {
   starts : l.self.starts ≡ l.fn.self.starts;
   trace : l.self.trace.now ≡ l.fn.self.trace.now;
   leaving : l.self.leaving ≡ l.fn.self.leaving;
-  shards : KeepsShards l.fn.self.core l.self.core;
+  shards : KeepsPlan l.fn.self.core l.self.core;
+  plans : l.self.plans ≡ l.fn.self.plans;
 }

@@ -1,7 +1,7 @@
 use Rattle.std.proofs.Common.{◌≡◌, ◌++◌, take}
 use Rattle.std.specs.List.{flat_map}
 use Rattle.trace_runner.specs.Report.{answer_line}
-use Rattle.trace_runner.proofs.writing.push_answers.Given as goal
+use Rattle.trace_runner.proofs.writing.answers.push_answers.Given as goal
 
 -- the lines so far
 abbrev pub invariant-loop-answer : goal.invariant-loop-answer

@@ -1,0 +1,86 @@
+-- Plans that are carried out, closed and made.
+use Rattle.std.proofs.Common.{◌≡◌, ◌+◌, ◌<◌, ℕ, true, false, List, [], ◌∷◌, ◌++◌, map, replicate, nat_lt, slice_get, Option, Some, None, option_map, refl, sym, ap, subst, ◌∙◌, arith}
+use Rattle.std.specs.Option.{option_map_or}
+use Rattle.std.proofs.lemmas.Bool.Decides.{nat_tests}
+use Rattle.std.proofs.lemmas.Option.{slice_get-map}
+use Rattle.std.proofs.lemmas.Grind.{replicate_next}
+use Rattle.span.specs.declared.id.SpanId.{SpanId}
+use Rattle.shard.specs.State.{ShardState}
+use Rattle.abandoned.specs.State.{PoolState}
+use Rattle.certificate.specs.declared.certificate.Certificate.{Certificate}
+use Rattle.fold.specs.Folds.{Folds}
+use Rattle.fold.specs.declared.step.Step.{Step}
+use Rattle.fold.specs.declared.step.Step.TheVariants.{Absent, Emptied, Clash, Folded}
+use Rattle.arena_core.specs.Closings.{closed_onto, reopened}
+use Rattle.arena_core.specs.Plain.{ErasedStep}
+use Rattle.arena_core.specs.Sound.{IsSound}
+use Rattle.arena_core.specs.State.{CoreState, OpenPlan, shown}
+use Rattle.arena_core.specs.Step.{CoreStep}
+use Rattle.arena_core.specs.declared.event.Event.{Event}
+use Rattle.arena_core.specs.declared.event.Event.TheVariants as event
+use Rattle.arena_core.specs.declared.reply.Reply.{Reply}
+use Rattle.arena_core.specs.declared.reply.Reply.TheVariants as reply
+use Rattle.trace_runner.specs.Made.{Asked, Calls, Called}
+use Rattle.trace_runner.specs.News.{News, with_made}
+use Rattle.trace_runner.specs.Recalls.{Carries, KeepsShards}
+use Rattle.trace_runner.specs.Runs.{IsTold, finishing, pairs_left_of, stepping}
+use Rattle.trace_runner.proofs.Making.{Carries-append, IsAnswered-one}
+use Rattle.trace_runner.proofs.Serving.{KeepsShards-with_shard, ended_in}
+
+-- ---- the shards, which none of these ends
+
+ended-Folds : (pool pool_new : PoolState) (old new : ShardState) (abandoned owned : SpanId) → Folds pool old abandoned owned pool_new new → new.ended ≡ old.ended
+ended-Folds pool pool_new old new abandoned owned folds = ap (λ (s : ShardState). s.ended) folds.grafts.after
+
+ended_in-map : (f : ShardState → ShardState) → ((shard : ShardState) → (f shard).ended ≡ shard.ended) → (shards : List ShardState) (number : ℕ) → ended_in (map f shards) number ≡ ended_in shards number
+ended_in-map f same shards number = ap (λ o. option_map_or (λ (shard : ShardState). shard.ended) o false) (slice_get-map f shards number) ∙ at (slice_get shards number)
+  where
+    at : (o : Option ShardState) → option_map_or (λ (shard : ShardState). shard.ended) (option_map f o) false ≡ option_map_or (λ (shard : ShardState). shard.ended) o false
+    at None = refl
+    at (Some shard) = same shard
+
+pub KeepsShards-stepped : (old new : CoreState) (abandoned owned : SpanId) (outcome : Step) → CoreStep old event.Step (reply.Stepped abandoned owned outcome) new → KeepsShards old new
+KeepsShards-stepped old new abandoned owned Folded step =
+    let keeps = KeepsShards-with_shard old step.number step.before step.after step.here (ended-Folds old.pool step.pool step.before step.after abandoned owned step.folds) in
+    subst (KeepsShards old) (sym step.rest) (record { limits = keeps.limits; ended = keeps.ended })
+KeepsShards-stepped old new abandoned owned Emptied step = subst (KeepsShards old) (sym step.rest) (record { limits = refl; ended = λ number. refl })
+KeepsShards-stepped old new abandoned owned Clash step = absurd step
+KeepsShards-stepped old new abandoned owned Absent step = absurd step
+
+pub KeepsShards-closed : (old new : CoreState) → CoreStep old event.Close reply.Closed new → KeepsShards old new
+KeepsShards-closed old new step = subst (KeepsShards old) (sym step.1) (record { limits = refl; ended = ended_in-map reopened (λ shard. refl) old.shards })
+
+pub KeepsShards-marked : (old new : CoreState) (c : Certificate) → CoreStep old event.Mark (reply.Marked c) new → KeepsShards old new
+KeepsShards-marked old new c step = subst (KeepsShards old) (sym step.after) (record { limits = refl; ended = ended_in-map (closed_onto c.plan) (λ shard. refl) old.shards })
+
+-- ---- what was asked and done
+
+-- one event, and the news with what it tells
+pub Carries-told : (event : Event) (reply : Reply) (old new : CoreState) (before after : News) → CoreStep old event reply new → IsSound new → ErasedStep (shown old) event reply (shown new) → IsTold reply
+    → after ≡ with_made before (Called event reply new) → Carries (Calls event ∷ []) old before new after
+Carries-told event reply old new before after step sound plain told news = (Called event reply new ∷ [], refl, IsAnswered-one event reply old new step sound plain told, news)
+
+-- one step more
+pub Carries-next : (taken : ℕ) (a b c : CoreState) (x y z : News) → Carries (replicate taken (Calls event.Step)) a x b y → Carries (Calls event.Step ∷ []) b y c z → Carries (replicate (taken + 1) (Calls event.Step)) a x c z
+Carries-next taken a b c x y z before more =
+    subst (λ (asked : List Asked). Carries asked a x c z) (sym (replicate_next taken (Calls event.Step))) (Carries-append (replicate taken (Calls event.Step)) (Calls event.Step ∷ []) a b c x y z before more)
+
+-- ---- the open plan, of which the run knows how many pairs are left
+
+pub stepping-some : (plan : Option OpenPlan) (left : ℕ) → Some left ≡ option_map pairs_left_of plan → 0 < left → stepping plan ≡ Calls event.Step ∷ []
+stepping-some None left knows some = cc
+stepping-some (Some plan) left knows some =
+    let is : left ≡ pairs_left_of plan = cc in
+    let more : nat_lt 0 (pairs_left_of plan) ≡ true = rw (← is) (grind (arith, nat_tests)) in
+    rw more refl
+
+pub finishing-some : (plan : Option OpenPlan) (left : ℕ) → Some left ≡ option_map pairs_left_of plan → finishing plan ≡ replicate left (Calls event.Step) ++ Calls event.Close ∷ []
+finishing-some None left knows = cc
+finishing-some (Some plan) left knows =
+    let is : pairs_left_of plan ≡ left = cc in
+    ap (λ count. replicate count (Calls event.Step) ++ Calls event.Close ∷ []) is
+
+-- ---- the news
+
+pub News-same : (a b : News) → a.above ≡ b.above → a.marks ≡ b.marks → a.taken ≡ b.taken → a.notes ≡ b.notes → a.certificate ≡ b.certificate → a ≡ b
+News-same a b above marks taken notes certificate = λ i. record { above = above i; marks = marks i; taken = taken i; notes = notes i; certificate = certificate i }

@@ -1,0 +1,32 @@
+use Rattle.std.proofs.Common.{refl, ap, subst}
+use Rattle.arena_core.specs.Step.{CoreStep}
+use Rattle.arena_core.specs.declared.event.Event.TheVariants as event
+use Rattle.arena_core.specs.declared.reply.Reply.TheVariants as reply
+use Rattle.arena_core.specs.declared.reply.Refusal.{Refusal}
+use Rattle.arena_core.specs.declared.reply.Refusal.TheVariants as refusal
+use Rattle.trace_runner.specs.Made.{Called}
+use Rattle.trace_runner.specs.News.{News, with_made}
+use Rattle.trace_runner.specs.Recalls.{news_at}
+use Rattle.trace_runner.proofs.Making.{OnOk-map}
+use Rattle.trace_runner.proofs.PlanSteps.{Carries-told, KeepsShards-marked, News-same}
+use Rattle.trace_runner.proofs.plans.Plans.mark.Goals as goal
+
+pub planned-requires-clause-writable : goal.planned-requires-clause-writable
+planned-requires-clause-writable c = c.in-Marked.ensures.exact.largest.writable
+
+pub returns-in-Marked-clause-made : goal.returns-in-Marked-clause-made
+returns-in-Marked-clause-made c = OnOk-map c.planned.result
+    (Carries-told event.Mark (reply.Marked c.in-Marked.certificate) c.args.core.now c.step.new.self (news_at c.args.above c.args.self.now) (news_at c.args.above c.planned.new.self)
+    c.in-Marked.ensures.exact c.in-Marked.ensures.sound c.in-Marked.ensures.plain tt) c.planned.ensures.news
+
+pub returns-in-Marked-clause-shards : goal.returns-in-Marked-clause-shards
+returns-in-Marked-clause-shards c = KeepsShards-marked c.args.core.now c.step.new.self c.in-Marked.certificate c.in-Marked.ensures.exact
+
+pub returns-in-Refused-TooMany-clause-made : goal.returns-in-Refused-TooMany-clause-made
+returns-in-Refused-TooMany-clause-made c =
+    let before : News = news_at c.args.above c.args.self.now in
+    let after : News = news_at c.args.above c.tell.new.self in
+    let w = c.in-Refused-TooMany in
+    OnOk-map c.tell.result (λ told. Carries-told event.Mark (reply.Refused refusal.TooMany) c.args.core.now c.step.new.self before after
+    (subst (λ (r : Refusal). CoreStep c.args.core.now event.Mark (reply.Refused r) c.step.new.self) w.field-0-is w.ensures.exact) w.ensures.sound w.ensures.plain tt
+    (News-same after (with_made before (Called event.Mark (reply.Refused refusal.TooMany) c.step.new.self)) refl c.tell.ensures.marks c.tell.ensures.taken told (ap (λ text. text.items) c.tell.ensures.certificate))) c.tell.ensures.told

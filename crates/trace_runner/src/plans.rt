@@ -1,0 +1,220 @@
+//! What a run knows of plans: the open one, and what the report tells of all.
+
+ghost use Rattle.std.specs.Prelude.{◌≡◌, ◌+◌, ◌-◌, ◌<◌, ◌^◌, ◌++◌, ◌∷◌, [], ℕ, length, replicate, None, Some, OnOk};
+ghost use Rattle.arena_core.specs.declared.event.Event.TheVariants as event;
+ghost use Rattle.arena_core.specs.declared.reply.Reply.TheVariants as reply;
+ghost use Rattle.certificate.specs.Text.{IsWritable};
+ghost use Rattle.trace_runner.specs.Made.{Calls, Called};
+ghost use Rattle.trace_runner.specs.News.{no_news, with_made};
+ghost use Rattle.trace_runner.specs.Recalls.{Carries, KeepsShards, KnowsPlan, news_at};
+ghost use Rattle.trace_runner.specs.Runs.{finishing, stepping};
+
+use crate::report::{CloseNews, Heads, MarkNews, PlanNews, PlanNote, Steps, TakenStep};
+use arena_core::{Core, Event, Refusal, Reply};
+use certificate::{Certificate, partners, write};
+use std::alloc::{AllocError, Global};
+use std::mem;
+
+/// What a run knows of plans.
+#[derive(Drop)]
+pub(crate) struct Plans {
+    alloc: Global,
+    /// The marks so far.
+    marks: usize,
+    /// Where a plan is open, how many of its pairs are left.
+    left: Option<usize>,
+    /// The steps of the open plan so far.
+    taken: Steps,
+    /// What the report tells of plans, in order.
+    notes: Vec<PlanNote>,
+    /// The text of the certificate of the last mark that planned; empty where none did.
+    certificate: Vec<u8>,
+}
+
+impl Plans {
+    /// No mark yet.
+    pub(crate) fn new(alloc: Global) -> Plans
+        ensures news { news_at 0 result ≡ no_news }
+        ensures left { result.left ≡ None }
+    {
+        Plans {
+            alloc,
+            marks: 0,
+            left: None,
+            taken: Steps::new(alloc),
+            notes: Vec::new(alloc),
+            certificate: Vec::new(alloc),
+        }
+    }
+
+    /// What the report tells of plans, and the text of the certificate of the last mark that planned.
+    pub(crate) fn told(self) -> (Vec<PlanNote>, Vec<u8>)
+        ensures notes { result.0 ≡ self.notes }
+        ensures certificate { result.1 ≡ self.certificate }
+    {
+        (self.notes, self.certificate)
+    }
+
+    /// Takes a step of the open plan while a pair is left, as behind each thread's line.
+    pub(crate) fn follow(&mut self, core: &mut Core) -> Result<(), AllocError>
+        requires knows { KnowsPlan self.old core.old }
+        ensures made { (above : ℕ) → OnOk result (Carries (stepping core.old.plan) core.old (news_at above self.old) core.new (news_at above self.new)) }
+        ensures knows { OnOk result (KnowsPlan self.new core.new) }
+        ensures shards { KeepsShards core.old core.new }
+        ensures marks { self.new.marks ≡ self.old.marks }
+    {
+        match self.left {
+            Some(left) if left > 0 => self.step(core, left),
+            _ => Ok(()),
+        }
+    }
+
+    /// Ends the open plan, if there is one: takes the steps that are left, and closes it. So many answers stand above.
+    pub(crate) fn finish(&mut self, core: &mut Core, above: usize) -> Result<(), AllocError>
+        requires knows { KnowsPlan self.old core.old }
+        ensures made { OnOk result (Carries (finishing core.old.plan) core.old (news_at above self.old) core.new (news_at above self.new)) }
+        ensures ended { OnOk result (core.new.plan ≡ None) }
+        ensures left { OnOk result (self.new.left ≡ None) }
+        ensures shards { KeepsShards core.old core.new }
+        ensures marks { self.new.marks ≡ self.old.marks }
+    {
+        let Some(left) = self.left else {
+            return Ok(());
+        };
+        self.finish_steps(core, left)?;
+        self.close(core, above)
+    }
+
+    /// Takes all the steps that are left.
+    fn finish_steps(&mut self, core: &mut Core, left: usize) -> Result<(), AllocError>
+        requires knows { KnowsPlan self.old core.old }
+        requires left { self.old.left ≡ Some left }
+        ensures made { (above : ℕ) → OnOk result (Carries (replicate left (Calls event.Step)) core.old (news_at above self.old) core.new (news_at above self.new)) }
+        ensures knows { OnOk result (KnowsPlan self.new core.new) }
+        ensures none { OnOk result (self.new.left ≡ Some 0) }
+        ensures shards { KeepsShards core.old core.new }
+        ensures marks { self.new.marks ≡ self.old.marks }
+    {
+        for taken in 0..left {
+            self.step(core, left - taken)?;
+        }
+        Ok(())
+    }
+
+    /// Takes the next step of the open plan, of which so many are left.
+    fn step(&mut self, core: &mut Core, left: usize) -> Result<(), AllocError>
+        requires knows { KnowsPlan self.old core.old }
+        requires left { self.old.left ≡ Some left }
+        requires some { 0 < left }
+        ensures made { (above : ℕ) → OnOk result (Carries (Calls event.Step ∷ []) core.old (news_at above self.old) core.new (news_at above self.new)) }
+        ensures knows { OnOk result (KnowsPlan self.new core.new) }
+        ensures one_less { OnOk result (self.new.left ≡ Some (left - 1)) }
+        ensures shards { KeepsShards core.old core.new }
+        ensures marks { self.new.marks ≡ self.old.marks }
+    {
+        match core.step(Event::Step) {
+            Reply::Stepped(abandoned, owned, outcome) => {
+                self.left = Some(left - 1);
+                self.taken.push(TakenStep {
+                    abandoned,
+                    owned,
+                    outcome,
+                })
+            }
+            Reply::Refused(Refusal::OutOfMemory) => Err(AllocError),
+            _ => unreachable!(),
+        }
+    }
+
+    /// Closes the open plan, of which no pair is left.
+    fn close(&mut self, core: &mut Core, above: usize) -> Result<(), AllocError>
+        requires knows { KnowsPlan self.old core.old }
+        requires left { self.old.left ≡ Some 0 }
+        ensures made { OnOk result (Carries (Calls event.Close ∷ []) core.old (news_at above self.old) core.new (news_at above self.new)) }
+        ensures ended { core.new.plan ≡ None }
+        ensures left { self.new.left ≡ None }
+        ensures shards { KeepsShards core.old core.new }
+        ensures marks { self.new.marks ≡ self.old.marks }
+    {
+        match core.step(Event::Close) {
+            Reply::Closed => {
+                self.left = None;
+                let steps = mem::replace(&mut self.taken, Steps::new(self.alloc));
+                let closed = CloseNews {
+                    mark: self.marks,
+                    steps,
+                    pages: core.totals().pages,
+                };
+                self.tell(above, PlanNews::Closed(closed))
+            }
+            _ => unreachable!(),
+        }
+    }
+
+    /// Marks: makes a plan, and opens it, unless a side has too many groups.
+    pub(crate) fn mark(&mut self, core: &mut Core, above: usize) -> Result<(), AllocError>
+        requires unplanned { core.old.plan ≡ None }
+        requires left { self.old.left ≡ None }
+        requires few { self.old.marks + 1 < 2 ^ 64 }
+        ensures made { OnOk result (Carries (Calls event.Mark ∷ []) core.old (news_at above self.old) core.new (news_at above self.new)) }
+        ensures knows { OnOk result (KnowsPlan self.new core.new) }
+        ensures shards { KeepsShards core.old core.new }
+        ensures marks { OnOk result (self.new.marks ≡ self.old.marks + 1) }
+    {
+        match core.step(Event::Mark) {
+            Reply::Marked(certificate) => self.planned(core, certificate, above),
+            Reply::Refused(Refusal::TooMany) => {
+                self.marks += 1;
+                self.tell(above, PlanNews::TooMany(self.marks))
+            }
+            Reply::Refused(Refusal::OutOfMemory) => Err(AllocError),
+            _ => unreachable!(),
+        }
+    }
+
+    /// Keeps what a mark has planned.
+    fn planned(
+        &mut self,
+        core: &Core,
+        certificate: Certificate,
+        above: usize,
+    ) -> Result<(), AllocError>
+        requires few { self.old.marks + 1 < 2 ^ 64 }
+        requires writable { IsWritable certificate }
+        ensures news { OnOk result (news_at above self.new ≡ with_made (news_at above self.old) (Called event.Mark (reply.Marked certificate) core.now)) }
+        ensures left { OnOk result (self.new.left ≡ Some (length certificate.plan)) }
+        ensures marks { OnOk result (self.new.marks ≡ self.old.marks + 1) }
+    {
+        self.marks += 1;
+        self.left = Some(certificate.plan.pairs().len());
+        self.certificate = write(self.alloc, &certificate)?;
+        let partners = partners(self.alloc, &certificate.snapshot, &certificate.short)?;
+        let Certificate {
+            snapshot,
+            plan,
+            short,
+        } = certificate;
+        let marked = MarkNews {
+            mark: self.marks,
+            abandoned: snapshot.abandoned().len(),
+            owned: snapshot.owned().len(),
+            plan,
+            short,
+            partners: Heads::new(partners),
+            pages: core.totals().pages,
+        };
+        self.tell(above, PlanNews::Marked(marked))
+    }
+
+    /// Keeps news behind so many answers.
+    fn tell(&mut self, above: usize, news: PlanNews) -> Result<(), AllocError>
+        ensures told { OnOk result (self.new.notes.items ≡ self.old.notes.items ++ (record { above = above; news = news }) ∷ []) }
+        ensures marks { self.new.marks ≡ self.old.marks }
+        ensures left { self.new.left ≡ self.old.left }
+        ensures taken { self.new.taken ≡ self.old.taken }
+        ensures certificate { self.new.certificate ≡ self.old.certificate }
+    {
+        self.notes.push(PlanNote { above, news })?;
+        Ok(())
+    }
+}

@@ -1,0 +1,58 @@
+//! Writes answers, a line for each.
+
+ghost use Rattle.std.specs.Prelude.{◌≡◌, ◌++◌, OnOk};
+ghost use Rattle.trace_runner.specs.Report.{answer_line, answer_text, answers_text};
+
+use crate::report::{Answer, LineAnswer};
+use crate::writing::{push_id, push_key, push_number};
+use std::alloc::AllocError;
+
+fn push_answer(out: &mut Vec<u8>, answer: Answer) -> Result<(), AllocError>
+    ensures { OnOk result (out.new.items ≡ out.old.items ++ answer_text answer) }
+{
+    match answer {
+        Answer::Key(key) => {
+            out.extend_from_slice(b"key ")?;
+            push_key(out, key)
+        }
+        Answer::PagesSpent => out.extend_from_slice(b"refused pages"),
+        Answer::Value(value) => {
+            out.extend_from_slice(b"value ")?;
+            push_number(out, value)
+        }
+        Answer::Absent => out.extend_from_slice(b"none"),
+        Answer::Freed => out.extend_from_slice(b"yes"),
+        Answer::NotFreed => out.extend_from_slice(b"no"),
+        Answer::Unbound => out.extend_from_slice(b"unbound"),
+        Answer::Ended => out.extend_from_slice(b"ended"),
+        Answer::Adopted(head) => {
+            out.extend_from_slice(b"adopted ")?;
+            push_id(out, head)
+        }
+        Answer::NothingToAdopt => out.extend_from_slice(b"refused nothing"),
+    }
+}
+
+fn push_answer_line(out: &mut Vec<u8>, answer: &LineAnswer) -> Result<(), AllocError>
+    ensures { OnOk result (out.new.items ≡ out.old.items ++ answer_line answer.now) }
+{
+    push_number(out, answer.line)?;
+    out.extend_from_slice(b" ")?;
+    push_answer(out, answer.answer)?;
+    out.extend_from_slice(b"\n")
+}
+
+pub(crate) fn push_answers(
+    out: &mut Vec<u8>,
+    replies: bool,
+    answers: &[LineAnswer],
+) -> Result<(), AllocError>
+    ensures { OnOk result (out.new.items ≡ out.old.items ++ answers_text replies answers.now) }
+{
+    if replies {
+        for answer in answers {
+            push_answer_line(out, answer)?;
+        }
+    }
+    Ok(())
+}
