@@ -1,5 +1,5 @@
 -- A required argument that takes one value has one, where the words of its command have no fault.
-use Rattle.std.proofs.Common.{◌≡◌, ℕ, ◌+◌, ◌++◌, ◌&&◌, Bool, true, false, cond, zero, suc, List, [], ◌∷◌, length, drop, Option, Some, None, is_some, option_and_then, refl}
+use Rattle.std.proofs.Common.{◌≡◌, ℕ, ◌++◌, ◌&&◌, Bool, true, false, cond, zero, suc, List, [], ◌∷◌, length, drop, Option, Some, None, is_some, option_and_then, refl}
 use Rattle.std.specs.Prelude.{encode_utf8, fold, slice_get, ⊤}
 use Rattle.std.specs.List.{find}
 use Rattle.std.specs.Option.{option_map_or}

@@ -1,7 +1,8 @@
 -- The commands of the program, and the job that words name.
 use Rattle.std.specs.Prelude.{◌≡◌, ◌⊎◌, ℕ, Bool, true, false, List, Option, Some, None, is_some, option_map, codes, if◌then◌else◌, ⊤}
 use Rattle.std.specs.Borrow.{Bor}
-use Rattle.clap.specs.Words.{App, IsAmong, Kinds, Row, Rule, Text, app_of, fault_of, first_of, kind_of, one_of, new_app, new_rule, subcommand_of, with_rule, with_subcommand}
+use Rattle.clap.specs.Words.{App, IsAmong, Kinds, Row, Rule, Text, app_of, fault_of, first_of, kind_of, one_of, new_app, new_rule, rule_of, subcommand_of, with_rule, with_subcommand}
+use Rattle.clap.specs.declared.builder.Arg.{Arg}
 use Rattle.clap.specs.declared.builder.Command.{Command}
 use Rattle.clap.specs.declared.builder.command.Command.TheViews.{out-Command as fields_of}
 use Rattle.clap.specs.declared.builder.ArgAction.TheVariants.{SetTrue}
@@ -25,9 +26,13 @@ needed name = record (new_rule name) { required = true }
 abbrev pub flag : Text → Rule
 flag name = record (new_rule name) { long = Some name; action = Some SetTrue }
 
--- `run [TRACE] [--serial] [--replies]`
+-- `--NAME VALUE`
+abbrev pub valued : Text → Rule
+valued name = record (new_rule name) { long = Some name; value_names = 1 }
+
+-- `run [TRACE] [--serial] [--replies] [--certificate FILE]`
 abbrev pub run_app : App
-run_app = with_rule (with_rule (with_rule (new_app (codes "run")) (positional (codes "TRACE"))) (flag (codes "serial"))) (flag (codes "replies"))
+run_app = with_rule (with_rule (with_rule (with_rule (new_app (codes "run")) (positional (codes "TRACE"))) (flag (codes "serial"))) (flag (codes "replies"))) (valued (codes "certificate"))
 
 -- `check FILE`
 abbrev pub check_app : App
@@ -40,6 +45,10 @@ bare_program = let a = new_app (codes "meshrun") in record a { top = record a.to
 -- the program's commands are `run` and `check`
 abbrev pub program_app : App
 program_app = with_subcommand (with_subcommand bare_program run_app.top) check_app.top
+
+-- the argument is this one, and does not go down to subcommands
+abbrev pub IsArg : Rule → Arg → Type 0
+IsArg rule arg = (rule_of arg ≡ rule) × (arg.global ≡ false)
 
 -- the command is this one, and has no argument that goes down to subcommands
 abbrev pub IsApp : App → Command → Type 0
@@ -57,12 +66,12 @@ shown text = option_map (λ t. t.now) text
 
 -- the job is `run` with these values of its arguments
 abbrev pub IsRun : List Row → Job → Type 0
-IsRun rows (Run trace serial replies) = (shown trace ≡ first_of (codes "TRACE") rows) × IsFlag (one_of (codes "serial") rows) serial × IsFlag (one_of (codes "replies") rows) replies
+IsRun rows (Run trace serial replies certificate) = (shown trace ≡ first_of (codes "TRACE") rows) × IsFlag (one_of (codes "serial") rows) serial × IsFlag (one_of (codes "replies") rows) replies × (shown certificate ≡ first_of (codes "certificate") rows)
 IsRun rows (Check file) = ⊥
 
 -- the job is `check` with this value of its argument
 abbrev pub IsCheck : List Row → Job → Type 0
-IsCheck rows (Run trace serial replies) = ⊥
+IsCheck rows (Run trace serial replies certificate) = ⊥
 IsCheck rows (Check file) = first_of (codes "FILE") rows ≡ Some file.now
 
 -- the job is the command that was entered, with its values

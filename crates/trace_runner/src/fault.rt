@@ -8,6 +8,7 @@ ghost use Rattle.trace_runner.specs.Telling.{fault_of_check, fault_of_job, fault
 
 use crate::job::JobError;
 use crate::sink::SinkFailed;
+use crate::store::StoreFailed;
 use crate::text::{Cause, ParseError};
 use certificate::ReadError;
 use std::alloc::{AllocError, AllocFailed};
@@ -125,8 +126,8 @@ pub enum Fault {
     /// The words of the command line name no job, or they ask for help.
     #[error(transparent)]
     Words(clap::Error),
-    /// The words or the file could not be read.
-    #[error("the file could not be read: look whether it is there and may be read")]
+    /// The words or the file could not be read, or the file for the certificate could not be written.
+    #[error("a file could not be read or written: look whether it is there, and whether you may")]
     Io,
 }
 
@@ -192,6 +193,14 @@ impl From<JobError> for Fault {
             JobError::OutOfMemory => Fault::OutOfMemory,
             JobError::Words(error) => Fault::Words(error),
         }
+    }
+}
+
+impl From<StoreFailed> for Fault {
+    ghost from_gives = { λ _ stop. stop ≡ fault.Io };
+
+    fn from(_error: StoreFailed) -> Fault {
+        Fault::Io
     }
 }
 

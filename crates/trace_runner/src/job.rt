@@ -1,20 +1,24 @@
 //! What the program is asked to do.
 
-ghost use Rattle.std.specs.Prelude.{◌≡◌, IfOk, IfErr, OnOk, []};
+ghost use Rattle.std.specs.Prelude.{◌≡◌, IfOk, IfErr, OnOk, [], codes};
 ghost use Rattle.clap.specs.Walk.{texts};
-ghost use Rattle.clap.specs.Words.{found_of, rows_of, subcommand_rows_of};
+ghost use Rattle.clap.specs.Words.{found_of, new_app, rows_of, subcommand_rows_of};
 ghost use Rattle.trace_runner.specs.declared.job.JobError.TheVariants as job_error;
-ghost use Rattle.trace_runner.specs.Job.{IsApp, IsFaultIn, IsJob, IsJobOf, IsRun, NamesJob, bare_program, check_app, fault_from, kinds_of, program_app, run_app};
+ghost use Rattle.trace_runner.specs.Job.{IsApp, IsArg, IsFaultIn, IsJob, IsJobOf, IsRun, NamesJob, bare_program, check_app, fault_from, flag, kinds_of, positional, program_app, run_app, valued};
 
 use clap::error::ErrorKind;
 use clap::{Arg, ArgAction, ArgMatches, Command};
 use std::alloc::{AllocError, Global};
 use thiserror::Error;
 
+mod help;
+
+use help::{CHECK_HELP, PROGRAM_HELP, RUN_HELP};
+
 /// What the program is asked to do.
 #[derive(Clone, Copy, Debug, PartialEq, Eq)]
 pub enum Job<'a> {
-    /// `run [TRACE] [--serial] [--replies]`: replay a trace and write its report.
+    /// `run [TRACE] [--serial] [--replies] [--certificate FILE]`: replay a trace and write its report.
     Run {
         /// The file of the trace. Where there is none, it is read from standard input.
         trace: Option<&'a str>,
@@ -22,6 +26,8 @@ pub enum Job<'a> {
         serial: bool,
         /// The report has a line for what each call answered.
         replies: bool,
+        /// The file that the certificate of the last mark is written to.
+        certificate: Option<&'a str>,
     },
     /// `check FILE`: check a certificate and write the verdict.
     Check {
@@ -61,25 +67,66 @@ impl From<clap::Error> for JobError {
     }
 }
 
+/// A flag of a command.
+fn flag<'a>(alloc: Global, name: &'a str, help: &'a str) -> Arg<'a>
+    ensures { IsArg (flag name.entry.now) result }
+{
+    Arg::new(alloc, name)
+        .long(name)
+        .action(ArgAction::SetTrue)
+        .help(help)
+}
+
+/// A command without arguments, with what help says above the list of its words and below it.
+fn bare_command<'a>(
+    alloc: Global,
+    name: &'a str,
+    about: &'a str,
+    after_help: &'a str,
+) -> Command<'a>
+    ensures { IsApp (new_app name.entry.now) result }
+{
+    Command::new(alloc, name)
+        .about(about)
+        .after_help(after_help)
+}
+
+fn trace_arg<'a>(alloc: Global) -> Arg<'a>
+    ensures { IsArg (positional (codes "TRACE")) result }
+{
+    Arg::new(alloc, "TRACE").help(
+        "The file of the trace; left out, the trace is read from standard input",
+    )
+}
+
+fn certificate_arg<'a>(alloc: Global) -> Arg<'a>
+    ensures { IsArg (valued (codes "certificate")) result }
+{
+    Arg::new(alloc, "certificate")
+        .long("certificate")
+        .value_name("FILE")
+        .help("Write the certificate of the last mark that planned to this file, after the report")
+}
+
 fn run_command<'a>(alloc: Global) -> Result<Command<'a>, AllocError>
     ensures { IfOk result (IsApp run_app) }
 {
-    let trace = Arg::new(alloc, "TRACE").help(
-        "The file of the trace, a text with one call on a line; left out, the trace is read from standard input",
+    let serial = flag(
+        alloc,
+        "serial",
+        "Carry out the calls one after another, in the order of their lines",
     );
-    let serial = Arg::new(alloc, "serial")
-        .long("serial")
-        .action(ArgAction::SetTrue)
-        .help("Carry out the calls one after another, in the order of their lines");
-    let replies = Arg::new(alloc, "replies")
-        .long("replies")
-        .action(ArgAction::SetTrue)
-        .help("Report also what each call answered, after the number of its line");
-    let run = Command::new(alloc, "run")
-        .about("Replays a trace and writes its report to standard output")
-        .arg(trace)?
+    let replies = flag(
+        alloc,
+        "replies",
+        "Report also what each call answered, after the number of its line",
+    );
+    let about = "Replays a trace and writes its report to standard output";
+    let run = bare_command(alloc, "run", about, RUN_HELP)
+        .arg(trace_arg(alloc))?
         .arg(serial)?
-        .arg(replies)?;
+        .arg(replies)?
+        .arg(certificate_arg(alloc))?;
     Ok(run)
 }
 
@@ -89,9 +136,8 @@ fn check_command<'a>(alloc: Global) -> Result<Command<'a>, AllocError>
     let file = Arg::new(alloc, "FILE")
         .required(true)
         .help("The file of the certificate");
-    let check = Command::new(alloc, "check")
-        .about("Checks a certificate, and writes accepted, with its counts, or rejected")
-        .arg(file)?;
+    let about = "Checks a certificate, and writes accepted, with its counts, or rejected";
+    let check = bare_command(alloc, "check", about, CHECK_HELP).arg(file)?;
     Ok(check)
 }
 
@@ -99,8 +145,8 @@ fn check_command<'a>(alloc: Global) -> Result<Command<'a>, AllocError>
 fn bare_program<'a>(alloc: Global) -> Result<Command<'a>, AllocError>
     ensures { IfOk result (IsApp bare_program) }
 {
-    let program = Command::new(alloc, "meshrun")
-        .about("Replays traces, texts with one call on a line, and checks certificates")
+    let about = "Replays traces, texts with one call on a line, and checks certificates";
+    let program = bare_command(alloc, "meshrun", about, PROGRAM_HELP)
         .bin_name("meshrun")?
         .no_binary_name(true)
         .disable_help_subcommand(true)
@@ -126,6 +172,7 @@ fn run_job<'a>(run: &ArgMatches<'a>) -> Job<'a>
         trace: run.get_str("TRACE"),
         serial: run.get_flag("serial"),
         replies: run.get_flag("replies"),
+        certificate: run.get_str("certificate"),
     }
 }
 
@@ -146,8 +193,8 @@ fn job_of<'a>(matches: &ArgMatches<'a>) -> Job<'a>
 impl<'a> Job<'a> {
     /// Reads the words after the program's own name.
     ///
-    /// `Words` comes where they are neither `run [TRACE] [--serial] [--replies]` nor `check FILE`, or
-    /// where they ask for help by `--help` or `-h`.
+    /// `Words` comes where they are neither `run [TRACE] [--serial] [--replies] [--certificate FILE]`
+    /// nor `check FILE`, or where they ask for help by `--help` or `-h`.
     pub fn from_words(alloc: Global, words: &'a [&'a str]) -> Result<Job<'a>, JobError>
         ensures named { IfOk result (IsJobOf (texts words.entry.now)) }
         ensures accepted { OnOk result (kinds_of (texts words.entry.now) ≡ []) }

@@ -8,24 +8,27 @@
 //! `check_text` reads a certificate, tests it by the checker of the crate `certificate`, and says in one line whether it is
 //! accepted.
 //!
-//! `meshrun`, the program, does so for a file: `meshrun run [TRACE] [--serial] [--replies]`, where without a file the trace
-//! is its standard input, and `meshrun check FILE`. It ends with status 0 where the report was written, the certificate is
+//! `meshrun`, the program, does so for a file: `meshrun run [TRACE] [--serial] [--replies] [--certificate FILE]`, where
+//! without a file the trace is its standard input, and `meshrun check FILE`. It ends with status 0 where the report was written, the certificate is
 //! accepted, or help was asked for; 1 where the text is no trace or no certificate, or the certificate is rejected; 2 where
 //! the words name no job, 3 where memory ran out, and 5 where a read or a write failed.
 #![tactic(auto)]
 
-ghost use Rattle.std.specs.Prelude.{◌≡◌, ◌<◌, ◌≤◌, ◌+◌, ◌-◌, ◌^◌, List, IfOk, OnOk, ℕ};
-ghost use Rattle.trace_runner.specs.Done.{IsDone, status_of_verdict};
-ghost use Rattle.trace_runner.specs.Replay.{WritesReport};
+ghost use Rattle.std.specs.Prelude.{◌≡◌, ◌<◌, ◌≤◌, ◌+◌, ◌-◌, ◌^◌, List, IfErr, IfOk, OnOk, ℕ};
+ghost use Rattle.trace_runner.specs.Done.{Does, IsDone, IsReplayed, status_of_verdict};
+ghost use Rattle.trace_runner.specs.Job.{shown};
+ghost use Rattle.trace_runner.specs.Store.{IsKeptBut};
 ghost use Rattle.trace_runner.specs.Verdict.{WritesVerdict};
 
 mod checking;
 mod fault;
 mod job;
+mod plans;
 mod replay;
 mod report;
 mod run;
 mod sink;
+mod store;
 mod telling;
 mod text;
 mod writing;
@@ -34,18 +37,17 @@ pub use checking::check_text;
 pub use fault::{CheckError, Fault, ReplayError};
 pub use job::{Job, JobError};
 pub use replay::replay_serial;
-pub use report::{Answer, Ending, LineAnswer};
 pub use sink::{Memory, Out, Sink, SinkFailed, give};
 use std::env::{self, Env};
 use std::fs;
 use std::io::{self, Input, Read};
 use std::process::ExitCode;
 use std::rt::Files;
+pub use store::{Disk, Store, StoreFailed, save};
 pub use telling::{TellError, tell};
 pub use text::{
     Binding, Call, Cause, Header, Keys, Line, Name, ParseError, Reference, Trace, parse,
 };
-pub use writing::report_text;
 
 /// The words after the program's own name.
 fn words_after_name(rt: &(impl Env + AllocGlobal)) -> io::Result<Vec<String>> {
@@ -68,20 +70,26 @@ fn trace_text(rt: &(impl Files + Input + AllocGlobal), path: Option<&str>) -> io
     }
 }
 
-/// Replays the trace of the file, or of standard input where no file is named, and writes its report to `out`.
-fn run_trace<R: Files + Input + AllocGlobal, S: Sink>(
+/// Replays the trace of the file, or of standard input where no file is named, writes its report to `out`, and then the
+/// certificate of the last mark that planned, if there was one, to the file that is named for it.
+fn run_trace<R: Files + Input + AllocGlobal, S: Sink, D: Store>(
     rt: &R,
     path: Option<&str>,
     replies: bool,
+    certificate: Option<&str>,
     out: &mut S,
+    store: &mut D,
 ) -> Result<(), Fault>
     requires { S.failures out.old < 2 ^ 64 - 1 }
-    ensures done { OnOk result ((text : List ℕ) × WritesReport text replies (S.taken out.old) (S.taken out.new)) }
+    ensures done { OnOk result (IsReplayed D.held replies (shown certificate.entry) (S.taken out.old) (S.taken out.new) store.old store.new) }
     ensures succeeded { OnOk result (S.failures out.new ≡ S.failures out.old) }
     ensures failures { S.failures out.new ≤ S.failures out.old + 1 }
+    ensures kept { IfErr result (IsKeptBut store.old store.new) }
 {
     let text = trace_text(rt, path)?;
-    replay_serial(rt.alloc(), &text, replies, out, &mut Vec::new(rt.alloc()))?;
+    let mut bytes = Vec::new(rt.alloc());
+    replay_serial(rt.alloc(), &text, replies, out, &mut bytes)?;
+    save(store, certificate, &bytes)?;
     Ok(())
 }
 
@@ -108,27 +116,29 @@ fn verdict_status(accepted: bool) -> u8
     if accepted { 0 } else { 1 }
 }
 
-/// Does the job that the words name, writes to `out`, and answers the status with which the program ends: 1 where a
-/// certificate is rejected, and else 0.
-fn do_job<R: Env + Files + Input + AllocGlobal, S: Sink>(rt: &R, out: &mut S) -> Result<u8, Fault>
+/// Does the job: writes to `out`, and to `store` where a file is named for the certificate, and answers the status with
+/// which the program ends: 1 where a certificate is rejected, and else 0.
+fn do_job<R: Files + Input + AllocGlobal, S: Sink, D: Store>(
+    rt: &R,
+    job: Job<'_>,
+    out: &mut S,
+    store: &mut D,
+) -> Result<u8, Fault>
     requires { S.failures out.old < 2 ^ 64 - 1 }
-    ensures done { IfOk result (IsDone (S.taken out.old) (S.taken out.new)) }
+    ensures done { IfOk result (Does D.held job.entry (S.taken out.old) (S.taken out.new) store.old store.new) }
     ensures succeeded { OnOk result (S.failures out.new ≡ S.failures out.old) }
     ensures failures { S.failures out.new ≤ S.failures out.old + 1 }
+    ensures kept { IfErr result (IsKeptBut store.old store.new) }
 {
-    let words = words_after_name(rt)?;
-    let mut texts = Vec::new(rt.alloc());
-    for word in &words {
-        texts.push(word.as_str())?;
-    }
-    match Job::from_words(rt.alloc(), &texts)? {
+    match job {
         // Until calls run on threads, every run is serial.
         Job::Run {
             trace,
             serial: _,
             replies,
+            certificate,
         } => {
-            run_trace(rt, trace, replies, out)?;
+            run_trace(rt, trace, replies, certificate, out, store)?;
             Ok(0)
         }
         Job::Check { file } => {
@@ -138,10 +148,31 @@ fn do_job<R: Env + Files + Input + AllocGlobal, S: Sink>(rt: &R, out: &mut S) ->
     }
 }
 
+/// Does the job that the program's words name.
+fn do_named_job<R: Env + Files + Input + AllocGlobal, S: Sink, D: Store>(
+    rt: &R,
+    out: &mut S,
+    store: &mut D,
+) -> Result<u8, Fault>
+    requires { S.failures out.old < 2 ^ 64 - 1 }
+    ensures done { IfOk result (IsDone D.held (S.taken out.old) (S.taken out.new) store.old store.new) }
+    ensures succeeded { OnOk result (S.failures out.new ≡ S.failures out.old) }
+    ensures failures { S.failures out.new ≤ S.failures out.old + 1 }
+    ensures kept { IfErr result (IsKeptBut store.old store.new) }
+{
+    let words = words_after_name(rt)?;
+    let mut texts = Vec::new(rt.alloc());
+    for word in &words {
+        texts.push(word.as_str())?;
+    }
+    let job = Job::from_words(rt.alloc(), &texts)?;
+    do_job(rt, job, out, store)
+}
+
 fn main(rt: HostRuntime) -> ExitCode {
     let mut out = Out::new(rt.stdout());
     let mut err = Out::new(rt.stderr());
-    let status = match do_job(&rt, &mut out) {
+    let status = match do_named_job(&rt, &mut out, &mut Disk::new(&rt)) {
         Ok(status) => status,
         Err(fault) => match tell(rt.alloc(), &fault, &mut out, &mut err) {
             Ok(status) => status,

@@ -1,4 +1,6 @@
 use super::*;
+use crate::replay::replay_serial;
+use crate::sink::Memory;
 use std::test::Fail;
 
 fn run(trace: Option<&'static str>, serial: bool, replies: bool) -> Job<'static> {
@@ -6,6 +8,16 @@ fn run(trace: Option<&'static str>, serial: bool, replies: bool) -> Job<'static>
         trace,
         serial,
         replies,
+        certificate: None,
+    }
+}
+
+fn run_certified(trace: Option<&'static str>, certificate: &'static str) -> Job<'static> {
+    Job::Run {
+        trace,
+        serial: false,
+        replies: false,
+        certificate: Some(certificate),
     }
 }
 
@@ -37,6 +49,30 @@ fn words_of_jobs(rt: HostRuntime) -> Result<(), Fail> {
     Ok(())
 }
 
+#[test]
+fn words_with_a_certificate(rt: HostRuntime) -> Result<(), Fail> {
+    let cases: [(&'static [&'static str], Job<'static>); 5] = [
+        (&["run", "--certificate", "f"], run_certified(None, "f")),
+        (&["run", "--certificate=f"], run_certified(None, "f")),
+        (
+            &["run", "--certificate=f", "a.trace"],
+            run_certified(Some("a.trace"), "f"),
+        ),
+        (
+            &["run", "a.trace", "--certificate", "b.cert"],
+            run_certified(Some("a.trace"), "b.cert"),
+        ),
+        (
+            &["run", "--certificate", "f", "--", "--replies"],
+            run_certified(Some("--replies"), "f"),
+        ),
+    ];
+    for (words, job) in cases {
+        assert_eq!(rt; Job::from_words(rt.alloc(), words)?, job, "{words:?}");
+    }
+    Ok(())
+}
+
 // The exit code of the fault, where the words name no job.
 fn exit_code(alloc: Global, words: &'static [&'static str]) -> Option<i32> {
     match Job::from_words(alloc, words) {
@@ -47,7 +83,7 @@ fn exit_code(alloc: Global, words: &'static [&'static str]) -> Option<i32> {
 
 #[test]
 fn other_words(rt: HostRuntime) {
-    let cases: [(&'static [&'static str], i32); 17] = [
+    let cases: [(&'static [&'static str], i32); 16] = [
         (&[], 2),
         (&["help"], 2),
         (&["check"], 2),
@@ -57,7 +93,6 @@ fn other_words(rt: HostRuntime) {
         (&["--check", "a.cert"], 2),
         (&["a.trace"], 2),
         (&["--serial"], 2),
-        (&["run", "--certificate", "f"], 2),
         (&["run", "a.trace", "b.trace"], 2),
         (&["run", "--serial=true"], 2),
         (&["run", "--replies", "--replies"], 2),
@@ -69,4 +104,43 @@ fn other_words(rt: HostRuntime) {
     for (words, code) in cases {
         assert_eq!(rt; exit_code(rt.alloc(), words), Some(code), "{words:?}");
     }
+}
+
+#[test]
+fn other_words_with_a_certificate(rt: HostRuntime) {
+    let cases: [(&'static [&'static str], i32); 6] = [
+        (&["run", "--certificate"], 2),
+        (&["run", "--certificate", "--replies"], 2),
+        (&["run", "--certificate", "f", "a.trace", "b.trace"], 2),
+        (&["run", "--certificate", "f", "--certificate", "g"], 2),
+        (&["run", "--certificate=f", "--certificate=f"], 2),
+        (&["check", "--certificate", "f", "a.cert"], 2),
+    ];
+    for (words, code) in cases {
+        assert_eq!(rt; exit_code(rt.alloc(), words), Some(code), "{words:?}");
+    }
+}
+
+// The trace and the report that help shows, with two spaces before each line.
+#[test]
+fn the_example_of_help(rt: HostRuntime) -> Result<(), Fail> {
+    let alloc = rt.alloc();
+    let trace = "\nmesh 1\nshards 1\npages 4\nring 4\ngens 9\n0 put a 5\n0 get a\n0 free a";
+    let report = "\n6 key 0.0/0/1\n7 value 5\n8 yes\nend pages 1 live 0 calls 3";
+    let mut out = Memory::new(alloc);
+    replay_serial(
+        alloc,
+        trace.trim_start().as_bytes(),
+        true,
+        &mut out,
+        &mut Vec::new(alloc),
+    )?;
+    assert_eq!(rt;
+        str::from_utf8(out.bytes.as_slice())?.trim_end(),
+        report.trim_start()
+    );
+    let shown = RUN_HELP.replace(alloc, "\n  ", "\n")?;
+    assert!(rt; shown.contains(trace));
+    assert!(rt; shown.contains(report));
+    Ok(())
 }

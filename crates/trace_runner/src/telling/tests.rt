@@ -80,6 +80,19 @@ fn help(rt: HostRuntime) -> Result<(), Fail> {
     let text = str::from_utf8(out.bytes.as_slice())?;
     assert!(rt; text.contains("Usage: meshrun run [OPTIONS] [TRACE]"));
     assert!(rt; text.contains("read from standard input"));
+    assert!(rt; text.contains("--certificate <FILE>"));
+    assert!(rt; text.contains("docs/FORMATS.md"));
+    Ok(())
+}
+
+#[test]
+fn help_of_the_program(rt: HostRuntime) -> Result<(), Fail> {
+    let fault = fault_in(&rt, rt.alloc(), &["--help"]);
+    let (status, out, _err) = told(rt.alloc(), &fault)?;
+    assert_eq!(rt; status, 0);
+    let text = str::from_utf8(out.bytes.as_slice())?;
+    assert!(rt; text.contains("Usage: meshrun <COMMAND>"));
+    assert!(rt; text.contains("meshrun run --replies examples/stale_key.trace"));
     Ok(())
 }
 

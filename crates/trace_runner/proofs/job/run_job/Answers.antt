@@ -17,4 +17,5 @@ returns c =
         yes = λ e. c.get_flag-2.ensures.value (one_text-rows found (codes "replies") ∙ e);
         no = λ e. c.get_flag-2.ensures.other (one_text-rows found (codes "replies") ∙ e);
       },
+      c.get_str-2.ensures ∙ first_value-rows found (codes "certificate"),
     )
