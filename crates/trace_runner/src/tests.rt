@@ -1,13 +1,13 @@
-//! Traces and what their reports say, texts that are no traces, sinks that fail, and what a refused growth leaves.
-ghost use Rattle.std.specs.Prelude.{◌≡◌, None};
+//! Traces and what their reports say, texts that are no traces, and sinks that fail.
+ghost use Rattle.std.specs.Prelude.{None};
 
 use super::*;
 use std::alloc::{AllocError, Global};
 use std::process::Abort;
 use std::test::Fail;
 
-const STALE_KEY: &[u8] =
-    b"mesh 1\nshards 1\npages 4\nring 4\ngens 9\n0 put a 5\n0 get a\n0 free a\n0 get a\n0 put b 6\n0 get a\n";
+mod marks;
+mod refused;
 
 /// The report of the text, or the message of the refusal.
 fn report_of(alloc: Global, text: &[u8], replies: bool) -> Result<Vec<u8>, AllocError> {
@@ -40,19 +40,35 @@ fn shared_trace(
     Ok(text.into_bytes())
 }
 
-/// Whether the report of the lines is the replies and the end, and without replies the end alone.
-fn reports(
-    rt: &(impl AllocGlobal + Abort),
-    text: &[u8],
-    replies: &str,
-    end: &str,
-) -> Result<(), Fail> {
+/// The certificate of the text's last mark.
+fn certificate_of(alloc: Global, text: &[u8]) -> Result<Vec<u8>, AllocError> {
+    let mut cert = Vec::from_slice(alloc, b"before")?;
+    match replay_serial(alloc, text, false, &mut Memory::new(alloc), &mut cert) {
+        Ok(()) => Ok(cert),
+        Err(_) => Err(AllocError),
+    }
+}
+
+/// The lines of the report that stand also without replies: all but the replies, which begin with a digit, and the steps.
+fn without_replies(alloc: Global, report: &str) -> Result<String, AllocError> {
+    let mut text = String::new(alloc);
+    for line in report.lines() {
+        let is_reply = matches!(line.as_bytes().first(), Some(b'0'..=b'9'));
+        if !is_reply && !line.starts_with("step ") {
+            text.push_str(line)?;
+            text.push_str("\n")?;
+        }
+    }
+    Ok(text)
+}
+
+/// Whether this is the report of the text with replies, and without them what stands also then.
+fn reports(rt: &(impl AllocGlobal + Abort), text: &[u8], wanted: &str) -> Result<(), Fail> {
     let report = report_of(rt.alloc(), text, true)?;
-    let whole = format!(in rt.alloc(); "{replies}{end}\n")?;
-    assert_eq!(rt; report.as_slice(), whole.as_bytes());
+    assert_eq!(rt; report.as_slice(), wanted.as_bytes());
     let report = report_of(rt.alloc(), text, false)?;
-    let whole = format!(in rt.alloc(); "{end}\n")?;
-    assert_eq!(rt; report.as_slice(), whole.as_bytes());
+    let wanted = without_replies(rt.alloc(), wanted)?;
+    assert_eq!(rt; report.as_slice(), wanted.as_bytes());
     Ok(())
 }
 
@@ -76,143 +92,80 @@ fn page_of(alloc: Global, reply: &str) -> Result<String, AllocError> {
 
 #[test]
 fn small_traces(rt: HostRuntime) -> Result<(), Fail> {
-    for (pages, gens, lines, replies, end) in [
-        (4, 9, "", "", "end pages 0 live 0 calls 0"),
+    for (pages, gens, lines, report) in [
+        (4, 9, "", "end pages 0 live 0 calls 0\n"),
         (
             4,
             9,
             "0 put a 5\n0 get a\n0 free a\n0 get a\n0 put b 6\n0 get a\n",
-            "6 key 0.0/0/1\n7 value 5\n8 yes\n9 none\n10 key 0.0/0/2\n11 none\n",
-            "end pages 1 live 1 calls 6",
+            "6 key 0.0/0/1\n7 value 5\n8 yes\n9 none\n10 key 0.0/0/2\n11 none\nend pages 1 live 1 calls 6\n",
         ),
         (
             4,
             2,
             "0 put a 1\n0 free a\n0 put b 2\n0 free b\n0 put c 3\n",
-            "6 key 0.0/0/1\n7 yes\n8 key 0.0/0/2\n9 yes\n10 key 0.0/1/1\n",
-            "end pages 1 live 1 calls 5",
+            "6 key 0.0/0/1\n7 yes\n8 key 0.0/0/2\n9 yes\n10 key 0.0/1/1\nend pages 1 live 1 calls 5\n",
         ),
         (
             4,
             9,
             "0 put a 340282366920938463463374607431768211455\n0 get a\n",
-            "6 key 0.0/0/1\n7 value 340282366920938463463374607431768211455\n",
-            "end pages 1 live 1 calls 2",
+            "6 key 0.0/0/1\n7 value 340282366920938463463374607431768211455\nend pages 1 live 1 calls 2\n",
         ),
         (
             4,
             9,
             "\n0 put a 5\n# put a 5\n0 free a\n0 free a",
-            "7 key 0.0/0/1\n9 yes\n10 no\n",
-            "end pages 1 live 0 calls 3",
+            "7 key 0.0/0/1\n9 yes\n10 no\nend pages 1 live 0 calls 3\n",
         ),
         (
             4,
             9,
             "0 fill a 3 7\n0 get a.2\n0 sweep a 1 3\n0 sweep a 0 3\n0 get a.0\n",
-            "6 key 0.0/0/1\n6 key 0.0/1/1\n6 key 0.0/2/1\n7 value 9\n8 yes\n8 yes\n9 yes\n9 no\n9 no\n10 none\n",
-            "end pages 1 live 0 calls 10",
+            "6 key 0.0/0/1\n6 key 0.0/1/1\n6 key 0.0/2/1\n7 value 9\n8 yes\n8 yes\n9 yes\n9 no\n9 no\n10 none\nend pages 1 live 0 calls 10\n",
         ),
     ] {
         let text = trace(rt.alloc(), pages, gens, lines)?;
-        reports(&rt, &text, replies, end)?;
-    }
-    Ok(())
-}
-
-#[test]
-fn ends_and_adoptions(rt: HostRuntime) -> Result<(), Fail> {
-    for (shards, pages, lines, replies, end) in [
-        // What a thread left behind is adopted, and the adopter puts into it.
-        (
-            2,
-            4,
-            "0 put a 5\n0 end\nadopt 1\nmark\n1 put b 6\n",
-            "6 key 0.0/0/1\n7 ended\n8 adopted 0.0\n10 key 0.0/1/1\n",
-            "end pages 1 live 2 calls 3",
-        ),
-        (
-            2,
-            4,
-            "0 put a 5\n0 end\nadopt 1\nadopt 1\nmark\n1 put b 6\n",
-            "6 key 0.0/0/1\n7 ended\n8 adopted 0.0\n9 refused nothing\n11 key 0.0/1/1\n",
-            "end pages 1 live 2 calls 3",
-        ),
-        // The free that empties a group of the pool gives up its page.
-        (
-            2,
-            4,
-            "0 put a 5\n0 end\nmark\n1 free a\n1 get a\n",
-            "6 key 0.0/0/1\n7 ended\n9 yes\n10 none\n",
-            "end pages 0 live 0 calls 4",
-        ),
-        // A shard that has all its pages adopts nothing, and the group stays in the pool.
-        (
-            2,
-            1,
-            "0 put a 5\n0 end\n1 put b 6\nadopt 1\nmark\n",
-            "6 key 0.0/0/1\n7 ended\n8 key 1.0/0/1\n9 refused pages\n",
-            "end pages 2 live 2 calls 3",
-        ),
-        (
-            2,
-            4,
-            "adopt 1\nmark\n",
-            "6 refused nothing\n",
-            "end pages 0 live 0 calls 0",
-        ),
-    ] {
-        let text = shared_trace(rt.alloc(), shards, pages, lines)?;
-        reports(&rt, &text, replies, end)?;
+        reports(&rt, &text, report)?;
     }
     Ok(())
 }
 
 #[test]
 fn barriers(rt: HostRuntime) -> Result<(), Fail> {
-    for (shards, pages, lines, replies, end) in [
+    for (shards, lines, report) in [
         // The end of the text abandons too: a page with a live slot stays, and one without goes.
         (
             1,
-            4,
             "0 put a 5\n0 end\n",
-            "6 key 0.0/0/1\n7 ended\n",
-            "end pages 1 live 1 calls 2",
+            "6 key 0.0/0/1\n7 ended\nend pages 1 live 1 calls 2\n",
         ),
         (
             1,
-            4,
             "0 put a 5\n0 free a\n0 end\n",
-            "6 key 0.0/0/1\n7 yes\n8 ended\n",
-            "end pages 0 live 0 calls 3",
+            "6 key 0.0/0/1\n7 yes\n8 ended\nend pages 0 live 0 calls 3\n",
         ),
-        // Until the barrier the shard of a thread that has ended keeps its page.
+        // Until the barrier the shard of a thread that has ended keeps its page; the plan is closed before.
         (
             2,
-            4,
             "0 put a 5\nmark\n0 end\n1 free a\n1 put b 6\n",
-            "6 key 0.0/0/1\n8 ended\n9 yes\n10 key 1.0/0/1\n",
-            "end pages 1 live 1 calls 4",
+            "6 key 0.0/0/1\nmark 1 abandoned 0 owned 1 folds 0 pages 1\nshort none\npartners none\n8 ended\n9 yes\n10 key 1.0/0/1\nclosed 1 pages 2\nend pages 1 live 1 calls 4\n",
         ),
         // Adoptions take the lowest heads in order of line, whichever thread ended first.
         (
             4,
-            4,
             "0 put a 1\n1 put b 2\n1 end\n0 end\nadopt 3\n# next\nadopt 2\nmark\n2 put c 3\n3 put d 4\n2 get a\n3 get b\n",
-            "6 key 0.0/0/1\n7 key 1.0/0/1\n8 ended\n9 ended\n10 adopted 0.0\n12 adopted 1.0\n14 key 1.0/1/1\n15 key 0.0/1/1\n16 value 1\n17 value 2\n",
-            "end pages 2 live 4 calls 8",
+            "6 key 0.0/0/1\n7 key 1.0/0/1\n8 ended\n9 ended\n10 adopted 0.0\n12 adopted 1.0\nmark 1 abandoned 0 owned 2 folds 0 pages 2\nshort none\npartners none\n14 key 1.0/1/1\n15 key 0.0/1/1\n16 value 1\n17 value 2\nclosed 1 pages 2\nend pages 2 live 4 calls 8\n",
         ),
-        // A shard that adopted ends in its turn.
+        // A shard that adopted ends in its turn. The plan is closed before the adoption is told.
         (
             3,
-            4,
             "0 put a 1\n0 end\nadopt 1\nmark\n1 end\nadopt 2\nmark\n2 free a\n",
-            "6 key 0.0/0/1\n7 ended\n8 adopted 0.0\n10 ended\n11 adopted 0.0\n13 yes\n",
-            "end pages 1 live 0 calls 4",
+            "6 key 0.0/0/1\n7 ended\n8 adopted 0.0\nmark 1 abandoned 0 owned 1 folds 0 pages 1\nshort none\npartners none\n10 ended\nclosed 1 pages 1\n11 adopted 0.0\nmark 2 abandoned 0 owned 1 folds 0 pages 1\nshort none\npartners none\n13 yes\nclosed 2 pages 1\nend pages 1 live 0 calls 4\n",
         ),
     ] {
-        let text = shared_trace(rt.alloc(), shards, pages, lines)?;
-        reports(&rt, &text, replies, end)?;
+        let text = shared_trace(rt.alloc(), shards, 4, lines)?;
+        reports(&rt, &text, report)?;
     }
     Ok(())
 }
@@ -223,8 +176,8 @@ fn full_pages(rt: HostRuntime) -> Result<(), Fail> {
 
     // The 257th put opens a second page,
     let text = trace(rt.alloc(), 4, 9, "0 fill a 257 1\n")?;
-    let replies = format!(in rt.alloc(); "{keys}6 key 0.1/0/1\n")?;
-    reports(&rt, &text, &replies, "end pages 2 live 257 calls 257")?;
+    let report = format!(in rt.alloc(); "{keys}6 key 0.1/0/1\nend pages 2 live 257 calls 257\n")?;
+    reports(&rt, &text, &report)?;
 
     // or finds none left, and what it would have put was never bound.
     let text = trace(
@@ -233,20 +186,24 @@ fn full_pages(rt: HostRuntime) -> Result<(), Fail> {
         9,
         "0 fill a 257 1\n0 get a.256\n0 free a.256\n0 get a.255\n",
     )?;
-    let replies = format!(in rt.alloc();
-        "{keys}6 refused pages\n7 unbound\n8 unbound\n9 value 256\n"
+    let report = format!(in rt.alloc();
+        "{keys}6 refused pages\n7 unbound\n8 unbound\n9 value 256\nend pages 1 live 256 calls 260\n"
     )?;
-    reports(&rt, &text, &replies, "end pages 1 live 256 calls 260")?;
+    reports(&rt, &text, &report)?;
 
     // A slot whose generations are spent takes no put.
     let swept = page_of(rt.alloc(), "7 yes\n")?;
     let lines = "0 fill a 256 0\n0 sweep a 0 256\n0 put b 1\n";
     let text = trace(rt.alloc(), 1, 1, lines)?;
-    let replies = format!(in rt.alloc(); "{keys}{swept}8 refused pages\n")?;
-    reports(&rt, &text, &replies, "end pages 1 live 0 calls 513")?;
+    let report = format!(in rt.alloc();
+        "{keys}{swept}8 refused pages\nend pages 1 live 0 calls 513\n"
+    )?;
+    reports(&rt, &text, &report)?;
     let text = trace(rt.alloc(), 2, 1, lines)?;
-    let replies = format!(in rt.alloc(); "{keys}{swept}8 key 0.1/0/1\n")?;
-    reports(&rt, &text, &replies, "end pages 2 live 1 calls 513")?;
+    let report = format!(in rt.alloc();
+        "{keys}{swept}8 key 0.1/0/1\nend pages 2 live 1 calls 513\n"
+    )?;
+    reports(&rt, &text, &report)?;
     Ok(())
 }
 
@@ -422,44 +379,4 @@ fn a_sink_that_fails_in_a_check_is_told(rt: HostRuntime) {
         assert_eq!(rt; out.taken, room.min(9));
         assert_eq!(rt; out.failures(), u64::from(room < 9));
     }
-}
-
-// Replays the text. Where a growth is refused, nothing is written and the certificate stays, and the same call is made again.
-fn replay_again(
-    rt: &(impl AllocGlobal + Abort),
-    out: &mut Memory,
-    cert: &mut Vec<u8>,
-) -> Result<(), ReplayError>
-    requires { out.old.failures ≡ 0 }
-{
-    let result = replay_serial(rt.alloc(), STALE_KEY, true, out, cert);
-    if result.is_ok() {
-        return result;
-    }
-    // The report is in the sink's memory, so the last growth is the sink's.
-    let failures = if result == Err(ReplayError::SinkFailed) {
-        1
-    } else {
-        0
-    };
-    assert_eq!(rt; out.failures, failures);
-    assert_eq!(rt; out.bytes.len(), 0);
-    assert_eq!(rt; cert.as_slice(), b"before".as_slice());
-    replay_serial(rt.alloc(), STALE_KEY, true, out, cert)
-}
-
-#[test]
-fn a_refused_growth_leaves_nothing(rt: HostRuntime) -> Result<(), Fail> {
-    let mut cert = match Vec::from_slice(rt.alloc(), b"before") {
-        Ok(cert) => cert,
-        Err(_) => Vec::from_slice(rt.alloc(), b"before")?,
-    };
-    let mut out = Memory::new(rt.alloc());
-    assert_eq!(rt; replay_again(&rt, &mut out, &mut cert), Ok(()));
-    assert_eq!(rt;
-        out.bytes.as_slice(),
-        b"6 key 0.0/0/1\n7 value 5\n8 yes\n9 none\n10 key 0.0/0/2\n11 none\nend pages 1 live 1 calls 6\n".as_slice()
-    );
-    assert_eq!(rt; cert.as_slice(), b"before".as_slice());
-    Ok(())
 }
