@@ -1,18 +1,18 @@
 -- An adoption: the lowest group that has a page, and what the shard asks of it.
-use Rattle.std.proofs.Common.{◌≡◌, ℕ, ◌<◌, ◌≤◌, ◌⊎◌, Bool, true, false, length, Option, Some, None, is_some, slice_get, ap, sym, subst, ◌∙◌, refl, inl, inr, arith}
+use Rattle.std.proofs.Common.{◌≡◌, ℕ, false, length, Option, Some, None, slice_get, ap, sym, subst, ◌∙◌, refl, inl, inr, arith}
 use Rattle.std.specs.Prelude.{◌≢◌, option_map}
 use Rattle.std.specs.Option.{IsSome}
 use Rattle.std.proofs.lemmas.Bool.{cases_eq, cases_lt}
-use Rattle.span.specs.Ids.{rank}
-use Rattle.span.specs.declared.id.SpanId.{SpanId}
 use Rattle.page_table.specs.State.{words_of}
 use Rattle.shard.specs.Moves.{MayTakeIn, TakesIn, WholeState, spans_moved, with_room}
 use Rattle.shard.specs.Sound.{IsSound as IsSoundShard}
 use Rattle.shard.specs.State.{ShardState}
+use Rattle.shard.proofs.Heads.{one_of_head}
 use Rattle.shard.proofs.Lists.{same_some}
 use Rattle.abandoned.specs.Calls.{Adopts, HasDoubled, IsDoubled, IsLowestPaged, Lifts}
 use Rattle.abandoned.specs.Sound.{IsSound}
-use Rattle.abandoned.specs.State.{IsHeadOf, PoolState, PooledState, spans_of, whole_of}
+use Rattle.abandoned.specs.State.{PoolState, PooledState, spans_of, whole_of}
+use Rattle.abandoned.proofs.Heads.{head_id}
 
 some_page : (o : Option ℕ) → o ≡ None → IsSome o → ⊥
 some_page None is some = absurd cc
@@ -36,15 +36,7 @@ nothing_lowest pool index group lowest none = some_page group.page (none index g
 
 -- one group has the head
 pub one_head : (pool : PoolState) → IsSound pool → (i j : ℕ) (a b : PooledState) → slice_get pool.groups i ≡ Some a → slice_get pool.groups j ≡ Some b → a.head.id ≡ b.head.id → a ≡ b
-one_head pool sound i j a b at_i at_j same =
-    let ranks : rank a.head.id ≡ rank b.head.id = ap rank same in
-    elim (cases_lt i j) [
-      | inl less ↦ absurd (let low = sound.ascending i j a b less at_i at_j in omega arith)
-      | inr more ↦ elim (cases_eq i j) [
-        | inl at ↦ same_some (sym at_i ∙ ap (slice_get pool.groups) at ∙ at_j)
-        | inr apart ↦ absurd (let low = sound.ascending j i b a (omega arith) at_j at_i in omega arith)
-      ]
-    ]
+one_head pool sound i j a b at_i at_j same = one_of_head head_id pool.groups sound.ascending i j a b at_i at_j same
 
 still_some : {X : Type 0} (f : ℕ → X) (o : Option ℕ) → IsSome o → IsSome (option_map f o)
 still_some f None some = absurd cc

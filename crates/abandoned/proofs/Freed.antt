@@ -1,42 +1,43 @@
 -- A pool stays sound at a free.
-use Rattle.std.proofs.Common.{zero, suc, ◌≡◌, ℕ, ◌+◌, ◌-◌, ◌<◌, ◌≤◌, ◌⊎◌, Bool, true, false, cond, List, [], length, Option, Some, None, MatchOption, is_some, set, slice_get, ap, sym, subst, ◌∙◌, refl, inl, inr, arith}
+use Rattle.std.proofs.Common.{zero, suc, ◌≡◌, ℕ, ◌<◌, ◌≤◌, ◌⊎◌, Bool, true, false, cond, Option, Some, None, MatchOption, is_some, set, slice_get, ap, sym, subst, ◌∙◌, refl, inl, inr, arith}
 use Rattle.std.specs.Prelude.{◌≢◌, count_by, insert, remove}
 use Rattle.std.specs.FinMap as map
 use Rattle.std.specs.FinSet as set_of
 use Rattle.std.specs.Ordering.{nat_cmp}
 use Rattle.std.proofs.lemmas.Bool.{cases_eq}
+use Rattle.std.proofs.lemmas.List.Edits.{length-remove}
 use Rattle.std.proofs.lemmas.List.Sums.{length-filter}
 use Rattle.span.specs.Ids.{rank, same_span}
-use Rattle.span.specs.Log.{Held, Holds, IsLegal, replay}
+use Rattle.span.specs.Log.{Holds, IsLegal}
 use Rattle.span.specs.State.{SpanState}
 use Rattle.span.specs.declared.change.Change.TheVariants.{Free}
 use Rattle.span.specs.declared.id.SpanId.{SpanId}
 use Rattle.span.specs.declared.key.Key.{Key}
-use Rattle.span.proofs.Changes.{IsLegal-push, get-free}
-use Rattle.page_table.specs.State.{TableState, is_page, words_of}
-use Rattle.std.proofs.lemmas.Bool.{ne_eqb}
-use Rattle.std.proofs.Common.{eq-eqb}
+use Rattle.span.proofs.Changes.{IsLegal-push}
+use Rattle.page_table.specs.State.{is_page}
 use Rattle.shard.specs.Group.{AreApart, union_of, with_free}
-use Rattle.shard.specs.Moves.{IsSoundMoved, without_page}
+use Rattle.shard.specs.Moves.{without_page}
 use Rattle.shard.specs.declared.shard.Freed.{Freed}
 use Rattle.shard.specs.declared.shard.Freed.TheVariants as freed
+use Rattle.shard.proofs.GroupSpans.{times}
 use Rattle.shard.proofs.Lists.{after-set, before-set, cases-set, count-set, get_within, same_some}
+use Rattle.shard.proofs.Logs.{was_held}
+use Rattle.shard.proofs.Removed.{before-remove, cases-remove, count-remove, set-insert}
 use Rattle.shard.proofs.Unions.{live_if_held, lose_key, member_of_union}
 use Rattle.abandoned.specs.Calls.{Frees, IsPlaceFor, Leaves, without_page_of}
 use Rattle.abandoned.specs.Sound.{IsSound, IsSoundGroup, IsSoundPaged, IsSoundSpan}
-use Rattle.abandoned.specs.State.{IsElsewhere, PoolState, PooledState, Stands, spans_in, spans_of, with_span}
+use Rattle.abandoned.specs.State.{IsElsewhere, PoolState, PooledState, Stands, spans_of, with_span}
 use Rattle.abandoned.proofs.Inserted.{IsSound-inserted, IsTableWith}
 use Rattle.abandoned.proofs.Lifted.{IsSound-left_over, elsewhere-left_over, left_over, once_in_group}
 use Rattle.abandoned.proofs.Pages.{IsSameOn, from-is_page, is_page-same, other_page, page_if_live, sound_paged}
-use Rattle.abandoned.proofs.Removed.{before-remove, cases-remove, count-remove, length_remove, set-insert}
-use Rattle.abandoned.proofs.Standing.{page-with_span, spans_of-with_span, times}
+use Rattle.abandoned.proofs.Standing.{page-with_span, spans_of-with_span}
 use Rattle.abandoned.proofs.Tables.{len-without, pages-without, spans-without}
 use Rattle.abandoned.proofs.TakenIn.{empty_or_not}
 
 -- the place that a group leaves is the place of its head
 place-left_over : (old : PoolState) (sound : IsSound old) (index : ℕ) (group : PooledState) → slice_get old.groups index ≡ Some group → IsPlaceFor (remove old.groups index) group.head.id index
 place-left_over old sound index group here = record {
-  within = let long = length_remove old.groups index group here in let low = get_within old.groups index group here in omega arith;
+  within = let low = get_within old.groups index group here in omega (arith, length-remove old.groups index low);
   before = λ other g less there. elim (cases-remove old.groups index other g there) [
     | inl low ↦ sound.ascending other index g group less low.1 here
     | inr high ↦ absurd (let above : index ≤ other = high.0 in omega arith)
@@ -91,23 +92,13 @@ module _ (old : PoolState) (sound : IsSound old) (index place : ℕ) (group : Po
     | inr that ↦ before.legal at s that.1
   ]
 
-  -- a slot that is still live was live before
-  was_held : (q : ℕ) (held : Held) → map.get (replay changed.log) q ≡ Some held → map.get (replay span.log) q ≡ Some held
-  was_held q held is = elim (cases_eq q key.slot) [
-    | inl same ↦ absurd (none (sym (get-free span.log key.slot key.generation q ∙ rw (eq-eqb q key.slot same) refl) ∙ is))
-    | inr other ↦ sym (get-free span.log key.slot key.generation q ∙ rw (ne_eqb q key.slot other) refl) ∙ is
-  ]
-    where
-      none : None ≡ Some held → ⊥
-      none e = cc
-
   span_now : (page : ℕ) → IsSoundPaged old.table group page → (at : ℕ) (s : SpanState) → slice_get (spans_of (with_span group place changed)) at ≡ Some s → IsSoundSpan old.table page s
   span_now page paged at s there = elim (cases-set (spans_of group) place changed at s (ap (λ spans. slice_get spans at) spans_now ∙ there)) [
     | inl this ↦
         let was = paged.spans place span here.1 in
         subst (IsSoundSpan old.table page) this.1 (record {
           mapped = was.mapped;
-          kept = record { legal = IsLegal-push span.gens span.log (Free key.slot key.generation) was.kept.legal holds; stored = λ q held is. was.kept.stored q held (was_held q held is) };
+          kept = record { legal = IsLegal-push span.gens span.log (Free key.slot key.generation) was.kept.legal holds; stored = λ q held is. was.kept.stored q held (was_held span key q held is) };
         })
     | inr that ↦ paged.spans at s that.1
   ]

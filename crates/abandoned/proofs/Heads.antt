@@ -1,31 +1,12 @@
--- The heads of the groups with a page ascend.
-use Rattle.std.proofs.Common.{zero, suc, ◌≡◌, ℕ, ◌+◌, ◌<◌, Bool, true, false, cond, List, [], ◌∷◌, length, map, get_or, slice_get, Some, ap, refl, arith}
-use Rattle.std.specs.Prelude.{filter, is_some}
-use Rattle.std.specs.List.Sorted.{IsStrictlyIncreasing}
+-- The heads of groups that are left by a test ascend.
+use Rattle.std.proofs.Common.{zero, suc, ◌≡◌, ℕ, ◌<◌, Bool, true, false, cond, List, [], ◌∷◌, slice_get, Some, arith}
+use Rattle.std.specs.Prelude.{filter}
 use Rattle.span.specs.Ids.{rank}
-use Rattle.shard.proofs.Lists.{same_some}
+use Rattle.span.specs.declared.id.SpanId.{SpanId}
 use Rattle.abandoned.specs.State.{Ascend, PooledState}
-use Rattle.abandoned.proofs.HeadPlaces.{there_at}
 
-abbrev head_rank : PooledState → ℕ
-head_rank group = rank group.head.id
-
-read_rank : (groups : List PooledState) (at : ℕ) (group : PooledState) → slice_get groups at ≡ Some group → get_or (map head_rank groups) at 0 ≡ rank group.head.id
-read_rank [] at group here = absurd cc
-read_rank (first ∷ groups) zero group here = ap head_rank (same_some here)
-read_rank (first ∷ groups) (suc at) group here = read_rank groups at group here
-
-length_ranks : (groups : List PooledState) → length (map head_rank groups) ≡ length groups
-length_ranks [] = refl
-length_ranks (group ∷ groups) = ap suc (length_ranks groups)
-
-pub IsStrictlyIncreasing-heads : (groups : List PooledState) → Ascend groups → IsStrictlyIncreasing (map (λ (g : PooledState). rank g.head.id) groups)
-IsStrictlyIncreasing-heads groups ascend k low =
-    let long = length_ranks groups in
-    let first = there_at groups k (omega arith) in
-    let second = there_at groups (k + 1) (omega arith) in
-    let less = ascend k (k + 1) first.0 second.0 (omega arith) first.1 second.1 in
-    rw (read_rank groups k first.0 first.1, read_rank groups (k + 1) second.0 second.1) less
+abbrev pub head_id : PooledState → SpanId
+head_id group = group.head.id
 
 -- a group that is left by a test stood before, and above all that it stood above
 module _ (p : PooledState → Bool) where

@@ -1,10 +1,9 @@
 -- A span that was found, and the group that is read there.
-use Rattle.std.proofs.Common.{◌≡◌, ◌<◌, ℕ, List, length, Some, get_or, ◌∙◌, ap, sym, subst, refl, slice_get}
-use Rattle.std.proofs.lemmas.Option.{slice_get_read}
+use Rattle.std.proofs.Common.{◌≡◌, ◌<◌, ℕ, List, length, Some, get_or, ◌∙◌, ap, sym, subst, slice_get}
 use Rattle.span.specs.State.{SpanState}
 use Rattle.span.specs.declared.id.SpanId.{SpanId}
 use Rattle.abandoned.specs.State.{IsHere, PooledState, spans_of}
-use Rattle.shard.proofs.Lists.{get_within, same_some}
+use Rattle.shard.proofs.Lists.{get_within, read_at, same_some}
 
 module _ (groups : List PooledState) (id : SpanId) (index place : ℕ) (group : PooledState) (span : SpanState) (here : IsHere groups id index place group span) where
   pub index_within : index < length groups
@@ -12,7 +11,7 @@ module _ (groups : List PooledState) (id : SpanId) (index place : ℕ) (group : 
 
   module _ (read : PooledState) (is : read ≡ get_or groups index read) where
     pub read_is : slice_get groups index ≡ Some read
-    read_is = slice_get_read groups _ index read refl index_within is
+    read_is = read_at groups index group read here.group_is is
 
     same_group : group ≡ read
     same_group = same_some (sym here.group_is ∙ read_is)

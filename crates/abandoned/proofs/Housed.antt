@@ -1,5 +1,5 @@
 -- A group that was housed in the table and put in at its place has been taken in.
-use Rattle.std.proofs.Common.{◌≡◌, ℕ, ◌-◌, ◌≤◌, ◌∙◌, Bool, List, Option, None, Some, length, ap, arith, inl, inr}
+use Rattle.std.proofs.Common.{◌≡◌, ℕ, ◌-◌, ◌≤◌, Bool, List, Option, None, Some, length, ap, arith, inl, inr}
 use Rattle.std.specs.Prelude.{◌≢◌, insert}
 use Rattle.std.specs.FinMap as map
 use Rattle.std.specs.FinSet as set
@@ -7,7 +7,7 @@ use Rattle.page_table.specs.State.{TableState}
 use Rattle.shard.specs.Group.{union_of}
 use Rattle.shard.specs.Moves.{WholeState, spans_moved, with_page}
 use Rattle.abandoned.specs.Calls.{IsPlaceFor, TakesIn}
-use Rattle.abandoned.specs.State.{PoolState, PooledState}
+use Rattle.abandoned.specs.State.{PooledState}
 use Rattle.abandoned.proofs.TakenIn.{empty_or_not, pooled}
 
 module _ (groups : List PooledState) (table after : TableState) (pages spans : ℕ) (told : Bool) (whole : WholeState) (page : Option ℕ) (index : ℕ)

@@ -1,18 +1,18 @@
 -- A pool stays sound where a sound group comes in at the place of its head.
-use Rattle.std.proofs.Common.{◌≡◌, ℕ, ◌+◌, ◌<◌, ◌≤◌, ◌⊎◌, Bool, true, false, cond, List, length, Option, Some, None, is_some, slice_get, ap, sym, subst, ◌∙◌, refl, inl, inr, arith}
-use Rattle.std.specs.Prelude.{count_by, filter, insert}
+use Rattle.std.proofs.Common.{◌≡◌, ℕ, ◌+◌, ◌<◌, ◌≤◌, ◌⊎◌, Bool, true, false, cond, List, Some, is_some, slice_get, ap, sym, subst, ◌∙◌, refl, inl, inr, arith}
+use Rattle.std.specs.Prelude.{count_by, insert}
 use Rattle.std.specs.FinMap as map
 use Rattle.std.proofs.lemmas.List.Sums.{length-filter}
 use Rattle.span.specs.Ids.{rank, same_span}
 use Rattle.span.specs.State.{SpanState}
 use Rattle.span.specs.declared.id.SpanId.{SpanId}
 use Rattle.page_table.specs.State.{TableState, is_page}
+use Rattle.shard.proofs.GroupSpans.{count-spans_insert, times, times-together}
 use Rattle.shard.proofs.Lists.{after-insert, cases-insert, count-insert, get-insert, none_where, pairs-insert}
 use Rattle.abandoned.specs.Calls.{IsPlaceFor}
 use Rattle.abandoned.specs.Sound.{IsSound, IsSoundGroup}
-use Rattle.abandoned.specs.State.{IsElsewhere, PoolState, PooledState, spans_in, spans_of}
+use Rattle.abandoned.specs.State.{IsElsewhere, PoolState, PooledState, spans_of}
 use Rattle.abandoned.proofs.Pages.{IsSameOn, IsSoundGroup-same, from-is_page}
-use Rattle.abandoned.proofs.Standing.{count-spans_insert, times, times-together}
 
 -- the table after the group came in, beside the old table
 pub record IsTableWith (old : PoolState) (group : PooledState) (table : TableState) : Type 0 where
@@ -54,8 +54,8 @@ module _ (old : PoolState) (sound : IsSound old) (group : PooledState) (index : 
     ascending = pairs-insert (λ (a b : PooledState). rank a.head.id < rank b.head.id) old.groups index group place.within sound.ascending place.before place.after;
     groups = groups_now;
     once = λ id.
-        let most = times-together old.groups (spans_of group) sound.once once_here elsewhere id in
-        let more = count-spans_insert (λ (s : SpanState). same_span s.id id) old.groups index group in
+        let most = times-together spans_of old.groups (spans_of group) sound.once once_here elsewhere id in
+        let more = count-spans_insert spans_of (λ (s : SpanState). same_span s.id id) old.groups index group in
         omega arith;
     own_page = own_page_now;
     only = λ number page is. elim (with_it.only number page is) [

@@ -11,7 +11,6 @@ pub mod Moving
 pub mod Pages
 pub mod Received
 pub mod Released
-pub mod Removed
 pub mod Searches
 pub mod ShownLogs
 pub mod SpanCounts

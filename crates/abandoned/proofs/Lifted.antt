@@ -1,24 +1,23 @@
 -- A pool stays sound where a group leaves it, and what leaves is sound.
-use Rattle.std.proofs.Common.{◌≡◌, ℕ, ◌+◌, ◌-◌, ◌<◌, ◌≤◌, ◌⊎◌, Bool, true, false, cond, List, length, Option, Some, None, MatchOption, is_some, slice_get, ap, sym, subst, ◌∙◌, refl, inl, inr, arith}
-use Rattle.std.specs.Prelude.{count_by, filter, option_map, remove}
+use Rattle.std.proofs.Common.{◌≡◌, ℕ, ◌<◌, ◌≤◌, true, false, length, Option, Some, None, MatchOption, is_some, slice_get, ap, sym, subst, ◌∙◌, refl, arith}
+use Rattle.std.specs.Prelude.{count_by, option_map, remove}
 use Rattle.std.specs.FinMap as map
 use Rattle.std.specs.FinSet as set
 use Rattle.std.proofs.lemmas.List.Sums.{length-filter}
-use Rattle.std.proofs.lemmas.Bool.{cases_eq}
 use Rattle.span.specs.Ids.{rank, same_span}
 use Rattle.span.specs.State.{SpanState}
 use Rattle.span.specs.declared.id.SpanId.{SpanId}
 use Rattle.span.proofs.Ids.{test_from_same_id}
-use Rattle.page_table.specs.State.{TableState, is_page, words_of}
+use Rattle.page_table.specs.State.{is_page, words_of}
 use Rattle.shard.specs.Group.{union_of}
-use Rattle.shard.specs.Moves.{IsSoundMoved, IsSoundWhole, WholeState, spans_moved}
+use Rattle.shard.specs.Moves.{IsSoundMoved, IsSoundWhole, WholeState}
+use Rattle.shard.proofs.GroupSpans.{count-spans_remove, elsewhere-times, times}
 use Rattle.shard.proofs.Lists.{count-some, same_some}
+use Rattle.shard.proofs.Removed.{after-remove, before-remove, count-remove, pairs-remove}
 use Rattle.abandoned.specs.Calls.{Lifts, without_page_of}
 use Rattle.abandoned.specs.Sound.{IsSound, IsSoundGroup, IsSoundPaged}
-use Rattle.abandoned.specs.State.{IsElsewhere, PoolState, PooledState, spans_in, spans_of, whole_of}
+use Rattle.abandoned.specs.State.{IsElsewhere, PoolState, PooledState, spans_of, whole_of}
 use Rattle.abandoned.proofs.Pages.{IsSameOn, IsSoundGroup-same, is_page-same, other_page, sound_paged}
-use Rattle.abandoned.proofs.Removed.{after-remove, before-remove, count-remove, pairs-remove}
-use Rattle.abandoned.proofs.Standing.{count-spans_remove, elsewhere-times, times}
 use Rattle.abandoned.proofs.Tables.{len-without, pages-without, spans-were, spans-without}
 
 module _ (old : PoolState) (sound : IsSound old) (index : ℕ) (group : PooledState) (here : slice_get old.groups index ≡ Some group) where
@@ -41,7 +40,7 @@ module _ (old : PoolState) (sound : IsSound old) (index : ℕ) (group : PooledSt
         IsSoundGroup-same old.table left_over.table g (same_there before.0 g before.1 before.2) (sound.groups before.0 g before.2);
     once = λ id.
         let most = sound.once id in
-        let less = count-spans_remove (λ (s : SpanState). same_span s.id id) old.groups index group here in
+        let less = count-spans_remove spans_of (λ (s : SpanState). same_span s.id id) old.groups index group here in
         omega arith;
     own_page = λ page.
         let most = sound.own_page page in
@@ -69,14 +68,14 @@ module _ (old : PoolState) (sound : IsSound old) (index : ℕ) (group : PooledSt
   pub once_in_group : (id : SpanId) → times id (spans_of group) ≤ 1
   once_in_group id =
       let most = sound.once id in
-      let less = count-spans_remove (λ (s : SpanState). same_span s.id id) old.groups index group here in
+      let less = count-spans_remove spans_of (λ (s : SpanState). same_span s.id id) old.groups index group here in
       omega arith
 
   -- what left is no longer there
   pub elsewhere-left_over : (place : ℕ) (span : SpanState) → slice_get (spans_of group) place ≡ Some span → IsElsewhere left_over.groups span.id
-  elsewhere-left_over place span at = elsewhere-times (remove old.groups index) span.id (
+  elsewhere-left_over place span at = elsewhere-times spans_of (remove old.groups index) span.id (
       let most = sound.once span.id in
-      let less = count-spans_remove (λ (s : SpanState). same_span s.id span.id) old.groups index group here in
+      let less = count-spans_remove spans_of (λ (s : SpanState). same_span s.id span.id) old.groups index group here in
       let some = count-some (λ (s : SpanState). same_span s.id span.id) (spans_of group) place span at (test_from_same_id span.id span.id refl) in
       omega arith)
 

@@ -1,30 +1,28 @@
 -- The groups of a shard on their way to the pool, one after another.
-use Rattle.std.proofs.Common.{zero, suc, ◌≡◌, ℕ, ◌+◌, ◌-◌, ◌<◌, ◌≤◌, Bool, cond, List, [], ◌∷◌, length, Option, Some, None, map, slice_get, ap, sym, subst, ◌∙◌, refl, inl, inr, arith}
+use Rattle.std.proofs.Common.{suc, ◌≡◌, ℕ, ◌+◌, ◌-◌, Bool, cond, List, [], ◌∷◌, length, Option, Some, None, map, slice_get, ap, sym, subst, ◌∙◌, refl, inl, inr, arith}
 use Rattle.std.specs.Prelude.{remove, unwrap_or}
 use Rattle.std.proofs.lemmas.Bool.{cases_eq}
 use Rattle.std.proofs.lemmas.List.{length-append}
 use Rattle.span.specs.Ids.{rank, same_span}
 use Rattle.span.specs.State.{SpanState}
 use Rattle.span.specs.declared.id.SpanId.{SpanId}
-use Rattle.page_table.specs.State.{TableState, words_of}
+use Rattle.page_table.specs.State.{words_of}
 use Rattle.page_table.proofs.Maps.{get-remove}
 use Rattle.std.proofs.lemmas.Bool.{ne_eqb}
 use Rattle.std.specs.FinMap as finite
-use Rattle.std.specs.FinSet as set
 use Rattle.shard.specs.Group.{GroupState, spans_of, union_of}
 use Rattle.shard.specs.Moves.{IsSoundWhole, Lifts, WholeState, spans_moved, whole_of, without_page}
 use Rattle.shard.specs.Sound.{IsSound as IsSoundShard}
 use Rattle.shard.specs.State.{ShardState, spans_in as spans_in_shard}
+use Rattle.shard.proofs.GroupSpans.{elsewhere-times, times}
 use Rattle.shard.proofs.Lists.{count-append, count-some, same_some}
-use Rattle.shard.proofs.MovedGroups.{IsSound-Lifts, IsSoundWhole-Lifts}
 use Rattle.shard.proofs.PutHere.{other_page}
 use Rattle.span.proofs.Ids.{test_from_same_id}
 use Rattle.abandoned.specs.Calls.{MayTakeIn, TakesAll, TakesIn}
 use Rattle.abandoned.specs.Handover.{AreApart, HasRoomFor, IsEmptied}
 use Rattle.abandoned.specs.Sound.{IsSound}
-use Rattle.abandoned.specs.State.{IsElsewhere, PoolState, spans_in}
-use Rattle.abandoned.proofs.Standing.{elsewhere-times, times}
-use Rattle.abandoned.proofs.TakenIn.{IsSound-TakesIn, empty_or_not, times-TakesIn}
+use Rattle.abandoned.specs.State.{IsElsewhere, PoolState, spans_of as spans_of_pooled}
+use Rattle.abandoned.proofs.TakenIn.{empty_or_not, times-TakesIn}
 
 -- the groups that are left will come to what all groups came to
 pub record IsMoving (pool₀ : PoolState) (shard₀ : ShardState) (pool : PoolState) (shard : ShardState) : Type 0 where
@@ -129,7 +127,7 @@ module _ (pool₀ pool next : PoolState) (shard₀ shard left : ShardState) (who
       ∙ ap (λ (s : ShardState). length (spans_moved whole) + length (spans_in_shard s.groups)) (sym lifted.new_is)
 
   elsewhere_now : (place : ℕ) (span : SpanState) → slice_get (spans_moved whole) place ≡ Some span → IsElsewhere pool.groups span.id
-  elsewhere_now place span here = elsewhere-times pool.groups span.id (
+  elsewhere_now place span here = elsewhere-times spans_of_pooled pool.groups span.id (
       let most = is.apart span.id in
       let some = count-some (λ (s : SpanState). same_span s.id span.id) (spans_moved whole) place span here (test_from_same_id span.id span.id refl) in
       omega (arith, count_first span.id))

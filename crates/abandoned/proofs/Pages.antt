@@ -1,5 +1,5 @@
 -- The pages of a sound pool's groups, and when a group stays sound in another table.
-use Rattle.std.proofs.Common.{◌≡◌, ℕ, ◌+◌, ◌<◌, ◌⊎◌, Bool, true, false, ◌==◌, List, [], length, Option, Some, None, MatchOption, slice_get, ap, sym, subst, ◌∙◌, refl, inl, inr, arith, eq-eqb, eqb-true}
+use Rattle.std.proofs.Common.{◌≡◌, ℕ, ◌<◌, ◌⊎◌, Bool, true, false, List, [], length, Option, Some, None, MatchOption, slice_get, ap, sym, subst, ◌∙◌, refl, inl, inr, arith, eq-eqb, eqb-true}
 use Rattle.std.specs.Prelude.{unwrap_or, ◌≢◌}
 use Rattle.std.specs.FinMap as map
 use Rattle.std.specs.FinSet as set

@@ -1,5 +1,5 @@
 -- The end of a shard: what its groups have in common with the pool's, and what it leaves.
-use Rattle.std.proofs.Common.{zero, suc, ◌≡◌, ℕ, ◌+◌, ◌≤◌, ◌⊎◌, Bool, true, false, cond, List, [], ◌∷◌, length, Option, Some, None, is_some, map, slice_get, ap, sym, subst, ◌∙◌, refl, inl, inr, arith, eq-eqb, eqb}
+use Rattle.std.proofs.Common.{zero, suc, ◌≡◌, ℕ, ◌+◌, true, cond, List, [], ◌∷◌, length, Option, Some, None, is_some, map, slice_get, ap, sym, subst, ◌∙◌, refl, inl, inr, arith, eq-eqb, eqb}
 use Rattle.std.specs.Cmp.{nat_cmp_total, unsigned_tied}
 use Rattle.std.specs.FinMap as finite
 use Rattle.std.specs.Ordering.{nat_cmp}
@@ -7,20 +7,18 @@ use Rattle.page_table.proofs.Maps.{get-remove-same, insert-remove, same_nat_map}
 use Rattle.page_table.specs.State.{Pages, Spans}
 use Rattle.span.specs.Ids.{same_span}
 use Rattle.span.specs.State.{SpanState}
-use Rattle.span.specs.declared.id.SpanId.{SpanId}
 use Rattle.span.proofs.Ids.{same_id_from_test}
-use Rattle.shard.specs.Group.{GroupState}
+use Rattle.shard.specs.Group.{GroupState, spans_of as spans_in_group}
 use Rattle.shard.specs.Moves.{IsSoundWhole, WholeState, whole_of}
 use Rattle.shard.specs.Sound.{IsSound as IsSoundShard}
-use Rattle.shard.specs.State.{ShardState, spans_in as spans_in_shard}
+use Rattle.shard.specs.State.{ShardState}
+use Rattle.shard.proofs.GroupSpans.{count-spans_in, times, times-elsewhere}
 use Rattle.shard.proofs.LiftedGroup.{IsSoundWhole-lifted}
-use Rattle.shard.proofs.Standing.{count-spans_in}
 use Rattle.shard.proofs.Unions.{false_or_true}
 use Rattle.abandoned.specs.Calls.{IsInPool}
 use Rattle.abandoned.specs.Handover.{AreApart, IsEmptied}
 use Rattle.abandoned.specs.Sound.{IsSound}
-use Rattle.abandoned.specs.State.{IsElsewhere, PoolState, spans_in}
-use Rattle.abandoned.proofs.Standing.{times, times-elsewhere}
+use Rattle.abandoned.specs.State.{IsElsewhere, PoolState, spans_in, spans_of}
 use Rattle.abandoned.proofs.TakenIn.{AreSound}
 use Rattle.std.proofs.lemmas.Bool.{cases_eq, ne_eqb}
 
@@ -30,7 +28,7 @@ AreApart-receiving pool shard sound sound_shard apart id = elim (cases_eq (times
   | inl none ↦ let most = sound_shard.once id in omega arith
   | inr some ↦
       let most = sound.once id in
-      let none = count-spans_in (λ (s : SpanState). same_span s.id id) shard.groups (λ index place group span stands. false_or_true (same_span span.id id) (λ same.
+      let none = count-spans_in spans_in_group (λ (s : SpanState). same_span s.id id) shard.groups (λ index place group span stands. false_or_true (same_span span.id id) (λ same.
       apart (
         index,
         group,
@@ -40,7 +38,7 @@ AreApart-receiving pool shard sound sound_shard apart id = elim (cases_eq (times
           span,
           stands.1,
           (λ elsewhere.
-              some (times-elsewhere pool.groups id (subst (IsElsewhere pool.groups) (same_id_from_test span.id id same) elsewhere))),
+              some (times-elsewhere spans_of pool.groups id (subst (IsElsewhere pool.groups) (same_id_from_test span.id id same) elsewhere))),
         ),
       ))) in
       omega arith

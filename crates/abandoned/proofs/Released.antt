@@ -1,5 +1,5 @@
 -- What a group that gives its page up does to the pool.
-use Rattle.std.proofs.Common.{◌≡◌, ℕ, ◌⊎◌, Bool, true, false, List, Option, Some, None, IfSome, MatchOption, is_some, set, slice_get, ap, sym, ◌∙◌, refl, inl, inr}
+use Rattle.std.proofs.Common.{◌≡◌, ℕ, Bool, true, false, List, Option, Some, None, IfSome, MatchOption, is_some, set, slice_get, ap, sym, ◌∙◌, refl, inl, inr}
 use Rattle.std.specs.FinSet as set_of
 use Rattle.std.specs.Ordering.{nat_cmp}
 use Rattle.bitmap.specs.Slots.{IsLowest, SlotSet}

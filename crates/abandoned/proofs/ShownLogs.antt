@@ -1,54 +1,35 @@
 -- A sound pool shows the map that its logs leave: what its calls do to the plain map.
-use Rattle.std.proofs.Common.{◌≡◌, ℕ, ◌+◌, ◌<◌, Bool, true, false, cond, List, [], ◌∷◌, ◌++◌, IsSomeAnd, Option, Some, None, is_some, set, slice_get, eqb, eq-eqb, ◌∙◌, ap, sym, subst, refl, inl, inr, arith}
-use Rattle.std.specs.Prelude.{count_by, slice_index}
+use Rattle.std.proofs.Common.{◌≡◌, ℕ, true, false, cond, ◌∷◌, ◌++◌, Option, Some, None, is_some, slice_get, ◌∙◌, ap, sym, refl, arith}
+use Rattle.std.specs.Prelude.{count_by}
 use Rattle.std.specs.FinMap as map
 use Rattle.std.specs.FinSet as set_of
 use Rattle.std.specs.Ordering.{nat_cmp}
-use Rattle.span.proofs.Ids.{test_from_same_id, same_id_from_test}
 use Rattle.span.proofs.Slots.{contains-live_slots}
 use Rattle.span.proofs.Values.{is_some-value_in}
-use Rattle.span.specs.Ids.{rank, same_span}
-use Rattle.span.specs.Log.{Value, Held, Holds, live_slots, replay, value_if, value_in}
+use Rattle.span.specs.Ids.{same_span}
+use Rattle.span.specs.Log.{Value, Held, live_slots, replay, value_if, value_in}
 use Rattle.span.specs.PlainMap.{PlainMap, without}
 use Rattle.span.specs.State.{SpanState}
 use Rattle.span.specs.declared.key.Key.{Key}
 use Rattle.span.specs.declared.id.SpanId.{SpanId}
-use Rattle.page_table.specs.State.{words_of}
 use Rattle.shard.specs.Calls.{value_found, was_freed}
-use Rattle.shard.specs.Group.{union_of, with_free}
+use Rattle.shard.specs.Group.{with_free}
 use Rattle.shard.specs.Shown.{span_named, value_by, word_of}
 use Rattle.shard.specs.declared.shard.Found.{Found}
 use Rattle.shard.specs.declared.shard.Found.TheVariants.{Gone, NotHere}
 use Rattle.shard.specs.declared.shard.Found.TheVariants as found
 use Rattle.shard.specs.declared.shard.Freed.{Freed}
 use Rattle.shard.specs.declared.shard.Freed.TheVariants as freed
-use Rattle.shard.proofs.Lists.{find-none}
-use Rattle.shard.proofs.Logged.{logged, logged_by, logged-free, named-here, others, same_plain_map}
-use Rattle.shard.proofs.Logs.{is_some-value_in-gone}
+use Rattle.shard.proofs.GroupSpans.{named_stands, span_named-none, span_named-stands, spans_round}
+use Rattle.shard.proofs.Logged.{logged, logged_by, logged-free, nothing_pending, others, same_plain_map, value_by-mapped}
+use Rattle.shard.proofs.Logs.{is_some-value_in-gone, value_in-gone, value_in-held}
 use Rattle.shard.proofs.Unions.{false_or_true, member_of_union}
 use Rattle.abandoned.specs.Calls.{Frees, Gets}
 use Rattle.abandoned.specs.Shown.{shown}
-use Rattle.abandoned.specs.Sound.{IsSound, IsSoundSpan}
+use Rattle.abandoned.specs.Sound.{IsSound}
 use Rattle.abandoned.specs.State.{IsElsewhere, IsHere, PoolState, PooledState, spans_in, spans_of}
 use Rattle.abandoned.proofs.Freed.{IsSound-Frees, groups-Leaves}
 use Rattle.abandoned.proofs.Pages.{none_live, sound_paged}
-use Rattle.abandoned.proofs.Standing.{named_stands, spans_round, times-elsewhere}
-
-abbrev pub nothing_pending : ℕ → ℕ → List Key
-nothing_pending worker owner = []
-
--- the value that a log leaves is the word where the word is that of each live slot
-word_or_none : (o : Option Held) (generation : ℕ) (word : Value) → ((held : Held) → o ≡ Some held → word ≡ held.value)
-    → cond (is_some (value_if generation o)) (Some word) None ≡ value_if generation o
-word_or_none None generation word same = refl
-word_or_none (Some held) generation word same = by_test (eqb held.generation generation)
-  where
-    by_test : (b : Bool) → cond (is_some (cond b (Some held.value) None)) (Some word) None ≡ cond b (Some held.value) None
-    by_test true = ap Some (same held refl)
-    by_test false = refl
-
-rank_same : (a b : SpanId) → same_span a b ≡ true → rank b ≡ rank a
-rank_same a b same = ap rank (sym (same_id_from_test a b same))
 
 -- a slot that is not live has no value, whatever the word
 nothing_live : (o : Option Held) (generation : ℕ) (word : Option Value) → is_some o ≡ false → cond (is_some (value_if generation o)) word None ≡ value_if generation o
@@ -56,13 +37,6 @@ nothing_live None generation word e = refl
 nothing_live (Some held) generation word e = absurd cc
 
 module _ (pool : PoolState) (sound : IsSound pool) where
-  value_in-word : (key : Key) (page : ℕ) (span : SpanState) → IsSoundSpan pool.table page span → same_span span.id key.span ≡ true → value_by pool.table key (Some span) ≡ value_in span.log key.slot key.generation
-  value_in-word key page span s same =
-      let mapped : map.get pool.table.spans (rank key.span) ≡ Some page = ap (map.get pool.table.spans) (rank_same span.id key.span same) ∙ s.mapped in
-      let word : word_of pool.table key.span key.slot ≡ Some (slice_index (words_of pool.table page) key.slot) = rw mapped refl in
-      ap (λ (w : Option Value). cond (is_some (value_in span.log key.slot key.generation)) w None) word
-      ∙ word_or_none (map.get (replay span.log) key.slot) key.generation (slice_index (words_of pool.table page) key.slot) (λ held is. s.kept.stored key.slot held is)
-
   -- in a group with no page nothing is live
   not_live : (index place : ℕ) (group : PooledState) (span : SpanState) (slot : ℕ) → slice_get pool.groups index ≡ Some group → slice_get (spans_of group) place ≡ Some span → group.page ≡ None → is_some (map.get (replay span.log) slot) ≡ false
   not_live index place group span slot here there none =
@@ -75,13 +49,15 @@ module _ (pool : PoolState) (sound : IsSound pool) where
   value_by-logged : (key : Key) (o : Option SpanState) → span_named (spans_in pool.groups) key.span ≡ o → value_by pool.table key o ≡ logged_by key o
   value_by-logged key None e = refl
   value_by-logged key (Some span) e =
-      let there = named_stands pool.groups key.span span e in
+      let there = named_stands spans_of pool.groups key.span span e in
       by_page there.0.0 there.0.1 there.0.2 there.0.3.0 there.0.3.1 there.1 there.0.2.page refl
     where
       by_page : (index place : ℕ) (group : PooledState) → slice_get pool.groups index ≡ Some group → slice_get (spans_of group) place ≡ Some span → same_span span.id key.span ≡ true
           → (o : Option ℕ) → group.page ≡ o → value_by pool.table key (Some span) ≡ value_in span.log key.slot key.generation
       by_page index place group here there same None is = nothing_live (map.get (replay span.log) key.slot) key.generation (word_of pool.table key.span key.slot) (not_live index place group span key.slot here there is)
-      by_page index place group here there same (Some page) is = value_in-word key page span ((sound_paged pool sound index group here page is).spans place span there) same
+      by_page index place group here there same (Some page) is =
+          let its = (sound_paged pool sound index group here page is).spans place span there in
+          value_by-mapped pool.table key page span its.mapped (λ held is. its.kept.stored key.slot held is) same
 
   -- the words of the pages are what the logs say
   pub shown-logged : shown pool ≡ logged (spans_in pool.groups) nothing_pending
@@ -89,15 +65,10 @@ module _ (pool : PoolState) (sound : IsSound pool) where
 
   -- a span that stands in a group is found by its id
   pub span_named-here : (id : SpanId) (index place : ℕ) (group : PooledState) (span : SpanState) → IsHere pool.groups id index place group span → span_named (spans_in pool.groups) id ≡ Some span
-  span_named-here id index place group span here =
-      let round = spans_round pool.groups index place group span (here.group_is, here.span_is) in
-      ap (λ spans. span_named spans id) round.whole
-      ∙ named-here round.left round.right span.id
-      (others round.left round.right span (let once = sound.once span.id in let same = ap (λ spans. count_by (λ (s : SpanState). same_span s.id span.id) spans) round.whole in omega arith))
-      span refl id (test_from_same_id span.id id here.id_is)
+  span_named-here id index place group span here = span_named-stands spans_of pool.groups sound.once index place group span (here.group_is, here.span_is) id here.id_is
 
   pub span_named-elsewhere : (id : SpanId) → IsElsewhere pool.groups id → span_named (spans_in pool.groups) id ≡ None
-  span_named-elsewhere id elsewhere = find-none (λ (s : SpanState). same_span s.id id) (spans_in pool.groups) (times-elsewhere pool.groups id elsewhere)
+  span_named-elsewhere id elsewhere = span_named-none spans_of pool.groups id elsewhere
 
   value-logged : (key : Key) → (shown pool).value_of key ≡ logged_by key (span_named (spans_in pool.groups) key.span)
   value-logged key = ap (λ (m : PlainMap). m.value_of key) shown-logged
@@ -105,18 +76,10 @@ module _ (pool : PoolState) (sound : IsSound pool) where
   -- a look-up answers as the plain map
   pub value_found-Gets : (key : Key) (answer : Found) → Gets pool key answer → value_found answer ≡ (shown pool).value_of key
   value_found-Gets key (found.Value value at) (index, place, page, group, span, here, paged, holds, word, before) =
-      value_held (map.get (replay span.log) key.slot) holds (λ held is. word ∙ ((sound_paged pool sound index group here.group_is page paged).spans place span here.span_is).kept.stored key.slot held is)
-      ∙ sym (value-logged key ∙ ap (logged_by key) (span_named-here key.span index place group span here))
-    where
-      value_held : (o : Option Held) → IsSomeAnd o (λ held. held.generation ≡ key.generation) → ((held : Held) → o ≡ Some held → value ≡ held.value) → Some value ≡ value_if key.generation o
-      value_held None h same = absurd h
-      value_held (Some held) h same = rw (eq-eqb held.generation key.generation h) (ap Some (same held refl))
+      sym (value-logged key ∙ ap (logged_by key) (span_named-here key.span index place group span here)
+      ∙ value_in-held span.log key.slot key.generation value holds (λ held is. word ∙ ((sound_paged pool sound index group here.group_is page paged).spans place span here.span_is).kept.stored key.slot held is))
   value_found-Gets key (Gone at) (index, place, group, span, here, gone, before) =
-      sym (value-logged key ∙ ap (logged_by key) (span_named-here key.span index place group span here) ∙ no_value _ (is_some-value_in-gone span.log key.slot key.generation gone))
-    where
-      no_value : (o : Option Value) → is_some o ≡ false → o ≡ None
-      no_value None e = refl
-      no_value (Some value) e = absurd cc
+      sym (value-logged key ∙ ap (logged_by key) (span_named-here key.span index place group span here) ∙ value_in-gone span.log key.slot key.generation gone)
   value_found-Gets key NotHere elsewhere = sym (value-logged key ∙ ap (logged_by key) (span_named-elsewhere key.span elsewhere))
 
 -- a free is done exactly where the key holds a value
@@ -131,7 +94,7 @@ was_freed-Frees old new key freed.NotHere sound (elsewhere, new_is) =
 -- a free of the key is a free of the plain map
 pub shown-Frees : (old new : PoolState) (key : Key) (answer : Freed) → IsSound old → Frees old key answer new → shown new ≡ cond (was_freed answer) (without (shown old) key) (shown old)
 shown-Frees old new key (freed.Yes at) sound (index, place, group, span, here, holds, before, leaves) =
-    let round = spans_round old.groups index place group span (here.group_is, here.span_is) in
+    let round = spans_round spans_of old.groups index place group span (here.group_is, here.span_is) in
     let once = sound.once span.id in
     let same = ap (λ spans. count_by (λ (s : SpanState). same_span s.id span.id) spans) round.whole in
     let was : shown old ≡ logged (round.left ++ span ∷ round.right) nothing_pending = shown-logged old sound ∙ ap (λ spans. logged spans nothing_pending) round.whole in

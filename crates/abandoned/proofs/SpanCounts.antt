@@ -13,7 +13,7 @@ use Rattle.shard.specs.Group.{GroupState, spans_of}
 use Rattle.shard.specs.Sound.{IsSound as IsSoundShard}
 use Rattle.shard.specs.State.{ShardState, spans_in}
 use Rattle.shard.proofs.Lists.{count-two}
-use Rattle.shard.proofs.TakenIn.{id_from_rank}
+use Rattle.shard.proofs.Standing.{id_from_rank}
 
 abbrev span_rank : SpanState → ℕ
 span_rank span = rank span.id

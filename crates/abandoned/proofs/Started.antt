@@ -1,5 +1,5 @@
 -- A pool with no group is sound.
-use Rattle.std.proofs.Common.{false, ◌≡◌, ℕ, [], Some, None, sym, ◌∙◌, arith, refl}
+use Rattle.std.proofs.Common.{false, ◌≡◌, [], Some, None, sym, ◌∙◌, arith}
 use Rattle.std.specs.FinMap as map
 use Rattle.std.specs.Ordering.{nat_cmp}
 use Rattle.shard.specs.State.{no_pages}

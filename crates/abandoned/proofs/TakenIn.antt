@@ -1,6 +1,6 @@
 -- A pool stays sound where it takes groups in.
-use Rattle.std.proofs.Common.{suc, ◌≡◌, ℕ, ◌+◌, ◌-◌, ◌<◌, ◌≤◌, ◌⊎◌, Bool, true, false, cond, eqb, ◌==◌, List, [], ◌∷◌, ◌++◌, length, Option, Some, None, MatchOption, is_some, slice_get, ap, sym, subst, ◌∙◌, refl, inl, inr, arith, eq-eqb}
-use Rattle.std.specs.Prelude.{◌≢◌, count_by, insert, unwrap_or}
+use Rattle.std.proofs.Common.{suc, ◌≡◌, ℕ, ◌+◌, ◌≤◌, ◌⊎◌, true, false, cond, List, [], ◌∷◌, length, Option, Some, None, MatchOption, is_some, slice_get, ap, sym, subst, ◌∙◌, refl, inl, inr, arith, eq-eqb}
+use Rattle.std.specs.Prelude.{◌≢◌, insert, unwrap_or}
 use Rattle.std.specs.Cmp.{nat_cmp_total, unsigned_tied}
 use Rattle.std.specs.FinMap as map
 use Rattle.std.specs.FinSet as set
@@ -12,21 +12,21 @@ use Rattle.bitmap.specs.Words.{same_slots}
 use Rattle.span.specs.Ids.{rank, same_span}
 use Rattle.span.specs.State.{SpanState}
 use Rattle.span.specs.declared.id.SpanId.{SpanId}
-use Rattle.span.proofs.Ids.{same_id, same_id_from_test, test_from_same_id}
+use Rattle.span.proofs.Ids.{test_from_same_id}
 use Rattle.page_table.specs.State.{TableState, is_page, words_of}
 use Rattle.shard.specs.Group.{union_of}
 use Rattle.shard.specs.Moves.{IsSoundMoved, IsSoundWhole, WholeState, spans_moved, with_page}
-use Rattle.shard.proofs.Lists.{count-append, count-none, count-some, same_some}
-use Rattle.shard.proofs.Standing.{same_rank}
+use Rattle.shard.proofs.GroupSpans.{count-spans_insert, elsewhere-times, times}
+use Rattle.shard.proofs.Lists.{count-append, count-none, count-some}
+use Rattle.shard.proofs.Mapped.{get-with_mapped_in, get-with_mapped_out, with_mapped-was}
+use Rattle.shard.proofs.Standing.{id_from_rank}
 use Rattle.shard.proofs.Tables.{get-insert_other, get-insert_same}
 use Rattle.shard.proofs.Unions.{false_or_true}
-use Rattle.abandoned.specs.Calls.{IsPlaceFor, TakesAll, TakesIn, less_room, with_rooms}
+use Rattle.abandoned.specs.Calls.{TakesAll, TakesIn, less_room, with_rooms}
 use Rattle.abandoned.specs.Sound.{IsSound, IsSoundGroup, IsSoundPaged}
 use Rattle.abandoned.specs.State.{IsElsewhere, PoolState, PooledState, spans_in, spans_of}
 use Rattle.abandoned.proofs.Inserted.{IsSound-inserted, IsTableWith}
 use Rattle.abandoned.proofs.Pages.{from-is_page, sound_paged}
-use Rattle.abandoned.proofs.Standing.{count-spans_insert, elsewhere-times, times}
-use Rattle.abandoned.proofs.Tables.{get-with_mapped_in, get-with_mapped_out, with_mapped-was}
 
 -- a set has no member, or some
 pub empty_or_not : (s : SlotSet) → (s ≡ set.empty) ⊎ (s ≢ set.empty)
@@ -92,9 +92,8 @@ module _ (old : PoolState) (sound : IsSound old) (whole : WholeState) (fits : Is
       };
       others = λ index other there. record {
         page = λ q is. get-insert_other old.table.pages page words q (λ same. not_of_group index other there (is ∙ ap Some same));
-        spans = λ q is place span at. get-with_mapped_out (spans_moved whole) old.table.spans page (rank span.id) (λ place' moved at' same.
-            let parts = same_rank moved.id span.id same in
-            elsewhere place' moved at' index other there place (span, at, same_id span.id moved.id (sym parts.0) (sym parts.1)));
+        spans = λ q is place span at. get-with_mapped_out (spans_moved whole) old.table.spans page (rank span.id)
+            (λ place' moved at' same. elsewhere place' moved at' index other there place (span, at, id_from_rank span.id moved.id (sym same)));
       };
       own_page = λ q is. count-none (λ (g : PooledState). is_page g.page q) old.groups (λ index g there. false_or_true (is_page g.page q) (λ its. not_of_group index g there (from-is_page g.page q its ∙ sym is)));
       only = λ number q is. elim (with_mapped-was (spans_moved whole) old.table.spans page number q is) [
@@ -138,7 +137,7 @@ pub times-TakesIn : (old new : PoolState) (whole : WholeState) → IsSound old �
     → (id : SpanId) → times id (spans_in new.groups) ≡ times id (spans_moved whole) + times id (spans_in old.groups)
 times-TakesIn old new whole sound fits elsewhere takes id =
     let its = is_in-TakesIn old sound whole fits elsewhere new takes in
-    ap (λ gs. times id (spans_in gs)) its.1.groups_are ∙ count-spans_insert (λ (s : SpanState). same_span s.id id) old.groups takes.index (pooled whole its.0)
+    ap (λ gs. times id (spans_in gs)) its.1.groups_are ∙ count-spans_insert spans_of (λ (s : SpanState). same_span s.id id) old.groups takes.index (pooled whole its.0)
 
 -- the pool is sound whatever room it has
 pub IsSound-with_rooms : (pool : PoolState) (pages spans : ℕ) → IsSound pool → IsSound (with_rooms pool pages spans)
@@ -168,7 +167,7 @@ abbrev pub AreOnce : PoolState → List WholeState → Type 0
 AreOnce pool wholes = (id : SpanId) → times id (flat_map spans_moved wholes) + times id (spans_in pool.groups) ≤ 1
 
 pub elsewhere_first : (pool : PoolState) (whole : WholeState) (wholes : List WholeState) → AreOnce pool (whole ∷ wholes) → IsElsewhereWhole pool whole
-elsewhere_first pool whole wholes once place span here = elsewhere-times pool.groups span.id (
+elsewhere_first pool whole wholes once place span here = elsewhere-times spans_of pool.groups span.id (
     let most = once span.id in
     let both = count-append (λ (s : SpanState). same_span s.id span.id) (spans_moved whole) (flat_map spans_moved wholes) in
     let some = count-some (λ (s : SpanState). same_span s.id span.id) (spans_moved whole) place span here (test_from_same_id span.id span.id refl) in

@@ -1,12 +1,9 @@
 -- What pool and shard show together stays as groups move between them.
 use Rattle.std.proofs.Common.{suc, ◌≡◌, ℕ, ◌+◌, ◌≤◌, ◌⊎◌, Bool, true, false, cond, ◌||◌, List, [], ◌∷◌, ◌++◌, append_assoc, Option, Some, None, map, ap, sym, subst, ◌∙◌, refl, inl, inr, arith}
-use Rattle.std.specs.Prelude.{count_by, find, insert, remove}
 use Rattle.std.specs.List.{flat_map}
 use Rattle.std.proofs.lemmas.Bool.{cases_eq}
-use Rattle.std.proofs.lemmas.Grind.{flat_map-append}
 use Rattle.span.specs.Ids.{same_span}
 use Rattle.span.specs.Log.{Value}
-use Rattle.span.specs.PlainMap.{PlainMap}
 use Rattle.span.specs.State.{SpanState}
 use Rattle.span.specs.declared.id.SpanId.{SpanId}
 use Rattle.span.specs.declared.key.Key.{Key}
@@ -16,17 +13,16 @@ use Rattle.shard.specs.Moves.{TakesIn as TakesInShard, WholeState, spans_moved, 
 use Rattle.shard.specs.Shown.{issued_by, shown as shown_by_shard, span_named}
 use Rattle.shard.specs.Sound.{IsSound as IsSoundShard}
 use Rattle.shard.specs.State.{ShardState, spans_in as spans_in_shard}
-use Rattle.shard.proofs.Lists.{count-append, find-none, part_at}
-use Rattle.shard.proofs.Logged.{logged, logged_by, same_plain_map}
+use Rattle.shard.proofs.GroupSpans.{put_in, taken_out, times}
+use Rattle.shard.proofs.Lists.{count-append, find-none}
+use Rattle.shard.proofs.Logged.{logged, logged_by, nothing_pending, same_plain_map}
 use Rattle.shard.proofs.MovedGroups.{spans_in-TakesIn}
 use Rattle.shard.proofs.ShownLogs.{shown-logged as shown-logged_shard}
 use Rattle.abandoned.specs.Calls.{Lifts, TakesAll, TakesIn, with_rooms}
 use Rattle.abandoned.specs.Shown.{first_of, shown, together}
 use Rattle.abandoned.specs.Sound.{IsSound}
-use Rattle.abandoned.specs.State.{PoolState, PooledState, spans_in, spans_of}
-use Rattle.abandoned.proofs.Removed.{cut_at}
-use Rattle.abandoned.proofs.ShownLogs.{nothing_pending, shown-logged}
-use Rattle.abandoned.proofs.Standing.{times}
+use Rattle.abandoned.specs.State.{PoolState, spans_in, spans_of}
+use Rattle.abandoned.proofs.ShownLogs.{shown-logged}
 use Rattle.abandoned.proofs.TakenIn.{AreOnce, AreSound, IsSound-TakesAll, IsSound-TakesIn, elsewhere_first, is_in-TakesIn, once_after, pooled}
 
 -- the first span, if there is one, and else the second
@@ -170,11 +166,11 @@ module _ (left moved right fore aft : List SpanState) (once_here : (id : SpanId)
 pub spans_in-Lifts : (old new : PoolState) (head : SpanId) (whole : WholeState) → Lifts old head (Some whole) new
     → (left : List SpanState) × (right : List SpanState) × (spans_in old.groups ≡ left ++ (spans_moved whole ++ right)) × (spans_in new.groups ≡ left ++ right)
 spans_in-Lifts old new head whole (index, group, at, whole_is, new_is) =
-    let cut = cut_at old.groups index group at.here in (
-      spans_in cut.left,
-      spans_in cut.right,
-      ap spans_in cut.whole ∙ flat_map-append spans_of cut.left (group ∷ cut.right) ∙ ap (λ (w : WholeState). spans_in cut.left ++ (spans_moved w ++ spans_in cut.right)) (sym whole_is),
-      ap (λ (p : PoolState). spans_in p.groups) new_is ∙ ap spans_in cut.rest ∙ flat_map-append spans_of cut.left cut.right,
+    let out = taken_out spans_of old.groups index group at.here in (
+      out.left,
+      out.right,
+      out.whole ∙ ap (λ (w : WholeState). out.left ++ (spans_moved w ++ out.right)) (sym whole_is),
+      ap (λ (p : PoolState). spans_in p.groups) new_is ∙ out.after,
     )
 
 pub together-Adopts : (old new : PoolState) (shard adopter : ShardState) (head : SpanId) (whole : WholeState) (spans : ℕ) → IsSound old → IsSound new → IsSoundShard shard → IsSoundShard adopter
@@ -196,12 +192,10 @@ together-Adopts old new shard adopter head whole spans sound sound_new sound_sha
 Alike-TakesIn : (old new : PoolState) (whole : WholeState) (wholes : List WholeState) → IsSound old → AreSound (whole ∷ wholes) → AreOnce old (whole ∷ wholes) → TakesIn old whole new → Alike (spans_in new.groups) (spans_moved whole ++ spans_in old.groups)
 Alike-TakesIn old new whole wholes sound fits once takes id =
     let its = is_in-TakesIn old sound whole (fits 0 whole refl) (elsewhere_first old whole wholes once) new takes in
-    let part = part_at old.groups takes.index in
-    let was : spans_in old.groups ≡ spans_in part.left ++ spans_in part.right = ap spans_in part.whole ∙ flat_map-append spans_of part.left part.right in
-    let is : spans_in new.groups ≡ spans_in part.left ++ (spans_moved whole ++ spans_in part.right) =
-    ap spans_in (its.1.groups_are ∙ part.after_insert (pooled whole its.0)) ∙ flat_map-append spans_of part.left (pooled whole its.0 ∷ part.right) in
-    let now : (other : SpanId) → times other (spans_in part.left ++ (spans_moved whole ++ spans_in part.right)) ≤ 1 = λ other. subst (λ xs. times other xs ≤ 1) is (its.1.sound_now.once other) in
-    ap (λ xs. span_named xs id) is ∙ Alike-front (spans_in part.left) (spans_moved whole) (spans_in part.right) now id ∙ ap (λ xs. span_named (spans_moved whole ++ xs) id) (sym was)
+    let part = put_in spans_of old.groups takes.index (pooled whole its.0) in
+    let is : spans_in new.groups ≡ part.left ++ (spans_moved whole ++ part.right) = ap spans_in its.1.groups_are ∙ part.after in
+    let now : (other : SpanId) → times other (part.left ++ (spans_moved whole ++ part.right)) ≤ 1 = λ other. subst (λ xs. times other xs ≤ 1) is (its.1.sound_now.once other) in
+    ap (λ xs. span_named xs id) is ∙ Alike-front part.left (spans_moved whole) part.right now id ∙ ap (λ xs. span_named (spans_moved whole ++ xs) id) (sym part.whole)
 
 pub Alike-TakesAll : (wholes : List WholeState) (old new : PoolState) → IsSound old → AreSound wholes → AreOnce old wholes → TakesAll old wholes new → Alike (spans_in new.groups) (flat_map spans_moved wholes ++ spans_in old.groups)
 Alike-TakesAll [] old new sound fits once same id = ap (λ (p : PoolState). span_named (spans_in p.groups) id) same

@@ -1,5 +1,5 @@
 -- What a shard's groups need on their way to the pool, and what they leave behind.
-use Rattle.std.specs.Prelude.{◌≡◌, ℕ, ◌+◌, ◌≤◌, [], length, count_by}
+use Rattle.std.specs.Prelude.{◌≡◌, ◌+◌, ◌≤◌, [], length, count_by}
 use Rattle.span.specs.Ids.{same_span}
 use Rattle.span.specs.declared.id.SpanId.{SpanId}
 use Rattle.shard.specs.State.{ShardState, spans_in as spans_in_shard}

@@ -1,6 +1,5 @@
 -- What a pool keeps.
-use Rattle.std.specs.Prelude.{◌≡◌, ◌+◌, ◌≤◌, vec_capacity, vec_len}
-use Rattle.page_table.specs.State.{TableState}
+use Rattle.std.specs.Prelude.{◌+◌, ◌≤◌, vec_capacity, vec_len}
 use Rattle.abandoned.specs.Sound.{IsSound}
 use Rattle.abandoned.specs.State.{PoolState}
 use Rattle.abandoned.specs.declared.pool.Pool.TheInside.{Inside}

@@ -1,5 +1,5 @@
 -- When the pool is sound: the parts of soundness that speak of the pool alone.
-use Rattle.std.specs.Prelude.{◌≡◌, ◌≢◌, ℕ, ◌<◌, ◌≤◌, length, Option, Some, MatchOption, slice_get, count_by}
+use Rattle.std.specs.Prelude.{◌≡◌, ◌≢◌, ℕ, ◌≤◌, length, Some, MatchOption, slice_get, count_by}
 use Rattle.std.specs.FinMap as map
 use Rattle.std.specs.FinSet as set
 use Rattle.span.specs.declared.id.SpanId.{SpanId}

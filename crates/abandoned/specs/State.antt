@@ -1,5 +1,5 @@
 -- What contracts see of the pool.
-use Rattle.std.specs.Prelude.{◌≡◌, ◌≢◌, ℕ, ◌<◌, Bool, List, [], ◌∷◌, length, map, filter, Option, Some, None, is_some, option_map, slice_get, slice_index, sum_by, zero, suc, slice_set}
+use Rattle.std.specs.Prelude.{◌≡◌, ℕ, ◌<◌, Bool, List, ◌∷◌, filter, Option, Some, is_some, option_map, slice_get, zero, suc, slice_set}
 use Rattle.std.specs.List.{flat_map}
 use Rattle.bitmap.specs.Slots.{SlotSet}
 use Rattle.span.specs.declared.id.SpanId.{SpanId}

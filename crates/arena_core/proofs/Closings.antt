@@ -1,10 +1,8 @@
 -- How the groups of a plan are closed, one pair after another, and a list written one element after another.
 use Rattle.std.proofs.Common.{◌≡◌, ℕ, zero, suc, ◌+◌, ◌<◌, ◌||◌, Bool, true, false, List, [], ◌∷◌, ◌++◌, length, map, refl, sym, ap, subst, ◌∙◌, arith, inl, inr, Some, None, slice_get, set, take, drop, get_or, append_assoc}
-use Rattle.std.specs.Prelude.{option_map}
-use Rattle.std.proofs.lemmas.Bool.{cases_Bool, cases_eq, cases_lt}
+use Rattle.std.proofs.lemmas.Bool.{cases_Bool, cases_eq, cases_lt, or_right}
 use Rattle.std.proofs.lemmas.List.{drop_more, get_or_at, length-append, length-drop, length-map, length-take, length-take-le, map-append, set_at, take_more}
 use Rattle.std.proofs.lemmas.List.Folds.{list_any-append}
-use Rattle.std.proofs.lemmas.Option.{slice_get-map}
 use Rattle.std.proofs.Math.Bool.{or-false}
 use Rattle.span.specs.declared.id.SpanId.{SpanId}
 use Rattle.span.specs.Ids.{rank, same_span}
@@ -15,7 +13,7 @@ use Rattle.shard.specs.Group.{GroupState}
 use Rattle.shard.specs.State.{ShardState}
 use Rattle.arena_core.specs.Closings.{closed_as_planned, closed_onto}
 use Rattle.arena_core.specs.Plan.{AreClosedAsPlanned, plans_onto}
-use Rattle.arena_core.proofs.Lists.{slice_get-set_other, slice_get-set_same}
+use Rattle.arena_core.proofs.Lists.{slice_get-map_at, slice_get-set_other, slice_get-set_same}
 
 -- a list written one element after another
 
@@ -71,11 +69,7 @@ closed_as_planned-other pairs pair group other =
 -- the group that the pair names is closed
 closed_as_planned-named : (pairs : List (SpanId × SpanId)) (pair : SpanId × SpanId) (group : GroupState) → group.head.id ≡ pair.1 → closed_group (closed_as_planned pairs group) ≡ closed_as_planned (pairs ++ pair ∷ []) group
 closed_as_planned-named pairs pair group named =
-    ap (λ b. record group { closed = b }) (sym (plans_onto-more pairs pair group.head.id ∙ or_true (plans_onto pairs group.head.id) (same_span pair.1 group.head.id) (test_from_same_id pair.1 group.head.id (sym named))))
-  where
-    or_true : (a b : Bool) → b ≡ true → (a || b) ≡ true
-    or_true true b e = refl
-    or_true false b e = e
+    ap (λ b. record group { closed = b }) (sym (plans_onto-more pairs pair group.head.id ∙ or_right (plans_onto pairs group.head.id) (same_span pair.1 group.head.id) (test_from_same_id pair.1 group.head.id (sym named))))
 
 closed-others : (pairs : List (SpanId × SpanId)) (pair : SpanId × SpanId) (groups : List GroupState) → ((index : ℕ) (group : GroupState) → slice_get groups index ≡ Some group → group.head.id ≡ pair.1 → ⊥)
     → map (closed_as_planned pairs) groups ≡ map (closed_as_planned (pairs ++ pair ∷ [])) groups
@@ -106,14 +100,10 @@ one_head groups head low high a b up here there a_is b_is = elim (cases_eq low h
   ]
 ]
 
--- the group at a place of those that are closed so far
-closed_at : (pairs : List (SpanId × SpanId)) (groups : List GroupState) (index : ℕ) (group : GroupState) → slice_get groups index ≡ Some group → slice_get (map (closed_as_planned pairs) groups) index ≡ Some (closed_as_planned pairs group)
-closed_at pairs groups index group here = slice_get-map (closed_as_planned pairs) groups index ∙ ap (option_map (closed_as_planned pairs)) here
-
 -- one pair more
 pub closed_onto-more : (shard : ShardState) (pairs : List (SpanId × SpanId)) (pair : SpanId × SpanId) (told : Bool) (after : ShardState) → Ascend after.groups → Closes (closed_onto pairs shard) pair.1 told after → after ≡ closed_onto (pairs ++ pair ∷ []) shard
 closed_onto-more shard pairs pair false after up (none, after_is) =
-    after_is ∙ ap (λ groups. record shard { groups = groups }) (closed-others pairs pair shard.groups (λ index group here is. none index (closed_as_planned pairs group) (record { here = closed_at pairs shard.groups index group here; head_is = is })))
+    after_is ∙ ap (λ groups. record shard { groups = groups }) (closed-others pairs pair shard.groups (λ index group here is. none index (closed_as_planned pairs group) (record { here = slice_get-map_at (closed_as_planned pairs) shard.groups index group here; head_is = is })))
 closed_onto-more shard pairs pair true after up (index, group, found, after_is) =
     after_is ∙ ap (λ groups. record shard { groups = groups }) (closed-one pairs pair shard.groups index group found.here found.head_is only)
   where
@@ -127,7 +117,7 @@ closed_onto-more shard pairs pair true after up (index, group, found, after_is) 
     only place other here is = elim (cases_eq place index) [
       | inl same ↦ same
       | inr differ ↦ one_head (set so_far index (closed_group group)) pair.1 place index (closed_as_planned pairs other) (closed_group group) ascend
-          (slice_get-set_other so_far index place (closed_group group) differ ∙ closed_at pairs shard.groups place other here)
+          (slice_get-set_other so_far index place (closed_group group) differ ∙ slice_get-map_at (closed_as_planned pairs) shard.groups place other here)
           (slice_get-set_same so_far index group (closed_group group) found.here) is found.head_is
     ]
 

@@ -1,5 +1,5 @@
 -- The steps of a core, said of its fields.
-use Rattle.std.proofs.Common.{◌≡◌, ◌≢◌, ℕ, Bool, true, false, cond, refl, None, Some, slice_get, ap, ◌∙◌, is_some, length, set, subst, sym}
+use Rattle.std.proofs.Common.{◌≡◌, ◌≢◌, ℕ, true, false, cond, None, Some, slice_get, ap, ◌∙◌, is_some, length, set, subst, sym}
 use Rattle.std.specs.Prelude.{Err, Result, ◌↔◌}
 use Rattle.span.specs.declared.id.SpanId.{SpanId}
 use Rattle.span.specs.declared.key.Key.{Key}
@@ -10,6 +10,7 @@ use Rattle.shard.specs.Group.{GroupState}
 use Rattle.shard.specs.Shown.{shown as shown_by}
 use Rattle.shard.specs.Sound.{IsSound as IsSoundShard}
 use Rattle.shard.specs.State.{ShardState}
+use Rattle.shard.proofs.Lists.{set-same}
 use Rattle.shard.proofs.Unions.{false_or_true}
 use Rattle.shard.specs.declared.error.PutError.{PutError}
 use Rattle.shard.specs.declared.error.PutError.TheVariants as put_error
@@ -22,6 +23,7 @@ use Rattle.abandoned.specs.declared.error.AdoptError.{AdoptError}
 use Rattle.abandoned.specs.declared.error.AdoptError.TheVariants as adopt_error
 use Rattle.abandoned.specs.declared.error.ReceiveError.{ReceiveError}
 use Rattle.abandoned.specs.declared.error.ReceiveError.TheVariants as receive_error
+use Rattle.abandoned.proofs.Searches.{none_from}
 use Rattle.arena_core.specs.declared.event.Event.TheVariants.{Put, Free, End, Adopt}
 use Rattle.arena_core.specs.declared.guesses.Guesses.{Guesses}
 use Rattle.arena_core.specs.declared.machine.Core.TheInside.{Inside}
@@ -34,22 +36,21 @@ use Rattle.arena_core.specs.Sound.{IsSound}
 use Rattle.arena_core.specs.State.{CoreState, has_span}
 use Rattle.arena_core.specs.Step.{CoreStep, HasClosed}
 use Rattle.arena_core.proofs.Fields.{IsRead, shard-read, state_of-with_both_at, state_of-with_shard_at, with_both_at, with_shard_at}
-use Rattle.arena_core.proofs.Lists.{set-slice_get}
 use Rattle.arena_core.proofs.Moves.{CoreStep-adopt_refused, CoreStep-end_refused}
 use Rattle.arena_core.proofs.Owner.{has_span-Frees}
 use Rattle.arena_core.proofs.PlanSteps.{IsSoundStep, IsSoundStep-Adopts, IsSoundStep-Frees, IsSoundStep-Puts, IsSoundStep-Receives}
-use Rattle.arena_core.proofs.Steps.{CoreStep-refused, none_from_is_some, not_doubled, not_in_pool}
+use Rattle.arena_core.proofs.Steps.{CoreStep-refused, not_doubled, not_in_pool}
 
 -- a shard that is as it was leaves the fields as they were
 pub state_of-same : (c : Inside) (number : ℕ) (before after : ShardState) → IsRead c number before → after ≡ before → state_of (with_shard_at c number after) ≡ state_of c
 state_of-same c number before after read same =
-    let shards : set c.shards.items number after ≡ c.shards.items = ap (set c.shards.items number) same ∙ set-slice_get c.shards.items number before (shard-read c number before read) in
+    let shards : set c.shards.items number after ≡ c.shards.items = ap (set c.shards.items number) same ∙ set-same c.shards.items number before (shard-read c number before read) in
     λ i. record { limits = record { shards = length (shards i); page_limit = c.page_limit; ring_capacity = c.ring_capacity; gens = c.gens }; shards = shards i; pool = c.pool; plan = c.plan }
 
 -- a shard and a pool that are as they were leave the fields as they were
 pub state_of-both_same : (c : Inside) (number : ℕ) (before after : ShardState) (pool : PoolState) (guesses : Guesses) → IsRead c number before → after ≡ before → pool ≡ c.pool → state_of (with_both_at c number after pool guesses) ≡ state_of c
 state_of-both_same c number before after pool guesses read same pool_is =
-    let shards : set c.shards.items number after ≡ c.shards.items = ap (set c.shards.items number) same ∙ set-slice_get c.shards.items number before (shard-read c number before read) in
+    let shards : set c.shards.items number after ≡ c.shards.items = ap (set c.shards.items number) same ∙ set-same c.shards.items number before (shard-read c number before read) in
     λ i. record { limits = record { shards = length (shards i); page_limit = c.page_limit; ring_capacity = c.ring_capacity; gens = c.gens }; shards = shards i; pool = pool_is i; plan = c.plan }
 
 pub IsStep-put_fields : (c : Inside) (number : ℕ) (value : Word) (key : Key) (at : ℕ) (before after : ShardState) → IsSound (state_of c) → IsRead c number before → Puts before value key at after
@@ -108,7 +109,7 @@ IsStep-adopt_fields c number head before after pool guesses kept no_plan read ru
 
 -- where the pool does not know of a plan, none is open
 pub no_plan_if_adopted : (c : Inside) → IsSound (state_of c) → (c.pool.has_plan ≡ true → ⊥) → c.plan ≡ None
-no_plan_if_adopted c kept never = none_from_is_some c.plan (sym kept.plan.told ∙ false_or_true c.pool.has_plan never)
+no_plan_if_adopted c kept never = none_from c.plan (sym kept.plan.told ∙ false_or_true c.pool.has_plan never)
 
 -- an adoption that the pool refuses leaves the fields as they were
 pub CoreStep-adopt_refused_fields : (c : Inside) (number : ℕ) (before after : ShardState) (pool : PoolState) (guesses : Guesses) (error : AdoptError) (cause : Refusal) → IsSound (state_of c) → IsRead c number before → refusal_of_adoption error ≡ Some cause

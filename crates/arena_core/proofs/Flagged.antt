@@ -1,23 +1,19 @@
 -- Groups that are closed or opened, and nothing else of them changes.
-use Rattle.std.proofs.Common.{◌≡◌, ℕ, zero, suc, ◌+◌, ◌<◌, ◌≤◌, Bool, true, false, cond, eqb, List, [], ◌∷◌, ◌++◌, refl, sym, ap, subst, ◌∙◌, arith, Option, Some, None, slice_get, map, length}
+use Rattle.std.proofs.Common.{◌≡◌, ℕ, zero, suc, ◌<◌, ◌≤◌, Bool, eqb, List, [], ◌∷◌, ◌++◌, refl, sym, ap, subst, ◌∙◌, arith, Some, slice_get, map}
 use Rattle.std.specs.Prelude.{count_by, sum_by}
-use Rattle.std.specs.List.{flat_map}
 use Rattle.std.proofs.lemmas.List.{length-map}
-use Rattle.span.specs.declared.id.SpanId.{SpanId}
 use Rattle.span.specs.Ids.{rank, same_span}
-use Rattle.span.specs.PlainMap.{PlainMap}
 use Rattle.span.specs.State.{SpanState}
 use Rattle.shard.specs.Group.{GroupState, spans_of}
 use Rattle.shard.specs.Sound.{IsSound as IsSoundShard, IsSoundGroup}
-use Rattle.shard.specs.State.{ShardState, Stands, spans_in}
-use Rattle.shard.proofs.Lists.{same_some}
+use Rattle.shard.specs.State.{ShardState, spans_in}
+use Rattle.shard.proofs.Lists.{count-cons, same_some}
 use Rattle.abandoned.specs.State.{spans_in as pooled_spans}
 use Rattle.arena_core.specs.Sound.{HasSoundGroups, IsSoundAt}
-use Rattle.arena_core.specs.State.{CoreState, OpenPlan, all_spans, opened_by, opened_of, shard_spans, shown}
+use Rattle.arena_core.specs.State.{CoreState, all_spans, opened_of, shard_spans, shown}
 use Rattle.arena_core.proofs.Changes.{indicator}
-use Rattle.arena_core.proofs.Lists.{count_by-cons}
+use Rattle.arena_core.proofs.Lists.{slice_get-map_at}
 use Rattle.arena_core.proofs.Logged.{shown-same}
-use Rattle.arena_core.proofs.Spans.{sum_all, times, times_in}
 
 -- the group with this flag
 abbrev pub with_flag : (GroupState → Bool) → GroupState → GroupState
@@ -42,11 +38,6 @@ map_back f [] k y here = absurd cc
 map_back f (x ∷ xs) zero y here = (x, refl, same_some here)
 map_back f (x ∷ xs) (suc k) y here = map_back f xs k y here
 
-pub map_there : {X Y : Type 0} (f : X → Y) (xs : List X) (k : ℕ) (x : X) → slice_get xs k ≡ Some x → slice_get (map f xs) k ≡ Some (f x)
-map_there f [] k x here = absurd cc
-map_there f (y ∷ xs) zero x here = ap (λ z. Some (f z)) (same_some here)
-map_there f (y ∷ xs) (suc k) x here = map_there f xs k x here
-
 module _ (closed : GroupState → Bool) where
   pub spans_in-flagged : (groups : List GroupState) → spans_in (flagged closed groups) ≡ spans_in groups
   spans_in-flagged [] = refl
@@ -57,8 +48,8 @@ module _ (closed : GroupState → Bool) where
   pages-flagged page (group ∷ groups) =
       omega (
         arith,
-        count_by-cons (λ (g : GroupState). eqb g.page page) (with_flag closed group) (flagged closed groups),
-        count_by-cons (λ (g : GroupState). eqb g.page page) group groups,
+        count-cons (λ (g : GroupState). eqb g.page page) (with_flag closed group) (flagged closed groups),
+        count-cons (λ (g : GroupState). eqb g.page page) group groups,
         pages-flagged page groups,
       )
 
@@ -81,7 +72,7 @@ module _ (closed : GroupState → Bool) where
     own_page = λ page. subst (λ n. n ≤ 1) (sym (pages-flagged page shard.groups)) (sound.own_page page);
     only = λ number page mapped.
         let (index, place, group, span, stands, same) = sound.only number page mapped in
-        (index, place, with_flag closed group, span, (map_there (with_flag closed) shard.groups index group stands.0, stands.1), same);
+        (index, place, with_flag closed group, span, (slice_get-map_at (with_flag closed) shard.groups index group stands.0, stands.1), same);
     pages = sound.pages ∙ sym (length-map shard.groups (with_flag closed));
     limit = let same = length-map shard.groups (with_flag closed) in omega (arith, same, sound.limit);
     serials = λ index place group span stands named_so.

@@ -14,12 +14,14 @@ use Rattle.page_table.specs.State.{TableState}
 use Rattle.shard.specs.Moves.{TakesIn, WholeState, spans_moved, whole_of, with_room}
 use Rattle.shard.specs.State.{ShardState}
 use Rattle.shard.specs.declared.shard.Freed.TheVariants.{Yes}
+use Rattle.shard.proofs.Standing.{spans_of-with_span}
 use Rattle.abandoned.specs.Calls.{Adopts, Frees as FreesPooled, Receives, TakesAll, TakesIn as TakesInPool, with_rooms}
 use Rattle.abandoned.specs.Sound.{IsSound as IsSoundPool}
 use Rattle.abandoned.specs.State.{PoolState, PooledState, spans_of as pooled_spans_of}
 use Rattle.abandoned.proofs.Freed.{groups-Leaves}
 use Rattle.abandoned.proofs.TakenIn.{empty_or_not}
-use Rattle.arena_core.proofs.Lists.{flat-insert, flat-remove, flat-set, sum_by-set_at}
+use Rattle.fold.proofs.Sums.{sum_by-Lifts}
+use Rattle.arena_core.proofs.Lists.{flat-insert, flat-set, sum_by-set_at}
 use Rattle.arena_core.proofs.Spans.{named, sum_in, sum_pooled, times_in, times_pooled}
 
 -- whether the shard has opened the span, as a count
@@ -62,10 +64,6 @@ pub record IsCall (before after : ShardState) : Type 0 where
 pub record IsPoolCall (before after : PoolState) : Type 0 where
   pub spans : (id : SpanId) → times_pooled id after ≡ times_pooled id before
   pub strays_are : (gens : ℕ) → sum_pooled (strays gens) after ≡ sum_pooled (strays gens) before
-
-spans_of-with_span : (group : GroupState) (place : ℕ) (after : SpanState) → spans_of (with_span group place after) ≡ set (spans_of group) place after
-spans_of-with_span group zero after = refl
-spans_of-with_span group (suc place) after = refl
 
 module _ (w : SpanState → ℕ) where
   -- the head of a group gives way to a span of the same weight
@@ -224,14 +222,9 @@ IsMove-Adopts before after pool_before pool_after head running adopts = record {
   gens_is = ap (λ (s : ShardState). s.gens) adopts.takes_in.after;
   opened_is = ap (λ (s : ShardState). s.opened) adopts.takes_in.after;
   running = running;
-  sums = λ w. omega (arith, came w, left w);
+  sums = λ w. omega (arith, came w, sum_by-Lifts w pool_before pool_after head adopts.whole adopts.lifts);
   more = λ still w. omega (arith, came w);
 }
   where
     came : (w : SpanState → ℕ) → sum_in w after ≡ sum_in w before + sum_moved w adopts.whole
     came w = sum_in-TakesIn w (with_room before None (length (spans_moved adopts.whole))) after adopts.whole adopts.takes_in
-
-    left : (w : SpanState → ℕ) → sum_pooled w pool_after + sum_moved w adopts.whole ≡ sum_pooled w pool_before
-    left w =
-        let (index, group, here, whole_is, after_is) = adopts.lifts in
-        omega (arith, ap (λ (p : PoolState). sum_pooled w p) after_is, flat-remove w pooled_spans_of pool_before.groups index group here.here, ap (λ (m : WholeState). sum_moved w m) whole_is)

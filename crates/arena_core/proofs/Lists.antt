@@ -1,22 +1,15 @@
 -- Counts, sums and searches in lists.
-use Rattle.std.proofs.Common.{◌≡◌, ◌≢◌, ℕ, zero, suc, ◌+◌, ◌≤◌, Bool, true, false, cond, List, [], ◌∷◌, ◌++◌, refl, sym, ap, subst, ◌∙◌, arith, Option, Some, None, set, map, slice_get, length}
-use Rattle.std.specs.Prelude.{find, filter, count_by, sum_by, insert, remove}
+use Rattle.std.proofs.Common.{◌≡◌, ◌≢◌, ℕ, zero, suc, ◌+◌, ◌≤◌, Bool, true, false, cond, List, [], ◌∷◌, ◌++◌, refl, sym, ap, subst, ◌∙◌, arith, Option, Some, None, set, map, slice_get, length, is_some}
+use Rattle.std.specs.Prelude.{find, filter, count_by, sum_by, insert, option_map, remove}
 use Rattle.std.specs.List.{AllByRecursion, flat_map}
-use Rattle.std.proofs.lemmas.List.Sums.{length-filter, sum_by-append, sum_by-cons, sum_by-insert, sum_by-remove, sum_by-set}
-use Rattle.std.proofs.lemmas.Option.{get_or_from_slice_get, slice_get_within}
-
-pub one_where : (b : Bool) → b ≡ true → cond {A = ℕ} b 1 0 ≡ 1
-one_where b e = rw e refl
-
-pub none_where : (b : Bool) → b ≡ false → cond {A = ℕ} b 1 0 ≡ 0
-none_where b e = rw e refl
+use Rattle.std.proofs.lemmas.List.Sums.{count_by-le-length, length-filter, sum_by-append, sum_by-cons, sum_by-insert, sum_by-remove, sum_by-set}
+use Rattle.std.proofs.lemmas.Option.{get_or_from_slice_get, slice_get-map, slice_get_within}
+use Rattle.shard.proofs.Lists.{count-cons, find-none, none_where, one_where}
+use Rattle.abandoned.proofs.Searches.{none_from}
 
 pub cond-le_one : (b : Bool) → cond {A = ℕ} b 1 0 ≤ 1
 cond-le_one true = omega arith
 cond-le_one false = omega arith
-
-pub count_by-append : {X : Type 0} (p : X → Bool) (xs ys : List X) → count_by p (xs ++ ys) ≡ count_by p xs + count_by p ys
-count_by-append p xs ys = sum_by-append (λ x. cond (p x) 1 0) xs ys
 
 pub sum_by-flat_map : {X Y : Type 0} (w : Y → ℕ) (f : X → List Y) (xs : List X) → sum_by w (flat_map f xs) ≡ sum_by (λ x. sum_by w (f x)) xs
 sum_by-flat_map w f [] = refl
@@ -25,28 +18,14 @@ sum_by-flat_map w f (x ∷ xs) =
     ∙ ap (λ n. sum_by w (f x) + n) (sum_by-flat_map w f xs)
     ∙ sym (sum_by-cons (λ y. sum_by w (f y)) x xs)
 
-pub count_by-cons : {X : Type 0} (p : X → Bool) (x : X) (xs : List X) → count_by p (x ∷ xs) ≡ cond (p x) 1 0 + count_by p xs
-count_by-cons p x xs = sum_by-cons (λ y. cond (p y) 1 0) x xs
-
-pub count_by-flat_map : {X Y : Type 0} (p : Y → Bool) (f : X → List Y) (xs : List X) → count_by p (flat_map f xs) ≡ sum_by (λ x. count_by p (f x)) xs
-count_by-flat_map p f [] = refl
-count_by-flat_map p f (x ∷ xs) =
-    count_by-append p (f x) (flat_map f xs)
-    ∙ ap (λ n. count_by p (f x) + n) (count_by-flat_map p f xs)
-    ∙ sym (sum_by-cons (λ y. count_by p (f y)) x xs)
-
 pub count_by-map : {X Y : Type 0} (p : Y → Bool) (h : X → Y) (xs : List X) → count_by p (map h xs) ≡ count_by (λ x. p (h x)) xs
 count_by-map p h [] = refl
-count_by-map p h (x ∷ xs) = count_by-cons p (h x) (map h xs) ∙ rw (count_by-map p h xs) refl ∙ sym (count_by-cons (λ z. p (h z)) x xs)
+count_by-map p h (x ∷ xs) = count-cons p (h x) (map h xs) ∙ rw (count_by-map p h xs) refl ∙ sym (count-cons (λ z. p (h z)) x xs)
 
 -- tests that answer alike count alike
 pub count_by-same : {X : Type 0} (p q : X → Bool) (xs : List X) → ((x : X) → p x ≡ q x) → count_by p xs ≡ count_by q xs
 count_by-same p q [] same = refl
-count_by-same p q (x ∷ xs) same = count_by-cons p x xs ∙ rw (same x, count_by-same p q xs same) refl ∙ sym (count_by-cons q x xs)
-
-pub count_by-false : {X : Type 0} (p : X → Bool) (xs : List X) → ((x : X) → p x ≡ false) → count_by p xs ≡ 0
-count_by-false p [] none = refl
-count_by-false p (x ∷ xs) none = omega (arith, count_by-cons p x xs, none_where (p x) (none x), count_by-false p xs none)
+count_by-same p q (x ∷ xs) same = count-cons p x xs ∙ rw (same x, count_by-same p q xs same) refl ∙ sym (count-cons q x xs)
 
 -- a sum after a write over the element that is there
 pub sum_by-set_at : {X : Type 0} (f : X → ℕ) (xs : List X) (i : ℕ) (x y : X) → slice_get xs i ≡ Some x → sum_by f (set xs i y) + f x ≡ sum_by f xs + f y
@@ -54,8 +33,12 @@ sum_by-set_at f xs i x y here =
     ap (λ z. sum_by f (set xs i y) + f z) (sym (get_or_from_slice_get xs i x x here))
     ∙ sum_by-set f xs i y x (slice_get_within xs i x here)
 
-pub count_by-set_at : {X : Type 0} (p : X → Bool) (xs : List X) (i : ℕ) (x y : X) → slice_get xs i ≡ Some x → p y ≡ p x → count_by p (set xs i y) ≡ count_by p xs
-count_by-set_at p xs i x y here same = omega (arith, sum_by-set_at (λ z. cond (p z) 1 0) xs i x y here, ap (λ b. cond {A = ℕ} b 1 0) same)
+pub slice_get-nil : {X : Type 0} {x : X} (index : ℕ) → slice_get [] index ≡ Some x → ⊥
+slice_get-nil zero here = cc
+slice_get-nil (suc index) here = cc
+
+pub slice_get-map_at : {X Y : Type 0} (f : X → Y) (xs : List X) (i : ℕ) (x : X) → slice_get xs i ≡ Some x → slice_get (map f xs) i ≡ Some (f x)
+slice_get-map_at f xs i x here = slice_get-map f xs i ∙ ap (option_map f) here
 
 pub slice_get-set_same : {X : Type 0} (xs : List X) (i : ℕ) (x y : X) → slice_get xs i ≡ Some x → slice_get (set xs i y) i ≡ Some y
 slice_get-set_same [] i x y here = absurd cc
@@ -78,32 +61,6 @@ each-set P (a ∷ xs) zero y here others (suc j) z at = others (suc j) z at
 each-set P (a ∷ xs) (suc i) y here others zero z at = others 0 z at
 each-set P (a ∷ xs) (suc i) y here others (suc j) z at = each-set (λ k. P (suc k)) xs i y here (λ k w. others (suc k) w) j z at
 
--- a search among elements of which none passes
-pub find-none : {X : Type 0} (p : X → Bool) (xs : List X) → ((i : ℕ) (x : X) → slice_get xs i ≡ Some x → p x ≡ false) → find p xs ≡ None
-find-none p [] none = refl
-find-none p (x ∷ xs) none = rw (none 0 x refl) (find-none p xs (λ i y here. none (suc i) y here))
-
--- the element, where it passes
-abbrev pub where_passes : {X : Type 0} (p : X → Bool) → Option X → Option X
-where_passes p None = None
-where_passes p (Some x) = cond (p x) (Some x) None
-
--- a search where no element passes but that at one place
-pub find-only : {X : Type 0} (p : X → Bool) (xs : List X) (i : ℕ) → ((j : ℕ) (x : X) → slice_get xs j ≡ Some x → i ≢ j → p x ≡ false) → find p xs ≡ where_passes p (slice_get xs i)
-find-only p [] i others = refl
-find-only p (x ∷ xs) zero others = ap (cond (p x) (Some x)) (find-none p xs (λ j y here. others (suc j) y here (λ e. absurd cc)))
-find-only p (x ∷ xs) (suc i) others =
-    rw (others 0 x refl (λ e. absurd cc))
-    (find-only p xs i (λ j y here differ. others (suc j) y here (λ e. differ cc)))
-
--- a write of an element that fails over one that fails
-pub find-set_failing : {X : Type 0} (p : X → Bool) (xs : List X) (i : ℕ) (x y : X) → slice_get xs i ≡ Some x → p x ≡ false → p y ≡ false → find p (set xs i y) ≡ find p xs
-find-set_failing p [] i x y here fails fails_too = refl
-find-set_failing p (z ∷ xs) zero x y here fails fails_too =
-    let same : z ≡ x = cc in
-    rw (same, fails, fails_too) refl
-find-set_failing p (z ∷ xs) (suc i) x y here fails fails_too = ap (cond (p z) (Some z)) (find-set_failing p xs i x y here fails fails_too)
-
 -- a search that finds nothing, and a count of nothing
 pub count_by-missed : {X : Type 0} (p : X → Bool) (xs : List X) → find p xs ≡ None → count_by p xs ≡ 0
 count_by-missed p [] missed = refl
@@ -111,21 +68,21 @@ count_by-missed p (x ∷ xs) missed = by_test (p x) refl missed (count_by-missed
   where
     by_test : (b : Bool) → p x ≡ b → cond b (Some x) (find p xs) ≡ None → (find p xs ≡ None → count_by p xs ≡ 0) → count_by p (x ∷ xs) ≡ 0
     by_test true passes missed rest = absurd cc
-    by_test false fails missed rest = omega (arith, count_by-cons p x xs, none_where (p x) fails, rest missed)
+    by_test false fails missed rest = omega (arith, count-cons p x xs, none_where (p x) fails, rest missed)
 
-pub find-uncounted : {X : Type 0} (p : X → Bool) (xs : List X) → count_by p xs ≡ 0 → find p xs ≡ None
-find-uncounted p [] none = refl
-find-uncounted p (x ∷ xs) none = by_test (p x) refl (find-uncounted p xs)
+pub count_by-found : {X : Type 0} (p : X → Bool) (xs : List X) → is_some (find p xs) ≡ true → 1 ≤ count_by p xs
+count_by-found p xs found = by_count (count_by p xs) refl
   where
-    by_test : (b : Bool) → p x ≡ b → (count_by p xs ≡ 0 → find p xs ≡ None) → cond b (Some x) (find p xs) ≡ None
-    by_test true passes rest = absurd (omega (arith, count_by-cons p x xs, one_where (p x) passes))
-    by_test false fails rest = rest (omega (arith, count_by-cons p x xs))
+    by_count : (n : ℕ) → count_by p xs ≡ n → 1 ≤ n
+    by_count zero none = absurd (let missed : is_some (find p xs) ≡ false = ap is_some (find-none p xs none) in cc)
+    by_count (suc n) some = omega arith
 
--- a write of the element that is there
-pub set-slice_get : {X : Type 0} (xs : List X) (i : ℕ) (x : X) → slice_get xs i ≡ Some x → set xs i x ≡ xs
-set-slice_get [] i x here = refl
-set-slice_get (z ∷ xs) zero x here = let same : z ≡ x = cc in ap (λ w. w ∷ xs) (sym same)
-set-slice_get (z ∷ xs) (suc i) x here = ap (λ ys. z ∷ ys) (set-slice_get xs i x here)
+pub find-counted : {X : Type 0} (p : X → Bool) (xs : List X) → 1 ≤ count_by p xs → is_some (find p xs) ≡ true
+find-counted p xs some = by_test (is_some (find p xs)) refl
+  where
+    by_test : (b : Bool) → is_some (find p xs) ≡ b → b ≡ true
+    by_test true e = refl
+    by_test false e = absurd (omega (arith, count_by-missed p xs (none_from _ e)))
 
 -- facts of each element of lists in a row
 
@@ -141,14 +98,6 @@ pub each-from : {X : Type 0} (P : X → Type 0) (xs : List X) → ((at : ℕ) (x
 each-from P [] to = tt
 each-from P (x ∷ xs) to = (to 0 x refl, each-from P xs (λ at y here. to (suc at) y here))
 
-pub each-found : {X : Type 0} (P : X → Type 0) (p : X → Bool) (xs : List X) (x : X) → AllByRecursion P xs → find p xs ≡ Some x → (p x ≡ true) × P x
-each-found P p [] x each found = absurd cc
-each-found P p (y ∷ ys) x each found = by_test (p y) refl found (each-found P p ys x each.1)
-  where
-    by_test : (b : Bool) → p y ≡ b → cond b (Some y) (find p ys) ≡ Some x → (find p ys ≡ Some x → (p x ≡ true) × P x) → (p x ≡ true) × P x
-    by_test true passes found rest = let same : y ≡ x = cc in subst (λ z. (p z ≡ true) × P z) same (passes, each.0)
-    by_test false fails found rest = rest found
-
 -- what of the element that a search found, where it found one
 abbrev pub found_of : {X : Type 0} → (X → ℕ) → Option X → ℕ
 found_of f None = 0
@@ -162,10 +111,10 @@ sum_by-passing p f (x ∷ xs) once = sum_by-cons (λ y. cond (p y) (f y) 0) x xs
     by_test : (b : Bool) → p x ≡ b → (count_by p xs ≤ 1 → sum_by (λ y. cond (p y) (f y) 0) xs ≡ found_of f (find p xs))
         → cond b (f x) 0 + sum_by (λ y. cond (p y) (f y) 0) xs ≡ found_of f (cond b (Some x) (find p xs))
     by_test true passes rest =
-        let none : count_by p xs ≡ 0 = omega (arith, count_by-cons p x xs, one_where (p x) passes) in
-        omega (arith, rest (omega arith), ap (found_of f) (find-uncounted p xs none))
+        let none : count_by p xs ≡ 0 = omega (arith, count-cons p x xs, one_where (p x) passes) in
+        omega (arith, rest (omega arith), ap (found_of f) (find-none p xs none))
     by_test false fails rest =
-        let few : count_by p xs ≤ 1 = omega (arith, count_by-cons p x xs) in
+        let few : count_by p xs ≤ 1 = omega (arith, count-cons p x xs) in
         omega (arith, rest few)
 
 -- sums over lists of lists, after one list is changed, put in or taken out
@@ -186,8 +135,4 @@ sum_by-same f g [] same = refl
 sum_by-same f g (x ∷ xs) same = omega (arith, sum_by-cons f x xs, sum_by-cons g x xs, same 0 x refl, sum_by-same f g xs (λ i y here. same (suc i) y here))
 
 pub length-filter_most : {X : Type 0} (p : X → Bool) (xs : List X) → length (filter p xs) ≤ length xs
-length-filter_most {X = X} p xs = omega (arith, length-filter p xs, most xs)
-  where
-    most : (ys : List X) → count_by p ys ≤ length ys
-    most [] = omega arith
-    most (y ∷ ys) = omega (arith, count_by-cons p y ys, cond-le_one (p y), most ys)
+length-filter_most p xs = omega (arith, length-filter p xs, count_by-le-length p xs)

@@ -21,7 +21,8 @@ use Rattle.span.specs.Log.{Contents, Held, IsLegal, changed, live_slots, replay,
 use Rattle.span.specs.PlainMap.{same_key}
 use Rattle.span.specs.State.{SpanState}
 use Rattle.shard.specs.State.{live_count}
-use Rattle.arena_core.proofs.Lists.{count_by-append, count_by-cons, count_by-false, count_by-map, count_by-same, find-uncounted, one_where}
+use Rattle.shard.proofs.Lists.{count-append, count-cons, count-none, find-none, one_where}
+use Rattle.arena_core.proofs.Lists.{count_by-map, count_by-same}
 use Rattle.arena_core.proofs.Spans.{is_named}
 
 -- entries of a map of slots
@@ -64,7 +65,7 @@ count_of p (Some held) = cond (p held) 1 0
 count_by-slot : (slot : ℕ) (p : Held → Bool) (es : List (ℕ × Held)) → T (entry.is_sorted nat_cmp es) → count_by (λ e. eqb slot e.0 && p e.1) es ≡ count_of p (entry.find nat_cmp slot es)
 count_by-slot slot p [] sorted = refl
 count_by-slot slot p (e ∷ es) sorted =
-    count_by-cons (λ x. eqb slot x.0 && p x.1) e es
+    count-cons (λ x. eqb slot x.0 && p x.1) e es
     ∙ ap (λ n. cond {A = ℕ} (eqb slot e.0 && p e.1) 1 0 + n) (count_by-slot slot p es (T_second _ _ sorted))
     ∙ by_slot (cases_eq slot e.0)
     ∙ ap (λ b. count_of p (cond b (Some e.1) (entry.find nat_cmp slot es))) (sym (unsigned_tied slot e.0))
@@ -169,8 +170,8 @@ count-keys_of_other : (key : Key) (span : SpanState) → same_span key.span span
 unfolding keys_of key_at
 count-keys_of_other key span other =
     count_by-map (same_key key) (λ e. key_at span.id e.0 e.1.generation) (finmap.entries (replay span.log))
-    ∙ count_by-false (λ (e : ℕ × Held). same_key key (key_at span.id e.0 e.1.generation)) (finmap.entries (replay span.log))
-    (λ e. ap (λ b. b && (eqb key.slot e.0 && eqb key.generation (suc (e.1.generation - 1)))) other)
+    ∙ count-none (λ (e : ℕ × Held). same_key key (key_at span.id e.0 e.1.generation)) (finmap.entries (replay span.log))
+    (λ at e here. ap (λ b. b && (eqb key.slot e.0 && eqb key.generation (suc (e.1.generation - 1)))) other)
 
 -- the keys of many spans
 
@@ -200,17 +201,17 @@ pub count-keys_in : (key : Key) (spans : List SpanState) → AllByRecursion IsLe
 unfolding keys_in
 count-keys_in key [] legal once = refl
 count-keys_in key (span ∷ spans) legal once =
-    count_by-append (same_key key) (keys_of span) (flat_map keys_of spans)
+    count-append (same_key key) (keys_of span) (flat_map keys_of spans)
     ∙ by_name (is_named key.span span) refl (count-keys_in key spans legal.1)
   where
     total : count_by (is_named key.span) (span ∷ spans) ≡ cond {A = ℕ} (is_named key.span span) 1 0 + count_by (is_named key.span) spans
-    total = count_by-cons (is_named key.span) span spans
+    total = count-cons (is_named key.span) span spans
 
     by_name : (b : Bool) → is_named key.span span ≡ b → (count_by (is_named key.span) spans ≤ 1 → count_by (same_key key) (flat_map keys_of spans) ≡ live_where key (find (is_named key.span) spans))
         → count_by (same_key key) (keys_of span) + count_by (same_key key) (flat_map keys_of spans) ≡ live_where key (cond b (Some span) (find (is_named key.span) spans))
     by_name true here rest =
         let none : count_by (is_named key.span) spans ≡ 0 = omega (arith, total, one_where (is_named key.span span) here) in
-        let later : count_by (same_key key) (flat_map keys_of spans) ≡ 0 = rest (omega arith) ∙ ap (live_where key) (find-uncounted (is_named key.span) spans none) in
+        let later : count_by (same_key key) (flat_map keys_of spans) ≡ 0 = rest (omega arith) ∙ ap (live_where key) (find-none (is_named key.span) spans none) in
         omega (arith, later, count-keys_of key span.gens span legal.0 (same_span-sym key.span span.id ∙ here))
     by_name false other rest =
         let few : count_by (is_named key.span) spans ≤ 1 = omega (arith, total) in

@@ -7,7 +7,7 @@ use Rattle.span.specs.PlainMap.{PlainMap}
 use Rattle.span.specs.State.{SpanState}
 use Rattle.shard.specs.Shown.{issued_by, shown as shown_by, span_named}
 use Rattle.shard.specs.State.{spans_in}
-use Rattle.shard.proofs.Logged.{logged_by}
+use Rattle.shard.proofs.Logged.{logged_by, same_plain_map}
 use Rattle.shard.proofs.ShownLogs.{shown-logged}
 use Rattle.abandoned.specs.Shown.{shown as shown_by_pool}
 use Rattle.abandoned.specs.State.{spans_in as pooled_spans}
@@ -17,7 +17,6 @@ use Rattle.arena_core.specs.State.{CoreState, all_spans, shown}
 use Rattle.arena_core.proofs.Changes.{at_most_once}
 use Rattle.arena_core.proofs.Lists.{found_of, sum_by-passing, sum_by-same}
 use Rattle.arena_core.proofs.Owners.{bit, bit-injective, code, code-injective, issued-sum, value-sum}
-use Rattle.arena_core.proofs.Shown.{same_plain_map}
 use Rattle.arena_core.proofs.Spans.{is_named, sum_all, sum_all-parts, sum_in, sum_pooled}
 
 -- what the span's log says of the key, as a number, where it is the key's span

@@ -1,5 +1,5 @@
 -- What a mark and a close leave: a sound core, which shows the same map.
-use Rattle.std.proofs.Common.{◌≡◌, ℕ, ◌<◌, ◌≤◌, Bool, true, false, List, refl, sym, ap, subst, ◌∙◌, arith, Option, Some, None, is_some, slice_get, set, length, map, get_or}
+use Rattle.std.proofs.Common.{◌≡◌, ℕ, ◌<◌, ◌≤◌, Bool, true, false, refl, sym, ap, subst, ◌∙◌, arith, Option, Some, None, slice_get, set, length, map, get_or}
 use Rattle.std.proofs.Math.ListN.{length-set}
 use Rattle.std.proofs.lemmas.Option.{get_or_from_slice_get}
 use Rattle.std.specs.Vec.{with_item}
@@ -9,9 +9,9 @@ use Rattle.shard.specs.Closes.{opened_group}
 use Rattle.shard.specs.Group.{GroupState, occupied}
 use Rattle.shard.specs.Sound.{IsSound as IsSoundShard}
 use Rattle.shard.specs.State.{ShardState}
-use Rattle.shard.proofs.Lists.{get_within}
+use Rattle.shard.proofs.Lists.{get_within, set-same}
 use Rattle.abandoned.specs.Sound.{IsSound as IsSoundPool}
-use Rattle.abandoned.specs.State.{PoolState, PooledState}
+use Rattle.abandoned.specs.State.{PoolState}
 use Rattle.fold.specs.Folds.{Steps}
 use Rattle.fold.specs.declared.step.Step.{Step as Outcome}
 use Rattle.certificate.specs.declared.certificate.Certificate.{Certificate}
@@ -19,7 +19,7 @@ use Rattle.arena_core.specs.Closings.{AreOpen, closed_as_planned, closed_onto, r
 use Rattle.arena_core.specs.Kept.{state_of}
 use Rattle.arena_core.specs.Marks.{IsLargest, advanced, next_pair}
 use Rattle.arena_core.specs.Owner.{IsNowhere, StandsAt}
-use Rattle.arena_core.specs.Plan.{AreClosedAsPlanned, IsNext, IsOwned, IsPooled, is_planned, plans_onto}
+use Rattle.arena_core.specs.Plan.{IsNext, IsOwned, plans_onto}
 use Rattle.arena_core.specs.Sound.{HasSoundGroups, IsSound}
 use Rattle.arena_core.specs.State.{CoreState, OpenPlan, has_span, shown, with_plan, with_pool, with_shard}
 use Rattle.arena_core.specs.Step.{with_plan_closed, with_plan_told}
@@ -29,8 +29,8 @@ use Rattle.arena_core.specs.declared.machine.Core.TheInside.{Inside}
 use Rattle.arena_core.specs.declared.machine.Owner.TheVariants as owner
 use Rattle.arena_core.specs.declared.reply.Reply.TheVariants.{Stepped}
 use Rattle.arena_core.proofs.Changes.{at_most_once}
-use Rattle.arena_core.proofs.Flagged.{HasSoundGroups-flagged, map_back, map_there, shown-flagged, with_all_flags}
-use Rattle.arena_core.proofs.Lists.{set-slice_get}
+use Rattle.arena_core.proofs.Flagged.{HasSoundGroups-flagged, map_back, shown-flagged, with_all_flags}
+use Rattle.arena_core.proofs.Lists.{slice_get-map_at}
 use Rattle.arena_core.proofs.PlanMarks.{IsUnderWay-marked}
 use Rattle.arena_core.proofs.PlanSteps.{AreAllClosedAsPlanned, IsSoundStep, KeepsPlan-none}
 use Rattle.arena_core.proofs.Spans.{times-parts, times_in-found, times_in-le, times_owned}
@@ -74,8 +74,8 @@ module _ (old : CoreState) (sound : IsSound old) (found : Certificate) (largest 
       number = is.number;
       shard = closed_onto found.plan is.shard;
       index = is.index;
-      shard_is = map_there (closed_onto found.plan) old.shards is.number is.shard is.shard_is;
-      head_of = record { here = map_there (closed_as_planned found.plan) is.shard.groups is.index group is.head_of.here; head_is = is.head_of.head_is };
+      shard_is = slice_get-map_at (closed_onto found.plan) old.shards is.number is.shard is.shard_is;
+      head_of = record { here = slice_get-map_at (closed_as_planned found.plan) is.shard.groups is.index group is.head_of.here; head_is = is.head_of.head_is };
     },
     refl,
   )
@@ -190,5 +190,5 @@ pub state_of-refused : (c : Inside) (id : SpanId) (number : ℕ) (before after :
     → state_of (with_step_at c number after pool c.plan c.guesses) ≡ state_of c
 state_of-refused c id number before after pool sound there read same pool_is =
     let named = shard-named (state_of c) id number before sound.groups there read in
-    let shards : set c.shards.items number after ≡ c.shards.items = ap (set c.shards.items number) same ∙ set-slice_get c.shards.items number before named.0 in
+    let shards : set c.shards.items number after ≡ c.shards.items = ap (set c.shards.items number) same ∙ set-same c.shards.items number before named.0 in
     λ i. record { limits = record { shards = length (shards i); page_limit = c.page_limit; ring_capacity = c.ring_capacity; gens = c.gens }; shards = shards i; pool = pool_is i; plan = c.plan }

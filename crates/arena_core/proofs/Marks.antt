@@ -12,6 +12,7 @@ use Rattle.span.specs.declared.id.SpanId.{SpanId}
 use Rattle.span.specs.Ids.{same_span}
 use Rattle.shard.specs.Group.{GroupState, spans_of}
 use Rattle.shard.specs.State.{ShardState, spans_in, summary}
+use Rattle.shard.proofs.Lists.{count-append, count-cons, one_where}
 use Rattle.abandoned.specs.State.{PoolState, PooledState, paged_groups, spans_in as pooled_spans, spans_of as pooled_spans_of, summary as pooled_summary}
 use Rattle.mesh_graph.specs.declared.entry.Entry.{Entry}
 use Rattle.mesh_graph.specs.Groups.{Groups, IsAscending, ids}
@@ -26,7 +27,7 @@ use Rattle.arena_core.specs.Marks.{AreDistinct, AreTooMany, IsSeen}
 use Rattle.arena_core.specs.Plan.{abandoned_entries, entry_of, owned_entries}
 use Rattle.arena_core.specs.Sound.{IsSound}
 use Rattle.arena_core.specs.State.{CoreState, opened_by}
-use Rattle.arena_core.proofs.Lists.{cond-le_one, count_by-append, count_by-cons, one_where}
+use Rattle.arena_core.proofs.Lists.{cond-le_one}
 use Rattle.arena_core.proofs.Spans.{is_named, same_span-self, times, times-parts, times_owned, times_owned-cons}
 
 -- groups as entries
@@ -76,19 +77,19 @@ apart-from_none : (id : SpanId) (others : List SpanId) → count_by (is_id id) o
 apart-from_none id [] none = tt
 apart-from_none id (other ∷ others) none = (
   same_span-flip id other ∙ by_test (same_span other id) refl,
-  apart-from_none id others (omega (arith, count_by-cons (is_id id) other others)),
+  apart-from_none id others (omega (arith, count-cons (is_id id) other others)),
 )
   where
     by_test : (b : Bool) → same_span other id ≡ b → same_span other id ≡ false
-    by_test true e = absurd (omega (arith, count_by-cons (is_id id) other others, one_where (same_span other id) e))
+    by_test true e = absurd (omega (arith, count-cons (is_id id) other others, one_where (same_span other id) e))
     by_test false e = e
 
 pub IsDistinct-once : (all : List SpanId) → ((id : SpanId) → count_by (is_id id) all ≤ 1) → IsDistinct same_span all
 unfolding IsDistinct
 IsDistinct-once [] once = tt
 IsDistinct-once (id ∷ all) once = (
-  apart-from_none id all (omega (arith, once id, count_by-cons (is_id id) id all, one_where (same_span id id) (same_span-self id))),
-  IsDistinct-once all (λ other. omega (arith, once other, count_by-cons (is_id other) id all)),
+  apart-from_none id all (omega (arith, once id, count-cons (is_id id) id all, one_where (same_span id id) (same_span-self id))),
+  IsDistinct-once all (λ other. omega (arith, once other, count-cons (is_id other) id all)),
 )
 
 -- a group's head is one of its spans
@@ -98,9 +99,9 @@ heads_in id [] = omega arith
 heads_in id (group ∷ groups) =
     omega (
       arith,
-      count_by-cons (is_id id) group.head.id (ids (entries_in groups)),
-      count_by-append (is_named id) (spans_of group) (spans_in groups),
-      count_by-cons (is_named id) group.head group.guests,
+      count-cons (is_id id) group.head.id (ids (entries_in groups)),
+      count-append (is_named id) (spans_of group) (spans_in groups),
+      count-cons (is_named id) group.head group.guests,
       heads_in id groups,
     )
 
@@ -110,7 +111,7 @@ heads_owned id (shard ∷ shards) =
     omega (
       arith,
       ap (count_by (is_id id)) (map-append (λ (entry : Entry). entry.id) (entries_in shard.groups) (owned_entries shards)),
-      count_by-append (is_id id) (ids (entries_in shard.groups)) (ids (owned_entries shards)),
+      count-append (is_id id) (ids (entries_in shard.groups)) (ids (owned_entries shards)),
       times_owned-cons id shard shards,
       heads_in id shard.groups,
       heads_owned id shards,
@@ -128,11 +129,11 @@ heads_pooled id (group ∷ groups) = by_page (is_some group.page) (heads_pooled 
     by_page true fewer =
         omega (
           arith,
-          count_by-cons (is_id id) group.head.id (ids (entries_pooled rest)),
-          count_by-append (is_named id) (pooled_spans_of group) (pooled_spans groups),
-          count_by-cons (is_named id) group.head group.guests,
+          count-cons (is_id id) group.head.id (ids (entries_pooled rest)),
+          count-append (is_named id) (pooled_spans_of group) (pooled_spans groups),
+          count-cons (is_named id) group.head group.guests,
         )
-    by_page false fewer = omega (arith, count_by-append (is_named id) (pooled_spans_of group) (pooled_spans groups))
+    by_page false fewer = omega (arith, count-append (is_named id) (pooled_spans_of group) (pooled_spans groups))
 
 -- where no span stands twice, no group does
 pub AreDistinct-once : (core : CoreState) → ((id : SpanId) → times id core ≤ 1) → AreDistinct core.pool core.shards

@@ -15,6 +15,7 @@ use Rattle.abandoned.specs.declared.error.AdoptError.{AdoptError}
 use Rattle.abandoned.specs.declared.error.AdoptError.TheVariants as adopt_error
 use Rattle.abandoned.specs.declared.error.ReceiveError.{ReceiveError}
 use Rattle.abandoned.specs.declared.error.ReceiveError.TheVariants as receive_error
+use Rattle.abandoned.proofs.Searches.{none_from}
 use Rattle.arena_core.specs.declared.event.Event.TheVariants.{End, Adopt}
 use Rattle.arena_core.specs.declared.reply.Refusal.{Refusal}
 use Rattle.arena_core.specs.declared.reply.Refusal.TheVariants as refusal
@@ -27,7 +28,7 @@ use Rattle.arena_core.specs.Step.{CoreStep, HasClosed, MayTake}
 use Rattle.arena_core.proofs.Changes.{HasSoundGroups-moved, sum_all-moved}
 use Rattle.arena_core.proofs.Groups.{IsMove-Adopts, IsMove-Receives}
 use Rattle.arena_core.proofs.Logged.{shown-same}
-use Rattle.arena_core.proofs.Steps.{IsStep, none_from_is_some}
+use Rattle.arena_core.proofs.Steps.{IsStep}
 
 pub IsStep-Receives : (old : CoreState) (number : ℕ) (before after : ShardState) (pool : PoolState) → HasSoundGroups old → slice_get old.shards number ≡ Some before → Receives old.pool before pool after → IsSoundShard after → IsSoundPool pool
     → IsStep old (End number) reply.ShardEnded (with_pool (with_shard old number after) pool)
@@ -111,7 +112,7 @@ CoreStep-adopt_refused old number shard adopt_error.OutOfMemory cause told singl
     let running : shard.ended ≡ false = not_so shard.ended (λ e. let no = why.ended.1 (room, e) in cc) in
     let no_plan : old.pool.has_plan ≡ false = not_so old.pool.has_plan (λ e. let no = why.plan_open.1 (room, running, single running, e) in cc) in
     subst (λ c. CoreStep old (Adopt number) (reply.Refused c) old) is
-    ((shard, record { here = here; running = running }, below_limit shard sound room, none_from_is_some old.plan (sym told ∙ no_plan), λ nothing. let no = why.nothing.1 (room, running, no_plan, nothing) in cc), refl)
+    ((shard, record { here = here; running = running }, below_limit shard sound room, none_from old.plan (sym told ∙ no_plan), λ nothing. let no = why.nothing.1 (room, running, no_plan, nothing) in cc), refl)
 CoreStep-adopt_refused old number shard adopt_error.PagesSpent cause told single sound here gives why =
     let is : refusal.PagesSpent ≡ cause = cc in
     subst (λ c. CoreStep old (Adopt number) (reply.Refused c) old) is ((shard, here, why.spent.0 refl), refl)
@@ -128,7 +129,7 @@ CoreStep-adopt_refused old number shard adopt_error.NothingToAdopt cause told si
     let facts = why.nothing.0 refl in
     subst (λ c. CoreStep old (Adopt number) (reply.Refused c) old) is (
       may_take-here old number shard sound here facts.0 facts.1,
-      none_from_is_some old.plan (sym told ∙ facts.2),
+      none_from old.plan (sym told ∙ facts.2),
       facts.3,
       refl,
     )

@@ -1,16 +1,16 @@
 -- What a step does to the open plan: the next pair is carried out, and the others are as they were.
-use Rattle.std.proofs.Common.{◌≡◌, ◌≢◌, ℕ, zero, suc, ◌+◌, ◌<◌, ◌≤◌, List, [], ◌∷◌, ◌++◌, ◌⊎◌, inl, inr, refl, sym, ap, subst, ◌∙◌, arith, Some, set, slice_get, length}
+use Rattle.std.proofs.Common.{◌≡◌, ◌≢◌, ℕ, suc, ◌+◌, ◌<◌, ◌≤◌, List, [], ◌∷◌, ◌++◌, ◌⊎◌, inl, inr, refl, sym, ap, subst, ◌∙◌, arith, Some, set, slice_get, length}
 use Rattle.std.specs.Prelude.{remove}
 use Rattle.std.proofs.lemmas.Bool.{cases_eq}
 use Rattle.span.specs.declared.id.SpanId.{SpanId}
 use Rattle.span.specs.State.{SpanState}
-use Rattle.shard.specs.Group.{GroupState, IsSpanAt, occupied}
+use Rattle.shard.specs.Group.{GroupState}
 use Rattle.shard.specs.Moves.{IsHeadOf}
 use Rattle.shard.specs.State.{ShardState}
 use Rattle.shard.proofs.Lists.{cases-set, get_within, same_some}
 use Rattle.abandoned.specs.State.{IsHeadOf as IsPooledHeadOf, PoolState, PooledState}
-use Rattle.abandoned.proofs.Removed.{after-remove}
-use Rattle.arena_core.specs.Plan.{IsCarriedOut, IsEmptied, IsGuest, IsOwned, IsPooled, IsUnderWay, IsWaiting, KeepsPlan, is_planned, with_next_done}
+use Rattle.shard.proofs.Removed.{after-remove}
+use Rattle.arena_core.specs.Plan.{IsCarriedOut, IsEmptied, IsGuest, IsOwned, IsPooled, IsUnderWay, IsWaiting, is_planned, with_next_done}
 use Rattle.arena_core.specs.State.{CoreState, OpenPlan, with_plan, with_pool, with_shard}
 use Rattle.arena_core.proofs.Lists.{slice_get-set_other, slice_get-set_same}
 use Rattle.arena_core.proofs.PlanSteps.{AreAllClosedAsPlanned, AreAllClosedAsPlanned-set}

@@ -1,11 +1,10 @@
 -- What an event that is no fold does to the groups that an open plan names: each stays, and none grows.
-use Rattle.std.proofs.Common.{◌≡◌, ◌≢◌, ℕ, zero, suc, ◌<◌, Bool, true, false, ◌&&◌, ◌||◌, eqb, List, [], ◌∷◌, ◌⊎◌, inl, inr, refl, sym, ap, subst, ◌∙◌, arith, Option, Some, None, set, slice_get, eq-eqb, insert}
-use Rattle.std.specs.List.{list_any}
+use Rattle.std.proofs.Common.{◌≡◌, ◌≢◌, ℕ, zero, suc, Bool, true, false, ◌||◌, List, [], ◌∷◌, ◌⊎◌, inl, inr, refl, sym, ap, subst, ◌∙◌, Option, Some, None, set, slice_get, insert}
 use Rattle.std.specs.FinSet as set_of
 use Rattle.std.specs.FinSet.{contains}
 use Rattle.std.specs.Cmp.{nat_cmp_total}
 use Rattle.std.specs.FinSet.{contains-union, contains-remove}
-use Rattle.std.proofs.lemmas.Bool.{cases_eq}
+use Rattle.std.proofs.lemmas.Bool.{and_parts, cases_eq}
 use Rattle.bitmap.specs.Slots.{SlotSet, AreDisjoint}
 use Rattle.bitmap.specs.Operations.{AreDisjoint-at, AreDisjoint-by_slot}
 use Rattle.span.specs.declared.id.SpanId.{SpanId}
@@ -16,20 +15,20 @@ use Rattle.span.specs.State.{SpanState}
 use Rattle.span.proofs.Slots.{live_slots-free}
 use Rattle.shard.specs.Calls.{Frees, Puts}
 use Rattle.shard.specs.Group.{GroupState, IsSpanAt, occupied, spans_of, union_of, with_free, with_put, with_span}
-use Rattle.shard.specs.Moves.{IsHeadOf, WholeState, whole_of}
+use Rattle.shard.specs.Moves.{WholeState}
 use Rattle.shard.specs.State.{ShardState}
 use Rattle.shard.specs.declared.shard.Freed.TheVariants.{Yes}
 use Rattle.shard.proofs.Lists.{after-insert, after-set, same_some}
 use Rattle.shard.proofs.Standing.{spans_of-with_span}
 use Rattle.abandoned.specs.Calls.{Frees as FreesPooled, Receives, TakesAll, TakesIn, with_rooms}
 use Rattle.abandoned.specs.Sound.{IsSound as IsSoundPool}
-use Rattle.abandoned.specs.State.{IsHeadOf as IsPooledHeadOf, PoolState, PooledState, spans_of as pooled_spans_of, with_span as pooled_with_span}
+use Rattle.abandoned.specs.State.{PoolState, PooledState, spans_of as pooled_spans_of, with_span as pooled_with_span}
 use Rattle.abandoned.proofs.Freed.{groups-Leaves}
 use Rattle.abandoned.proofs.Released.{has_page_if_held}
 use Rattle.abandoned.proofs.Standing.{page-with_span}
 use Rattle.abandoned.proofs.TakenIn.{empty_or_not}
-use Rattle.arena_core.specs.Plan.{IsCarriedOut, IsEmptied, IsGuest, IsOwned, IsPooled, IsUnderWay, IsWaiting, plans_onto}
-use Rattle.arena_core.specs.State.{CoreState, OpenPlan, with_pool, with_shard}
+use Rattle.arena_core.specs.Plan.{IsCarriedOut, IsOwned, IsPooled, IsUnderWay, IsWaiting, plans_onto}
+use Rattle.arena_core.specs.State.{CoreState, OpenPlan}
 use Rattle.arena_core.proofs.Lists.{slice_get-set_other, slice_get-set_same}
 use Rattle.arena_core.proofs.Spans.{same_span-self}
 
@@ -42,13 +41,9 @@ IsWithin now before = (slot : ℕ) → contains now slot ≡ true → contains b
 pub AreDisjoint-within : (a a_now b b_now : SlotSet) → IsWithin a_now a → IsWithin b_now b → AreDisjoint a b → AreDisjoint a_now b_now
 AreDisjoint-within a a_now b b_now less_a less_b apart = AreDisjoint-by_slot a_now b_now (λ q in_a in_b. AreDisjoint-at a b apart q (less_a q in_a) (less_b q in_b))
 
-second_of : (a b : Bool) → (a && b) ≡ true → b ≡ true
-second_of true b e = e
-second_of false b e = absurd cc
-
 live_slots-fewer : (span : SpanState) (key : Key) → IsWithin (live_slots (with_free span key).log) (live_slots span.log)
 live_slots-fewer span key slot live =
-    second_of _ _ (sym (contains-remove nat_cmp_total (live_slots span.log) key.slot slot) ∙ ap (λ s. contains s slot) (sym (live_slots-free span.log key.slot key.generation)) ∙ live)
+    (and_parts _ _ (sym (contains-remove nat_cmp_total (live_slots span.log) key.slot slot) ∙ ap (λ s. contains s slot) (sym (live_slots-free span.log key.slot key.generation)) ∙ live)).1
 
 -- a span that loses slots makes the union lose slots
 union_of-fewer : (spans : List SpanState) (place : ℕ) (span now : SpanState) → slice_get spans place ≡ Some span → IsWithin (live_slots now.log) (live_slots span.log) → IsWithin (union_of (set spans place now)) (union_of spans)

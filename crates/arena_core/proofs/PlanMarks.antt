@@ -1,11 +1,12 @@
 -- A mark's pairs wait: what it sees are groups of the pool and of the shards.
-use Rattle.std.proofs.Common.{◌≡◌, ◌≢◌, ℕ, zero, suc, ◌<◌, ◌≤◌, Bool, true, false, cond, ◌&&◌, ◌||◌, List, [], ◌∷◌, ◌++◌, ◌⊎◌, inl, inr, refl, sym, ap, subst, ◌∙◌, arith, Option, Some, None, slice_get, map, length, get_or, is_some, eqb-true}
+use Rattle.std.proofs.Common.{◌≡◌, ℕ, suc, ◌<◌, ◌≤◌, Bool, true, false, cond, ◌&&◌, ◌||◌, List, [], ◌∷◌, ◌⊎◌, inl, inr, refl, sym, ap, subst, ◌∙◌, arith, Some, slice_get, map, get_or, is_some, eqb-true}
 use Rattle.std.specs.Prelude.{filter}
-use Rattle.std.specs.List.{All, AllByRecursion, IsDistinct, flat_map, list_any}
+use Rattle.std.specs.List.{AllByRecursion, IsDistinct, list_any}
 use Rattle.std.specs.List.Sorted.{IsPermutation}
-use Rattle.std.proofs.lemmas.Bool.{and_parts, cases_eq, cases_lt}
+use Rattle.std.proofs.lemmas.Bool.{and_parts, cases_lt}
 use Rattle.std.proofs.lemmas.List.{length-map}
 use Rattle.std.proofs.lemmas.List.Elements.{All-from_recursion, recursion_from_All}
+use Rattle.std.proofs.lemmas.Option.{get_or_from_slice_get}
 use Rattle.std.proofs.lemmas.Map.Keys.{apart_from_distinct}
 use Rattle.std.proofs.lemmas.Map.Views.{All-map-IsPermutation}
 use Rattle.std.specs.FinSet.{intersection, len, empty_of_len}
@@ -15,23 +16,20 @@ use Rattle.span.specs.Ids.{same_span}
 use Rattle.span.proofs.Ids.{same_id_from_test, test_from_same_id}
 use Rattle.shard.specs.Group.{GroupState, occupied}
 use Rattle.shard.specs.State.{ShardState, summary}
-use Rattle.shard.proofs.Lists.{get_within, same_some}
-use Rattle.abandoned.specs.State.{PoolState, PooledState, paged_groups, summary as pooled_summary}
+use Rattle.shard.proofs.Lists.{get_within}
+use Rattle.abandoned.specs.State.{PooledState, summary as pooled_summary}
 use Rattle.mesh_graph.specs.Groups.{Groups, any_compatible, are_compatible}
 use Rattle.mesh_graph.specs.declared.entry.Entry.{Entry}
 use Rattle.certificate.specs.Plans.{IsPlanOf, sides_of}
 use Rattle.arena_core.specs.Plan.{IsOwned, IsPooled, IsUnderWay, IsWaiting, abandoned_entries, entry_of, owned_entries}
-use Rattle.arena_core.specs.State.{CoreState, OpenPlan}
+use Rattle.arena_core.specs.State.{CoreState}
+use Rattle.arena_core.proofs.Lists.{each-append, slice_get-map_at}
 
 -- lists
 
 each-to : {X : Type 0} {P Q : X → Type 0} (xs : List X) → ((x : X) → P x → Q x) → AllByRecursion P xs → AllByRecursion Q xs
 each-to [] to all = tt
 each-to (x ∷ xs) to all = (to x all.0, each-to xs to all.1)
-
-each-append : {X : Type 0} (P : X → Type 0) (xs ys : List X) → AllByRecursion P xs → AllByRecursion P ys → AllByRecursion P (xs ++ ys)
-each-append P [] ys left right = right
-each-append P (x ∷ xs) ys left right = (left.0, each-append P xs ys left.1 right)
 
 map_same : {X : Type 0} (xs : List X) → map (λ x. x) xs ≡ xs
 map_same [] = refl
@@ -90,17 +88,9 @@ apart_from_test x y e = empty_of_len (intersection x.occupied y.occupied) (eqb-t
 
 -- a compatible pair
 
--- the groups of a pair, which share no slot
-pub record IsCompatiblePair (core : CoreState) (pair : SpanId × SpanId) : Type 0 where
-  pub abandoned : PooledState
-  pub owned : GroupState
-  pub is_abandoned : IsPooled core pair.0 abandoned
-  pub is_owned : IsOwned core pair.1 owned
-  pub apart : AreDisjoint (pooled_summary abandoned).1 (occupied owned)
-
-pub IsCompatiblePair-seen : (core : CoreState) (seen : Groups) → IsPermutation (abandoned_entries core.pool) seen.abandoned → IsPermutation (owned_entries core.shards) seen.owned
-    → (pair : SpanId × SpanId) → any_compatible seen pair.0 pair.1 ≡ true → IsCompatiblePair core pair
-IsCompatiblePair-seen core seen abandoned owned pair compatible =
+pub IsWaiting-seen : (core : CoreState) (seen : Groups) → IsPermutation (abandoned_entries core.pool) seen.abandoned → IsPermutation (owned_entries core.shards) seen.owned
+    → (pair : SpanId × SpanId) → any_compatible seen pair.0 pair.1 ≡ true → IsWaiting core pair
+IsWaiting-seen core seen abandoned owned pair compatible =
     let left = any-which (λ x. same_span x.id pair.0 && list_any (λ y. same_span y.id pair.1 && are_compatible x y) seen.owned) seen.abandoned
     (each-permuted (TellsPooled core.pool.groups) (abandoned_entries core.pool) seen.abandoned abandoned (tells_pooled core.pool.groups)) compatible in
     let x = left.0 in
@@ -121,21 +111,6 @@ IsCompatiblePair-seen core seen abandoned owned pair compatible =
 
 -- ids that stand once
 
-read_at : {X : Type 0} (xs : List X) (k : ℕ) (x : X) → slice_get xs k ≡ Some x → get_or xs k x ≡ x
-read_at [] k x here = absurd cc
-read_at (y ∷ ys) zero x here = same_some here
-read_at (y ∷ ys) (suc k) x here = read_at ys k x here
-
-map_at : {X Y : Type 0} (f : X → Y) (xs : List X) (k : ℕ) (x : X) → slice_get xs k ≡ Some x → slice_get (map f xs) k ≡ Some (f x)
-map_at f [] k x here = absurd cc
-map_at f (y ∷ ys) zero x here = ap (λ z. Some (f z)) (same_some here)
-map_at f (y ∷ ys) (suc k) x here = map_at f ys k x here
-
-default_at : {X : Type 0} (xs : List X) (k : ℕ) (x d : X) → slice_get xs k ≡ Some x → get_or xs k d ≡ x
-default_at [] k x d here = absurd cc
-default_at (y ∷ ys) zero x d here = same_some here
-default_at (y ∷ ys) (suc k) x d here = default_at ys k x d here
-
 pub once-IsDistinct : {X : Type 0} (f : X → SpanId) (xs : List X) → IsDistinct same_span (map f xs) → (i j : ℕ) (p q : X) → slice_get xs i ≡ Some p → slice_get xs j ≡ Some q → f p ≡ f q → i ≡ j
 once-IsDistinct f xs distinct i j p q at_i at_j same = by_order (cases_lt i j) (cases_lt j i)
   where
@@ -144,7 +119,7 @@ once-IsDistinct f xs distinct i j p q at_i at_j same = by_order (cases_lt i j) (
         let apart : same_span (get_or (map f xs) a (f x)) (get_or (map f xs) b (f x)) ≡ false =
         apart_from_distinct same_span (map f xs) a b (f x) distinct below (let inside = get_within xs b y at_b in omega (arith, length-map xs f)) in
         let one : same_span (f x) (f y) ≡ true = test_from_same_id (f x) (f y) is in
-        let e : true ≡ false = sym one ∙ ap (λ id. same_span id (f y)) (sym (default_at (map f xs) a (f x) (f x) (map_at f xs a x at_a))) ∙ ap (same_span (get_or (map f xs) a (f x))) (sym (default_at (map f xs) b (f y) (f x) (map_at f xs b y at_b))) ∙ apart in
+        let e : true ≡ false = sym one ∙ ap (λ id. same_span id (f y)) (sym (get_or_from_slice_get (map f xs) a (f x) (f x) (slice_get-map_at f xs a x at_a))) ∙ ap (same_span (get_or (map f xs) a (f x))) (sym (get_or_from_slice_get (map f xs) b (f y) (f x) (slice_get-map_at f xs b y at_b))) ∙ apart in
         cc
 
     by_order : (i < j) ⊎ (j ≤ i) → (j < i) ⊎ (i ≤ j) → i ≡ j
@@ -174,8 +149,8 @@ IsUnderWay-marked old new seen pairs abandoned owned plan pooled_still owned_sti
     waits_at : (k : ℕ) (pair : SpanId × SpanId) → slice_get pairs k ≡ Some pair → IsWaiting new pair
     waits_at k pair at =
         let inside = get_within pairs k pair at in
-        let compatible : any_compatible seen pair.0 pair.1 ≡ true = subst (λ (p : SpanId × SpanId). any_compatible seen p.0 p.1 ≡ true) (read_at pairs k pair at) (sym (compatible-sides_of seen (get_or pairs k pair).0 (get_or pairs k pair).1) ∙ plan.compatible k pair inside) in
-        let found = IsCompatiblePair-seen old seen abandoned owned pair compatible in
+        let compatible : any_compatible seen pair.0 pair.1 ≡ true = subst (λ (p : SpanId × SpanId). any_compatible seen p.0 p.1 ≡ true) (get_or_from_slice_get pairs k pair pair at) (sym (compatible-sides_of seen (get_or pairs k pair).0 (get_or pairs k pair).1) ∙ plan.compatible k pair inside) in
+        let found = IsWaiting-seen old seen abandoned owned pair compatible in
         let (now, now_is, same) = owned_still pair.1 found.owned found.is_owned in
         record {
           abandoned = found.abandoned;

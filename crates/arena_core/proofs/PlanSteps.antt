@@ -1,28 +1,25 @@
 -- What each event does to the open plan.
-use Rattle.std.proofs.Common.{◌≡◌, ◌≢◌, ℕ, zero, suc, ◌+◌, ◌<◌, ◌≤◌, Bool, true, false, cond, eqb, ◌&&◌, ◌||◌, List, [], ◌∷◌, ◌++◌, ◌⊎◌, inl, inr, refl, sym, ap, subst, ◌∙◌, arith, Option, Some, None, set, slice_get, insert, length, eqb-true, is_some}
+use Rattle.std.proofs.Common.{◌≡◌, ℕ, suc, ◌<◌, ◌≤◌, Bool, true, false, cond, ◌||◌, List, [], ◌∷◌, inl, inr, refl, sym, ap, subst, ◌∙◌, arith, Option, Some, None, set, slice_get, is_some}
 use Rattle.std.specs.Prelude.{MatchOption}
-use Rattle.std.proofs.lemmas.Bool.{cases_eq, cases_lt}
 use Rattle.span.specs.declared.id.SpanId.{SpanId}
 use Rattle.span.specs.declared.key.Key.{Key}
 use Rattle.span.specs.Ids.{same_span}
 use Rattle.span.specs.Log.{Value as Word}
-use Rattle.span.specs.State.{SpanState}
 use Rattle.span.specs.PlainMap.{with_put as with_key, without}
+use Rattle.span.proofs.Ids.{same_id_from_test}
 use Rattle.shard.specs.Calls.{Frees, Puts, new_group, was_freed}
-use Rattle.shard.specs.Group.{GroupState, IsSpanAt, spans_of, with_free, with_put, with_span}
-use Rattle.shard.specs.Moves.{IsHeadOf}
+use Rattle.shard.specs.Group.{GroupState, with_free, with_put, with_span}
 use Rattle.shard.specs.State.{ShardState}
 use Rattle.shard.specs.Shown.{shown as shown_by}
 use Rattle.shard.specs.Sound.{IsSound as IsSoundShard}
 use Rattle.shard.specs.declared.shard.Freed.{Freed}
 use Rattle.shard.specs.declared.shard.Freed.TheVariants as freed
 use Rattle.shard.specs.declared.shard.Freed.TheVariants.{Yes}
-use Rattle.shard.proofs.Lists.{cases-insert, cases-set, same_some}
+use Rattle.shard.proofs.Lists.{cases-insert, cases-set}
 use Rattle.abandoned.specs.Calls.{Adopts, Frees as FreesPooled, Receives}
 use Rattle.abandoned.specs.Shown.{shown as shown_by_pool}
 use Rattle.abandoned.specs.Sound.{IsSound as IsSoundPool}
 use Rattle.abandoned.specs.State.{PoolState}
-use Rattle.abandoned.proofs.HeadPlaces.{id_from_rank}
 use Rattle.arena_core.specs.Plan.{AreClosedAsPlanned, IsOwned, IsUnderWay, KeepsPlan, is_planned, plans_onto}
 use Rattle.arena_core.specs.Plain.{ErasedStep}
 use Rattle.arena_core.specs.Sound.{IsSound}
@@ -33,8 +30,8 @@ use Rattle.arena_core.specs.declared.event.Event.TheVariants.{Put, Free, End, Ad
 use Rattle.arena_core.specs.declared.reply.Reply.{Reply}
 use Rattle.arena_core.specs.declared.reply.Reply.TheVariants as reply
 use Rattle.arena_core.proofs.Changes.{opened-somewhere}
-use Rattle.arena_core.proofs.Lists.{each-set}
-use Rattle.arena_core.proofs.PlanKept.{IsFewer-freed, IsUnderWay-kept, KeepsAllClosed, KeepsAllClosed-same, KeepsAllClosed-set, KeepsClosed, KeepsClosed-Frees, KeepsClosed-Puts, KeepsPooled, KeepsPooled-Frees, KeepsPooled-Receives, KeepsPooled-same, has_plan-Frees, has_plan-Receives, plans_onto-pair}
+use Rattle.arena_core.proofs.Lists.{each-set, slice_get-nil}
+use Rattle.arena_core.proofs.PlanKept.{IsFewer-freed, IsUnderWay-kept, KeepsAllClosed, KeepsAllClosed-same, KeepsAllClosed-set, KeepsClosed-Frees, KeepsClosed-Puts, KeepsPooled, KeepsPooled-Frees, KeepsPooled-Receives, KeepsPooled-same, has_plan-Frees, has_plan-Receives, plans_onto-pair}
 use Rattle.arena_core.proofs.Moves.{IsStep-Adopts, IsStep-Receives}
 use Rattle.arena_core.proofs.Spans.{times-parts, times_in-found, times_in-le, times_pooled}
 use Rattle.arena_core.proofs.Steps.{IsStep, IsStep-Frees, IsStep-FreesPooled, IsStep-Puts, IsStep-dead, has_span-here, with_pool-same, with_shard-same}
@@ -81,22 +78,12 @@ KeepsPlan-none new plan_is told closed = record {
 
 -- a span that no plan knows
 
-same_id : (a b : SpanId) → same_span a b ≡ true → a ≡ b
-same_id a b e =
-    let parts : (eqb a.shard b.shard ≡ true) × (eqb a.serial b.serial ≡ true) = both_of _ _ e in
-    id_from_rank a b (omega (arith, eqb-true a.shard b.shard parts.0, eqb-true a.serial b.serial parts.1))
-  where
-    both_of : (x y : Bool) → (x && y) ≡ true → (x ≡ true) × (y ≡ true)
-    both_of true true e = (refl, refl)
-    both_of true false e = absurd cc
-    both_of false y e = absurd cc
-
 plans_onto-none : (pairs : List (SpanId × SpanId)) (id : SpanId) → ((k : ℕ) (pair : SpanId × SpanId) → slice_get pairs k ≡ Some pair → pair.1 ≡ id → ⊥) → plans_onto pairs id ≡ false
 plans_onto-none [] id never = refl
 plans_onto-none (pair ∷ pairs) id never = by_test (same_span pair.1 id) refl (plans_onto-none pairs id (λ k other at. never (suc k) other at))
   where
     by_test : (b : Bool) → same_span pair.1 id ≡ b → plans_onto pairs id ≡ false → (b || plans_onto pairs id) ≡ false
-    by_test true e rest = absurd (never 0 pair refl (same_id pair.1 id e))
+    by_test true e rest = absurd (never 0 pair refl (same_id_from_test pair.1 id e))
     by_test false e rest = rest
 
 -- an owned group's span was opened
@@ -168,11 +155,7 @@ pub KeepsPlan-Receives : (old : CoreState) → IsSound old → (number : ℕ) (b
 KeepsPlan-Receives old sound number before after pool here unclosed receives =
     KeepsPlan-kept old (with_pool (with_shard old number after) pool) sound.plan refl (has_plan-Receives old.pool pool before after receives) (KeepsPooled-Receives old.pool pool before after receives)
     (KeepsAllClosed-set old.shards number before after here (λ index group at closed. absurd (let both : true ≡ false = sym closed ∙ unclosed index group at in cc)))
-    (AreAllClosedAsPlanned-set old.plan old.shards number after sound.plan.closed (λ index group at. absurd (let none : slice_get [] index ≡ Some group = ap (λ (s : ShardState). slice_get s.groups index) (sym receives.after) ∙ at in by_nil index none)))
-  where
-    by_nil : {X : Type 0} {x : X} (index : ℕ) → slice_get [] index ≡ Some x → ⊥
-    by_nil zero e = cc
-    by_nil (suc index) e = cc
+    (AreAllClosedAsPlanned-set old.plan old.shards number after sound.plan.closed (λ index group at. absurd (let none : slice_get [] index ≡ Some group = ap (λ (s : ShardState). slice_get s.groups index) (sym receives.after) ∙ at in slice_get-nil index none)))
 
 -- adoptions
 

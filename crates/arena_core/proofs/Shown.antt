@@ -1,6 +1,7 @@
 -- The plain map that a core shows, after a change of one of its owners: a shard or the pool.
-use Rattle.std.proofs.Common.{◌≡◌, ℕ, zero, suc, ◌+◌, ◌≤◌, Bool, true, false, cond, ◌&&◌, ◌||◌, refl, sym, ap, ◌∙◌, arith, Option, Some, None, slice_get, is_some, eq-eqb}
+use Rattle.std.proofs.Common.{◌≡◌, ℕ, ◌+◌, ◌≤◌, Bool, true, false, cond, ◌||◌, refl, sym, ap, ◌∙◌, arith, Some, None, slice_get, is_some, eq-eqb}
 use Rattle.std.specs.Prelude.{sum_by}
+use Rattle.std.proofs.lemmas.Bool.{and_parts}
 use Rattle.span.specs.declared.id.SpanId.{SpanId}
 use Rattle.span.specs.declared.key.Key.{Key}
 use Rattle.span.specs.Ids.{same_span}
@@ -8,25 +9,17 @@ use Rattle.span.specs.Log.{Value}
 use Rattle.span.specs.PlainMap.{PlainMap, same_key, with_put, without}
 use Rattle.shard.specs.Shown.{shown as shown_by, span_named}
 use Rattle.shard.specs.State.{ShardState, spans_in}
+use Rattle.shard.proofs.Logged.{same_plain_map}
 use Rattle.abandoned.specs.Shown.{shown as shown_by_pool}
 use Rattle.abandoned.specs.State.{PoolState, spans_in as pooled_spans}
+use Rattle.abandoned.proofs.Searches.{none_from}
 use Rattle.arena_core.specs.State.{CoreState, has_span, shard_with, shown, shown_at, with_pool, with_shard}
-use Rattle.arena_core.proofs.Lists.{count_by-missed, find-uncounted, slice_get-set_same, sum_by-set_at}
+use Rattle.arena_core.proofs.Lists.{count_by-found, count_by-missed, find-counted, slice_get-set_same, sum_by-set_at}
 use Rattle.arena_core.proofs.Owners.{bit, bit-injective, code, code-injective, issued-missed, issued-sum, issued-unpooled, value-missed, value-sum, value-unpooled}
 use Rattle.arena_core.proofs.Spans.{find-same, is_named, same_span-self, shard_with-here, shard_with-nowhere, times, times-parts, times_in-missed, times_pooled}
 
--- plain maps that answer alike are equal
-pub same_plain_map : (a b : PlainMap) → ((key : Key) → a.is_issued key ≡ b.is_issued key) → ((key : Key) → a.value_of key ≡ b.value_of key)
-    → ((worker owner : ℕ) → a.pending worker owner ≡ b.pending worker owner) → a ≡ b
-same_plain_map a b issued values pending =
-    λ i. record { is_issued = λ key. issued key i; value_of = λ key. values key i; pending = λ worker owner. pending worker owner i }
-
 pub same_key-self : (key : Key) → same_key key key ≡ true
 same_key-self key = rw (same_span-self key.span, eq-eqb key.slot key.slot refl, eq-eqb key.generation key.generation refl) refl
-
-first_of : (a b : Bool) → (a && b) ≡ true → a ≡ true
-first_of true b e = refl
-first_of false b e = absurd cc
 
 -- one owner of a core, which showed a, shows b, and has these spans then; all others are as they were
 pub record IsLocal (old new : CoreState) (a b : PlainMap) (has : SpanId → Bool) : Type 0 where
@@ -78,7 +71,7 @@ module _ (old new : CoreState) (a b : PlainMap) (has : SpanId → Bool) (local :
   module _ (here : has key.span ≡ true) (frees : b ≡ without a key) where
     free_value : (other : Key) (s : Bool) → same_key key other ≡ s → (shown new).value_of other ≡ cond s None ((shown old).value_of other)
     free_value other true same =
-        local.value_here other (sym (local.alike key.span other.span (first_of _ _ same)) ∙ here)
+        local.value_here other (sym (local.alike key.span other.span (and_parts _ _ same).0) ∙ here)
         ∙ ap (λ (m : PlainMap). m.value_of other) frees
         ∙ ap (λ s. cond s None (a.value_of other)) same
     free_value other false differ =
@@ -102,47 +95,36 @@ module _ (old new : CoreState) (a b : PlainMap) (has : SpanId → Bool) (local :
 
 -- the owners
 
+-- what is read of the maps that the shards and the pool show
+abbrev sum_of : (PlainMap → ℕ) → CoreState → ℕ
+sum_of read core = sum_by (λ shard. read (shown_by shard)) core.shards + read (shown_by_pool core.pool)
+
+-- of the map that the core shows as much is read
+abbrev IsSumOf : (PlainMap → ℕ) → CoreState → Type 0
+IsSumOf read core = read (shown core) ≡ sum_of read core
+
 -- the pool has the span
 abbrev pub has_pooled : SpanId → PoolState → Bool
 has_pooled id pool = is_some (span_named (pooled_spans pool.groups) id)
 
-none_from : {X : Type 0} (o : Option X) → is_some o ≡ false → o ≡ None
-none_from None e = refl
-none_from (Some x) e = absurd cc
-
 pub has_pooled-counted : (id : SpanId) (pool : PoolState) → 1 ≤ times_pooled id pool → has_pooled id pool ≡ true
-has_pooled-counted id pool some = by_test (has_pooled id pool) refl
-  where
-    by_test : (b : Bool) → has_pooled id pool ≡ b → b ≡ true
-    by_test true e = refl
-    by_test false e = absurd (omega (arith, count_by-missed (is_named id) (pooled_spans pool.groups) (none_from _ e)))
+has_pooled-counted id pool some = find-counted (is_named id) (pooled_spans pool.groups) some
 
 module _ (old new : CoreState) (once : (id : SpanId) → times id old ≤ 1) (once_new : (id : SpanId) → times id new ≤ 1) where
   pub IsLocal-shard : (number : ℕ) (before after : ShardState) → slice_get old.shards number ≡ Some before → new ≡ with_shard old number after → IsLocal old new (shown_by before) (shown_by after) (λ id. has_span id after)
   IsLocal-shard number before after here is = record {
     alike = λ x y same. ap is_some (find-same x y (spans_in after.groups) same);
-    value = λ key.
-        omega (
-          arith,
-          value-sum old key (once key.span),
-          value-sum new key (once_new key.span),
-          ap (λ (c : CoreState). sum_by (λ s. code ((shown_by s).value_of key)) c.shards + code ((shown_by_pool c.pool).value_of key)) is,
-          sum_by-set_at (λ s. code ((shown_by s).value_of key)) old.shards number before after here,
-        );
-    issued = λ key.
-        omega (
-          arith,
-          issued-sum old key (once key.span),
-          issued-sum new key (once_new key.span),
-          ap (λ (c : CoreState). sum_by (λ s. bit ((shown_by s).is_issued key)) c.shards + bit ((shown_by_pool c.pool).is_issued key)) is,
-          sum_by-set_at (λ s. bit ((shown_by s).is_issued key)) old.shards number before after here,
-        );
+    value = λ key. read_with_shard (λ plain. code (plain.value_of key)) (value-sum old key (once key.span)) (value-sum new key (once_new key.span));
+    issued = λ key. read_with_shard (λ plain. bit (plain.is_issued key)) (issued-sum old key (once key.span)) (issued-sum new key (once_new key.span));
     value_here = λ key has. ap (λ o. (shown_at new.pool o).value_of key) (found key.span has);
     issued_here = λ key has. ap (λ o. (shown_at new.pool o).is_issued key) (found key.span has);
     value_only = λ key none. value-missed after key (times_in-missed key.span after none);
     issued_only = λ key none. issued-missed after key (times_in-missed key.span after none);
   }
     where
+      read_with_shard : (read : PlainMap → ℕ) → IsSumOf read old → IsSumOf read new → read (shown new) + read (shown_by before) ≡ read (shown old) + read (shown_by after)
+      read_with_shard read sum_old sum_new = omega (arith, sum_old, sum_new, ap (sum_of read) is, sum_by-set_at (λ shard. read (shown_by shard)) old.shards number before after here)
+
       found : (id : SpanId) → has_span id after ≡ true → shard_with new.shards id ≡ Some after
       found id has =
           shard_with-here id new.shards number after (ap (λ (c : CoreState). slice_get c.shards number) is ∙ slice_get-set_same old.shards number before after here) has
@@ -151,21 +133,18 @@ module _ (old new : CoreState) (once : (id : SpanId) → times id old ≤ 1) (on
   pub IsLocal-pool : (pool : PoolState) → new ≡ with_pool old pool → IsLocal old new (shown_by_pool old.pool) (shown_by_pool pool) (λ id. has_pooled id pool)
   IsLocal-pool pool is = record {
     alike = λ x y same. ap is_some (find-same x y (pooled_spans pool.groups) same);
-    value = λ key.
-        omega (arith, value-sum old key (once key.span), value-sum new key (once_new key.span), ap (λ (c : CoreState). sum_by (λ s. code ((shown_by s).value_of key)) c.shards + code ((shown_by_pool c.pool).value_of key)) is);
-    issued = λ key.
-        omega (arith, issued-sum old key (once key.span), issued-sum new key (once_new key.span), ap (λ (c : CoreState). sum_by (λ s. bit ((shown_by s).is_issued key)) c.shards + bit ((shown_by_pool c.pool).is_issued key)) is);
+    value = λ key. read_with_pool (λ plain. code (plain.value_of key)) (value-sum old key (once key.span)) (value-sum new key (once_new key.span));
+    issued = λ key. read_with_pool (λ plain. bit (plain.is_issued key)) (issued-sum old key (once key.span)) (issued-sum new key (once_new key.span));
     value_here = λ key has. ap (λ o. (shown_at new.pool o).value_of key) (found key.span has) ∙ ap (λ (c : CoreState). (shown_by_pool c.pool).value_of key) is;
     issued_here = λ key has. ap (λ o. (shown_at new.pool o).is_issued key) (found key.span has) ∙ ap (λ (c : CoreState). (shown_by_pool c.pool).is_issued key) is;
     value_only = λ key none. value-unpooled pool key (count_by-missed (is_named key.span) (pooled_spans pool.groups) (none_from _ none));
     issued_only = λ key none. issued-unpooled pool key (count_by-missed (is_named key.span) (pooled_spans pool.groups) (none_from _ none));
   }
     where
-      some-counted : (id : SpanId) (n : ℕ) → times_pooled id pool ≡ n → is_some (span_named (pooled_spans pool.groups) id) ≡ true → 1 ≤ n
-      some-counted id zero e has = absurd (let no : is_some (span_named (pooled_spans pool.groups) id) ≡ false = ap is_some (find-uncounted (is_named id) (pooled_spans pool.groups) e) in cc)
-      some-counted id (suc n) e has = omega arith
+      read_with_pool : (read : PlainMap → ℕ) → IsSumOf read old → IsSumOf read new → read (shown new) + read (shown_by_pool old.pool) ≡ read (shown old) + read (shown_by_pool pool)
+      read_with_pool read sum_old sum_new = omega (arith, sum_old, sum_new, ap (sum_of read) is)
 
       found : (id : SpanId) → is_some (span_named (pooled_spans pool.groups) id) ≡ true → shard_with new.shards id ≡ None
       found id has =
           shard_with-nowhere id new.shards
-          (omega (arith, times-parts id new, once_new id, ap (λ (c : CoreState). times_pooled id c.pool) is, some-counted id (times_pooled id pool) refl has))
+          (omega (arith, times-parts id new, once_new id, ap (λ (c : CoreState). times_pooled id c.pool) is, count_by-found (is_named id) (pooled_spans pool.groups) has))

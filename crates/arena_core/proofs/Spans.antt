@@ -1,14 +1,17 @@
 -- Sums over the spans of a shard, of the pool and of a core, and how often a span stands there.
-use Rattle.std.proofs.Common.{◌≡◌, ℕ, zero, suc, ◌+◌, ◌≤◌, Bool, true, false, cond, eqb, ◌&&◌, List, [], ◌∷◌, refl, ap, ◌∙◌, arith, Option, Some, None, slice_get, is_some, eq-eqb, eqb-true}
+use Rattle.std.proofs.Common.{◌≡◌, ℕ, zero, suc, ◌+◌, ◌≤◌, Bool, true, false, cond, List, [], ◌∷◌, refl, ap, ◌∙◌, arith, Some, None, slice_get, is_some}
 use Rattle.std.specs.Prelude.{find, count_by, sum_by}
 use Rattle.std.proofs.lemmas.List.Sums.{sum_by-append}
 use Rattle.span.specs.declared.id.SpanId.{SpanId}
 use Rattle.span.specs.Ids.{same_span}
 use Rattle.span.specs.State.{SpanState}
+use Rattle.span.proofs.Ids.{same_id_from_test, test_from_same_id}
 use Rattle.shard.specs.State.{ShardState, spans_in}
+use Rattle.shard.proofs.Lists.{count-append, count-none, find-none}
 use Rattle.abandoned.specs.State.{PoolState, spans_in as pooled_spans}
+use Rattle.abandoned.proofs.Searches.{none_from}
 use Rattle.arena_core.specs.State.{CoreState, all_spans, has_span, shard_spans, shard_with, with_pool, with_shard}
-use Rattle.arena_core.proofs.Lists.{count_by-append, count_by-missed, find-uncounted, find-none, sum_by-flat_map, sum_by-set_at}
+use Rattle.arena_core.proofs.Lists.{count_by-found, count_by-missed, find-counted, sum_by-flat_map, sum_by-set_at}
 
 -- sums over the spans
 
@@ -59,54 +62,32 @@ abbrev pub times : SpanId → CoreState → ℕ
 times id core = count_by (is_named id) (all_spans core)
 
 pub times-parts : (id : SpanId) (core : CoreState) → times id core ≡ times_owned id core.shards + times_pooled id core.pool
-times-parts id core = count_by-append (is_named id) (shard_spans core.shards) (pooled_spans core.pool.groups)
+times-parts id core = count-append (is_named id) (shard_spans core.shards) (pooled_spans core.pool.groups)
 
 pub times_owned-cons : (id : SpanId) (shard : ShardState) (shards : List ShardState) → times_owned id (shard ∷ shards) ≡ times_in id shard + times_owned id shards
-times_owned-cons id shard shards = count_by-append (is_named id) (spans_in shard.groups) (shard_spans shards)
+times_owned-cons id shard shards = count-append (is_named id) (spans_in shard.groups) (shard_spans shards)
 
 pub same_span-self : (id : SpanId) → same_span id id ≡ true
-same_span-self id = rw (eq-eqb id.shard id.shard refl, eq-eqb id.serial id.serial refl) refl
-
-missed : {X : Type 0} (o : Option X) → is_some o ≡ false → o ≡ None
-missed None e = refl
-missed (Some x) e = absurd cc
+same_span-self id = test_from_same_id id id refl
 
 pub span-missed : (id : SpanId) (shard : ShardState) → has_span id shard ≡ false → find (is_named id) (spans_in shard.groups) ≡ None
-span-missed id shard none = missed _ none
+span-missed id shard none = none_from _ none
 
 pub times_in-missed : (id : SpanId) (shard : ShardState) → has_span id shard ≡ false → times_in id shard ≡ 0
 times_in-missed id shard none = count_by-missed (is_named id) (spans_in shard.groups) (span-missed id shard none)
 
 pub has_span-uncounted : (id : SpanId) (shard : ShardState) → times_in id shard ≡ 0 → has_span id shard ≡ false
-has_span-uncounted id shard none = ap is_some (find-uncounted (is_named id) (spans_in shard.groups) none)
+has_span-uncounted id shard none = ap is_some (find-none (is_named id) (spans_in shard.groups) none)
 
 pub times_in-found : (id : SpanId) (shard : ShardState) → has_span id shard ≡ true → 1 ≤ times_in id shard
-times_in-found id shard has = by_count (times_in id shard) refl
-  where
-    by_count : (n : ℕ) → times_in id shard ≡ n → 1 ≤ n
-    by_count zero e = absurd (let none : has_span id shard ≡ false = has_span-uncounted id shard e in cc)
-    by_count (suc n) e = omega arith
+times_in-found id shard has = count_by-found (is_named id) (spans_in shard.groups) has
 
 pub has_span-counted : (id : SpanId) (shard : ShardState) → 1 ≤ times_in id shard → has_span id shard ≡ true
-has_span-counted id shard some = by_test (has_span id shard) refl
-  where
-    by_test : (b : Bool) → has_span id shard ≡ b → b ≡ true
-    by_test true e = refl
-    by_test false e = absurd (omega (arith, times_in-missed id shard e))
-
-pub same_numbers : (a b : SpanId) → same_span a b ≡ true → (a.shard ≡ b.shard) × (a.serial ≡ b.serial)
-same_numbers a b same = let parts = both (eqb a.shard b.shard) (eqb a.serial b.serial) same in (eqb-true _ _ parts.0, eqb-true _ _ parts.1)
-  where
-    both : (a b : Bool) → (a && b) ≡ true → (a ≡ true) × (b ≡ true)
-    both true b e = (refl, e)
-    both false b e = absurd cc
+has_span-counted id shard some = find-counted (is_named id) (spans_in shard.groups) some
 
 -- one id is as good as another of the same numbers
 pub find-same : (a b : SpanId) (spans : List SpanState) → same_span a b ≡ true → find (is_named a) spans ≡ find (is_named b) spans
-find-same a b spans same =
-    let numbers = same_numbers a b same in
-    ap (λ n. find (λ (span : SpanState). (eqb span.id.shard n) && (eqb span.id.serial a.serial)) spans) numbers.0
-    ∙ ap (λ n. find (λ (span : SpanState). (eqb span.id.shard b.shard) && (eqb span.id.serial n)) spans) numbers.1
+find-same a b spans same = ap (λ (id : SpanId). find (is_named id) spans) (same_id_from_test a b same)
 
 -- a shard's spans are among those of all shards
 pub times_in-le : (id : SpanId) (shards : List ShardState) (number : ℕ) (shard : ShardState) → slice_get shards number ≡ Some shard → times_in id shard ≤ times_owned id shards
@@ -132,4 +113,4 @@ shard_with-here id (first ∷ shards) (suc number) shard here has once = by_test
 -- where the span stands in no shard, the search finds none
 pub shard_with-nowhere : (id : SpanId) (shards : List ShardState) → times_owned id shards ≡ 0 → shard_with shards id ≡ None
 shard_with-nowhere id shards none =
-    find-none (has_span id) shards (λ number shard here. has_span-uncounted id shard (omega (arith, times_in-le id shards number shard here)))
+    find-none (has_span id) shards (count-none (has_span id) shards (λ number shard here. has_span-uncounted id shard (omega (arith, times_in-le id shards number shard here))))

@@ -9,13 +9,14 @@ use Rattle.span.specs.State.{SpanState}
 use Rattle.shard.specs.Sound.{IsSound as IsSoundShard}
 use Rattle.shard.specs.Group.{GroupState}
 use Rattle.shard.specs.State.{ShardState}
+use Rattle.shard.proofs.Logged.{same_plain_map}
 use Rattle.abandoned.specs.State.{PoolState}
 use Rattle.abandoned.proofs.Started.{IsSound-new}
 use Rattle.arena_core.specs.Sound.{HasSoundGroups, IsSound, IsSoundAt}
 use Rattle.arena_core.specs.State.{AreWithin, CoreState, Limits, all_spans, OpenPlan, limits_of, new_core, new_pool, new_shard, opened_by, shard_spans, shard_with, shown, shown_at}
 use Rattle.arena_core.proofs.Changes.{indicator, past-indicator}
 use Rattle.arena_core.proofs.Groups.{strays, strays-each}
-use Rattle.arena_core.proofs.Shown.{same_plain_map}
+use Rattle.arena_core.proofs.Lists.{slice_get-nil}
 use Rattle.arena_core.proofs.Spans.{named, shard_with-nowhere, sum_all}
 
 sum-new : (w : SpanState → ℕ) (limits : Limits) (numbers : List ℕ) → sum_by w (shard_spans (map (new_shard limits.page_limit limits.gens) numbers)) ≡ 0
@@ -92,8 +93,4 @@ IsSound-new_core limits groups = record {
     no_group : (number : ℕ) (shard : ShardState) → slice_get (new_core limits).shards number ≡ Some shard → (index : ℕ) (group : GroupState) → slice_get shard.groups index ≡ Some group → ⊥
     no_group number shard here index group at =
         let is = slice_get-range limits 0 limits.shards number shard here in
-        nothing index (ap (λ (s : ShardState). slice_get s.groups index) is.1 ∙ at)
-      where
-        nothing : (index : ℕ) → slice_get [] index ≡ Some group → ⊥
-        nothing zero e = cc
-        nothing (suc index) e = cc
+        slice_get-nil index (ap (λ (s : ShardState). slice_get s.groups index) is.1 ∙ at)

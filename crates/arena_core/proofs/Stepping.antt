@@ -1,68 +1,49 @@
 -- The next pair of the open plan is carried out: it is neither absent nor a clash.
-use Rattle.std.proofs.Common.{◌≡◌, ◌≢◌, ℕ, zero, suc, ◌+◌, ◌<◌, ◌≤◌, true, false, List, [], ◌∷◌, ◌++◌, ◌⊎◌, inl, inr, refl, sym, ap, subst, ◌∙◌, arith, Option, Some, None, set, slice_get, length, is_some, Bool}
-use Rattle.std.specs.Prelude.{MatchOption, remove, sum_by}
-use Rattle.std.proofs.lemmas.List.Sums.{sum_by-append, sum_by-cons}
+use Rattle.std.proofs.Common.{◌≡◌, ℕ, ◌≤◌, true, false, inl, inr, refl, sym, ap, subst, ◌∙◌, arith, Some, slice_get, is_some, Bool}
+use Rattle.std.specs.Prelude.{MatchOption}
 use Rattle.bitmap.specs.Slots.{SlotSet, AreDisjoint}
 use Rattle.bitmap.specs.Operations.{AreDisjoint-at, AreDisjoint-by_slot}
 use Rattle.span.specs.declared.id.SpanId.{SpanId}
-use Rattle.span.specs.State.{SpanState}
-use Rattle.shard.specs.Group.{GroupState, occupied, spans_of, union_of}
-use Rattle.shard.specs.Moves.{IsHeadOf, WholeState, spans_moved, with_guests}
+use Rattle.shard.specs.Group.{GroupState, occupied, union_of}
+use Rattle.shard.specs.Moves.{IsHeadOf, WholeState}
 use Rattle.shard.specs.Sound.{IsSound as IsSoundShard}
 use Rattle.shard.specs.State.{ShardState}
 use Rattle.shard.proofs.HeadsHere.{same_group}
 use Rattle.shard.proofs.Lists.{same_some}
 use Rattle.abandoned.specs.Sound.{IsSound as IsSoundPool}
-use Rattle.abandoned.specs.State.{IsHeadOf as IsPooledHeadOf, PoolState, PooledState, spans_of as pooled_spans_of}
+use Rattle.abandoned.specs.State.{PoolState, PooledState, spans_of as pooled_spans_of}
 use Rattle.abandoned.proofs.Adopted.{one_head}
 use Rattle.fold.specs.Folds as fold
 use Rattle.fold.specs.Folds.{Folds, Steps}
+use Rattle.fold.proofs.Sums.{gens-Folds, number-Folds, opened-Folds, page_limit-Folds, sum_by-Folds, sum_by-Folds_shard}
 use Rattle.fold.specs.declared.step.Step.{Step as Outcome}
 use Rattle.fold.specs.declared.step.Step.TheVariants.{Absent, Emptied, Clash, Folded}
-use Rattle.arena_core.specs.Plan.{IsEmptied, IsNext, IsUnderWay, IsWaiting, KeepsPlan, with_next_done}
+use Rattle.arena_core.specs.Plan.{IsEmptied, IsNext, IsUnderWay, IsWaiting, with_next_done}
 use Rattle.arena_core.specs.Sound.{IsSound}
-use Rattle.arena_core.specs.State.{CoreState, OpenPlan, has_span, shard_with, shown, with_plan, with_pool, with_shard}
-use Rattle.arena_core.specs.Step.{CoreStep, TakesNext}
+use Rattle.arena_core.specs.State.{CoreState, OpenPlan, has_span, with_plan, with_pool, with_shard}
 use Rattle.arena_core.specs.declared.event.Event.TheVariants.{Step}
 use Rattle.arena_core.specs.declared.reply.Reply.TheVariants.{Stepped}
 use Rattle.arena_core.proofs.Changes.{HasSoundGroups-moved, at_most_once, sum_all-moved}
 use Rattle.arena_core.proofs.Groups.{IsMove}
-use Rattle.arena_core.proofs.Lists.{flat-remove, flat-set}
+use Rattle.arena_core.proofs.Lists.{slice_get-nil}
 use Rattle.arena_core.proofs.Logged.{shown-same}
 use Rattle.arena_core.proofs.PlanFolds.{AreAllClosedAsPlanned-folded, IsFold, IsUnderWay-folded, IsUnderWay-passed}
 use Rattle.arena_core.proofs.PlanSteps.{AreAllClosedAsPlanned, IsSoundStep}
-use Rattle.arena_core.proofs.Spans.{shard_with-here, sum_in, sum_pooled, times-parts, times_owned}
-use Rattle.arena_core.proofs.Steps.{has_span-here, not_doubled_in, with_pool-same, with_shard-same}
+use Rattle.arena_core.proofs.Spans.{shard_with-here, times-parts, times_owned}
+use Rattle.arena_core.proofs.Steps.{has_span-here, not_doubled_in, with_shard-same}
 
 -- a fold as a move of spans from the pool to the shard
 
-moved_in : (w : SpanState → ℕ) (group : GroupState) (moved : List SpanState) → sum_by w (spans_of (with_guests group moved)) ≡ sum_by w (spans_of group) + sum_by w moved
-moved_in w group moved = omega (arith, sum_by-cons w group.head (group.guests ++ moved), sum_by-cons w group.head group.guests, sum_by-append w group.guests moved)
-
 pub IsMove-Folds : (pool_before pool_after : PoolState) (before after : ShardState) (a b : SpanId) → before.ended ≡ false → Folds pool_before before a b pool_after after → IsMove before after pool_before pool_after
 IsMove-Folds pool_before pool_after before after a b running folds = record {
-  number_is = ap (λ (s : ShardState). s.number) folds.grafts.after;
-  page_limit_is = ap (λ (s : ShardState). s.page_limit) folds.grafts.after;
-  gens_is = ap (λ (s : ShardState). s.gens) folds.grafts.after;
-  opened_is = ap (λ (s : ShardState). s.opened) folds.grafts.after;
+  number_is = number-Folds pool_before before a b pool_after after folds;
+  page_limit_is = page_limit-Folds pool_before before a b pool_after after folds;
+  gens_is = gens-Folds pool_before before a b pool_after after folds;
+  opened_is = opened-Folds pool_before before a b pool_after after folds;
   running = running;
-  sums = λ w. omega (arith, came w, left w);
-  more = λ still w. omega (arith, came w);
+  sums = sum_by-Folds pool_before before a b pool_after after folds;
+  more = λ still w. omega (arith, sum_by-Folds_shard pool_before before a b pool_after after folds w);
 }
-  where
-    came : (w : SpanState → ℕ) → sum_in w after ≡ sum_in w before + sum_by w (spans_moved folds.whole)
-    came w =
-        omega (
-          arith,
-          ap (λ (s : ShardState). sum_in w s) folds.grafts.after,
-          flat-set w spans_of before.groups folds.grafts.index folds.grafts.group (with_guests folds.grafts.group (spans_moved folds.whole)) folds.grafts.here.here,
-          moved_in w folds.grafts.group (spans_moved folds.whole),
-        )
-
-    left : (w : SpanState → ℕ) → sum_pooled w pool_after + sum_by w (spans_moved folds.whole) ≡ sum_pooled w pool_before
-    left w =
-        let (index, group, here, whole_is, after_is) = folds.lifts in
-        omega (arith, ap (λ (p : PoolState). sum_pooled w p) after_is, flat-remove w pooled_spans_of pool_before.groups index group here.here, ap (λ (m : WholeState). sum_by w (spans_moved m)) whole_is)
 
 IsFold-Folds : (old : CoreState) (pair : SpanId × SpanId) (number : ℕ) (before after : ShardState) (pool : PoolState) → slice_get old.shards number ≡ Some before → Folds old.pool before pair.0 pair.1 pool after → IsFold old pair number after pool
 IsFold-Folds old pair number before after pool here folds =
@@ -115,12 +96,8 @@ module _ (old : CoreState) (sound : IsSound old) (plan : OpenPlan) (pair : SpanI
     running : before.ended ≡ false
     running = by_end before.ended refl
       where
-        nothing : (index : ℕ) → slice_get [] index ≡ Some waits.owned → ⊥
-        nothing zero e = cc
-        nothing (suc index) e = cc
-
         by_end : (b : Bool) → before.ended ≡ b → b ≡ false
-        by_end true e = absurd (nothing waits.is_owned.index (ap (λ gs. slice_get gs waits.is_owned.index) (sym (sound_before.none_left e)) ∙ owned_here.here))
+        by_end true e = absurd (slice_get-nil waits.is_owned.index (ap (λ gs. slice_get gs waits.is_owned.index) (sym (sound_before.none_left e)) ∙ owned_here.here))
         by_end false e = refl
 
     present : fold.IsAbsent old.pool before pair.0 pair.1 → ⊥

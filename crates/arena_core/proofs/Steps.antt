@@ -1,5 +1,5 @@
 -- Each call of a shard or of the pool as a step of the core, exactly, and as a step of the plain map.
-use Rattle.std.proofs.Common.{◌≡◌, ℕ, zero, suc, ◌≤◌, ◌⊎◌, inl, inr, Bool, true, false, cond, refl, sym, ap, subst, ◌∙◌, arith, Option, Some, None, set, slice_get, is_some}
+use Rattle.std.proofs.Common.{◌≡◌, ℕ, zero, suc, ◌≤◌, ◌⊎◌, inl, inr, Bool, true, false, cond, refl, sym, ap, subst, ◌∙◌, arith, Some, None, set, slice_get, is_some}
 use Rattle.std.specs.Prelude.{◌↔◌}
 use Rattle.span.specs.declared.id.SpanId.{SpanId}
 use Rattle.span.specs.declared.key.Key.{Key}
@@ -14,13 +14,15 @@ use Rattle.shard.specs.declared.error.PutError.{PutError}
 use Rattle.shard.specs.declared.error.PutError.TheVariants as put_error
 use Rattle.shard.specs.declared.shard.Freed.{Freed}
 use Rattle.shard.specs.declared.shard.Freed.TheVariants as freed
+use Rattle.shard.proofs.GroupSpans.{elsewhere-times, times-elsewhere}
+use Rattle.shard.proofs.Lists.{count-none, find-none, set-same}
 use Rattle.shard.proofs.ShownLogs.{span_named-elsewhere, span_named-here}
 use Rattle.span.specs.State.{SpanState}
 use Rattle.abandoned.specs.Calls.{Frees as FreesPooled, HasDoubled, IsDoubled, IsInPool}
 use Rattle.abandoned.specs.Shown.{shown as shown_by_pool}
 use Rattle.abandoned.specs.Sound.{IsSound as IsSoundPool}
 use Rattle.abandoned.specs.State.{IsElsewhere as IsElsewherePooled, PoolState, PooledState, spans_of as pooled_spans_of}
-use Rattle.abandoned.proofs.Standing.{elsewhere-times, times-elsewhere}
+use Rattle.abandoned.proofs.Searches.{none_from}
 use Rattle.arena_core.specs.declared.event.Event.{Event}
 use Rattle.arena_core.specs.declared.event.Event.TheVariants.{Put, Free}
 use Rattle.arena_core.specs.declared.reply.Reply.{Reply}
@@ -33,7 +35,6 @@ use Rattle.arena_core.specs.State.{CoreState, has_span, opened_by, opened_of, sh
 use Rattle.arena_core.specs.Step.{CoreStep}
 use Rattle.arena_core.proofs.Changes.{HasSoundGroups-with_pool, HasSoundGroups-with_shard, at_most_once, indicator, opened-somewhere, past-indicator}
 use Rattle.arena_core.proofs.Groups.{IsCall-Frees, IsCall-Puts, IsPoolCall-Frees}
-use Rattle.arena_core.proofs.Lists.{find-none, set-slice_get}
 use Rattle.arena_core.proofs.Owners.{value-unpooled}
 use Rattle.arena_core.proofs.Shown.{IsLocal-pool, IsLocal-shard, fresh-put, has_pooled, has_pooled-counted, shown-free, shown-put, value-before}
 use Rattle.arena_core.proofs.Spans.{has_span-counted, shard_with-here, shard_with-nowhere, times, times-parts, times_in, times_in-found, times_in-le, times_owned, times_pooled}
@@ -69,7 +70,7 @@ pub pooled-somewhere : (pool : PoolState) (id : SpanId) → (IsElsewherePooled p
 pooled-somewhere pool id some = by_count (times_pooled id pool) refl
   where
     by_count : (n : ℕ) → times_pooled id pool ≡ n → 1 ≤ n
-    by_count zero e = absurd (some (elsewhere-times pool.groups id e))
+    by_count zero e = absurd (some (elsewhere-times pooled_spans_of pool.groups id e))
     by_count (suc n) e = omega arith
 
 module _ (core : CoreState) (sound : HasSoundGroups core) where
@@ -86,8 +87,8 @@ module _ (core : CoreState) (sound : HasSoundGroups core) where
 
   pub value-nowhere : (key : Key) → IsNowhere core key.span → (shown core).value_of key ≡ None
   value-nowhere key nowhere =
-      ap (λ o. (shown_at core.pool o).value_of key) (find-none (has_span key.span) core.shards (λ number shard here. has_span-not shard key.span (sound.shards number shard here).sound (nowhere.shards number shard here)))
-      ∙ value-unpooled core.pool key (times-elsewhere core.pool.groups key.span nowhere.pool)
+      ap (λ o. (shown_at core.pool o).value_of key) (find-none (has_span key.span) core.shards (count-none (has_span key.span) core.shards (λ number shard here. has_span-not shard key.span (sound.shards number shard here).sound (nowhere.shards number shard here))))
+      ∙ value-unpooled core.pool key (times-elsewhere pooled_spans_of core.pool.groups key.span nowhere.pool)
 
   -- a span of a shard that the core does not have was never opened
   pub value-no_home : (key : Key) → slice_get core.shards key.span.shard ≡ None → (shown core).value_of key ≡ None
@@ -155,24 +156,20 @@ CoreStep-refused old number value shard put_error.Ended here spent ended = ((sha
 
 -- frees
 
-pub none_from_is_some : {X : Type 0} (o : Option X) → is_some o ≡ false → o ≡ None
-none_from_is_some None e = refl
-none_from_is_some (Some x) e = absurd cc
-
 -- a key that is not live is not freed
 pub IsStep-dead : (old : CoreState) (key : Key) → HasSoundGroups old → (shown old).value_of key ≡ None → IsStep old (Free key) (reply.Freed false) old
 IsStep-dead old key sound none = record { kept = sound; exact = (none, refl); plain = (none, refl) }
 
 pub with_shard-same : (old : CoreState) (number : ℕ) (before after : ShardState) → slice_get old.shards number ≡ Some before → after ≡ before → with_shard old number after ≡ old
 with_shard-same old number before after here same =
-    let shards : set old.shards number after ≡ old.shards = ap (set old.shards number) same ∙ set-slice_get old.shards number before here in
+    let shards : set old.shards number after ≡ old.shards = ap (set old.shards number) same ∙ set-same old.shards number before here in
     λ i. record { limits = old.limits; shards = shards i; pool = old.pool; plan = old.plan }
 
 IsStep-unfreed : (old : CoreState) (key : Key) (number : ℕ) (before after : ShardState) → HasSoundGroups old → slice_get old.shards number ≡ Some before → has_span key.span before ≡ true → false ≡ is_some ((shown_by before).value_of key) → after ≡ before
     → IsStep old (Free key) (reply.Freed false) (with_shard old number after)
 IsStep-unfreed old key number before after sound here has found same =
     subst (IsStep old (Free key) (reply.Freed false)) (sym (with_shard-same old number before after here same))
-    (IsStep-dead old key sound (value-shard old sound key number before here has ∙ none_from_is_some _ (sym found)))
+    (IsStep-dead old key sound (value-shard old sound key number before here has ∙ none_from _ (sym found)))
 
 pub IsStep-Frees : (old : CoreState) (key : Key) (number : ℕ) (before after : ShardState) (answer : Freed) → HasSoundGroups old → slice_get old.shards number ≡ Some before → has_span key.span before ≡ true → Frees before key answer after
     → was_freed answer ≡ is_some ((shown_by before).value_of key) → shown_by after ≡ cond (was_freed answer) (without (shown_by before) key) (shown_by before) → IsSoundShard after
@@ -198,7 +195,7 @@ with_pool-same old pool same = λ i. record { limits = old.limits; shards = old.
 IsStep-unfreed_pooled : (old : CoreState) (key : Key) (pool : PoolState) → HasSoundGroups old → 1 ≤ times_pooled key.span old.pool → false ≡ is_some ((shown_by_pool old.pool).value_of key) → pool ≡ old.pool → IsStep old (Free key) (reply.Freed false) (with_pool old pool)
 IsStep-unfreed_pooled old key pool sound some found same =
     subst (IsStep old (Free key) (reply.Freed false)) (sym (with_pool-same old pool same))
-    (IsStep-dead old key sound (value-pool old sound key some ∙ none_from_is_some _ (sym found)))
+    (IsStep-dead old key sound (value-pool old sound key some ∙ none_from _ (sym found)))
 
 pub IsStep-FreesPooled : (old : CoreState) (key : Key) (pool : PoolState) (answer : Freed) → HasSoundGroups old → 1 ≤ times_pooled key.span old.pool → FreesPooled old.pool key answer pool
     → was_freed answer ≡ is_some ((shown_by_pool old.pool).value_of key) → shown_by_pool pool ≡ cond (was_freed answer) (without (shown_by_pool old.pool) key) (shown_by_pool old.pool) → IsSoundPool pool

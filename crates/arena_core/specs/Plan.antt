@@ -4,11 +4,10 @@ use Rattle.std.specs.List.{flat_map, list_any}
 use Rattle.bitmap.specs.Slots.{SlotSet, AreDisjoint}
 use Rattle.span.specs.declared.id.SpanId.{SpanId}
 use Rattle.span.specs.Ids.{same_span}
-use Rattle.span.specs.State.{SpanState}
-use Rattle.shard.specs.Group.{GroupState, IsSpanAt, occupied, spans_of}
+use Rattle.shard.specs.Group.{GroupState, IsSpanAt, occupied}
 use Rattle.shard.specs.Moves.{IsHeadOf}
 use Rattle.shard.specs.State.{ShardState, summary}
-use Rattle.abandoned.specs.State.{IsHeadOf as IsPooledHeadOf, PoolState, PooledState, paged_groups, spans_of as pooled_spans_of, summary as pooled_summary}
+use Rattle.abandoned.specs.State.{IsHeadOf as IsPooledHeadOf, PoolState, PooledState, paged_groups, summary as pooled_summary}
 use Rattle.mesh_graph.specs.declared.entry.Entry.{Entry}
 use Rattle.arena_core.specs.State.{CoreState, OpenPlan}
 

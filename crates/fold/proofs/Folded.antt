@@ -11,16 +11,16 @@ use Rattle.shard.specs.Moves.{Grafts, IsHeadOf as IsHeadOfInShard, MayGraft, Who
 use Rattle.shard.specs.Shown.{shown as shown_by_shard}
 use Rattle.shard.specs.Sound.{IsSound as IsSoundShard}
 use Rattle.shard.specs.State.{ShardState}
+use Rattle.shard.proofs.GroupSpans.{times}
 use Rattle.shard.proofs.HeadsHere.{head_among-here}
-use Rattle.shard.proofs.Logged.{logged}
+use Rattle.shard.proofs.Logged.{logged, nothing_pending}
 use Rattle.shard.proofs.ShownLogs.{shown-logged as shown-logged_shard}
 use Rattle.abandoned.specs.Calls.{Lifts}
 use Rattle.abandoned.specs.Shown.{shown, together}
 use Rattle.abandoned.specs.Sound.{IsSound}
 use Rattle.abandoned.specs.State.{IsHeadOf, PoolState, PooledState, spans_of, whole_of}
 use Rattle.abandoned.proofs.Adopted.{one_head}
-use Rattle.abandoned.proofs.ShownLogs.{nothing_pending, shown-logged}
-use Rattle.abandoned.proofs.Standing.{times}
+use Rattle.abandoned.proofs.ShownLogs.{shown-logged}
 use Rattle.abandoned.proofs.TakenIn.{empty_or_not}
 use Rattle.abandoned.proofs.Together.{spans_in-Lifts, together-moved}
 use Rattle.fold.specs.Folds.{Folds, MayFold}

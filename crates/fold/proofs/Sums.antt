@@ -14,7 +14,7 @@ use Rattle.shard.proofs.Lists.{split_at}
 use Rattle.shard.proofs.MovedGroups.{AreBetween}
 use Rattle.abandoned.specs.Calls.{Lifts}
 use Rattle.abandoned.specs.State.{PoolState, PooledState, paged_groups, spans_in}
-use Rattle.abandoned.proofs.Removed.{count-remove}
+use Rattle.shard.proofs.Removed.{count-remove}
 use Rattle.abandoned.proofs.Together.{spans_in-Lifts}
 use Rattle.fold.specs.Folds.{Folds}
 

@@ -1,16 +1,14 @@
 -- A shard stays sound where the spans of a group become guests of one of its own.
-use Rattle.std.proofs.Common.{zero, suc, ◌≡◌, ℕ, ◌+◌, ◌<◌, ◌≤◌, ◌⊎◌, Bool, true, false, cond, ◌==◌, List, [], ◌∷◌, ◌++◌, append_assoc, length, length-set, Option, None, Some, is_some, set, slice_get, ◌∙◌, ap, sym, subst, refl, inl, inr, arith}
+use Rattle.std.proofs.Common.{◌≡◌, ℕ, ◌+◌, ◌<◌, ◌≤◌, ◌⊎◌, Bool, true, false, cond, ◌==◌, List, [], ◌∷◌, ◌++◌, append_assoc, length, length-set, Option, None, Some, is_some, set, slice_get, ◌∙◌, ap, sym, subst, refl, inl, inr, arith}
 use Rattle.std.specs.Prelude.{count_by, slice_index, unwrap_or, MatchOption}
 use Rattle.std.specs.Option.{IsSome}
 use Rattle.std.specs.Cmp.{nat_cmp_total}
 use Rattle.std.specs.FinMap as map
 use Rattle.std.specs.FinSet as finset
 use Rattle.std.specs.FinSet.{contains, contains-union}
-use Rattle.std.proofs.lemmas.Bool.{cases_eq}
 use Rattle.std.proofs.lemmas.Grind.{flat_map-append}
 use Rattle.bitmap.specs.Operations.{AreDisjoint-at}
 use Rattle.bitmap.specs.Slots.{SlotSet, AreDisjoint, HasAllBelow}
-use Rattle.span.proofs.Ids.{same_id_from_test}
 use Rattle.span.proofs.Slots.{contains-live_slots}
 use Rattle.span.specs.Ids.{rank, same_span}
 use Rattle.span.specs.Log.{Held, live_slots, replay, worn_slots}
@@ -24,33 +22,17 @@ use Rattle.shard.specs.Sound.{IsSound, IsSoundGroup, IsSoundSpan}
 use Rattle.shard.specs.State.{ShardState, Stands, spans_in}
 use Rattle.shard.proofs.CopiedWords.{index-copied, length-copied}
 use Rattle.shard.proofs.Guests.{AreApart-append, either, true_left, true_right, union_of-append}
+use Rattle.shard.proofs.GroupSpans.{times, times-together}
 use Rattle.shard.proofs.HeadsHere.{same_group}
-use Rattle.shard.proofs.Lists.{after-set, before-set, cases-set, count-append, count-set, split_at}
-use Rattle.shard.proofs.Logged.{logged}
+use Rattle.shard.proofs.Lists.{after-set, before-set, cases-set, count-append, count-set, get-set, get_left, get_right, in_either, split_at}
+use Rattle.shard.proofs.Logged.{logged, nothing_pending}
+use Rattle.shard.proofs.Mapped.{get-with_mapped_in, get-with_mapped_out, with_mapped-was}
 use Rattle.shard.proofs.MovedGroups.{AreBetween}
 use Rattle.shard.proofs.PutHere.{other_page}
-use Rattle.shard.proofs.Removed.{count-found}
-use Rattle.shard.proofs.ShownLogs.{nothing_pending, shown-logged}
-use Rattle.shard.proofs.Standing.{count-spans_in, in_either}
+use Rattle.shard.proofs.ShownLogs.{shown-logged}
+use Rattle.shard.proofs.Standing.{id_from_rank}
 use Rattle.shard.proofs.Tables.{get-insert_other, get-insert_same, some_insert}
-use Rattle.shard.proofs.TakenIn.{id_from_rank, mapped_before, mapped_now, new_or_old}
 use Rattle.shard.proofs.Unions.{false_or_true, member_of_union}
-
--- what stands in the first or in the second list stands in both together
-
-get_left : {X : Type 0} (xs ys : List X) (at : ℕ) (x : X) → slice_get xs at ≡ Some x → slice_get (xs ++ ys) at ≡ Some x
-get_left [] ys at x here = absurd cc
-get_left (z ∷ xs) ys zero x here = here
-get_left (z ∷ xs) ys (suc at) x here = get_left xs ys at x here
-
-get_right : {X : Type 0} (xs ys : List X) (at : ℕ) (y : X) → slice_get ys at ≡ Some y → (there : ℕ) × (slice_get (xs ++ ys) there ≡ Some y)
-get_right [] ys at y here = (at, here)
-get_right (z ∷ xs) ys at y here = let rest = get_right xs ys at y here in (suc rest.0, rest.1)
-
-get_set : {X : Type 0} (xs : List X) (at : ℕ) (x y : X) → slice_get xs at ≡ Some x → slice_get (set xs at y) at ≡ Some y
-get_set [] at x y here = absurd cc
-get_set (z ∷ xs) zero x y here = refl
-get_set (z ∷ xs) (suc at) x y here = get_set xs at x y here
 
 -- spans that come behind those of one group
 
@@ -150,7 +132,7 @@ module _ (old : ShardState) (sound : IsSound old) (head : SpanId) (moved : Whole
       let then : IsSoundSpan old.table group span = was.spans at span there in
       record {
         legal = then.legal;
-        mapped = mapped_before old.table.spans (spans_moved moved) group.page (rank span.id) (λ from t from_is ranks. unlike index at from group span t (here.here, there) from_is (id_from_rank span.id t.id ranks)) ∙ then.mapped;
+        mapped = get-with_mapped_out (spans_moved moved) old.table.spans group.page (rank span.id) (λ from t from_is ranks. unlike index at from group span t (here.here, there) from_is (id_from_rank span.id t.id (sym ranks))) ∙ then.mapped;
         stored = λ q held is.
             let mine = member_of_union (spans_of group) at span q there (live_held span q held is) in
             word_kept q (false_or_true (contains slots q) (λ other. AreDisjoint-at (occupied group) slots apart q mine other)) ∙ then.stored q held is;
@@ -161,7 +143,7 @@ module _ (old : ShardState) (sound : IsSound old) (head : SpanId) (moved : Whole
       let then : IsSoundMoved words span = moved_words.1 at span there in
       record {
         legal = then.legal;
-        mapped = mapped_now old.table.spans (spans_moved moved) group.page at span there;
+        mapped = get-with_mapped_in (spans_moved moved) old.table.spans group.page at span there;
         stored = λ q held is. word_moved q (member_of_union (spans_moved moved) at span q there (live_held span q held is)) ∙ then.stored q held is;
       }
 
@@ -188,7 +170,7 @@ module _ (old : ShardState) (sound : IsSound old) (head : SpanId) (moved : Whole
             let s : IsSoundSpan old.table g span = then.spans at span stands in
             record {
               legal = s.legal;
-              mapped = mapped_before old.table.spans (spans_moved moved) group.page (rank span.id) (λ from t from_is ranks. unlike i at from g span t (there, stands) from_is (id_from_rank span.id t.id ranks)) ∙ s.mapped;
+              mapped = get-with_mapped_out (spans_moved moved) old.table.spans group.page (rank span.id) (λ from t from_is ranks. unlike i at from g span t (there, stands) from_is (id_from_rank span.id t.id (sym ranks))) ∙ s.mapped;
               stored = λ q held is. rw same (s.stored q held is);
             };
       }
@@ -212,31 +194,24 @@ module _ (old : ShardState) (sound : IsSound old) (head : SpanId) (moved : Whole
         count-append p between.left between.right,
       )
 
-  -- an id that comes does not stand here
-  none_here : (id : SpanId) → 1 ≤ count_by (λ (s : SpanState). same_span s.id id) (spans_moved moved) → count_by (λ (s : SpanState). same_span s.id id) (spans_in old.groups) ≡ 0
-  none_here id some =
-      let found = count-found (λ (s : SpanState). same_span s.id id) (spans_moved moved) some in
-      count-spans_in (λ (s : SpanState). same_span s.id id) old.groups
-      (λ i at g s stands. false_or_true (same_span s.id id) (λ passes. unlike i at found.0 g s found.1 stands found.2 (same_id_from_test s.id id passes ∙ sym (same_id_from_test found.1.id id found.3))))
-
   once_now : (id : SpanId) → count_by (λ (s : SpanState). same_span s.id id) (spans_in (set old.groups index after)) ≤ 1
-  once_now id = elim (cases_eq (count_by (λ (s : SpanState). same_span s.id id) (spans_moved moved)) 0) [
-    | inl none ↦ omega (arith, none, count-grafted (λ (s : SpanState). same_span s.id id), sound.once id)
-    | inr some ↦ omega (arith, none_here id (omega arith), count-grafted (λ (s : SpanState). same_span s.id id), sound_moved.once id)
-  ]
+  once_now id =
+      let more : times id (spans_in (set old.groups index after)) ≡ times id (spans_moved moved) + times id (spans_in old.groups) = count-grafted (λ (s : SpanState). same_span s.id id) in
+      let most : times id (spans_moved moved) + times id (spans_in old.groups) ≤ 1 = times-together spans_of old.groups (spans_moved moved) sound.once sound_moved.once may.elsewhere id in
+      omega arith
 
   head_before : (i : ℕ) (g : GroupState) → slice_get (set old.groups index after) i ≡ Some g → (before : GroupState) × (slice_get old.groups i ≡ Some before) × SameHead before g
   head_before i g there = before-set SameHead (λ x. refl) old.groups index group after here.here refl i g there
 
   only_now : (number mapped : ℕ) → map.get table.spans number ≡ Some mapped → (i at : ℕ) × (g : GroupState) × (s : SpanState) × Stands (set old.groups index after) i at g s × (rank s.id ≡ number)
-  only_now number mapped is = elim (new_or_old old.table.spans (spans_moved moved) group.page number mapped is) [
-    | inl came ↦
-        let there = get_right (spans_of group) (spans_moved moved) came.0 came.1 came.2 in
-        (index, there.0, after, came.1, (get_set old.groups index group after here.here, there.1), came.3)
-    | inr before ↦
+  only_now number mapped is = elim (with_mapped-was (spans_moved moved) old.table.spans group.page number mapped is) [
+    | inl before ↦
         let found = sound.only number mapped before in
         let now = after-set KeepsSpans (λ g place span stands. stands) old.groups index group after here.here (λ place span stands. get_left (spans_of group) (spans_moved moved) place span stands) found.0 found.2 found.4.0 in
         (found.0, found.1, now.0, found.3, (now.1, now.2 found.1 found.3 found.4.1), found.5)
+    | inr came ↦
+        let there = get_right (spans_of group) (spans_moved moved) came.1 came.2 came.3 in
+        (index, there.0, after, came.2, (get-set old.groups index group after here.here, there.1), came.4)
   ]
 
   serials_now : (i at : ℕ) (g : GroupState) (s : SpanState) → Stands (set old.groups index after) i at g s → s.id.shard ≡ old.number → s.id.serial < old.opened

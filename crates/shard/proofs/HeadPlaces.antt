@@ -5,56 +5,92 @@ use Rattle.std.specs.Option.{IsNone}
 use Rattle.std.proofs.lemmas.Bool.{cases_eq, cases_lt}
 use Rattle.span.specs.Ids.{rank}
 use Rattle.span.specs.declared.id.SpanId.{SpanId}
-use Rattle.shard.specs.Calls.{Ascend, IsPlaceFor}
+use Rattle.shard.specs.Calls.{IsPlaceFor}
 use Rattle.shard.specs.Group.{GroupState}
-use Rattle.shard.specs.Moves.{HasNoHead}
 use Rattle.shard.specs.Sound.{IsSound}
 use Rattle.shard.specs.State.{IsElsewhere, ShardState}
-use Rattle.shard.proofs.Heads.{there as there_at}
-use Rattle.shard.proofs.Lists.{get_within, same_some}
-use Rattle.shard.proofs.TakenIn.{id_from_rank}
+use Rattle.shard.proofs.Heads.{AreAscending, head_id}
+use Rattle.shard.proofs.Lists.{get_within, same_some, there_at}
+use Rattle.shard.proofs.Standing.{id_from_rank}
 
--- the heads below the index are lower than the id, and the others are not
-pub record IsLower (groups : List GroupState) (id : SpanId) (index : ℕ) : Type 0 where
-  pub within : index ≤ length groups
-  pub lower : (other : ℕ) (group : GroupState) → other < index → slice_get groups other ≡ Some group → rank group.head.id < rank id
-  pub others : (other : ℕ) (group : GroupState) → index ≤ other → slice_get groups other ≡ Some group → rank id ≤ rank group.head.id
+-- `id_of` gives the id of a group's head
+module _ {G : Type 0} (id_of : G → SpanId) where
+  -- the heads below the index are lower than the number, and the others are not
+  pub record IsLower (groups : List G) (number index : ℕ) : Type 0 where
+    pub within : index ≤ length groups
+    pub lower : (other : ℕ) (group : G) → other < index → slice_get groups other ≡ Some group → rank (id_of group) < number
+    pub others : (other : ℕ) (group : G) → index ≤ other → slice_get groups other ≡ Some group → number ≤ rank (id_of group)
 
-module _ (groups : List GroupState) (id : SpanId) (index : ℕ) (is : IsLower groups id index) where
-  -- where no head is this one, the index is its place
-  pub IsPlaceFor-lower : ((other : ℕ) (group : GroupState) → slice_get groups other ≡ Some group → group.head.id ≡ id → ⊥) → IsPlaceFor groups id index
-  IsPlaceFor-lower none = record {
-    within = is.within;
-    before = is.lower;
-    after = λ other group above there.
-        let least : rank id ≤ rank group.head.id = is.others other group above there in
-        elim (cases_eq (rank id) (rank group.head.id)) [
-          | inl same ↦ absurd (none other group there (sym (id_from_rank id group.head.id same)))
+  module _ (groups : List G) (id : SpanId) (index : ℕ) (is : IsLower groups (rank id) index) where
+    -- where no head is this one, those that are not lower are higher
+    pub higher-lower : ((other : ℕ) (group : G) → slice_get groups other ≡ Some group → id_of group ≡ id → ⊥) → (other : ℕ) (group : G) → index ≤ other → slice_get groups other ≡ Some group → rank id < rank (id_of group)
+    higher-lower none other group above there =
+        let least : rank id ≤ rank (id_of group) = is.others other group above there in
+        elim (cases_eq (rank id) (rank (id_of group))) [
+          | inl same ↦ absurd (none other group there (sym (id_from_rank id (id_of group) same)))
           | inr apart ↦ omega arith
-        ];
+        ]
+
+    -- a head that is not at the index is at none
+    pub no_head-lower : AreAscending id_of groups → ((group : G) → slice_get groups index ≡ Some group → id_of group ≡ id → ⊥) → (other : ℕ) (group : G) → slice_get groups other ≡ Some group → id_of group ≡ id → ⊥
+    no_head-lower ascend unlike other group here head_is =
+        let same : rank (id_of group) ≡ rank id = ap rank head_is in
+        elim (cases_lt other index) [
+          | inl less ↦ (let low : rank (id_of group) < rank id = is.lower other group less here in omega arith)
+          | inr more ↦ elim (cases_eq other index) [
+            | inl at ↦ unlike group (ap (slice_get groups) (sym at) ∙ here) head_is
+            | inr apart ↦ above other group (omega arith) here same
+          ]
+        ]
+      where
+        above : (other : ℕ) (group : G) → index < other → slice_get groups other ≡ Some group → rank (id_of group) ≡ rank id → ⊥
+        above other group less there same =
+            let at = there_at groups index (let long : other < length groups = get_within groups other group there in omega arith) in
+            let lower : rank (id_of at.0) < rank (id_of group) = ascend index other at.0 group less at.1 there in
+            let least : rank id ≤ rank (id_of at.0) = is.others index at.0 (omega arith) at.1 in
+            omega arith
+
+  -- the heads below one place are lower than the number, and those from another on are not
+  pub record IsSearched (groups : List G) (number low high : ℕ) : Type 0 where
+    pub ordered : low ≤ high
+    pub within : high ≤ length groups
+    pub lower : (other : ℕ) (group : G) → other < low → slice_get groups other ≡ Some group → rank (id_of group) < number
+    pub others : (other : ℕ) (group : G) → high ≤ other → slice_get groups other ≡ Some group → number ≤ rank (id_of group)
+
+  pub IsSearched-first : (groups : List G) (number count : ℕ) → count ≡ length groups → IsSearched groups number 0 count
+  IsSearched-first groups number count all = record {
+    ordered = omega arith;
+    within = omega arith;
+    lower = λ other group less there. absurd (omega arith);
+    others = λ other group above there. absurd (let less : other < length groups = get_within groups other group there in omega arith);
   }
 
-  -- a head that is not at the index is at none
-  pub HasNoHead-lower : Ascend groups → ((group : GroupState) → slice_get groups index ≡ Some group → group.head.id ≡ id → ⊥) → HasNoHead groups id
-  HasNoHead-lower ascend unlike other group here =
-      let same : rank group.head.id ≡ rank id = ap rank here.head_is in
-      elim (cases_lt other index) [
-        | inl less ↦ (let low : rank group.head.id < rank id = is.lower other group less here.here in omega arith)
-        | inr more ↦ elim (cases_eq other index) [
-          | inl at ↦ unlike group (ap (slice_get groups) (sym at) ∙ here.here) here.head_is
-          | inr apart ↦ above other group (omega arith) here.here same
-        ]
-      ]
-    where
-      first : (other : ℕ) (group : GroupState) → index < other → slice_get groups other ≡ Some group → (at : GroupState) × (slice_get groups index ≡ Some at)
-      first other group less there = let long : other < length groups = get_within groups other group there in there_at groups index (omega arith)
+  module _ (groups : List G) (number low high : ℕ) (is : IsSearched groups number low high) (ascend : AreAscending id_of groups) (middle : ℕ) (at : G) (here : slice_get groups middle ≡ Some at) where
+    pub IsSearched-above : middle < high → rank (id_of at) < number → IsSearched groups number (middle + 1) high
+    IsSearched-above below less = record {
+      ordered = omega arith;
+      within = is.within;
+      lower = λ other group under there. elim (cases_eq other middle) [
+        | inl same ↦ rw (ap (λ (g : G). rank (id_of g)) (same_some (sym there ∙ ap (slice_get groups) same ∙ here))) less
+        | inr apart ↦ (let first : rank (id_of group) < rank (id_of at) = ascend other middle group at (omega arith) there here in omega arith)
+      ];
+      others = is.others;
+    }
 
-      above : (other : ℕ) (group : GroupState) → index < other → slice_get groups other ≡ Some group → rank group.head.id ≡ rank id → ⊥
-      above other group less there same =
-          let at = first other group less there in
-          let lower : rank at.0.head.id < rank group.head.id = ascend index other at.0 group less at.1 there in
-          let least : rank id ≤ rank at.0.head.id = is.others index at.0 (omega arith) at.1 in
-          omega arith
+    pub IsSearched-below : low ≤ middle → number ≤ rank (id_of at) → IsSearched groups number low middle
+    IsSearched-below above least = record {
+      ordered = above;
+      within = let less : middle < length groups = get_within groups middle at here in omega arith;
+      lower = is.lower;
+      others = λ other group over there. elim (cases_eq other middle) [
+        | inl same ↦ rw (ap (λ (g : G). rank (id_of g)) (same_some (sym there ∙ ap (slice_get groups) same ∙ here))) least
+        | inr apart ↦ (let later : rank (id_of at) < rank (id_of group) = ascend middle other at group (omega arith) here there in omega arith)
+      ];
+    }
+
+-- where no head is this one, the index is its place
+pub IsPlaceFor-lower : (groups : List GroupState) (id : SpanId) (index : ℕ) → IsLower head_id groups (rank id) index → ((other : ℕ) (group : GroupState) → slice_get groups other ≡ Some group → group.head.id ≡ id → ⊥) → IsPlaceFor groups id index
+IsPlaceFor-lower groups id index is none = record { within = is.within; before = is.lower; after = higher-lower head_id groups id index is none }
 
 -- a span that is elsewhere is no head here
 pub no_head_elsewhere : (groups : List GroupState) (id : SpanId) → IsElsewhere groups id → (other : ℕ) (group : GroupState) → slice_get groups other ≡ Some group → group.head.id ≡ id → ⊥
@@ -67,44 +103,6 @@ no_head_next shard sound id own next other group there same =
     let less : group.head.id.serial < shard.opened = sound.serials other 0 group group.head (there, refl) (ap (λ (i : SpanId). i.shard) same ∙ own) in
     let is : group.head.id.serial ≡ id.serial = ap (λ (i : SpanId). i.serial) same in
     omega arith
-
--- the heads below one place are lower than the id, and those from another on are not
-pub record IsSearched (groups : List GroupState) (id : SpanId) (low high : ℕ) : Type 0 where
-  pub ordered : low ≤ high
-  pub within : high ≤ length groups
-  pub lower : (other : ℕ) (group : GroupState) → other < low → slice_get groups other ≡ Some group → rank group.head.id < rank id
-  pub others : (other : ℕ) (group : GroupState) → high ≤ other → slice_get groups other ≡ Some group → rank id ≤ rank group.head.id
-
-pub IsSearched-first : (groups : List GroupState) (id : SpanId) (count : ℕ) → count ≡ length groups → IsSearched groups id 0 count
-IsSearched-first groups id count all = record {
-  ordered = omega arith;
-  within = omega arith;
-  lower = λ other group less there. absurd (omega arith);
-  others = λ other group above there. absurd (let less : other < length groups = get_within groups other group there in omega arith);
-}
-
-module _ (groups : List GroupState) (id : SpanId) (low high : ℕ) (is : IsSearched groups id low high) (ascend : Ascend groups) (middle : ℕ) (at : GroupState) (here : slice_get groups middle ≡ Some at) where
-  pub IsSearched-above : middle < high → rank at.head.id < rank id → IsSearched groups id (middle + 1) high
-  IsSearched-above below less = record {
-    ordered = omega arith;
-    within = is.within;
-    lower = λ other group under there. elim (cases_eq other middle) [
-      | inl same ↦ rw (ap (λ (g : GroupState). rank g.head.id) (same_some (sym there ∙ ap (slice_get groups) same ∙ here))) less
-      | inr apart ↦ (let first : rank group.head.id < rank at.head.id = ascend other middle group at (omega arith) there here in omega arith)
-    ];
-    others = is.others;
-  }
-
-  pub IsSearched-below : low ≤ middle → rank id ≤ rank at.head.id → IsSearched groups id low middle
-  IsSearched-below above least = record {
-    ordered = above;
-    within = let less : middle < length groups = get_within groups middle at here in omega arith;
-    lower = is.lower;
-    others = λ other group over there. elim (cases_eq other middle) [
-      | inl same ↦ rw (ap (λ (g : GroupState). rank g.head.id) (same_some (sym there ∙ ap (slice_get groups) same ∙ here))) least
-      | inr apart ↦ (let later : rank at.head.id < rank group.head.id = ascend middle other at group (omega arith) here there in omega arith)
-    ];
-  }
 
 -- a span that is not mapped is elsewhere
 pub elsewhere_if_unmapped : (shard : ShardState) → IsSound shard → (id : SpanId) (page : Option ℕ) → page ≡ map.get shard.table.spans (rank id) → IsNone page → IsElsewhere shard.groups id

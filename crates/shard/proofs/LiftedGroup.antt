@@ -1,40 +1,24 @@
 -- A shard stays sound where a group leaves it, and the group is sound on its way.
-use Rattle.std.proofs.Common.{◌≡◌, ℕ, ◌+◌, ◌<◌, cond, [], ◌∷◌, ◌++◌, ◌-◌, ◌==◌, length, Option, None, Some, List, slice_get, ◌∙◌, ap, sym, subst, refl, arith, Bool, true, false, eq-eqb}
-use Rattle.std.specs.Prelude.{count_by, remove, unwrap_or}
+use Rattle.std.proofs.Common.{◌≡◌, ℕ, ◌+◌, ◌<◌, cond, [], ◌-◌, ◌==◌, length, Option, None, Some, List, slice_get, ◌∙◌, ap, sym, subst, refl, arith, Bool, true, false, eq-eqb}
+use Rattle.std.specs.Prelude.{remove, unwrap_or}
 use Rattle.std.specs.Option.{IsSome}
 use Rattle.std.specs.Cmp.{nat_cmp_total}
 use Rattle.std.specs.FinMap as map
 use Rattle.std.proofs.lemmas.Bool.{ne_eqb}
-use Rattle.std.proofs.lemmas.Grind.{flat_map-append}
 use Rattle.std.proofs.lemmas.List.Edits.{length-remove}
 use Rattle.span.specs.Ids.{rank, same_span}
 use Rattle.span.specs.State.{SpanState}
+use Rattle.span.specs.declared.id.SpanId.{SpanId}
 use Rattle.page_table.specs.State.{is_page, words_of}
 use Rattle.page_table.proofs.Maps.{get-remove, get-unmapped}
 use Rattle.shard.specs.Group.{GroupState, spans_of}
 use Rattle.shard.specs.Moves.{IsSoundWhole, whole_of, without_page}
 use Rattle.shard.specs.Sound.{IsSound, IsSoundGroup, IsSoundSpan}
 use Rattle.shard.specs.State.{ShardState, Stands, spans_in}
-use Rattle.shard.proofs.Lists.{count-append, get_within, same_some, split_at}
+use Rattle.shard.proofs.GroupSpans.{count-spans_remove, times}
+use Rattle.shard.proofs.Lists.{get_within, same_some}
 use Rattle.shard.proofs.PutHere.{other_page}
 use Rattle.shard.proofs.Removed.{after-remove, before-remove, count-remove, pairs-remove}
-
--- the spans before and behind those of a group
-pub record IsTakenOut (groups : List GroupState) (index : ℕ) (group : GroupState) : Type 0 where
-  pub left : List SpanState
-  pub right : List SpanState
-  pub whole : spans_in groups ≡ left ++ (spans_of group ++ right)
-  pub after : spans_in (remove groups index) ≡ left ++ right
-
-pub taken_out : (groups : List GroupState) (index : ℕ) (group : GroupState) → slice_get groups index ≡ Some group → IsTakenOut groups index group
-taken_out groups index group here =
-    let outer = split_at groups index group here in
-    record {
-      left = spans_in outer.left;
-      right = spans_in outer.right;
-      whole = ap spans_in outer.whole ∙ flat_map-append spans_of outer.left (group ∷ outer.right);
-      after = ap spans_in outer.after_remove ∙ flat_map-append spans_of outer.left outer.right;
-    }
 
 -- a span that is still mapped was mapped before, to another page than the one that went
 clash : false ≡ true → ⊥
@@ -95,17 +79,8 @@ module _ (old : ShardState) (sound : IsSound old) (index : ℕ) (group : GroupSt
       other_now before.0 g before.1 before.2
 
   -- the group's spans are those that are fewer
-  pub count-lifted : (p : SpanState → Bool) → count_by p (spans_in old.groups) ≡ count_by p (spans_of group) + count_by p (spans_in (remove old.groups index))
-  count-lifted p =
-      let out = taken_out old.groups index group here in
-      omega (
-        arith,
-        ap (count_by p) out.whole,
-        ap (count_by p) out.after,
-        count-append p out.left (spans_of group ++ out.right),
-        count-append p (spans_of group) out.right,
-        count-append p out.left out.right,
-      )
+  fewer : (id : SpanId) → times id (spans_in old.groups) ≡ times id (spans_of group) + times id (spans_in (remove old.groups index))
+  fewer id = count-spans_remove spans_of (λ (s : SpanState). same_span s.id id) old.groups index group here
 
   only_now : (number page : ℕ) → map.get lifted.table.spans number ≡ Some page → (i at : ℕ) × (g : GroupState) × (s : SpanState) × Stands (remove old.groups index) i at g s × (rank s.id ≡ number)
   only_now number page is =
@@ -114,14 +89,14 @@ module _ (old : ShardState) (sound : IsSound old) (index : ℕ) (group : GroupSt
       let mapped : map.get old.table.spans (rank found.3.id) ≡ Some found.2.page = ((sound.groups found.0 found.2 found.4.0).spans found.1 found.3 found.4.1).mapped in
       let same : found.2.page ≡ page = same_some (sym mapped ∙ ap (map.get old.table.spans) found.5 ∙ before.0) in
       let apart : found.0 ≡ index → ⊥ = λ e. before.1 (sym same ∙ ap (λ (g : GroupState). g.page) (same_some (sym found.4.0 ∙ ap (slice_get old.groups) e ∙ here))) in
-      let now = after-remove old.groups index found.0 found.2 apart found.4.0 in
+      let now = after-remove old.groups index found.0 found.2 found.4.0 apart in
       (now.0, found.1, found.2, found.3, (now.1, found.4.1), found.5)
 
   pub IsSound-lifted : IsSound lifted
   IsSound-lifted = record {
     ascending = pairs-remove (λ (a b : GroupState). rank a.head.id < rank b.head.id) old.groups index sound.ascending;
     groups = groups_now;
-    once = λ id. omega (arith, count-lifted (λ (s : SpanState). same_span s.id id), sound.once id);
+    once = λ id. omega (arith, fewer id, sound.once id);
     own_page = λ page. omega (arith, count-remove (λ (g : GroupState). g.page == page) old.groups index group here, sound.own_page page);
     only = only_now;
     pages =
@@ -137,7 +112,7 @@ module _ (old : ShardState) (sound : IsSound old) (index : ℕ) (group : GroupSt
   pub IsSoundWhole-lifted : IsSoundWhole (whole_of old.table group)
   IsSoundWhole-lifted = record {
     apart = was.apart;
-    once = λ id. omega (arith, count-lifted (λ (s : SpanState). same_span s.id id), sound.once id);
+    once = λ id. omega (arith, fewer id, sound.once id);
     legal = λ place span stands. (was.spans place span stands).legal;
     words = (was.whole, λ place span stands. let s : IsSoundSpan old.table group span = was.spans place span stands in record { legal = s.legal; stored = s.stored });
   }

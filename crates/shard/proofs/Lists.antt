@@ -1,16 +1,27 @@
 -- What stands in a list after a write or an insertion, and how often.
-use Rattle.std.proofs.Common.{◌≡◌, ℕ, zero, suc, ◌+◌, ◌<◌, ◌≤◌, Bool, true, false, cond, List, [], ◌∷◌, ◌++◌, ◌⊎◌, inl, inr, refl, sym, ap, subst, ◌∙◌, arith, length, insert, Some, None, set, slice_get}
+use Rattle.std.proofs.Common.{◌≡◌, ℕ, zero, suc, ◌+◌, ◌<◌, ◌≤◌, Bool, true, false, cond, List, [], ◌∷◌, ◌++◌, ◌⊎◌, inl, inr, refl, sym, ap, subst, ◌∙◌, arith, length, insert, Some, None, get_or, set, slice_get}
 use Rattle.std.specs.Prelude.{find, count_by, remove}
+use Rattle.std.proofs.lemmas.Option.{slice_get_read}
 use Rattle.std.proofs.lemmas.List.Sums.{sum_by-append, sum_by-cons}
 use Rattle.std.proofs.lemmas.List.Folds.{find-append}
 
 pub same_some : {X : Type 0} {x y : X} → Some x ≡ Some y → x ≡ y
 same_some e = cc
 
+-- an element stands at each place below the length
+pub there_at : {X : Type 0} (xs : List X) (at : ℕ) → at < length xs → (x : X) × (slice_get xs at ≡ Some x)
+there_at [] at low = absurd (omega arith)
+there_at (x ∷ xs) zero low = (x, refl)
+there_at (x ∷ xs) (suc at) low = there_at xs at (omega arith)
+
 pub get_within : {X : Type 0} (xs : List X) (at : ℕ) (x : X) → slice_get xs at ≡ Some x → at < length xs
 get_within [] at x h = absurd cc
 get_within (y ∷ ys) zero x h = omega arith
 get_within (y ∷ ys) (suc at) x h = let less : at < length ys = get_within ys at x h in omega arith
+
+-- what is read where an element stands is that element
+pub read_at : {X : Type 0} (xs : List X) (at : ℕ) (x read : X) → slice_get xs at ≡ Some x → read ≡ get_or xs at read → slice_get xs at ≡ Some read
+read_at xs at x read here is = slice_get_read xs _ at read refl (get_within xs at x here) is
 
 -- what relates an element to the one that is written over it, and each to itself, relates old and new at each place
 module _ {X : Type 0} (R : X → X → Type 0) (self : (x : X) → R x x) where
@@ -39,10 +50,31 @@ cases-set (w ∷ ws) (suc at) y (suc other) z there = elim (cases-set ws at y ot
   | inr old ↦ inr ((λ e. old.0 (omega arith)), old.1)
 ]
 
+pub get-set : {X : Type 0} (xs : List X) (at : ℕ) (x y : X) → slice_get xs at ≡ Some x → slice_get (set xs at y) at ≡ Some y
+get-set [] at x y here = absurd cc
+get-set (z ∷ zs) zero x y here = refl
+get-set (z ∷ zs) (suc at) x y here = get-set zs at x y here
+
 pub set-same : {X : Type 0} (xs : List X) (at : ℕ) (x : X) → slice_get xs at ≡ Some x → set xs at x ≡ xs
 set-same [] at x here = refl
 set-same (y ∷ ys) zero x here = ap (λ z. z ∷ ys) (sym (same_some here))
 set-same (y ∷ ys) (suc at) x here = ap (λ zs. y ∷ zs) (set-same ys at x here)
+
+-- what stands in one of two lists stands in both together
+
+pub get_left : {X : Type 0} (xs ys : List X) (at : ℕ) (x : X) → slice_get xs at ≡ Some x → slice_get (xs ++ ys) at ≡ Some x
+get_left [] ys at x here = absurd cc
+get_left (z ∷ xs) ys zero x here = here
+get_left (z ∷ xs) ys (suc at) x here = get_left xs ys at x here
+
+pub get_right : {X : Type 0} (xs ys : List X) (at : ℕ) (y : X) → slice_get ys at ≡ Some y → (there : ℕ) × (slice_get (xs ++ ys) there ≡ Some y)
+get_right [] ys at y here = (at, here)
+get_right (z ∷ xs) ys at y here = let rest = get_right xs ys at y here in (suc rest.0, rest.1)
+
+pub in_either : {X : Type 0} (xs ys : List X) (at : ℕ) (x : X) → slice_get (xs ++ ys) at ≡ Some x → (slice_get xs at ≡ Some x) ⊎ ((later : ℕ) × (slice_get ys later ≡ Some x))
+in_either [] ys at x there = inr (at, there)
+in_either (z ∷ xs) ys zero x there = inl there
+in_either (z ∷ xs) ys (suc at) x there = in_either xs ys at x there
 
 -- an insertion
 
@@ -73,10 +105,6 @@ pub length_insert : {X : Type 0} (xs : List X) (at : ℕ) (x : X) → length (in
 length_insert xs zero x = omega arith
 length_insert [] (suc at) x = refl
 length_insert (z ∷ zs) (suc at) x = let rest : length (insert zs at x) ≡ length zs + 1 = length_insert zs at x in omega arith
-
-pub insert-length : {X : Type 0} (xs : List X) (x : X) → insert xs (length xs) x ≡ xs ++ x ∷ []
-insert-length [] x = refl
-insert-length (z ∷ zs) x = ap (λ l. z ∷ l) (insert-length zs x)
 
 -- what holds of each two, and of the new element and each, holds after the insertion
 pub pairs-insert : {X : Type 0} (R : X → X → Type 0) (xs : List X) (at : ℕ) (x : X) → at ≤ length xs
@@ -182,6 +210,15 @@ module _ {X : Type 0} (p : X → Bool) where
   count-insert (z ∷ xs) (suc at) x = omega (arith, count-cons z (insert xs at x), count-insert xs at x, count-cons z xs)
 
   -- searches
+
+  -- what is found stands somewhere, and passes
+  pub found_at : (xs : List X) (x : X) → find p xs ≡ Some x → ((at : ℕ) × (slice_get xs at ≡ Some x)) × (p x ≡ true)
+  found_at [] x e = absurd cc
+  found_at (y ∷ xs) x e = by_test (p y) refl e (found_at xs x)
+    where
+      by_test : (b : Bool) → p y ≡ b → cond b (Some y) (find p xs) ≡ Some x → (find p xs ≡ Some x → ((at : ℕ) × (slice_get xs at ≡ Some x)) × (p x ≡ true)) → ((at : ℕ) × (slice_get (y ∷ xs) at ≡ Some x)) × (p x ≡ true)
+      by_test true passes here rest = let same : y ≡ x = cc in ((0, here), ap p (sym same) ∙ passes)
+      by_test false fails here rest = let later = rest here in ((suc later.0.0, later.0.1), later.1)
 
   pub find-none : (xs : List X) → count_by p xs ≡ 0 → find p xs ≡ None
   find-none [] none = refl

@@ -1,10 +1,9 @@
 -- A shard stays sound at a put into a span that it opens.
-use Rattle.std.proofs.Common.{zero, suc, ◌≡◌, ℕ, ◌+◌, ◌<◌, ◌≤◌, Bool, true, false, cond, ◌&&◌, ◌==◌, List, [], ◌∷◌, ◌++◌, length, length-set, insert, None, Some, set, slice_get, get_or-set_same, ◌∙◌, ap, sym, subst, refl, inl, inr, arith, eq-eqb}
+use Rattle.std.proofs.Common.{zero, suc, ◌≡◌, ℕ, ◌+◌, ◌<◌, ◌≤◌, Bool, true, false, cond, ◌&&◌, ◌==◌, List, [], ◌∷◌, length, length-set, insert, None, Some, set, slice_get, get_or-set_same, ◌∙◌, ap, sym, subst, refl, inl, inr, arith, eq-eqb}
 use Rattle.std.specs.Prelude.{count_by}
 use Rattle.std.specs.Option.{IsSome}
 use Rattle.std.specs.FinMap as map
 use Rattle.std.proofs.lemmas.Bool.{cases_eq, ne_eqb}
-use Rattle.std.proofs.lemmas.Grind.{flat_map-append}
 use Rattle.std.specs.Ordering.{nat_cmp}
 use Rattle.span.specs.Ids.{rank, same_span}
 use Rattle.span.specs.Log.{Held, IsLegal, replay, puts_of}
@@ -17,9 +16,10 @@ use Rattle.shard.specs.Calls.{IsPlaceFor, new_group, new_span, with_open, with_w
 use Rattle.shard.specs.Group.{GroupState, spans_of, with_put}
 use Rattle.shard.specs.State.{ShardState, Stands, spans_in, word_at}
 use Rattle.shard.specs.Sound.{IsSound, IsSoundGroup, IsSoundSpan}
-use Rattle.shard.proofs.Lists.{after-insert, cases-insert, count-append, count-cons, count-insert, count-none, get-insert, length_insert, none_where, one_where, pairs-insert, part_at, same_some}
+use Rattle.shard.proofs.GroupSpans.{count-spans_in, count-spans_insert}
+use Rattle.shard.proofs.Lists.{after-insert, cases-insert, count-cons, count-insert, count-none, get-insert, length_insert, none_where, one_where, pairs-insert, same_some}
 use Rattle.shard.proofs.Logs.{contains-live_slots-empty, contains-worn_slots-empty}
-use Rattle.shard.proofs.Standing.{count-spans_in, same_rank, same_span-right}
+use Rattle.shard.proofs.Standing.{same_rank, same_span-right}
 use Rattle.shard.proofs.Tables.{HasPage-with_open, HasPage-with_open_same, HasPage-with_word, len-with_open, len-with_word, length-blank_page, mapped-with_open, mapped-with_open_other, words_of-with_open_other, words_of-with_open_same, words_of-with_word_other, words_of-with_word_same}
 use Rattle.shard.proofs.Unions.{AreDisjoint-empty}
 
@@ -66,7 +66,7 @@ module _ (old : ShardState) (sound : IsSound old) (id : SpanId) (page index valu
       clash e = cc
 
   pub none_before : count_by (λ (s : SpanState). same_span s.id id) (spans_in old.groups) ≡ 0
-  none_before = count-spans_in (λ (s : SpanState). same_span s.id id) old.groups unlike
+  none_before = count-spans_in spans_of (λ (s : SpanState). same_span s.id id) old.groups unlike
 
   other_page : (at_group : ℕ) (g : GroupState) → slice_get old.groups at_group ≡ Some g → g.page ≡ page → ⊥
   other_page at_group g there same = no_page (subst IsSome new (subst (λ p. HasPage old.table p) same (sound.groups at_group g there).has_page))
@@ -136,12 +136,9 @@ module _ (old : ShardState) (sound : IsSound old) (id : SpanId) (page index valu
   -- one span more
   pub count-opened : (p : SpanState → Bool) → count_by p (spans_in (insert old.groups index group)) ≡ cond (p head) 1 0 + count_by p (spans_in old.groups)
   count-opened p =
-      let part = part_at old.groups index in
-      let all : count_by p (spans_in (insert old.groups index group)) ≡ count_by p (spans_in part.left ++ (head ∷ spans_in part.right)) =
-      ap (λ gs. count_by p (spans_in gs)) (part.after_insert group) ∙ ap (count_by p) (flat_map-append spans_of part.left (group ∷ part.right)) in
-      let rest : count_by p (spans_in old.groups) ≡ count_by p (spans_in part.left ++ spans_in part.right) =
-      ap (λ gs. count_by p (spans_in gs)) part.whole ∙ ap (count_by p) (flat_map-append spans_of part.left part.right) in
-      omega (arith, all, rest, count-append p (spans_in part.left) (head ∷ spans_in part.right), count-append p (spans_in part.left) (spans_in part.right), count-cons p head (spans_in part.right))
+      let more : count_by p (spans_in (insert old.groups index group)) ≡ count_by p (head ∷ []) + count_by p (spans_in old.groups) = count-spans_insert spans_of p old.groups index group in
+      let none : count_by p [] ≡ 0 = refl in
+      omega (arith, more, count-cons p head [], none)
 
   once_now : (other : SpanId) → count_by (λ (s : SpanState). same_span s.id other) (spans_in (insert old.groups index group)) ≤ 1
   once_now other = by_test (same_span id other) refl
@@ -149,7 +146,7 @@ module _ (old : ShardState) (sound : IsSound old) (id : SpanId) (page index valu
       by_test : (b : Bool) → same_span id other ≡ b → count_by (λ (s : SpanState). same_span s.id other) (spans_in (insert old.groups index group)) ≤ 1
       by_test true same =
           let none : count_by (λ (s : SpanState). same_span s.id other) (spans_in old.groups) ≡ 0 =
-          count-spans_in (λ (s : SpanState). same_span s.id other) old.groups (λ i j g s stands. same_span-right s.id id other same ∙ unlike i j g s stands) in
+          count-spans_in spans_of (λ (s : SpanState). same_span s.id other) old.groups (λ i j g s stands. same_span-right s.id id other same ∙ unlike i j g s stands) in
           omega (arith, count-opened (λ (s : SpanState). same_span s.id other), one_where (same_span id other) same, none)
       by_test false differ = omega (arith, count-opened (λ (s : SpanState). same_span s.id other), none_where (same_span id other) differ, sound.once other)
 

@@ -1,4 +1,4 @@
-use Rattle.std.proofs.Common.{◌≡◌, Some, ap, refl, slice_get, subst, sym, ◌∙◌, arith, inl, inr}
+use Rattle.std.proofs.Common.{ap, refl, slice_get, subst, sym, ◌∙◌, arith, inl, inr}
 use Rattle.std.proofs.lemmas.Bool.{cases_eq}
 use Rattle.std.proofs.lemmas.Option.{slice_get_read}
 use Rattle.shard.specs.Group.{HasNoSpan}

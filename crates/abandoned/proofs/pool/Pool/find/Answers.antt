@@ -1,4 +1,4 @@
-use Rattle.std.proofs.Common.{◌≡◌, ◌∙◌, ℕ, List, MatchOption, ap, subst}
+use Rattle.std.proofs.Common.{◌∙◌, List, MatchOption, ap, subst}
 use Rattle.span.specs.State.{SpanState}
 use Rattle.abandoned.specs.State.{IsElsewhere, IsHere, PoolState, PooledState}
 use Rattle.abandoned.proofs.pool.Pool.find.Goals as goal

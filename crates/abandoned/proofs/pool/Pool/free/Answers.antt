@@ -3,12 +3,12 @@ use Rattle.page_table.specs.State.{TableState}
 use Rattle.shard.specs.declared.shard.Freed.TheVariants.{No, NotHere, Yes}
 use Rattle.shard.specs.Group.{with_free}
 use Rattle.shard.proofs.Lists.{set-same}
-use Rattle.shard.proofs.Places.{clash, on_true}
-use Rattle.abandoned.specs.Calls.{GivesUp, Leaves}
+use Rattle.shard.proofs.Places.{clash}
+use Rattle.abandoned.specs.Calls.{Leaves}
 use Rattle.abandoned.specs.Kept.{state_of}
 use Rattle.abandoned.specs.State.{IsElsewhere, IsHere, PoolState, PooledState, with_span}
 use Rattle.abandoned.proofs.Freed.{IsSound-Frees, IsSound-Leaves}
-use Rattle.abandoned.proofs.Here.{Somewhere, found_in, here_read, index_within, place_within, read_is}
+use Rattle.abandoned.proofs.Here.{found_in, here_read, index_within, place_within, read_is}
 use Rattle.abandoned.proofs.Released.{Leaves-GivesUp, page_there, rooms-GivesUp}
 use Rattle.abandoned.proofs.ShownLogs.{shown-Frees, was_freed-Frees}
 use Rattle.abandoned.proofs.pool.Pool.free.Goals as goal

@@ -1,11 +1,11 @@
-use Rattle.std.proofs.Common.{◌≡◌, ◌∙◌, ℕ, Some, None, ap, length, refl, slice_get, subst, sym, arith}
+use Rattle.std.proofs.Common.{◌∙◌, ap, length, refl, subst, sym, arith}
 use Rattle.std.specs.Prelude.{slice_index}
 use Rattle.page_table.specs.State.{words_of}
 use Rattle.shard.specs.declared.shard.Found.TheVariants.{Gone, NotHere, Value}
 use Rattle.shard.proofs.Places.{clash}
 use Rattle.abandoned.specs.Kept.{state_of}
 use Rattle.abandoned.specs.State.{IsElsewhere, IsHere, PoolState}
-use Rattle.abandoned.proofs.Here.{found_in, here_read, index_within, place_within, read_is}
+use Rattle.abandoned.proofs.Here.{found_in, here_read, index_within, place_within}
 use Rattle.abandoned.proofs.Pages.{sound_paged}
 use Rattle.abandoned.proofs.Released.{has_page_if_held}
 use Rattle.abandoned.proofs.ShownLogs.{value_found-Gets}

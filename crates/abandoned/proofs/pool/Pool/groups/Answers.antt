@@ -1,14 +1,14 @@
-use Rattle.std.proofs.Common.{ap, ◌∙◌}
 use Rattle.std.specs.Prelude.{is_some}
 use Rattle.abandoned.specs.Kept.{state_of}
 use Rattle.abandoned.specs.State.{PooledState, paged_groups}
-use Rattle.abandoned.proofs.Heads.{Ascend-filter, IsStrictlyIncreasing-heads}
+use Rattle.shard.proofs.Heads.{IsStrictlyIncreasing-heads}
+use Rattle.abandoned.proofs.Heads.{Ascend-filter, head_id}
 use Rattle.abandoned.proofs.pool.Pool.groups.Goals as goal
 
 pub returns-clause-ascending : goal.returns-clause-ascending
 returns-clause-ascending c =
-    rw (← c.self.view_is) (IsStrictlyIncreasing-heads (paged_groups (state_of c.self.inside)) (Ascend-filter (λ (g : PooledState). is_some g.page) c.self.inside.groups.items c.self.invariant.sound.ascending))
+    rw (← c.self.view_is) (IsStrictlyIncreasing-heads head_id (paged_groups (state_of c.self.inside)) (Ascend-filter (λ (g : PooledState). is_some g.page) c.self.inside.groups.items c.self.invariant.sound.ascending))
 
 pub returns-in_err-push-clause-ascending : goal.returns-in_err-push-clause-ascending
 returns-in_err-push-clause-ascending c =
-    rw (← c.self.view_is) (IsStrictlyIncreasing-heads (paged_groups (state_of c.self.inside)) (Ascend-filter (λ (g : PooledState). is_some g.page) c.self.inside.groups.items c.self.invariant.sound.ascending))
+    rw (← c.self.view_is) (IsStrictlyIncreasing-heads head_id (paged_groups (state_of c.self.inside)) (Ascend-filter (λ (g : PooledState). is_some g.page) c.self.inside.groups.items c.self.invariant.sound.ascending))

@@ -1,20 +1,20 @@
-use Rattle.std.proofs.Common.{◌≡◌, ap, refl, subst, sym, arith}
+use Rattle.std.proofs.Common.{refl, subst, sym, arith}
 use Rattle.shard.specs.Group.{GroupState, SpansState, all_spans, spans_of}
-use Rattle.shard.proofs.Heads.{there}
+use Rattle.shard.proofs.Lists.{there_at}
 use Rattle.abandoned.specs.Calls.{HasAny}
 use Rattle.abandoned.proofs.Searches.{below_next, never, not_there}
 use Rattle.abandoned.proofs.pool.Pool.has_one_of.Goals as goal
 
 pub returns-then-has_any-clause-has : goal.returns-then-has_any-clause-has
 returns-then-has_any-clause-has c =
-    let at = there c.args.shard.now.groups c.loop-index.index (omega arith) in (
+    let at = there_at c.args.shard.now.groups c.loop-index.index (omega arith) in (
       (λ t. (c.loop-index.index, at.0, at.1, subst (λ (s : SpansState). HasAny c.args.self.now.groups (all_spans s)) (c.spans_at.ensures at.0 at.1) (c.if-has_any.ensures.0 refl))),
       (λ found. refl),
     )
 
 pub loop-index-preserved : goal.loop-index-preserved
 loop-index-preserved c =
-    let at = there c.args.shard.now.groups c.loop-index.index (omega arith) in
+    let at = there_at c.args.shard.now.groups c.loop-index.index (omega arith) in
     below_next (λ (g : GroupState). HasAny c.args.self.now.groups (spans_of g)) c.args.shard.now.groups c.loop-index.index at.0 at.1
     (λ found. never (c.if-has_any.ensures.1 (subst (λ (s : SpansState). HasAny c.args.self.now.groups (all_spans s)) (sym (c.spans_at.ensures at.0 at.1)) found))) c.loop-index.invariant
 

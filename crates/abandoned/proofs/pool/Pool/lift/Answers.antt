@@ -1,4 +1,4 @@
-use Rattle.std.proofs.Common.{◌≡◌, ◌∙◌, ℕ, Option, IfSome, ap, arith, refl, subst, sym}
+use Rattle.std.proofs.Common.{◌≡◌, ◌∙◌, ℕ, Option, IfSome, ap, arith, subst, sym}
 use Rattle.std.specs.Prelude.{remove}
 use Rattle.page_table.specs.State.{HasPage, TableState}
 use Rattle.shard.specs.Moves.{IsSoundWhole, whole_with}

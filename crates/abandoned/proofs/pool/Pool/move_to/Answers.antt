@@ -1,4 +1,4 @@
-use Rattle.std.proofs.Common.{◌≡◌, ◌∙◌, None, Some, ap, subst, sym}
+use Rattle.std.proofs.Common.{◌∙◌, None, Some, ap, subst, sym}
 use Rattle.span.specs.declared.id.SpanId.{SpanId}
 use Rattle.shard.specs.Moves.{MayTakeIn, TakesIn, with_room}
 use Rattle.shard.specs.State.{ShardState}

@@ -1,4 +1,4 @@
-use Rattle.std.proofs.Common.{◌≡◌, ◌∙◌, map, subst, sym}
+use Rattle.std.proofs.Common.{◌∙◌, map, subst, sym}
 use Rattle.shard.specs.Moves.{whole_of}
 use Rattle.abandoned.specs.Calls.{TakesAll}
 use Rattle.abandoned.specs.Handover.{AreApart}

@@ -1,15 +1,16 @@
-use Rattle.std.proofs.Common.{◌≡◌, ◌∙◌, ◌-◌, ℕ, List, Some, ap, arith, length, refl, subst, sym}
+use Rattle.std.proofs.Common.{◌∙◌, ◌-◌, ℕ, List, ap, arith, refl, subst, sym}
 use Rattle.std.specs.Prelude.{insert}
-use Rattle.page_table.specs.State.{TableState}
 use Rattle.span.specs.Ids.{rank}
 use Rattle.span.specs.declared.id.SpanId.{SpanId}
-use Rattle.shard.specs.Moves.{IsSoundWhole, WholeState, spans_moved, whole_with}
+use Rattle.shard.specs.Moves.{IsSoundWhole, WholeState, whole_with}
+use Rattle.shard.proofs.HeadPlaces.{IsLower}
 use Rattle.abandoned.specs.Calls.{IsPlaceFor, MayTakeIn, TakesIn}
 use Rattle.abandoned.specs.Kept.{state_of}
 use Rattle.abandoned.specs.State.{PoolState, PooledState}
-use Rattle.abandoned.proofs.HeadPlaces.{IsLower, IsPlaceFor-lower, no_head_elsewhere}
+use Rattle.abandoned.proofs.HeadPlaces.{IsPlaceFor-lower}
+use Rattle.abandoned.proofs.Heads.{head_id}
 use Rattle.abandoned.proofs.Housed.{TakesIn-housed, rooms-housed}
-use Rattle.abandoned.proofs.TakenIn.{IsSound-TakesIn, pooled, words_if_live}
+use Rattle.abandoned.proofs.TakenIn.{IsSound-TakesIn, words_if_live}
 use Rattle.abandoned.proofs.pool.Pool.take_in.Goals as goal
 
 abbrev moved : goal.After-self-2-1 → WholeState
@@ -21,16 +22,15 @@ house-page-requires-clause-words c live = words_if_live (whole_with c.into_parts
 may : (c : goal.After-self-2-1) → MayTakeIn (state_of c.self.inside) (moved c)
 may c = subst (λ (s : PoolState). MayTakeIn s (moved c)) (sym c.self.view_is) (subst (MayTakeIn c.args.self.now) c.into_parts-spans.ensures.parts c.requires)
 
-lower_now : (c : goal.After-self-2-1) → IsLower c.self.inside.groups.items (rank (moved c).head.id) c.lower_heads-index.result
+lower_now : (c : goal.After-self-2-1) → IsLower head_id c.self.inside.groups.items (rank (moved c).head.id) c.lower_heads-index.result
 lower_now c =
-    subst (λ (n : ℕ). IsLower c.self.inside.groups.items n c.lower_heads-index.result) (c.rank.ensures.value ∙ ap (λ (i : SpanId). rank i) c.head_id.ensures)
-    (subst (λ (groups : List PooledState). IsLower groups c.rank.result c.lower_heads-index.result) c.as_slice.ensures.value
+    subst (λ (n : ℕ). IsLower head_id c.self.inside.groups.items n c.lower_heads-index.result) (c.rank.ensures.value ∙ ap (λ (i : SpanId). rank i) c.head_id.ensures)
+    (subst (λ (groups : List PooledState). IsLower head_id groups c.rank.result c.lower_heads-index.result) c.as_slice.ensures.value
     (record { within = c.lower_heads-index.ensures.within; lower = c.lower_heads-index.ensures.lower; others = c.lower_heads-index.ensures.others }))
 
 place_now : (c : goal.After-self-2-1) → IsPlaceFor c.self.inside.groups.items (moved c).head.id c.lower_heads-index.result
 place_now c =
-    IsPlaceFor-lower c.self.inside.groups.items (moved c).head.id c.lower_heads-index.result (lower_now c)
-    (no_head_elsewhere c.self.inside.groups.items (moved c).head.id ((may c).elsewhere 0 (moved c).head refl))
+    IsPlaceFor-lower c.self.inside.groups.items (moved c).head.id c.lower_heads-index.result (lower_now c) ((may c).elsewhere 0 (moved c).head refl)
 
 abbrev now : goal.After-self-2-1 → PoolState
 now c = record { groups = c.insert_reserved.new.groups.items; table = record c.house-page.new.table { page_room = c.self.inside.page_room - 1; span_room = c.self.inside.span_room - c.len-count.result }; has_plan = c.self.inside.has_plan }

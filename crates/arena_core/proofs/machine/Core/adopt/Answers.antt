@@ -1,14 +1,12 @@
-use Rattle.std.proofs.Common.{◌≡◌, ◌≢◌, ◌≤◌, false, length, slice_get, Some, Err, ap, refl, subst, sym, ◌∙◌}
+use Rattle.std.proofs.Common.{◌≡◌, ◌≢◌, false, length, slice_get, Some, Err, ap, refl, subst}
 use Rattle.arena_core.specs.declared.event.Event.TheVariants.{Adopt}
 use Rattle.arena_core.specs.declared.reply.Reply.TheVariants.{Adopted, Refused}
 use Rattle.arena_core.specs.Kept.{state_of}
-use Rattle.abandoned.specs.Calls.{HasNothingToAdopt}
 use Rattle.arena_core.specs.State.{CoreState}
-use Rattle.arena_core.specs.Step.{CoreStep, MayTake}
-use Rattle.arena_core.proofs.FieldSteps.{CoreStep-adopt_refused_fields, IsStep-adopt_fields}
+use Rattle.arena_core.specs.Step.{CoreStep}
+use Rattle.arena_core.proofs.FieldSteps.{CoreStep-adopt_refused_fields, IsStep-adopt_fields, no_plan_if_adopted}
 use Rattle.arena_core.proofs.Fields.{no_read, shard-read, with_both_at}
-use Rattle.arena_core.proofs.Moves.{HasNothingToAdopt-unpaged, may_take-nowhere, running-adopted, unpaged-HasNothingToAdopt}
-use Rattle.arena_core.proofs.FieldSteps.{no_plan_if_adopted}
+use Rattle.arena_core.proofs.Moves.{running-adopted}
 use Rattle.arena_core.proofs.PlanSteps.{IsSoundStep}
 use Rattle.arena_core.proofs.Steps.{not_doubled}
 use Rattle.arena_core.proofs.machine.Core.adopt.Goals as goal
@@ -33,7 +31,7 @@ not_full : (c : goal.After-self-2-1) → c.in-Some.shard.now.page_limit ≢ leng
 not_full c full = let never = c.in-Ok.ensures.spent.1 full in cc
 
 still_running : (c : goal.After-self-2-1) → c.in-Some.shard.now.ended ≡ false
-still_running c = running-adopted c.in-Some.shard.now (λ full. let never = c.in-Ok.ensures.spent.1 full in cc) (λ both. let never = c.in-Ok.ensures.ended.1 both in cc)
+still_running c = running-adopted c.in-Some.shard.now (not_full c) (λ both. let never = c.in-Ok.ensures.ended.1 both in cc)
 
 adopted : (c : goal.After-self-2-1) → IsSoundStep c.args.self.now (Adopt c.args.number) (Adopted c.in-Ok.head) (state_of (with_both_at c.self.inside c.args.number c.adopt.new.shard c.adopt.new.self c.guess.new.guesses))
 adopted c =
@@ -41,8 +39,7 @@ adopted c =
     (IsStep-adopt_fields c.self.inside c.args.number c.in-Ok.head c.in-Some.shard.now c.adopt.new.shard c.adopt.new.self c.guess.new.guesses c.self.invariant
     (no_plan_if_adopted c.self.inside c.self.invariant (λ told. let never = c.in-Ok.ensures.plan_open.1 (not_full c, still_running c, not_doubled (state_of c.self.inside) c.self.invariant.groups c.args.number c.in-Some.shard.now (read_shard c) (still_running c), told) in cc))
     (record { within = c.in-Some.ensures.variant.0 refl; value = c.in-Some.ensures.value })
-    (running-adopted c.in-Some.shard.now (λ full. let never = c.in-Ok.ensures.spent.1 full in cc) (λ both. let never = c.in-Ok.ensures.ended.1 both in cc))
-    c.in-Ok.ensures.ok c.adopt.ensures.sound_shard c.adopt.ensures.sound)
+    (still_running c) c.in-Ok.ensures.ok c.adopt.ensures.sound_shard c.adopt.ensures.sound)
 
 pub invariant_of-self-2 : goal.invariant_of-self-2
 invariant_of-self-2 c = (adopted c).kept

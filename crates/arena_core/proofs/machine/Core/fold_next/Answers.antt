@@ -1,10 +1,9 @@
-use Rattle.std.proofs.Common.{◌≡◌, ◌<◌, ap, arith, subst, sym, ◌∙◌}
+use Rattle.std.proofs.Common.{◌<◌, arith, subst, sym, ◌∙◌}
 use Rattle.std.proofs.lemmas.Result.{err_from_is_err_and}
 use Rattle.arena_core.specs.Kept.{state_of}
 use Rattle.arena_core.specs.Owner.{StandsAt}
 use Rattle.arena_core.specs.Plan.{IsNext}
-use Rattle.arena_core.specs.Sound.{IsSound}
-use Rattle.arena_core.specs.State.{CoreState, OpenPlan}
+use Rattle.arena_core.specs.State.{CoreState}
 use Rattle.arena_core.specs.declared.event.Event.TheVariants.{Step}
 use Rattle.arena_core.specs.declared.machine.Owner.TheVariants as owner
 use Rattle.arena_core.specs.declared.reply.Refusal.TheVariants.{OutOfMemory}

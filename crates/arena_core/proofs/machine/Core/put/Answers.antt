@@ -8,9 +8,6 @@ use Rattle.arena_core.specs.State.{shown}
 use Rattle.arena_core.specs.Step.{CoreStep}
 use Rattle.arena_core.proofs.FieldSteps.{CoreStep-refused_fields, IsStep-put_fields, PlainStep-refused, state_of-same}
 use Rattle.arena_core.proofs.Fields.{with_shard_at}
-use Rattle.arena_core.proofs.Flagged as flagged_groups
-use Rattle.arena_core.proofs.PlanFolds as plan_folds
-use Rattle.arena_core.proofs.PlanMarks as plan_marks
 use Rattle.arena_core.proofs.PlanSteps.{IsSoundStep}
 use Rattle.arena_core.proofs.machine.Core.put.Goals as goal
 

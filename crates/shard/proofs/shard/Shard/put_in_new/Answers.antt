@@ -2,6 +2,7 @@ use Rattle.std.proofs.Common.{◌≡◌, ◌<◌, ◌∙◌, ◌+◌, List, [], 
 use Rattle.std.specs.FinMap as map
 use Rattle.std.specs.FinSet as set
 use Rattle.span.proofs.LegalLogs.{puts_of-empty}
+use Rattle.span.specs.Ids.{rank}
 use Rattle.span.specs.Log.{live_slots, puts_of, worn_slots}
 use Rattle.span.specs.State.{SpanState}
 use Rattle.span.specs.declared.id.SpanId.{SpanId}
@@ -13,6 +14,7 @@ use Rattle.shard.specs.State.{ShardState}
 use Rattle.shard.proofs.GuestRoom.{HasGuestRoom-none}
 use Rattle.shard.proofs.Logs.{contains-live_slots-empty, contains-worn_slots-empty}
 use Rattle.shard.proofs.HeadPlaces.{IsLower, IsPlaceFor-lower, no_head_next}
+use Rattle.shard.proofs.Heads.{head_id}
 use Rattle.shard.proofs.PutInNew.{IsSound-put_in_new}
 use Rattle.shard.proofs.RoomBits.{HasRooms-only}
 use Rattle.shard.proofs.Tables.{HasPage-with_open_same}
@@ -45,9 +47,9 @@ groups_now c = c.insert_reserved.ensures.items ∙ rw (c.in_ok-reserve.ensures.i
 table_now : (c : goal.After-self-3-1) → c.set_at.new.self ≡ with_word (with_open c.self.inside.table c.in-Some.id c.in_ok-page.page) c.in_ok-page.page 0 c.args.value
 table_now c = c.set_at.ensures ∙ rw c.in_ok-page.ensures.ok refl
 
-lower_now : (c : goal.After-self-3-1) → IsLower c.self.inside.groups.items c.in-Some.id c.lower_heads-index.result
+lower_now : (c : goal.After-self-3-1) → IsLower head_id c.self.inside.groups.items (rank c.in-Some.id) c.lower_heads-index.result
 lower_now c =
-    subst (λ (groups : List GroupState). IsLower groups c.in-Some.id c.lower_heads-index.result) (list_is c)
+    subst (λ (groups : List GroupState). IsLower head_id groups (rank c.in-Some.id) c.lower_heads-index.result) (list_is c)
     (record { within = c.lower_heads-index.ensures.within; lower = c.lower_heads-index.ensures.lower; others = c.lower_heads-index.ensures.others })
 
 place_now : (c : goal.After-self-3-1) → IsPlaceFor c.self.inside.groups.items c.in-Some.id c.lower_heads-index.result

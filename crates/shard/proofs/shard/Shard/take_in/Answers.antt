@@ -1,4 +1,5 @@
 use Rattle.std.proofs.Common.{◌≡◌, ◌∙◌, false, List, None, Some, insert, ap, arith, refl, subst, sym}
+use Rattle.span.specs.Ids.{rank}
 use Rattle.page_table.specs.State.{TableState}
 use Rattle.shard.specs.Calls.{IsPlaceFor}
 use Rattle.shard.specs.Group.{GroupState, group_of}
@@ -7,6 +8,7 @@ use Rattle.shard.specs.Moves.{MayTakeIn, TakesIn, WholeState, spans_moved, whole
 use Rattle.shard.specs.State.{ShardState}
 use Rattle.shard.proofs.GuestRoom.{HasGuestRoom-none}
 use Rattle.shard.proofs.HeadPlaces.{IsLower, IsPlaceFor-lower, no_head_elsewhere}
+use Rattle.shard.proofs.Heads.{head_id}
 use Rattle.shard.proofs.MovedGroups.{IsSound-TakesIn}
 use Rattle.shard.proofs.RoomBits.{HasRooms-all}
 use Rattle.shard.proofs.shard.Shard.take_in.Goals as goal
@@ -24,11 +26,11 @@ may c = subst (λ (s : ShardState). MayTakeIn s c.args.whole) (sym c.self.view_i
 table_is : (c : goal.After-self-2-1) → c.map_all.new.table ≡ with_page c.self.inside.table (spans_moved c.args.whole) c.give_page-page.result c.in-Some.words
 table_is c = c.map_all.ensures ∙ rw (c.give_page-page.ensures.table, whole_is c) refl
 
-lower_now : (c : goal.After-self-2-1) → IsLower c.self.inside.groups.items c.args.whole.head.id c.lower_heads-index.result
+lower_now : (c : goal.After-self-2-1) → IsLower head_id c.self.inside.groups.items (rank c.args.whole.head.id) c.lower_heads-index.result
 lower_now c =
     let id : c.head_id.result ≡ c.args.whole.head.id = c.head_id.ensures ∙ ap (λ (w : WholeState). w.head.id) (sym (whole_is c)) in
-    subst (λ i. IsLower c.self.inside.groups.items i c.lower_heads-index.result) id
-    (subst (λ (groups : List GroupState). IsLower groups c.head_id.result c.lower_heads-index.result) c.as_slice.ensures.value
+    subst (λ i. IsLower head_id c.self.inside.groups.items (rank i) c.lower_heads-index.result) id
+    (subst (λ (groups : List GroupState). IsLower head_id groups (rank c.head_id.result) c.lower_heads-index.result) c.as_slice.ensures.value
     (record { within = c.lower_heads-index.ensures.within; lower = c.lower_heads-index.ensures.lower; others = c.lower_heads-index.ensures.others }))
 
 place_now : (c : goal.After-self-2-1) → IsPlaceFor c.self.inside.groups.items c.args.whole.head.id c.lower_heads-index.result
