@@ -62,17 +62,6 @@ impl Spans {
         1 + self.guests.len()
     }
 
-    /// Makes room for so many more guests.
-    ///
-    /// # Errors
-    ///
-    /// `AllocError` where memory is refused.
-    pub fn reserve(&mut self, guests: usize) -> Result<(), AllocError>
-        ensures { self.new ≡ self.old }
-    {
-        self.guests.reserve(guests)
-    }
-
     /// Takes a guest in. Its live slots are live in none of the spans so far.
     ///
     /// # Errors
