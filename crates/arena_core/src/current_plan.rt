@@ -2,12 +2,10 @@
 ghost use Rattle.std.specs.Prelude.{◌≡◌, ◌+◌, ◌++◌, ◌≤◌, None, Some, IfOk, IsSome, is_some, length, vec_len, vec_capacity};
 ghost use Rattle.arena_core.specs.Marks.{advanced, next_pair};
 
+use mesh_graph::MOST_GROUPS;
 use span::SpanId;
 use std::alloc::{AllocError, Global};
 use std::marker::Model;
-
-/// The most pairs that a plan has.
-const MOST_PAIRS: usize = 4096;
 
 /// The open plan of folds, if there is one: its pairs, each an abandoned group and the owned group that it is to be
 /// folded onto, and how many of them are done with. It keeps the room for 4,096 pairs, so that a plan is opened without
@@ -37,7 +35,8 @@ impl CurrentPlan {
         ensures { IfOk result (λ plan. plan ≡ None) }
     {
         Ok(CurrentPlan {
-            pairs: Vec::with_capacity(alloc, MOST_PAIRS)?,
+            // No plan has more pairs than a side has groups.
+            pairs: Vec::with_capacity(alloc, MOST_GROUPS)?,
             done: 0,
             is_open: false,
         })

@@ -8,13 +8,10 @@ use abandoned::Pool;
 use augment::plan;
 use bitmap::Bits256;
 use certificate::Certificate;
-use mesh_graph::{BuildError, Entry, Graph, Snapshot};
+use mesh_graph::{BuildError, Entry, Graph, MOST_GROUPS, Snapshot};
 use shard::Shard;
 use span::SpanId;
 use std::alloc::{AllocError, Global};
-
-/// The most groups of one side in a plan.
-const MOST_GROUPS: usize = 4096;
 
 /// Whether a side has more than 4,096 groups: the pool, of groups that have a page, or all shards together. It takes no
 /// memory.

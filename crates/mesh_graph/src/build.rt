@@ -10,7 +10,7 @@ use crate::snapshot::Snapshot;
 use std::alloc::{AllocError, Global};
 
 /// The most groups that a graph has on a side.
-const MOST_GROUPS: usize = 4096;
+pub const MOST_GROUPS: usize = 4096;
 
 /// Why a graph was not built.
 #[derive(Clone, Copy, PartialEq, Eq, Debug, thiserror::Error)]

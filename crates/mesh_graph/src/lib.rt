@@ -23,7 +23,7 @@ mod entry;
 mod graph;
 mod snapshot;
 
-pub use build::BuildError;
+pub use build::{BuildError, MOST_GROUPS};
 pub use entry::Entry;
 pub use graph::Graph;
 pub use snapshot::{Doubled, Snapshot};

@@ -7,11 +7,8 @@ use super::cause::Cause;
 use super::numeral::parse_number;
 use super::parts::parts;
 use bitmap::Bits256;
-use mesh_graph::Entry;
+use mesh_graph::{Entry, MOST_GROUPS};
 use span::SpanId;
-
-/// The most lines of a list.
-const MOST_LINES: u32 = 4096;
 
 /// A shard, a full stop and a serial.
 pub(super) fn parse_id(word: &[u8]) -> Result<SpanId, Cause>
@@ -104,7 +101,7 @@ fn count_of(number: Option<u32>) -> Result<usize, Cause>
 {
     match number {
         None => Err(Cause::Form),
-        Some(count) if count <= MOST_LINES => Ok(count as usize),
+        Some(count) if count as usize <= MOST_GROUPS => Ok(count as usize),
         Some(_) => Err(Cause::Limit),
     }
 }
