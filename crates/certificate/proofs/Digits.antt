@@ -1,9 +1,10 @@
 -- The digits of a number.
-use Rattle.std.proofs.Common.{◌≡◌, ℕ, ◌+◌, ◌-◌, ◌*◌, ◌<◌, Bool, true, false, ◌&&◌, List, [], ◌∷◌, length, take, get_or, arith, rules, refl, ◌∙◌, ap, min}
+use Rattle.std.proofs.Common.{◌≡◌, ℕ, ◌+◌, ◌-◌, ◌*◌, ◌<◌, true, List, [], ◌∷◌, length, take, get_or, arith, rules, ◌∙◌, ap, min}
 use Rattle.std.specs.Char.{digit_value, is_ascii_digit}
 use Rattle.std.specs.Int.{IsInRange}
 use Rattle.std.specs.List.{list_all}
 use Rattle.std.specs.Str.Parse.{AllDigits, digits_value}
+use Rattle.std.proofs.lemmas.Bool.{and_parts}
 use Rattle.std.proofs.lemmas.Int.Digits.{digits_value_more}
 use Rattle.std.proofs.lemmas.Str.Parse.{digit_at}
 use Rattle.certificate.specs.Number.{clip}
@@ -18,13 +19,9 @@ is_digit-range c h = search rules
 pub digit_value-range : (c : ℕ) → IsInRange 48 57 c → digit_value c < 10
 digit_value-range c h = let e : digit_value c ≡ c - 48 = digit_value-digit c h in omega (arith, e, h.0, h.1)
 
-pub both : (a b : Bool) → (a && b) ≡ true → (a ≡ true) × (b ≡ true)
-both true b h = (refl, h)
-both false b h = absurd (search (rules, h))
-
 pub AllDigits-from_test : (word : List ℕ) → list_all is_ascii_digit word ≡ true → AllDigits 10 word
 AllDigits-from_test [] h = search rules
-AllDigits-from_test (c ∷ cs) h = let parts = both (is_ascii_digit c) (list_all is_ascii_digit cs) h in
+AllDigits-from_test (c ∷ cs) h = let parts = and_parts (is_ascii_digit c) (list_all is_ascii_digit cs) h in
     (digit_value-range c (is_digit-range c parts.0), AllDigits-from_test cs parts.1)
 
 -- the value of one digit more

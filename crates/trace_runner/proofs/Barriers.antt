@@ -4,7 +4,8 @@ use Rattle.std.specs.List.{list_any, take_while}
 use Rattle.std.proofs.lemmas.List.{reverse-append, take-append-drop}
 use Rattle.std.proofs.lemmas.List.Sums.{take_while-cons}
 use Rattle.std.proofs.lemmas.List.Folds.{list_any-append}
-use Rattle.trace_runner.proofs.Lines.{either}
+use Rattle.std.proofs.lemmas.Bool.{or_left, cases_Bool}
+use Rattle.std.proofs.Math.Bool.{or_comm, or-false}
 use Rattle.trace_runner.proofs.Knowing.{has_ended-push}
 use Rattle.trace_runner.specs.Barrier.{is_barrier, open_lines}
 use Rattle.trace_runner.specs.Causes.{ends, has_ended}
@@ -24,30 +25,16 @@ open_lines-barrier ls l e = ap reverse (take_while-next ls l false (ap not e))
 
 -- the threads that wait, one line more
 pub has_ended-open-push : (ls : List Line) (l : Line) (t : ℕ) → has_ended (open_lines (ls ++ l ∷ [])) t ≡ (not (is_barrier l) && (ends t l || has_ended (open_lines ls) t))
-has_ended-open-push ls l t = elim (either (is_barrier l)) [
+has_ended-open-push ls l t = elim (cases_Bool (is_barrier l)) [
   | inl is ↦ ap (λ xs. has_ended xs t) (open_lines-barrier ls l is) ∙ rw is refl
   | inr other ↦ ap (λ xs. has_ended xs t) (open_lines-push ls l other) ∙ has_ended-push t (open_lines ls) l ∙ rw other refl
 ]
 
-or_false : (b : Bool) → (b || false) ≡ b
-or_false true = refl
-or_false false = refl
-
-or_swap : (a b : Bool) → (a || b) ≡ (b || a)
-or_swap true true = refl
-or_swap true false = refl
-or_swap false true = refl
-or_swap false false = refl
-
-or_left : (a b : Bool) → a ≡ true → (a || b) ≡ true
-or_left true b e = refl
-or_left false b e = cc
-
 list_any-reverse : {X : Type 0} (p : X → Bool) (xs : List X) → list_any p (reverse xs) ≡ list_any p xs
 list_any-reverse p [] = refl
 list_any-reverse p (x ∷ xs) =
-    ap (list_any p) (reverse-append (x ∷ []) xs) ∙ list_any-append p (reverse xs) (x ∷ []) ∙ or_swap (list_any p (reverse xs)) (list_any p (x ∷ []))
-    ∙ ap₂ (λ a b. a || b) (or_false (p x)) (list_any-reverse p xs)
+    ap (list_any p) (reverse-append (x ∷ []) xs) ∙ list_any-append p (reverse xs) (x ∷ []) ∙ or_comm (list_any p (reverse xs)) (list_any p (x ∷ []))
+    ∙ ap₂ (λ a b. a || b) (or-false (p x)) (list_any-reverse p xs)
 
 list_any-take : {X : Type 0} (p : X → Bool) (n : ℕ) (xs : List X) → list_any p (take n xs) ≡ true → list_any p xs ≡ true
 list_any-take p n xs e = sym (ap (list_any p) (take-append-drop n xs)) ∙ list_any-append p (take n xs) (drop n xs) ∙ or_left (list_any p (take n xs)) (list_any p (drop n xs)) e

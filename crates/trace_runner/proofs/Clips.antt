@@ -2,11 +2,11 @@
 use Rattle.std.proofs.Common.{◌≡◌, ℕ, ◌≤◌, ◌&&◌, not, nat_lt, nat_le, Bool, true, false, List, [], ◌∷◌, Option, Some, None, option_map, find, arith, refl, sym, ap, ap₂, ◌∙◌, inl, inr}
 use Rattle.std.specs.Option.{option_map_or}
 use Rattle.std.proofs.lemmas.Bool.Decides.{nat_tests}
-use Rattle.trace_runner.proofs.Lines.{either, chosen}
-use Rattle.trace_runner.proofs.Digits.{both}
+use Rattle.std.proofs.lemmas.Bool.{and_parts, cases_Bool}
+use Rattle.trace_runner.proofs.Lines.{chosen}
 use Rattle.std.specs.Int.{IsInRange}
 use Rattle.trace_runner.specs.Header.{IsWithinLimits}
-use Rattle.trace_runner.specs.Number.{clip}
+use Rattle.certificate.specs.Number.{clip}
 use Rattle.trace_runner.specs.Reference.{clip_reference}
 use Rattle.trace_runner.specs.Within.{clip_call, clip_line, order_cause}
 use Rattle.trace_runner.specs.Earlier.{IsFew, Few}
@@ -116,11 +116,11 @@ find_same p q same (k ∷ ks) = rw (same k, find_same p q same ks) refl
 pub order_cause-clip : (h : Header) (before : List Line) (w : Line) → IsWithinLimits h → Few before → order_cause h before (clip_line w) ≡ order_cause h before w
 order_cause-clip h before line.Silent within few = refl
 order_cause-clip h before line.Mark within few = refl
-order_cause-clip h before (line.Adopt s) within few = elim (either (nat_le h.shards s)) [
+order_cause-clip h before (line.Adopt s) within few = elim (cases_Bool (nat_le h.shards s)) [
   | inl far ↦ rw (clip-thread h.shards s within.shards, far) refl
   | inr near ↦ rw (clip-near h.shards s within.shards near) refl
 ]
-order_cause-clip h before (line.Call t c) within few = elim (either (nat_le h.shards t)) [
+order_cause-clip h before (line.Call t c) within few = elim (cases_Bool (nat_le h.shards t)) [
   | inl far ↦ rw (clip-thread h.shards t within.shards, far) refl
   | inr near ↦ rw (clip-near h.shards t within.shards near) (find_same (holds h before (line.Call t (clip_call c))) (holds h before (line.Call t c)) (holds-clip h before t c few) (cause.Thread ∷ cause.Ended ∷ cause.Adopt ∷ cause.Bound ∷ cause.Unknown ∷ cause.Early ∷ []))
 ]
@@ -158,18 +158,18 @@ key_near (Some i) (Many n) few has = ap Some (clip-index_near i n few has)
 
 key_known : (i : Option ℕ) (o : Option Binding) → ((b : Binding) → o ≡ Some b → IsFew b.keys) → not (option_map_or (λ b. has_key (option_map clip i) b.keys) o false) ≡ false → option_map clip i ≡ i
 key_known i None few known = cc
-key_known i (Some b) few known = elim (either (has_key (option_map clip i) b.keys)) [
+key_known i (Some b) few known = elim (cases_Bool (has_key (option_map clip i) b.keys)) [
   | inl has ↦ key_near i b.keys (few b refl) has
   | inr other ↦ let bad : true ≡ false = rw other at known in cc
 ]
 
 range_near : (from to : ℕ) (keys : Keys) → IsFew keys → has_range (clip from) (clip to) keys ≡ true → (clip from ≡ from) × (clip to ≡ to)
 range_near from to One few has = cc
-range_near from to (Many n) few has = let parts = both (nat_le (clip from) (clip to)) (nat_le (clip to) n) has in clip-range_near from to n few parts.0 parts.1
+range_near from to (Many n) few has = let parts = and_parts (nat_le (clip from) (clip to)) (nat_le (clip to) n) has in clip-range_near from to n few parts.0 parts.1
 
 range_known : (from to : ℕ) (o : Option Binding) → ((b : Binding) → o ≡ Some b → IsFew b.keys) → not (option_map_or (λ b. has_range (clip from) (clip to) b.keys) o false) ≡ false → (clip from ≡ from) × (clip to ≡ to)
 range_known from to None few known = cc
-range_known from to (Some b) few known = elim (either (has_range (clip from) (clip to) b.keys)) [
+range_known from to (Some b) few known = elim (cases_Bool (has_range (clip from) (clip to) b.keys)) [
   | inl has ↦ range_near from to b.keys (few b refl) has
   | inr other ↦ let bad : true ≡ false = rw other at known in cc
 ]

@@ -1,6 +1,6 @@
 -- Lines by their number of words.
 use Rattle.std.proofs.Common.{◌≡◌, ℕ, ◌<◌, List, [], ◌∷◌, length, get_or, Bor, None, refl, arith}
-use Rattle.trace_runner.specs.Words.{contents_of}
+use Rattle.certificate.specs.Words.{contents_of}
 use Rattle.trace_runner.specs.Form.{counted_call, form_of_words, thread_line, value_call}
 
 pub form_of_words-none : (words : List (List ℕ)) → length words < 1 → form_of_words words ≡ None

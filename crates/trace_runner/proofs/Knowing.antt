@@ -1,9 +1,10 @@
 -- What is kept of the lines, one line more.
-use Rattle.std.proofs.Common.{◌≡◌, ℕ, ◌+◌, ◌≤◌, ◌||◌, Bool, true, false, List, [], ◌∷◌, ◌++◌, length, None, arith, refl, sym, ap, ap₂, ◌∙◌}
+use Rattle.std.proofs.Common.{◌≡◌, ℕ, ◌+◌, ◌≤◌, ◌||◌, false, List, [], ◌∷◌, ◌++◌, length, None, arith, refl, sym, ap, ap₂, ◌∙◌}
 use Rattle.std.specs.Option.{option_or}
 use Rattle.std.proofs.lemmas.List.{reverse-append}
 use Rattle.std.proofs.lemmas.List.Folds.{list_any-append}
 use Rattle.std.specs.List.{list_any}
+use Rattle.std.proofs.Math.Bool.{or_comm, or-false}
 use Rattle.trace_runner.proofs.Bindings.{binding_of-push, either_first, few-push, fresh}
 use Rattle.trace_runner.specs.Earlier.{Knows, NotesEnd, NotesNames, awaits_after}
 use Rattle.trace_runner.specs.Causes.{awaits_mark, binding_at, binding_of, ends, has_ended, is_call, is_call_over, marks, marks_at}
@@ -24,18 +25,8 @@ marks-length (line.Call t c ∷ ms) = omega (arith, marks-length ms)
 marks-length (line.Adopt s ∷ ms) = omega (arith, marks-length ms)
 marks-length (line.Mark ∷ ms) = omega (arith, marks-length ms)
 
-or_false : (b : Bool) → (b || false) ≡ b
-or_false true = refl
-or_false false = refl
-
-or_swap : (a b : Bool) → (a || b) ≡ (b || a)
-or_swap true true = refl
-or_swap true false = refl
-or_swap false true = refl
-or_swap false false = refl
-
 pub has_ended-push : (t : ℕ) (ls : List Line) (l : Line) → has_ended (ls ++ l ∷ []) t ≡ (ends t l || has_ended ls t)
-has_ended-push t ls l = list_any-append (ends t) ls (l ∷ []) ∙ or_swap (list_any (ends t) ls) (list_any (ends t) (l ∷ [])) ∙ ap (λ b. b || list_any (ends t) ls) (or_false (ends t l))
+has_ended-push t ls l = list_any-append (ends t) ls (l ∷ []) ∙ or_comm (list_any (ends t) ls) (list_any (ends t) (l ∷ [])) ∙ ap (λ b. b || list_any (ends t) ls) (or-false (ends t l))
 
 awaits_mark-push : (ls : List Line) (l : Line) → awaits_mark (ls ++ l ∷ []) ≡ awaits_after (awaits_mark ls) l
 awaits_mark-push ls line.Silent = rw (reverse-append ls (line.Silent ∷ [])) refl

@@ -4,17 +4,18 @@ use Rattle.std.specs.List.{slice_split, onto_first, list_all}
 use Rattle.std.specs.Char.{is_ascii_digit}
 use Rattle.std.specs.Str.Parse.{digits_value}
 use Rattle.std.proofs.lemmas.Bool.Decides.{nat_tests}
-use Rattle.trace_runner.proofs.Digits.{both, is_digit-range}
+use Rattle.certificate.proofs.Digits.{is_digit-range}
 use Rattle.std.specs.Option.{option_and_then}
 use Rattle.std.specs.Str.{bytes_eq}
 use Rattle.std.proofs.lemmas.Option.{cond_some, option_and_then_some}
 use Rattle.std.proofs.lemmas.Slice.Eq.{bytes_eq-Decides}
+use Rattle.std.proofs.lemmas.Bool.{and_parts, cases_Bool}
 use Rattle.trace_runner.specs.declared.text.name.Reference.{Reference}
 use Rattle.trace_runner.specs.declared.text.line.Call.{Call}
 use Rattle.trace_runner.specs.declared.text.line.Call.TheVariants.{Put, Fill, Get, Free, Sweep, End}
 use Rattle.trace_runner.specs.declared.text.line.Line.{Line}
 use Rattle.trace_runner.specs.declared.text.line.Line.TheVariants as line
-use Rattle.trace_runner.specs.Number.{number_in, is_numeral}
+use Rattle.certificate.specs.Number.{number_in, is_numeral}
 use Rattle.trace_runner.specs.Name.{is_name}
 use Rattle.trace_runner.specs.Reference.{reference_in}
 use Rattle.trace_runner.specs.Words.{words_of}
@@ -24,10 +25,6 @@ use Rattle.trace_runner.specs.Form.{Word, Verb, Number, Named, Refers, IsWord, A
 pub chosen : {X : Type 0} (b : Bool) (x y z : X) → cond b x y ≡ z → ((b ≡ true) × (x ≡ z)) ⊎ ((b ≡ false) × (y ≡ z))
 chosen true x y z e = inl (refl, e)
 chosen false x y z e = inr (refl, e)
-
-pub either : (b : Bool) → (b ≡ true) ⊎ (b ≡ false)
-either true = inl refl
-either false = inr refl
 
 pub same_bytes : (xs ys : List ℕ) → bytes_eq xs ys ≡ true → xs ≡ ys
 same_bytes xs ys e = search (rules, bytes_eq-Decides)
@@ -171,15 +168,15 @@ first_of_number : (word : List ℕ) (n : ℕ) → number_in word ≡ Some n → 
 first_of_number [] n e = cc
 first_of_number (c ∷ cs) n e =
     let numeral = cond_some (is_numeral (c ∷ cs)) (digits_value 10 (c ∷ cs)) n e in
-    let parts = both (nat_lt 0 (length (c ∷ cs))) ((length (c ∷ cs) == 1 || not (slice_index (c ∷ cs) 0 == 48)) && list_all is_ascii_digit (c ∷ cs)) numeral.0 in
-    let digits = both (length (c ∷ cs) == 1 || not (slice_index (c ∷ cs) 0 == 48)) (list_all is_ascii_digit (c ∷ cs)) parts.1 in
-    let first = both (is_ascii_digit c) (list_all is_ascii_digit cs) digits.1 in
+    let parts = and_parts (nat_lt 0 (length (c ∷ cs))) ((length (c ∷ cs) == 1 || not (slice_index (c ∷ cs) 0 == 48)) && list_all is_ascii_digit (c ∷ cs)) numeral.0 in
+    let digits = and_parts (length (c ∷ cs) == 1 || not (slice_index (c ∷ cs) 0 == 48)) (list_all is_ascii_digit (c ∷ cs)) parts.1 in
+    let first = and_parts (is_ascii_digit c) (list_all is_ascii_digit cs) digits.1 in
     let range = is_digit-range c first.0 in
     (omega arith, range.0, omega (arith, range.1))
 
 -- so it is no `adopt`
 not_adopt : (word : List ℕ) (n : ℕ) → number_in word ≡ Some n → bytes_eq word (codes "adopt") ≡ false
-not_adopt word n is = elim (either (bytes_eq word (codes "adopt"))) [
+not_adopt word n is = elim (cases_Bool (bytes_eq word (codes "adopt"))) [
   | inl same ↦ let first = first_of_number word n is in
       let large : slice_index word 0 ≡ 97 = rw (same_bytes word (codes "adopt") same) refl in
       absurd (omega (arith, first.2, large))

@@ -1,9 +1,9 @@
 -- Calls that are made one after another.
-use Rattle.std.proofs.Common.{◌≡◌, ℕ, suc, Bool, true, false, cond, length, arith, List, [], ◌∷◌, ◌++◌, map, Result, Ok, Err, OnOk, refl, sym, ap, subst, ◌∙◌, append_assoc}
-use Rattle.std.specs.List.{AllByRecursion}
+use Rattle.std.proofs.Common.{◌≡◌, ℕ, suc, Bool, true, false, cond, length, arith, List, [], ◌∷◌, ◌++◌, map, refl, sym, ap, subst, ◌∙◌, append_assoc}
 use Rattle.std.proofs.lemmas.List.{map-append, append-nil}
 use Rattle.std.proofs.lemmas.List.Elements.{filter_map-append}
 use Rattle.std.proofs.lemmas.List.Sums.{fold-append}
+use Rattle.arena_core.proofs.Lists.{each-append}
 use Rattle.arena_core.specs.State.{CoreState, shown}
 use Rattle.arena_core.specs.Step.{CoreStep, CoreRun}
 use Rattle.arena_core.specs.Plain.{ErasedStep, PlainRun, erased, is_plain}
@@ -75,10 +75,6 @@ erased-one a b Mark reply step = step
 erased-one a b Step reply step = step
 erased-one a b Close reply step = step
 
-All-append : {X : Type 0} (P : X → Type 0) (xs ys : List X) → AllByRecursion P xs → AllByRecursion P ys → AllByRecursion P (xs ++ ys)
-All-append P [] ys first second = second
-All-append P (x ∷ xs) ys first second = (first.0, All-append P xs ys first.1 second)
-
 pub IsAnswered-none : (core : CoreState) → IsAnswered core [] core
 IsAnswered-none core = record { each = tt; last = refl; core = refl; plain = refl; told = tt }
 
@@ -95,7 +91,7 @@ IsAnswered-append a b c first second before after =
       last = after.last ∙ ap (λ core. core_after core second) before.last ∙ sym (core_after-append a first second);
       core = rw (events, replies) (CoreRun-append a b c (events_of first) (events_of second) (replies_of first) (replies_of second) before.core after.core);
       plain = rw (events, replies, erased-append (events_of first) (events_of second) (replies_of first) (replies_of second) (replies-length first)) (PlainRun-append (shown a) (shown b) (shown c) (erased (events_of first) (replies_of first)) (erased (events_of second) (replies_of second)) before.plain after.plain);
-      told = rw replies (All-append IsTold (replies_of first) (replies_of second) before.told after.told);
+      told = rw replies (each-append IsTold (replies_of first) (replies_of second) before.told after.told);
     }
 
 -- one call, and the answer behind the earlier ones
@@ -140,10 +136,10 @@ Recalls-makes done number asked old new before after starts recalls (made, asks,
 pub Carries-none : (core : CoreState) (news : News) → Carries [] core news core news
 Carries-none core news = ([], refl, IsAnswered-none core, refl)
 
--- one event, with what it tells
-pub Carries-one : (event : Event) (reply : Reply) (old new : CoreState) (news : News) → CoreStep old event reply new → IsSound new → ErasedStep (shown old) event reply (shown new) → IsTold reply
-    → Carries (Calls event ∷ []) old news new (with_made news (Called event reply new))
-Carries-one event reply old new news step sound plain told = (Called event reply new ∷ [], refl, IsAnswered-one event reply old new step sound plain told, refl)
+-- one event, and the news with what it tells
+pub Carries-one : (event : Event) (reply : Reply) (old new : CoreState) (before after : News) → CoreStep old event reply new → IsSound new → ErasedStep (shown old) event reply (shown new) → IsTold reply
+    → after ≡ with_made before (Called event reply new) → Carries (Calls event ∷ []) old before new after
+Carries-one event reply old new before after step sound plain told news = (Called event reply new ∷ [], refl, IsAnswered-one event reply old new step sound plain told, news)
 
 pub Carries-append : (first second : List Asked) (a b c : CoreState) (x y z : News) → Carries first a x b y → Carries second b y c z → Carries (first ++ second) a x c z
 Carries-append first second a b c x y z (made, asks, answered, news) (more, asks_more, answered_more, news_more) = (
@@ -156,7 +152,7 @@ Carries-append first second a b c x y z (made, asks, answered, news) (more, asks
 -- the end of a shard, which tells nothing
 pub Carries-end : (shard : ℕ) (old new : CoreState) (news : News) → CoreStep old (End shard) ShardEnded new → IsSound new → ErasedStep (shown old) (End shard) ShardEnded (shown new)
     → Carries (ends_asked (shard ∷ [])) old news new news
-Carries-end shard old new news step sound plain = Carries-one (End shard) ShardEnded old new news step sound plain tt
+Carries-end shard old new news step sound plain = Carries-one (End shard) ShardEnded old new news news step sound plain tt refl
 
 -- ---- what a line asks for, by its kind
 
@@ -205,7 +201,3 @@ module _ (number : ℕ) (threads : List ℕ) (old : CoreState) (before : List Li
       makes = Makes-none number mid before;
       plans = marks;
     }
-
-pub OnOk-map : {T E P Q : Type 0} (r : Result T E) → (P → Q) → OnOk r P → OnOk r Q
-OnOk-map (Ok x) f p = f p
-OnOk-map (Err e) f p = tt

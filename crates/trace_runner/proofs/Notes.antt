@@ -13,17 +13,25 @@ use Rattle.trace_runner.specs.declared.report.PlanNote.{PlanNote}
 use Rattle.trace_runner.specs.declared.report.LineAnswer.{LineAnswer}
 use Rattle.trace_runner.specs.declared.text.line.Line.{Line}
 
--- what is told of plans leaves the count of the answers
-above-made : (n : News) (made : Made) → (with_made n made).above ≡ n.above
-above-made n (Called Step (Stepped abandoned owned outcome) core) = refl
-above-made n (Called Close reply core) = refl
-above-made n (Called Mark (Marked c) core) = refl
-above-made n (Called Mark reply core) = refl
-above-made n made = refl
+AreInOrder-push : (told : ℕ) (notes : List PlanNote) (note : PlanNote) → AreInOrder told note.above notes → AreInOrder told note.above (notes ++ note ∷ [])
+AreInOrder-push told [] note order = (order, omega arith)
+AreInOrder-push told (first ∷ notes) note order = (order.0, AreInOrder-push first.above notes note order.1)
+
+-- the notes stand in order among the answers that are told
+abbrev IsOrdered : News → Type 0
+IsOrdered n = AreInOrder 0 n.above n.notes
+
+-- what is told of plans leaves the count of the answers, and its note stands behind them all
+with_made-keeps : (n : News) (made : Made) → ((with_made n made).above ≡ n.above) × (IsOrdered n → IsOrdered (with_made n made))
+with_made-keeps n (Called Step (Stepped abandoned owned outcome) core) = (refl, λ order. order)
+with_made-keeps n (Called Close reply core) = (refl, AreInOrder-push 0 n.notes _)
+with_made-keeps n (Called Mark (Marked c) core) = (refl, AreInOrder-push 0 n.notes _)
+with_made-keeps n (Called Mark reply core) = (refl, AreInOrder-push 0 n.notes _)
+with_made-keeps n made = (refl, λ order. order)
 
 pub above-all_made : (n : News) (made : List Made) → (with_all_made n made).above ≡ n.above
 above-all_made n [] = refl
-above-all_made n (m ∷ made) = above-all_made (with_made n m) made ∙ above-made n m
+above-all_made n (m ∷ made) = above-all_made (with_made n m) made ∙ (with_made-keeps n m).0
 
 above-line : (n : News) (did : Did) → (with_line n did).above ≡ n.above + length did.calls
 above-line n did =
@@ -35,28 +43,13 @@ above-lines number n [] = omega arith
 above-lines number n (did ∷ done) =
     omega (arith, above-lines (number + 1) (with_line n did) done, above-line n did, length-append (map (on_line number) did.calls) (answers_from (number + 1) done), length-map did.calls (on_line number))
 
--- the notes stand in order among the answers that are told
-abbrev IsOrdered : News → Type 0
-IsOrdered n = AreInOrder 0 n.above n.notes
-
 AreInOrder-more : (told count more : ℕ) (notes : List PlanNote) → count ≤ more → AreInOrder told count notes → AreInOrder told more notes
 AreInOrder-more told count more [] less order = omega (arith, less, order)
 AreInOrder-more told count more (note ∷ notes) less order = (order.0, AreInOrder-more note.above count more notes less order.1)
 
-AreInOrder-push : (told : ℕ) (notes : List PlanNote) (note : PlanNote) → AreInOrder told note.above notes → AreInOrder told note.above (notes ++ note ∷ [])
-AreInOrder-push told [] note order = (order, omega arith)
-AreInOrder-push told (first ∷ notes) note order = (order.0, AreInOrder-push first.above notes note order.1)
-
-IsOrdered-made : (n : News) (made : Made) → IsOrdered n → IsOrdered (with_made n made)
-IsOrdered-made n (Called Step (Stepped abandoned owned outcome) core) order = order
-IsOrdered-made n (Called Close reply core) order = AreInOrder-push 0 n.notes _ order
-IsOrdered-made n (Called Mark (Marked c) core) order = AreInOrder-push 0 n.notes _ order
-IsOrdered-made n (Called Mark reply core) order = AreInOrder-push 0 n.notes _ order
-IsOrdered-made n made order = order
-
 IsOrdered-all_made : (n : News) (made : List Made) → IsOrdered n → IsOrdered (with_all_made n made)
 IsOrdered-all_made n [] order = order
-IsOrdered-all_made n (m ∷ made) order = IsOrdered-all_made (with_made n m) made (IsOrdered-made n m order)
+IsOrdered-all_made n (m ∷ made) order = IsOrdered-all_made (with_made n m) made ((with_made-keeps n m).1 order)
 
 IsOrdered-line : (n : News) (did : Did) → IsOrdered n → IsOrdered (with_line n did)
 IsOrdered-line n did order =

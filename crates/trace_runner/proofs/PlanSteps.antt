@@ -12,19 +12,15 @@ use Rattle.fold.specs.Folds.{Folds}
 use Rattle.fold.specs.declared.step.Step.{Step}
 use Rattle.fold.specs.declared.step.Step.TheVariants.{Absent, Emptied, Clash, Folded}
 use Rattle.arena_core.specs.Closings.{closed_onto, reopened}
-use Rattle.arena_core.specs.Plain.{ErasedStep}
-use Rattle.arena_core.specs.Sound.{IsSound}
-use Rattle.arena_core.specs.State.{CoreState, OpenPlan, shown}
+use Rattle.arena_core.specs.State.{CoreState, OpenPlan}
 use Rattle.arena_core.specs.Step.{CoreStep}
-use Rattle.arena_core.specs.declared.event.Event.{Event}
 use Rattle.arena_core.specs.declared.event.Event.TheVariants as event
-use Rattle.arena_core.specs.declared.reply.Reply.{Reply}
 use Rattle.arena_core.specs.declared.reply.Reply.TheVariants as reply
-use Rattle.trace_runner.specs.Made.{Asked, Calls, Called}
-use Rattle.trace_runner.specs.News.{News, with_made}
+use Rattle.trace_runner.specs.Made.{Asked, Calls}
+use Rattle.trace_runner.specs.News.{News}
 use Rattle.trace_runner.specs.Recalls.{Carries, KeepsShards}
-use Rattle.trace_runner.specs.Runs.{IsTold, finishing, pairs_left_of, stepping}
-use Rattle.trace_runner.proofs.Making.{Carries-append, IsAnswered-one}
+use Rattle.trace_runner.specs.Runs.{finishing, pairs_left_of, stepping}
+use Rattle.trace_runner.proofs.Making.{Carries-append}
 use Rattle.trace_runner.proofs.Serving.{KeepsShards-with_shard, ended_in}
 
 -- ---- the shards, which none of these ends
@@ -54,11 +50,6 @@ pub KeepsShards-marked : (old new : CoreState) (c : Certificate) → CoreStep ol
 KeepsShards-marked old new c step = subst (KeepsShards old) (sym step.after) (record { limits = refl; ended = ended_in-map (closed_onto c.plan) (λ shard. refl) old.shards })
 
 -- ---- what was asked and done
-
--- one event, and the news with what it tells
-pub Carries-told : (event : Event) (reply : Reply) (old new : CoreState) (before after : News) → CoreStep old event reply new → IsSound new → ErasedStep (shown old) event reply (shown new) → IsTold reply
-    → after ≡ with_made before (Called event reply new) → Carries (Calls event ∷ []) old before new after
-Carries-told event reply old new before after step sound plain told news = (Called event reply new ∷ [], refl, IsAnswered-one event reply old new step sound plain told, news)
 
 -- one step more
 pub Carries-next : (taken : ℕ) (a b c : CoreState) (x y z : News) → Carries (replicate taken (Calls event.Step)) a x b y → Carries (Calls event.Step ∷ []) b y c z → Carries (replicate (taken + 1) (Calls event.Step)) a x c z

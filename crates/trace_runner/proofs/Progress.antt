@@ -1,9 +1,9 @@
 -- One more line is run.
-use Rattle.std.proofs.Common.{◌≡◌, ℕ, ◌+◌, ◌<◌, ◌≤◌, ◌&&◌, ◌||◌, ◌==◌, nat_lt, nat_le, not, Bool, true, false, filter, List, [], ◌∷◌, ◌++◌, map, length, take, get_or, Some, None, slice_get, refl, sym, ap, ap₂, subst, ◌∙◌, arith, inl, inr, append_assoc, length-append, add-zero}
+use Rattle.std.proofs.Common.{◌≡◌, ℕ, ◌+◌, ◌<◌, ◌≤◌, ◌&&◌, ◌||◌, nat_lt, nat_le, not, Bool, true, false, filter, List, [], ◌∷◌, ◌++◌, map, length, take, get_or, Some, None, slice_get, refl, sym, ap, ap₂, subst, ◌∙◌, arith, inl, inr, append_assoc, length-append, add-zero}
 use Rattle.std.proofs.Math.Seq.{get_or-append_seam, take-length}
 use Rattle.std.specs.List.{range_with_len}
 use Rattle.std.specs.Option.{option_map, option_map_or}
-use Rattle.std.proofs.lemmas.Bool.{cases_lt}
+use Rattle.std.proofs.lemmas.Bool.{cases_lt, cases_Bool, eqb-true}
 use Rattle.std.proofs.lemmas.Bool.Decides.{nat_tests}
 use Rattle.std.proofs.lemmas.Grind.{flat_map-append}
 use Rattle.std.proofs.lemmas.List.Sums.{fold-append}
@@ -25,7 +25,6 @@ use Rattle.trace_runner.specs.declared.text.line.Line.TheVariants as line
 use Rattle.trace_runner.proofs.Barriers.{has_ended-open, has_ended-open-push}
 use Rattle.trace_runner.proofs.Clips.{AllFine, all_fine}
 use Rattle.trace_runner.proofs.Knowing.{has_ended-push}
-use Rattle.trace_runner.proofs.Lines.{either}
 use Rattle.trace_runner.proofs.Making.{IsAnswered-append, IsAnswered-none}
 use Rattle.trace_runner.proofs.Notes.{above-all_made}
 use Rattle.trace_runner.proofs.Recalling.{answers_from-append, take_line}
@@ -81,9 +80,6 @@ module _ (h : Header) (above : List Line) (l : Line) (fine : first_cause h above
   thread_below : (t : ℕ) → thread_of l ≡ Some t → t < h.shards
   thread_below t is = let e : nat_le h.shards t ≡ false = sym (ap (λ o. option_map_or (nat_le h.shards) o false) is) ∙ fine_of.thread in grind (arith, nat_tests)
 
-same_number : (m n : ℕ) → (m == n) ≡ true → m ≡ n
-same_number m n e = grind (arith, nat_tests)
-
 -- a thread that a line ends is the line's
 ends-thread : (l : Line) (t : ℕ) → ends t l ≡ true → thread_of l ≡ Some t
 ends-thread line.Silent t e = cc
@@ -92,7 +88,7 @@ ends-thread (line.Call thread (Fill name n v)) t e = cc
 ends-thread (line.Call thread (Get key)) t e = cc
 ends-thread (line.Call thread (Free key)) t e = cc
 ends-thread (line.Call thread (Sweep name from to)) t e = cc
-ends-thread (line.Call thread End) t e = ap Some (same_number thread t e)
+ends-thread (line.Call thread End) t e = ap Some (eqb-true thread t e)
 ends-thread (line.Adopt s) t e = cc
 ends-thread line.Mark t e = cc
 
@@ -157,7 +153,7 @@ module _ (h : Header) (lines : List Line) (count : ℕ) (old core : CoreState) (
       within = omega (arith, thread_below h (take count lines) l fine t is, come.enough);
       running = come.ended_are t (thread_below h (take count lines) l fine t is) ∙ rw (running_above h (take count lines) l fine t is) refl;
     };
-    stays = λ t is. elim (either (leaving t)) [
+    stays = λ t is. elim (cases_Bool (leaving t)) [
       | inl leaves ↦
           let bad : true ≡ false = sym (waiting_ended t (sym (come.leaving_are t) ∙ leaves)) ∙ running_above h (take count lines) l fine t is in cc
       | inr stays ↦ stays

@@ -2,6 +2,7 @@
 use Rattle.std.proofs.Common.{◌≡◌, ◌==◌, ℕ, zero, suc, Bool, true, false, cond, List, [], ◌∷◌, Some, refl, sym, ap, subst, ◌∙◌, arith, inl, inr, is_some, slice_get, set}
 use Rattle.std.specs.Option.{option_map_or}
 use Rattle.std.proofs.lemmas.Bool.Decides.{nat_tests}
+use Rattle.std.proofs.lemmas.Bool.{cases_Bool, eqb-true}
 use Rattle.shard.specs.State.{ShardState}
 use Rattle.shard.specs.Calls.{Puts, Frees}
 use Rattle.shard.specs.declared.shard.Freed.TheVariants.{Yes}
@@ -9,7 +10,6 @@ use Rattle.span.specs.declared.key.Key.{Key}
 use Rattle.arena_core.specs.State.{CoreState, with_shard}
 use Rattle.arena_core.specs.Step.{CoreStep}
 use Rattle.trace_runner.specs.Recalls.{EndsOne, IsOpen, IsServed, KeepsPlan, KeepsShards, MayCall, ended_at}
-use Rattle.trace_runner.proofs.Lines.{either}
 use Rattle.arena_core.specs.declared.event.Event.{Event}
 use Rattle.arena_core.specs.declared.event.Event.TheVariants.{Put, Get, Free, End, Adopt, Mark, Step, Close}
 use Rattle.arena_core.specs.declared.reply.Reply.{Reply}
@@ -35,16 +35,13 @@ ended_in-set (shard ∷ shards) (suc number) before after here (suc other) =
     let same : (suc number == suc other) ≡ (number == other) = grind (arith, nat_tests) in
     ended_in-set shards number before after here other ∙ ap (λ b. cond b after.ended (ended_in shards other)) (sym same)
 
-same_number : (m n : ℕ) → (m == n) ≡ true → m ≡ n
-same_number m n e = grind (arith, nat_tests)
-
 module _ (old : CoreState) (number : ℕ) (before after : ShardState) (here : slice_get old.shards number ≡ Some before) where
   pub KeepsShards-with_shard : after.ended ≡ before.ended → KeepsShards old (with_shard old number after)
   KeepsShards-with_shard same = record {
     limits = refl;
-    ended = λ other. ended_in-set old.shards number before after here other ∙ elim (either (number == other)) [
+    ended = λ other. ended_in-set old.shards number before after here other ∙ elim (cases_Bool (number == other)) [
       | inl is ↦
-          let at : ended_at old other ≡ before.ended = ap (ended_at old) (sym (same_number number other is)) ∙ ap (λ o. option_map_or (λ (shard : ShardState). shard.ended) o false) here in
+          let at : ended_at old other ≡ before.ended = ap (ended_at old) (sym (eqb-true number other is)) ∙ ap (λ o. option_map_or (λ (shard : ShardState). shard.ended) o false) here in
           rw is (same ∙ sym at)
       | inr differs ↦ rw differs refl
     ];
@@ -53,7 +50,7 @@ module _ (old : CoreState) (number : ℕ) (before after : ShardState) (here : sl
   EndsOne-with_shard : after.ended ≡ true → EndsOne old number (with_shard old number after)
   EndsOne-with_shard ended = record {
     limits = refl;
-    ended = λ other. ended_in-set old.shards number before after here other ∙ elim (either (number == other)) [
+    ended = λ other. ended_in-set old.shards number before after here other ∙ elim (cases_Bool (number == other)) [
       | inl is ↦ rw is ended
       | inr differs ↦ rw differs refl
     ];

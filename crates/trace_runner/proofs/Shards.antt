@@ -4,13 +4,14 @@ use Rattle.std.proofs.lemmas.List.{map-append}
 use Rattle.std.specs.List.{range_with_len}
 use Rattle.std.proofs.lemmas.List.FromFn.{filter_of_map_range_with_len_more}
 use Rattle.std.proofs.lemmas.Bool.Decides.{nat_tests}
+use Rattle.std.proofs.lemmas.Bool.{cases_Bool}
+use Rattle.std.proofs.Math.Bool.{and-false}
 use Rattle.arena_core.specs.State.{CoreState}
 use Rattle.trace_runner.specs.Recalls.{CanLeave, Carries, EndsBelow, EndsOne, IsOpen, KeepsPlan, KeepsShards, ended_at}
 use Rattle.trace_runner.specs.Made.{Asked, Calls}
 use Rattle.trace_runner.specs.News.{News}
 use Rattle.trace_runner.specs.Runs.{ends_asked}
 use Rattle.arena_core.specs.declared.event.Event.TheVariants.{End}
-use Rattle.trace_runner.proofs.Lines.{either}
 use Rattle.trace_runner.proofs.Making.{Carries-append}
 
 pub KeepsShards-refl : (core : CoreState) → KeepsShards core core
@@ -18,9 +19,6 @@ KeepsShards-refl core = record { limits = refl; ended = λ number. refl }
 
 pub KeepsShards-trans : (a b c : CoreState) → KeepsShards a b → KeepsShards b c → KeepsShards a c
 KeepsShards-trans a b c first second = record { limits = second.limits ∙ first.limits; ended = λ number. second.ended number ∙ first.ended number }
-
-pub KeepsPlan-refl : (core : CoreState) → KeepsPlan core core
-KeepsPlan-refl core = record { shards = KeepsShards-refl core; plan = refl }
 
 pub KeepsPlan-trans : (a b c : CoreState) → KeepsPlan a b → KeepsPlan b c → KeepsPlan a c
 KeepsPlan-trans a b c first second = record { shards = KeepsShards-trans a b c first.shards second.shards; plan = second.plan ∙ first.plan }
@@ -31,20 +29,6 @@ IsOpen-kept old new number keeps is_open = record { within = rw keeps.limits is_
 pub CanLeave-kept : (shards : ℕ) (old new : CoreState) (leaving : ℕ → Bool) → KeepsShards old new → CanLeave shards old leaving → CanLeave shards new leaving
 CanLeave-kept shards old new leaving keeps can thread below leaves = IsOpen-kept old new thread keeps (can thread below leaves)
 
-and_false : (b : Bool) → (b && false) ≡ false
-and_false true = refl
-and_false false = refl
-
--- where no shard ended, none of those that pass a test that none passes did
-pub EndsBelow-kept : (old new : CoreState) (bound : ℕ) (test : ℕ → Bool) → ((number : ℕ) → test number ≡ false) → KeepsShards old new → EndsBelow old bound test new
-EndsBelow-kept old new bound test none keeps = record {
-  limits = keeps.limits;
-  ended = λ number. keeps.ended number ∙ ap (λ b. b || ended_at old number) (sym (ap (λ b. nat_lt number bound && b) (none number) ∙ and_false (nat_lt number bound)));
-}
-
-pub EndsBelow-then : (old mid new : CoreState) (bound : ℕ) (test : ℕ → Bool) → EndsBelow old bound test mid → KeepsShards mid new → EndsBelow old bound test new
-EndsBelow-then old mid new bound test ended keeps = record { limits = keeps.limits ∙ ended.limits; ended = λ number. keeps.ended number ∙ ended.ended number }
-
 pub EndsBelow-after : (old mid new : CoreState) (bound : ℕ) (test : ℕ → Bool) → KeepsShards old mid → EndsBelow mid bound test new → EndsBelow old bound test new
 EndsBelow-after old mid new bound test keeps ended = record { limits = ended.limits ∙ keeps.limits; ended = λ number. ended.ended number ∙ ap (λ b. (nat_lt number bound && test number) || b) (keeps.ended number) }
 
@@ -52,18 +36,11 @@ pub EndsBelow-none : (core : CoreState) (test : ℕ → Bool) → EndsBelow core
 EndsBelow-none core test = record { limits = refl; ended = λ number. let e : nat_lt number 0 ≡ false = grind (arith, nat_tests) in rw e refl }
 
 module _ (old mid : CoreState) (bound : ℕ) (test : ℕ → Bool) (below : EndsBelow old bound test mid) where
-  -- a shard that is not reached yet is open as before
-  pub IsOpen-reached : IsOpen old bound → IsOpen mid bound
-  IsOpen-reached is_open = record {
-    within = rw below.limits is_open.within;
-    running = let e : nat_lt bound bound ≡ false = grind (arith, nat_tests) in below.ended bound ∙ rw e is_open.running;
-  }
-
   -- a shard that passes no test is open as before
   pub IsOpen-others : (number : ℕ) → test number ≡ false → IsOpen old number → IsOpen mid number
   IsOpen-others number fails is_open = record {
     within = rw below.limits is_open.within;
-    running = below.ended number ∙ ap (λ b. b || ended_at old number) (ap (λ b. nat_lt number bound && b) fails ∙ and_false (nat_lt number bound)) ∙ is_open.running;
+    running = below.ended number ∙ ap (λ b. b || ended_at old number) (ap (λ b. nat_lt number bound && b) fails ∙ and-false (nat_lt number bound)) ∙ is_open.running;
   }
 
   -- the shard of this number passes no test, and stays
@@ -71,11 +48,11 @@ module _ (old mid : CoreState) (bound : ℕ) (test : ℕ → Bool) (below : Ends
   EndsBelow-skip fails = record { limits = below.limits; ended = λ number. below.ended number ∙ ap (λ b. b || ended_at old number) (more number) }
     where
       more : (number : ℕ) → (nat_lt number bound && test number) ≡ (nat_lt number (bound + 1) && test number)
-      more number = elim (either (bound == number)) [
+      more number = elim (cases_Bool (bound == number)) [
         | inl is ↦
             let same : bound ≡ number = grind (arith, nat_tests) in
             let e : test number ≡ false = rw (← same) fails in
-            ap (λ b. nat_lt number bound && b) e ∙ and_false (nat_lt number bound) ∙ sym (ap (λ b. nat_lt number (bound + 1) && b) e ∙ and_false (nat_lt number (bound + 1)))
+            ap (λ b. nat_lt number bound && b) e ∙ and-false (nat_lt number bound) ∙ sym (ap (λ b. nat_lt number (bound + 1) && b) e ∙ and-false (nat_lt number (bound + 1)))
         | inr differs ↦ let e : nat_lt number bound ≡ nat_lt number (bound + 1) = grind (arith, nat_tests) in ap (λ b. b && test number) e
       ]
 
@@ -84,7 +61,7 @@ module _ (old mid : CoreState) (bound : ℕ) (test : ℕ → Bool) (below : Ends
   EndsBelow-end new passes ends = record { limits = ends.limits ∙ below.limits; ended = λ number. ends.ended number ∙ ap (λ b. bound == number || b) (below.ended number) ∙ more number }
     where
       more : (number : ℕ) → (bound == number || ((nat_lt number bound && test number) || ended_at old number)) ≡ ((nat_lt number (bound + 1) && test number) || ended_at old number)
-      more number = elim (either (bound == number)) [
+      more number = elim (cases_Bool (bound == number)) [
         | inl is ↦
             let same : bound ≡ number = grind (arith, nat_tests) in
             let e : test number ≡ true = rw (← same) passes in

@@ -1,7 +1,7 @@
 -- The forms of a line below the header: first as the words that each form has, then as a function of a line's words.
 use Rattle.std.specs.Prelude.{◌≡◌, ◌==◌, ◌⊎◌, ℕ, true, List, [], ◌∷◌, ◌++◌, Option, Some, None, option_map, option_and_then, codes, if◌then◌else◌}
 use Rattle.std.specs.Str.{bytes_eq}
-use Rattle.trace_runner.specs.Number.{number_in}
+use Rattle.certificate.specs.Number.{number_in}
 use Rattle.trace_runner.specs.Name.{is_name}
 use Rattle.trace_runner.specs.Reference.{reference_in}
 use Rattle.trace_runner.specs.Words.{words_of}

@@ -2,7 +2,8 @@
 use Rattle.std.specs.Prelude.{◌+◌, ◌&&◌, ℕ, Bool, false, nat_le, List, [], ◌∷◌, Option, Some, None, Result, Ok, Err, slice_get, codes, if◌then◌else◌}
 use Rattle.std.specs.Int.{IsInRange}
 use Rattle.std.specs.Str.{bytes_eq}
-use Rattle.trace_runner.specs.Number.{number_in, Says}
+use Rattle.certificate.specs.Number.{number_in}
+use Rattle.trace_runner.specs.Number.{Says}
 use Rattle.trace_runner.specs.Words.{words_of}
 use Rattle.trace_runner.specs.declared.text.header.Header.{Header}
 use Rattle.trace_runner.specs.declared.text.numeral.Number.{Number}

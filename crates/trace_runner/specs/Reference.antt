@@ -1,8 +1,8 @@
 -- References to keys: a name, or a name, a full stop and an index.
 use Rattle.std.specs.Prelude.{ℕ, List, [], ◌∷◌, Option, Some, None, option_map, option_and_then, if◌then◌else◌}
 use Rattle.trace_runner.specs.Name.{is_name}
-use Rattle.trace_runner.specs.Words.{parts_of}
-use Rattle.trace_runner.specs.Number.{number_in, clip}
+use Rattle.certificate.specs.Words.{parts_of}
+use Rattle.certificate.specs.Number.{number_in, clip}
 use Rattle.trace_runner.specs.declared.text.name.Reference.{Reference}
 
 -- the reference by this name, where the bytes are a name

@@ -1,6 +1,6 @@
 -- Lines as the parser keeps them: a number that does not fit is clipped, and some causes are found before others are asked for.
 use Rattle.std.specs.Prelude.{ℕ, nat_le, List, [], ◌∷◌, Option, Some, None, Result, Ok, Err, find, if◌then◌else◌}
-use Rattle.trace_runner.specs.Number.{clip}
+use Rattle.certificate.specs.Number.{clip}
 use Rattle.trace_runner.specs.Reference.{clip_reference}
 use Rattle.trace_runner.specs.Causes.{binds_again, has_ended, holds, is_call, is_call_over, reads_early, reads_unknown}
 use Rattle.trace_runner.specs.declared.text.header.Header.{Header}

@@ -1,15 +1,6 @@
 -- The lines of a text, and the words of a line.
-use Rattle.std.specs.Prelude.{◌==◌, ℕ, List, [], ◌∷◌, map}
-use Rattle.std.specs.Borrow.{Bor}
-use Rattle.std.specs.List.{slice_split}
-
--- the bytes that each reference points to
-abbrev pub contents_of : List (Bor (List ℕ)) → List (List ℕ)
-contents_of slices = map (λ slice. slice.now) slices
-
--- what stands before, between and after the bytes that are the separator
-abbrev pub parts_of : (separator : ℕ) → List ℕ → List (List ℕ)
-parts_of separator bytes = slice_split (λ b. b == separator) bytes
+use Rattle.std.specs.Prelude.{ℕ, List, [], ◌∷◌}
+use Rattle.certificate.specs.Words.{parts_of}
 
 -- the list without its last element, where that is empty
 abbrev pub without_empty_end : List (List ℕ) → List (List ℕ)

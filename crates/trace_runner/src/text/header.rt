@@ -3,7 +3,7 @@
 ghost use Rattle.std.specs.Prelude.{◌≡◌, ◌<◌, IfOk};
 ghost use Rattle.std.specs.Int.{IsInRange};
 ghost use Rattle.trace_runner.specs.Number.{Says};
-ghost use Rattle.trace_runner.specs.Words.{contents_of};
+ghost use Rattle.certificate.specs.Words.{contents_of};
 ghost use Rattle.trace_runner.specs.Header.{IfSays, IsWithinLimits, field_in, has_opening, header_of, number_at, ranged};
 
 use super::cause::{Cause, ParseError};

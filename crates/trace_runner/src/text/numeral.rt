@@ -4,7 +4,8 @@ ghost use Rattle.std.specs.Prelude.{◌≡◌};
 ghost use Rattle.std.specs.Char.{is_ascii_digit};
 ghost use Rattle.std.specs.List.{list_all};
 ghost use Rattle.std.specs.Str.Parse.{AllDigits, digits_value};
-ghost use Rattle.trace_runner.specs.Number.{clipped_number, number_in, HasValue, Says};
+ghost use Rattle.certificate.specs.Number.{number_in};
+ghost use Rattle.trace_runner.specs.Number.{clipped_number, HasValue, Says};
 
 /// A number in digits, of any length.
 #[derive(Clone, Copy, Debug, PartialEq, Eq)]

@@ -6,7 +6,7 @@ ghost use Rattle.trace_runner.specs.declared.text.line.Line.{Line};
 ghost use Rattle.trace_runner.specs.Causes.{HasCause, IsNextLine, Reads};
 ghost use Rattle.trace_runner.specs.Header.{IsWithinLimits};
 ghost use Rattle.trace_runner.specs.Earlier.{Knows};
-ghost use Rattle.trace_runner.specs.Words.{contents_of};
+ghost use Rattle.certificate.specs.Words.{contents_of};
 ghost use Rattle.trace_runner.specs.Trace.{FailsAt, IsFault, IsReadAs, IsTrace, Spells};
 
 use super::cause::{Cause, ParseError};

@@ -2,7 +2,7 @@
 
 ghost use Rattle.std.specs.Prelude.{◌≡◌, Option};
 ghost use Rattle.trace_runner.specs.Form.{adopt_line, bare_call, counted_call, form_of, form_of_words, key_call, one_word, thread_line, two_words, value_call, with_two};
-ghost use Rattle.trace_runner.specs.Words.{contents_of};
+ghost use Rattle.certificate.specs.Words.{contents_of};
 ghost use Rattle.trace_runner.specs.Within.{within, within_call};
 ghost use Rattle.trace_runner.specs.declared.text.line.Call.{Call};
 ghost use Rattle.trace_runner.specs.declared.text.line.Call.TheVariants.{Fill, Put, Sweep};

@@ -1,7 +1,8 @@
 //! The lines of a text, and the words of a line.
 
 ghost use Rattle.std.specs.Prelude.{◌≡◌, ◌<◌, length, IfNone, IfOk, IfSome};
-ghost use Rattle.trace_runner.specs.Words.{contents_of, lines_of, parts_of, without_empty_end, words_of};
+ghost use Rattle.certificate.specs.Words.{contents_of, parts_of};
+ghost use Rattle.trace_runner.specs.Words.{lines_of, without_empty_end, words_of};
 
 use arrayvec::ArrayVec;
 use std::alloc::{AllocError, Global};

@@ -1,4 +1,5 @@
 use Rattle.std.proofs.Common.{refl, ap, subst}
+use Rattle.std.proofs.lemmas.Result.{on_ok_weaker}
 use Rattle.arena_core.specs.Step.{CoreStep}
 use Rattle.arena_core.specs.declared.event.Event.TheVariants as event
 use Rattle.arena_core.specs.declared.reply.Reply.TheVariants as reply
@@ -7,16 +8,16 @@ use Rattle.arena_core.specs.declared.reply.Refusal.TheVariants as refusal
 use Rattle.trace_runner.specs.Made.{Called}
 use Rattle.trace_runner.specs.News.{News, with_made}
 use Rattle.trace_runner.specs.Recalls.{news_at}
-use Rattle.trace_runner.proofs.Making.{OnOk-map}
-use Rattle.trace_runner.proofs.PlanSteps.{Carries-told, KeepsShards-marked, News-same}
+use Rattle.trace_runner.proofs.Making.{Carries-one}
+use Rattle.trace_runner.proofs.PlanSteps.{KeepsShards-marked, News-same}
 use Rattle.trace_runner.proofs.plans.Plans.mark.Goals as goal
 
 pub planned-requires-clause-writable : goal.planned-requires-clause-writable
 planned-requires-clause-writable c = c.in-Marked.ensures.exact.largest.writable
 
 pub returns-in-Marked-clause-made : goal.returns-in-Marked-clause-made
-returns-in-Marked-clause-made c = OnOk-map c.planned.result
-    (Carries-told event.Mark (reply.Marked c.in-Marked.certificate) c.args.core.now c.step.new.self (news_at c.args.above c.args.self.now) (news_at c.args.above c.planned.new.self)
+returns-in-Marked-clause-made c = on_ok_weaker c.planned.result
+    (Carries-one event.Mark (reply.Marked c.in-Marked.certificate) c.args.core.now c.step.new.self (news_at c.args.above c.args.self.now) (news_at c.args.above c.planned.new.self)
     c.in-Marked.ensures.exact c.in-Marked.ensures.sound c.in-Marked.ensures.plain tt) c.planned.ensures.news
 
 pub returns-in-Marked-clause-shards : goal.returns-in-Marked-clause-shards
@@ -27,6 +28,6 @@ returns-in-Refused-TooMany-clause-made c =
     let before : News = news_at c.args.above c.args.self.now in
     let after : News = news_at c.args.above c.tell.new.self in
     let w = c.in-Refused-TooMany in
-    OnOk-map c.tell.result (λ told. Carries-told event.Mark (reply.Refused refusal.TooMany) c.args.core.now c.step.new.self before after
+    on_ok_weaker c.tell.result (λ told. Carries-one event.Mark (reply.Refused refusal.TooMany) c.args.core.now c.step.new.self before after
     (subst (λ (r : Refusal). CoreStep c.args.core.now event.Mark (reply.Refused r) c.step.new.self) w.field-0-is w.ensures.exact) w.ensures.sound w.ensures.plain tt
     (News-same after (with_made before (Called event.Mark (reply.Refused refusal.TooMany) c.step.new.self)) refl c.tell.ensures.marks c.tell.ensures.taken told (ap (λ text. text.items) c.tell.ensures.certificate))) c.tell.ensures.told

@@ -1,17 +1,18 @@
 use Rattle.std.proofs.Common.{List, ap}
+use Rattle.std.proofs.lemmas.Result.{on_ok_weaker}
 use Rattle.arena_core.specs.declared.event.Event.TheVariants as event
 use Rattle.arena_core.specs.declared.reply.Reply.TheVariants as reply
 use Rattle.trace_runner.specs.News.{News}
 use Rattle.trace_runner.specs.Recalls.{news_at}
 use Rattle.trace_runner.specs.declared.report.TakenStep.{TakenStep}
-use Rattle.trace_runner.proofs.Making.{OnOk-map}
-use Rattle.trace_runner.proofs.PlanSteps.{Carries-told, KeepsShards-stepped}
+use Rattle.trace_runner.proofs.Making.{Carries-one}
+use Rattle.trace_runner.proofs.PlanSteps.{KeepsShards-stepped}
 use Rattle.trace_runner.proofs.plans.Plans.step.Goals as goal
 
 pub returns-in-Stepped-clause-made : goal.returns-in-Stepped-clause-made
 returns-in-Stepped-clause-made c above =
     let before : News = news_at above c.args.self.now in
-    OnOk-map c.push.result (λ pushed. Carries-told event.Step (reply.Stepped c.in-Stepped.abandoned c.in-Stepped.owned c.in-Stepped.outcome) c.args.core.now c.step.new.self before (record before { taken = c.push.new.self })
+    on_ok_weaker c.push.result (λ pushed. Carries-one event.Step (reply.Stepped c.in-Stepped.abandoned c.in-Stepped.owned c.in-Stepped.outcome) c.args.core.now c.step.new.self before (record before { taken = c.push.new.self })
     c.in-Stepped.ensures.exact c.in-Stepped.ensures.sound c.in-Stepped.ensures.plain tt (ap (λ (taken : List TakenStep). record before { taken = taken }) pushed)) c.push.ensures.pushed
 
 pub returns-in-Stepped-clause-shards : goal.returns-in-Stepped-clause-shards

@@ -1,8 +1,9 @@
 use Rattle.std.proofs.Common.{◌+◌, ◌∙◌, ap, filter, length}
 use Rattle.std.specs.List.{range_with_len}
+use Rattle.std.proofs.lemmas.Result.{on_ok_weaker}
 use Rattle.trace_runner.specs.Causes.{thread_of}
 use Rattle.trace_runner.specs.Recalls.{has}
-use Rattle.trace_runner.proofs.Making.{MakesLine-adopt, MakesLine-call, MakesLine-mark, MakesLine-silent, OnOk-map}
+use Rattle.trace_runner.proofs.Making.{MakesLine-adopt, MakesLine-call, MakesLine-mark, MakesLine-silent}
 use Rattle.trace_runner.proofs.Shards.{IsOpen-others}
 use Rattle.trace_runner.proofs.run.Run.line.Goals as goal
 
@@ -23,19 +24,19 @@ pub returns-in_ok-thread_call-in-Call-clause-made : goal.returns-in_ok-thread_ca
 returns-in_ok-thread_call-in-Call-clause-made c done recalls =
     let threads = filter (has c.args.self.now.leaving) (range_with_len 0 c.args.self.now.trace.now.header.shards) in
     let follows = rw c.thread_call.ensures.plans at (c.follow.ensures.made (length c.thread_call.new.self.answers.items)) in
-    rw c.in-Call.is (OnOk-map c.follow.result (MakesLine-call (c.args.place + 6) threads c.args.self.now.core c.args.self.now.answers.items c.args.self.now.plans c.in-Call.thread _ _ c.thread_call.new.self.core
+    rw c.in-Call.is (on_ok_weaker c.follow.result (MakesLine-call (c.args.place + 6) threads c.args.self.now.core c.args.self.now.answers.items c.args.self.now.plans c.in-Call.thread _ _ c.thread_call.new.self.core
     c.follow.new.core c.thread_call.new.self.answers.items c.follow.new.self (c.in_ok-thread_call-in-Call.ensures.made done recalls)) follows)
 
 pub returns-in_ok-settle-in-Adopt-clause-made : goal.returns-in_ok-settle-in-Adopt-clause-made
 returns-in_ok-settle-in-Adopt-clause-made c done recalls =
     let threads = filter (has c.args.self.now.leaving) (range_with_len 0 c.args.self.now.trace.now.header.shards) in
     let made = rw c.settle.ensures.answers at c.call.ensures.made in
-    rw (c.in-Adopt.is, c.call.ensures.plans) (OnOk-map c.call.result (MakesLine-adopt (c.args.place + 6) threads c.args.self.now.core c.args.self.now.answers.items c.args.self.now.plans c.settle.new.self.core c.settle.new.self.plans
+    rw (c.in-Adopt.is, c.call.ensures.plans) (on_ok_weaker c.call.result (MakesLine-adopt (c.args.place + 6) threads c.args.self.now.core c.args.self.now.answers.items c.args.self.now.plans c.settle.new.self.core c.settle.new.self.plans
     c.in_ok-settle-in-Adopt.ensures.made c.in-Adopt.shard _ c.call.new.self.core c.call.new.self.answers.items) made)
 
 pub returns-in_ok-settle-in-Mark-clause-made : goal.returns-in_ok-settle-in-Mark-clause-made
 returns-in_ok-settle-in-Mark-clause-made c done recalls =
     let threads = filter (has c.args.self.now.leaving) (range_with_len 0 c.args.self.now.trace.now.header.shards) in
     let marks = rw (c.len.ensures ∙ ap (λ answers. answers.len) c.settle-in-Mark.ensures.answers ∙ c.args.self.now.answers.ok.0) at c.mark.ensures.made in
-    rw (c.in-Mark.is, c.settle-in-Mark.ensures.answers) (OnOk-map c.mark.result (MakesLine-mark (c.args.place + 6) threads c.args.self.now.core c.args.self.now.answers.items c.args.self.now.plans c.settle-in-Mark.new.self.core c.settle-in-Mark.new.self.plans
+    rw (c.in-Mark.is, c.settle-in-Mark.ensures.answers) (on_ok_weaker c.mark.result (MakesLine-mark (c.args.place + 6) threads c.args.self.now.core c.args.self.now.answers.items c.args.self.now.plans c.settle-in-Mark.new.self.core c.settle-in-Mark.new.self.plans
     c.in_ok-settle-in-Mark.ensures.made c.mark.new.core c.mark.new.self) marks)

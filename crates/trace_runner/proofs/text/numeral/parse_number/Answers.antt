@@ -1,5 +1,5 @@
 use Rattle.std.proofs.Common.{rules}
-use Rattle.trace_runner.proofs.Digits.{AllDigits-from_test}
+use Rattle.certificate.proofs.Digits.{AllDigits-from_test}
 use Rattle.trace_runner.proofs.text.numeral.parse_number.Goals as goal
 
 pub value_of-requires : goal.value_of-requires

@@ -1,6 +1,7 @@
 use Rattle.std.proofs.Common.{arith, ◌<◌, ◌^◌, length}
 use Rattle.std.proofs.lemmas.Str.Parse.{digit_at}
-use Rattle.trace_runner.proofs.Digits.{value_more, large_front}
+use Rattle.certificate.proofs.Digits.{value_more}
+use Rattle.trace_runner.proofs.Digits.{large_front}
 use Rattle.trace_runner.proofs.text.numeral.value_of.Goals as goal
 
 pub returns-in_default : goal.returns-in_default

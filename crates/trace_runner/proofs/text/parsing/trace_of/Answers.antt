@@ -2,7 +2,8 @@ use Rattle.std.proofs.Common.{arith, ◌≡◌, true, drop, Ok, [], ap, sym, ◌
 use Rattle.std.proofs.lemmas.List.{drop-map}
 use Rattle.trace_runner.specs.Causes.{Reads, awaits_mark}
 use Rattle.trace_runner.specs.Header.{header_of}
-use Rattle.trace_runner.specs.Words.{contents_of, lines_of}
+use Rattle.certificate.specs.Words.{contents_of}
+use Rattle.trace_runner.specs.Words.{lines_of}
 use Rattle.trace_runner.proofs.Texts.{IsSound-Reads, Reads-length, end_fault}
 use Rattle.trace_runner.proofs.text.parsing.trace_of.Goals as goal
 
