@@ -1,5 +1,5 @@
 -- What becomes of the file that is named for a certificate.
-use Rattle.std.specs.Prelude.{◌≡◌, ℕ, List, [], ◌∷◌, Option, Some, None, ⊤}
+use Rattle.std.specs.Prelude.{◌≡◌, ◌≢◌, ℕ, List, [], ◌∷◌, Option, Some, None, ⊤}
 use Rattle.trace_runner.specs.declared.fault.Fault.{Fault}
 use Rattle.trace_runner.specs.declared.fault.Fault.TheVariants as fault
 
@@ -8,11 +8,16 @@ abbrev pub Tells : Option (List ℕ) → List ℕ → Type 0
 Tells None bytes = ⊤
 Tells (Some told) bytes = told ≡ bytes
 
--- the named file holds the certificate and nothing else; where none is named, or there is no certificate, no file was written
+-- all files but that of the path hold what they held
+abbrev pub KeepsOthers : {D : Type 0} → (held : D → List ℕ → Option (List ℕ)) → (path : List ℕ) → (old new : D) → Type 0
+KeepsOthers held path old new = (other : List ℕ) → other ≢ path → held new other ≡ held old other
+
+-- the named file holds the certificate and nothing else, and the others what they held; where none is named, or there is no
+-- certificate, no file was written
 abbrev pub IsSaved : {D : Type 0} → (held : D → List ℕ → Option (List ℕ)) → (path : Option (List ℕ)) → (certificate : List ℕ) → (old new : D) → Type 0
 IsSaved held None certificate old new = new ≡ old
 IsSaved held (Some path) [] old new = new ≡ old
-IsSaved held (Some path) (byte ∷ bytes) old new = Tells (held new path) (byte ∷ bytes)
+IsSaved held (Some path) (byte ∷ bytes) old new = Tells (held new path) (byte ∷ bytes) × KeepsOthers held path old new
 
 -- at `Io` a write of the certificate may have failed; at another fault no file was written
 abbrev pub IsKeptBut : {D : Type 0} → (old new : D) → Fault → Type 0

@@ -1,7 +1,7 @@
 //! Where the certificate of a run goes.
 
 ghost use Rattle.std.specs.Prelude.{◌≡◌, List, ℕ, Option, None, OnOk};
-ghost use Rattle.trace_runner.specs.Store.{IsSaved, Tells};
+ghost use Rattle.trace_runner.specs.Store.{IsSaved, KeepsOthers, Tells};
 ghost use Rattle.trace_runner.specs.Job.{shown};
 
 use std::fs;
@@ -15,12 +15,14 @@ pub struct StoreFailed;
 
 /// Keeps whole files.
 pub trait Store {
-    // The bytes of the file with this path, where it tells them.
+    // The bytes of the file with this path, where it tells them. Each path stands for a file of its own.
     ghost held: { Self → List ℕ → Option (List ℕ) };
 
-    /// Makes the bytes the whole of the file with this path. After `StoreFailed` nothing is known of that file.
+    /// Makes the bytes the whole of the file with this path. After `StoreFailed` nothing is known of that file. All others
+    /// stay as they are.
     fn write(&mut self, path: &str, bytes: &[u8]) -> Result<(), StoreFailed>
-        ensures { OnOk result (Tells (held self.new path.now) bytes.now) };
+        ensures written { OnOk result (Tells (held self.new path.now) bytes.now) }
+        ensures others { KeepsOthers held path.now self.old self.new };
 }
 
 /// The files of the system. They don't tell what they hold.
