@@ -1,7 +1,12 @@
 //! The lines that the tour of the README has.
 use super::*;
 use abandoned::Pool;
+use arena_core::{Core, Event, Reply};
+use bitmap::Bits256;
+use certificate::check;
+use mesh_graph::{Entry, Graph, Snapshot};
 use shard::{Found, Freed, Shard};
+use span::SpanId;
 use std::process::Abort;
 use std::test::Fail;
 
@@ -24,5 +29,56 @@ fn moves_a_group_whole(rt: HostRuntime) -> Result<(), Fail> {
     assert_eq!(rt; head, again.span());
     assert_eq!(rt; other.get(&again), Found::Value(8, 3));
     assert_eq!(rt; other.get(&key), Found::Gone(3));
+    Ok(())
+}
+
+#[test]
+fn folds_a_group_away(rt: HostRuntime) -> Result<(), Fail> {
+    let alloc = rt.alloc();
+    // Two shards of 4 pages each, rings of 4 keys, 9 generations.
+    let mut core = Core::new(alloc, 2, 4, 4, 9)?;
+    let put = |shard, value| Event::Put { shard, value };
+    let Reply::Issued(first) = core.step(put(0, 10)) else {
+        return Err("no key".into());
+    };
+    let Reply::Issued(key) = core.step(put(0, 11)) else {
+        return Err("no key".into());
+    };
+    core.step(Event::Free { key: first });
+    core.step(Event::End { shard: 0 }); // its group 0.0 goes to the pool, with its page
+    core.step(put(1, 7));
+
+    core.step(Event::Mark); // plans one fold: 0.0 onto 1.0
+    core.step(Event::Step); // carries it out: one page less
+    core.step(Event::Close);
+    let found = core.step(Event::Get { key }); // the key finds its value, at the same offset
+    assert!(rt; matches!(found, Reply::Found(Some(11))));
+    assert_eq!(rt; core.totals().pages, 1);
+    Ok(())
+}
+
+// The first group of the shard, with these slots occupied.
+fn entry(shard: u32, slots: &[u8]) -> Option<Entry> {
+    let mut occupied = Bits256::empty();
+    for slot in slots {
+        occupied.insert(*slot);
+    }
+    let id = SpanId::new(shard, 0)?;
+    Some(Entry { id, occupied })
+}
+
+#[test]
+fn plans_and_checks(rt: HostRuntime) -> Result<(), Fail> {
+    let alloc = rt.alloc();
+    let mut abandoned = Vec::new(alloc);
+    abandoned.push(entry(0, &[0, 1]).ok_or("id")?)?;
+    let mut owned = Vec::new(alloc);
+    owned.push(entry(1, &[2, 3]).ok_or("id")?)?;
+
+    let snapshot = Snapshot::new(abandoned, owned)?;
+    let graph = Graph::build(alloc, &snapshot, 1)?;
+    let (plan, short) = augment::plan(alloc, &graph)?;
+    assert_eq!(rt; plan.pairs().len(), 1);
+    assert!(rt; check(&snapshot, &plan, &short)); // no plan has more pairs
     Ok(())
 }
