@@ -14,13 +14,12 @@ use Rattle.shard.specs.Sound.{IsSound as IsSoundShard}
 use Rattle.shard.specs.State.{ShardState}
 use Rattle.shard.proofs.GroupSpans.{count-spans_in, times, times-elsewhere}
 use Rattle.shard.proofs.LiftedGroup.{IsSoundWhole-lifted}
-use Rattle.shard.proofs.Unions.{false_or_true}
 use Rattle.abandoned.specs.Calls.{IsInPool}
 use Rattle.abandoned.specs.Handover.{AreApart, IsEmptied}
 use Rattle.abandoned.specs.Sound.{IsSound}
 use Rattle.abandoned.specs.State.{IsElsewhere, PoolState, spans_in, spans_of}
 use Rattle.abandoned.proofs.TakenIn.{AreSound}
-use Rattle.std.proofs.lemmas.Bool.{cases_eq, ne_eqb}
+use Rattle.std.proofs.lemmas.Bool.{cases_eq, false_from_ne_true, ne_eqb}
 
 -- where no span of the shard is in the pool, none stands twice in both
 pub AreApart-receiving : (pool : PoolState) (shard : ShardState) → IsSound pool → IsSoundShard shard → (IsInPool pool shard → ⊥) → AreApart pool shard
@@ -28,7 +27,7 @@ AreApart-receiving pool shard sound sound_shard apart id = elim (cases_eq (times
   | inl none ↦ let most = sound_shard.once id in omega arith
   | inr some ↦
       let most = sound.once id in
-      let none = count-spans_in spans_in_group (λ (s : SpanState). same_span s.id id) shard.groups (λ index place group span stands. false_or_true (same_span span.id id) (λ same.
+      let none = count-spans_in spans_in_group (λ (s : SpanState). same_span s.id id) shard.groups (λ index place group span stands. false_from_ne_true (same_span span.id id) (λ same.
       apart (
         index,
         group,

@@ -1,5 +1,5 @@
 -- What a walk over a list knows of the places that it has passed.
-use Rattle.std.proofs.Common.{◌≡◌, ℕ, ◌+◌, ◌<◌, ◌≤◌, List, [], ◌∷◌, ◌++◌, length, true, false, Option, Some, None, is_some, take, slice_get, zero, suc, ap, sym, subst, ◌∙◌, refl, inl, inr, arith}
+use Rattle.std.proofs.Common.{◌≡◌, ℕ, ◌+◌, ◌<◌, ◌≤◌, List, [], ◌∷◌, ◌++◌, length, true, false, Some, take, slice_get, zero, suc, ap, sym, subst, ◌∙◌, inl, inr, arith}
 use Rattle.std.proofs.lemmas.Bool.{cases_eq}
 use Rattle.std.proofs.lemmas.List.{length-append}
 use Rattle.shard.specs.Group.{GroupState, spans_of}
@@ -19,10 +19,6 @@ module _ {X : Type 0} (P : X → Type 0) where
 
 pub never : {P : Type 0} → false ≡ true → P
 never e = cc
-
-pub none_from : {X : Type 0} (o : Option X) → is_some o ≡ false → o ≡ None
-none_from None e = refl
-none_from (Some x) e = absurd cc
 
 -- the spans of one group more
 pub length-more : (groups : List GroupState) (at : ℕ) (group : GroupState) → slice_get groups at ≡ Some group → length (spans_in (take (at + 1) groups)) ≡ length (spans_in (take at groups)) + length (spans_of group)

@@ -4,6 +4,7 @@ use Rattle.std.specs.Prelude.{count_by}
 use Rattle.std.specs.FinMap as map
 use Rattle.std.specs.FinSet as set_of
 use Rattle.std.specs.Ordering.{nat_cmp}
+use Rattle.std.proofs.lemmas.Bool.{false_from_ne_true}
 use Rattle.span.proofs.Slots.{contains-live_slots}
 use Rattle.span.proofs.Values.{is_some-value_in}
 use Rattle.span.specs.Ids.{same_span}
@@ -23,7 +24,7 @@ use Rattle.shard.specs.declared.shard.Freed.TheVariants as freed
 use Rattle.shard.proofs.GroupSpans.{named_stands, span_named-none, span_named-stands, spans_round}
 use Rattle.shard.proofs.Logged.{logged, logged_by, logged-free, nothing_pending, others, same_plain_map, value_by-mapped}
 use Rattle.shard.proofs.Logs.{is_some-value_in-gone, value_in-gone, value_in-held}
-use Rattle.shard.proofs.Unions.{false_or_true, member_of_union}
+use Rattle.shard.proofs.Unions.{member_of_union}
 use Rattle.abandoned.specs.Calls.{Frees, Gets}
 use Rattle.abandoned.specs.Shown.{shown}
 use Rattle.abandoned.specs.Sound.{IsSound}
@@ -41,7 +42,7 @@ module _ (pool : PoolState) (sound : IsSound pool) where
   not_live : (index place : ℕ) (group : PooledState) (span : SpanState) (slot : ℕ) → slice_get pool.groups index ≡ Some group → slice_get (spans_of group) place ≡ Some span → group.page ≡ None → is_some (map.get (replay span.log) slot) ≡ false
   not_live index place group span slot here there none =
       sym (contains-live_slots span.log slot)
-      ∙ false_or_true (set_of.contains (live_slots span.log) slot) (λ live.
+      ∙ false_from_ne_true (set_of.contains (live_slots span.log) slot) (λ live.
       let inside = member_of_union (spans_of group) place span slot there live in
       let e : true ≡ false = sym inside ∙ ap (λ s. set_of.contains s slot) (none_live pool sound index group here none) ∙ set_of.contains-empty nat_cmp slot in
       cc)

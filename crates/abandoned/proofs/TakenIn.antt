@@ -7,6 +7,7 @@ use Rattle.std.specs.FinSet as set
 use Rattle.std.specs.Ordering.{nat_cmp}
 use Rattle.std.specs.List.{flat_map}
 use Rattle.std.specs.Option.{IsSome}
+use Rattle.std.proofs.lemmas.Bool.{false_from_ne_true}
 use Rattle.bitmap.specs.Slots.{SlotSet}
 use Rattle.bitmap.specs.Words.{same_slots}
 use Rattle.span.specs.Ids.{rank, same_span}
@@ -21,7 +22,6 @@ use Rattle.shard.proofs.Lists.{count-append, count-none, count-some}
 use Rattle.shard.proofs.Mapped.{get-with_mapped_in, get-with_mapped_out, with_mapped-was}
 use Rattle.shard.proofs.Standing.{id_from_rank}
 use Rattle.shard.proofs.Tables.{get-insert_other, get-insert_same}
-use Rattle.shard.proofs.Unions.{false_or_true}
 use Rattle.abandoned.specs.Calls.{TakesAll, TakesIn, less_room, with_rooms}
 use Rattle.abandoned.specs.Sound.{IsSound, IsSoundGroup, IsSoundPaged}
 use Rattle.abandoned.specs.State.{IsElsewhere, PoolState, PooledState, spans_in, spans_of}
@@ -95,7 +95,7 @@ module _ (old : PoolState) (sound : IsSound old) (whole : WholeState) (fits : Is
         spans = λ q is place span at. get-with_mapped_out (spans_moved whole) old.table.spans page (rank span.id)
             (λ place' moved at' same. elsewhere place' moved at' index other there place (span, at, id_from_rank span.id moved.id (sym same)));
       };
-      own_page = λ q is. count-none (λ (g : PooledState). is_page g.page q) old.groups (λ index g there. false_or_true (is_page g.page q) (λ its. not_of_group index g there (from-is_page g.page q its ∙ sym is)));
+      own_page = λ q is. count-none (λ (g : PooledState). is_page g.page q) old.groups (λ index g there. false_from_ne_true (is_page g.page q) (λ its. not_of_group index g there (from-is_page g.page q its ∙ sym is)));
       only = λ number q is. elim (with_mapped-was (spans_moved whole) old.table.spans page number q is) [
         | inl before ↦ inl before
         | inr (same, place, span, at, named) ↦ inr (ap Some same, place, span, at, named)

@@ -1,6 +1,7 @@
 -- What pool and shard show together stays as groups move between them.
 use Rattle.std.proofs.Common.{suc, ◌≡◌, ℕ, ◌+◌, ◌≤◌, ◌⊎◌, Bool, true, false, cond, ◌||◌, List, [], ◌∷◌, ◌++◌, append_assoc, Option, Some, None, map, ap, sym, subst, ◌∙◌, refl, inl, inr, arith}
 use Rattle.std.specs.List.{flat_map}
+use Rattle.std.proofs.Math.Bool.{or-false}
 use Rattle.std.proofs.lemmas.Bool.{cases_eq}
 use Rattle.span.specs.Ids.{same_span}
 use Rattle.span.specs.Log.{Value}
@@ -89,10 +90,6 @@ Alike-front left middle right once id = elim (cases_eq (times id middle) 0) [
 logged-alike : (xs ys : List SpanState) → Alike xs ys → logged xs nothing_pending ≡ logged ys nothing_pending
 logged-alike xs ys same = same_plain_map _ _ (λ key. ap (issued_by key) (same key.span)) (λ key. ap (logged_by key) (same key.span)) (λ worker owner. refl)
 
-or_false : (b : Bool) → (b || false) ≡ b
-or_false true = refl
-or_false false = refl
-
 first_of-none : (o : Option Value) → first_of o None ≡ o
 first_of-none None = refl
 first_of-none (Some value) = refl
@@ -111,7 +108,7 @@ logged-together xs ys once = same_plain_map _ _ (λ key. issued key) (λ key. va
     issued key = elim (either key.span) [
       | inl none ↦ ap (λ o. issued_by key o || issued_by key (span_named ys key.span)) none ∙ ap (issued_by key) (sym (named-append xs ys key.span ∙ ap (λ o. first_span o (span_named ys key.span)) none))
       | inr none ↦
-          ap (λ o. issued_by key (span_named xs key.span) || issued_by key o) none ∙ or_false _
+          ap (λ o. issued_by key (span_named xs key.span) || issued_by key o) none ∙ or-false _
           ∙ ap (issued_by key) (sym (named-append xs ys key.span ∙ ap (first_span (span_named xs key.span)) none ∙ first_span-none (span_named xs key.span)))
     ]
 
@@ -146,7 +143,7 @@ module _ (left moved right fore aft : List SpanState) (once_here : (id : SpanId)
             let there = named-middle fore moved aft key.span (once_there key.span) some in
             ap (λ o. issued_by key o || issued_by key (span_named is_there key.span)) here.1
             ∙ ap (issued_by key) (there.0 ∙ sym here.0)
-            ∙ sym (ap (λ o. issued_by key (span_named was_here key.span) || issued_by key o) there.1 ∙ or_false _)
+            ∙ sym (ap (λ o. issued_by key (span_named was_here key.span) || issued_by key o) there.1 ∙ or-false _)
       ]
 
       value : (key : Key) → first_of (logged_by key (span_named (left ++ right) key.span)) (logged_by key (span_named is_there key.span)) ≡ first_of (logged_by key (span_named was_here key.span)) (logged_by key (span_named (fore ++ aft) key.span))

@@ -1,6 +1,8 @@
 -- The steps of a core, said of its fields.
 use Rattle.std.proofs.Common.{◌≡◌, ◌≢◌, ℕ, true, false, cond, None, Some, slice_get, ap, ◌∙◌, is_some, length, set, subst, sym}
 use Rattle.std.specs.Prelude.{Err, Result, ◌↔◌}
+use Rattle.std.proofs.lemmas.Bool.{false_from_ne_true}
+use Rattle.std.proofs.option.Match.{None-if_not_some}
 use Rattle.span.specs.declared.id.SpanId.{SpanId}
 use Rattle.span.specs.declared.key.Key.{Key}
 use Rattle.span.specs.Log.{Value as Word}
@@ -11,7 +13,6 @@ use Rattle.shard.specs.Shown.{shown as shown_by}
 use Rattle.shard.specs.Sound.{IsSound as IsSoundShard}
 use Rattle.shard.specs.State.{ShardState}
 use Rattle.shard.proofs.Lists.{set-same}
-use Rattle.shard.proofs.Unions.{false_or_true}
 use Rattle.shard.specs.declared.error.PutError.{PutError}
 use Rattle.shard.specs.declared.error.PutError.TheVariants as put_error
 use Rattle.shard.specs.declared.shard.Freed.{Freed}
@@ -23,7 +24,6 @@ use Rattle.abandoned.specs.declared.error.AdoptError.{AdoptError}
 use Rattle.abandoned.specs.declared.error.AdoptError.TheVariants as adopt_error
 use Rattle.abandoned.specs.declared.error.ReceiveError.{ReceiveError}
 use Rattle.abandoned.specs.declared.error.ReceiveError.TheVariants as receive_error
-use Rattle.abandoned.proofs.Searches.{none_from}
 use Rattle.arena_core.specs.declared.event.Event.TheVariants.{Put, Free, End, Adopt}
 use Rattle.arena_core.specs.declared.guesses.Guesses.{Guesses}
 use Rattle.arena_core.specs.declared.machine.Core.TheInside.{Inside}
@@ -109,7 +109,7 @@ IsStep-adopt_fields c number head before after pool guesses kept no_plan read ru
 
 -- where the pool does not know of a plan, none is open
 pub no_plan_if_adopted : (c : Inside) → IsSound (state_of c) → (c.pool.has_plan ≡ true → ⊥) → c.plan ≡ None
-no_plan_if_adopted c kept never = none_from c.plan (sym kept.plan.told ∙ false_or_true c.pool.has_plan never)
+no_plan_if_adopted c kept never = None-if_not_some c.plan (sym kept.plan.told ∙ false_from_ne_true c.pool.has_plan never)
 
 -- an adoption that the pool refuses leaves the fields as they were
 pub CoreStep-adopt_refused_fields : (c : Inside) (number : ℕ) (before after : ShardState) (pool : PoolState) (guesses : Guesses) (error : AdoptError) (cause : Refusal) → IsSound (state_of c) → IsRead c number before → refusal_of_adoption error ≡ Some cause

@@ -4,8 +4,8 @@ use Rattle.std.specs.Prelude.{find, filter, count_by, sum_by, insert, option_map
 use Rattle.std.specs.List.{AllByRecursion, flat_map}
 use Rattle.std.proofs.lemmas.List.Sums.{count_by-le-length, length-filter, sum_by-append, sum_by-cons, sum_by-insert, sum_by-remove, sum_by-set}
 use Rattle.std.proofs.lemmas.Option.{get_or_from_slice_get, slice_get-map, slice_get_within}
+use Rattle.std.proofs.option.Match.{None-if_not_some}
 use Rattle.shard.proofs.Lists.{count-cons, find-none, none_where, one_where}
-use Rattle.abandoned.proofs.Searches.{none_from}
 
 pub cond-le_one : (b : Bool) → cond {A = ℕ} b 1 0 ≤ 1
 cond-le_one true = omega arith
@@ -82,7 +82,7 @@ find-counted p xs some = by_test (is_some (find p xs)) refl
   where
     by_test : (b : Bool) → is_some (find p xs) ≡ b → b ≡ true
     by_test true e = refl
-    by_test false e = absurd (omega (arith, count_by-missed p xs (none_from _ e)))
+    by_test false e = absurd (omega (arith, count_by-missed p xs (None-if_not_some _ e)))
 
 -- facts of each element of lists in a row
 

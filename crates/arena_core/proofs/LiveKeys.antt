@@ -6,12 +6,13 @@ use Rattle.std.specs.FinMap.Entries as entry
 use Rattle.std.specs.FinSet as finset
 use Rattle.std.specs.List.{AllByRecursion, flat_map}
 use Rattle.std.specs.Ordering.{is_eq, is_lt, nat_cmp}
-use Rattle.std.specs.Cmp.{nat_cmp_total, unsigned_tied}
+use Rattle.std.specs.Cmp.{nat_cmp_total, nat_eq_equiv, unsigned_tied}
 use Rattle.std.specs.declared.cmp.Ordering.{Ordering}
 use Rattle.std.specs.declared.cmp.Ordering.TheVariants.{Less, Equal, Greater}
 use Rattle.std.proofs.lemmas.Bool.{cases_eq, ne_eqb}
 use Rattle.std.proofs.lemmas.List.{length-map}
 use Rattle.std.proofs.lemmas.List.Sums.{sum_by-cons}
+use Rattle.span.proofs.Ids.{same_span-flip}
 use Rattle.span.specs.declared.change.Change.{Change}
 use Rattle.span.specs.declared.change.Change.TheVariants.{Put, Free}
 use Rattle.span.specs.declared.key.Key.{Key}
@@ -135,13 +136,6 @@ length-keys_of span =
     rw length-map
     (sym (len-from_entries (finmap.entries (replay span.log)) (finmap.entries_sorted (replay span.log))))
 
-eqb-sym : (a b : ℕ) → eqb a b ≡ eqb b a
-eqb-sym a b = by_case (cases_eq a b)
-  where
-    by_case : (a ≡ b) ⊎ (a ≢ b) → eqb a b ≡ eqb b a
-    by_case (inl same) = eq-eqb a b same ∙ sym (eq-eqb b a (sym same))
-    by_case (inr differ) = ne_eqb a b differ ∙ sym (ne_eqb b a (λ e. differ (sym e)))
-
 count_of-live : (key : Key) (span : SpanState) (o : Option Held) → ((held : Held) → o ≡ Some held → 1 ≤ held.generation)
     → count_of (λ held. eqb key.generation (suc (held.generation - 1))) o ≡ cond {A = ℕ} (is_some (value_if key.generation o)) 1 0
 count_of-live key span None from = refl
@@ -149,7 +143,7 @@ count_of-live key span (Some held) from =
     let low : 1 ≤ held.generation = from held refl in
     let same : suc (held.generation - 1) ≡ held.generation = omega arith in
     ap (λ n. cond {A = ℕ} (eqb key.generation n) 1 0) same
-    ∙ ap (λ b. cond {A = ℕ} b 1 0) (eqb-sym key.generation held.generation ∙ by_test (eqb held.generation key.generation))
+    ∙ ap (λ b. cond {A = ℕ} b 1 0) (nat_eq_equiv.symm key.generation held.generation ∙ by_test (eqb held.generation key.generation))
   where
     by_test : (b : Bool) → b ≡ is_some (cond b (Some held.value) None)
     by_test true = refl
@@ -194,9 +188,6 @@ abbrev pub live_where : Key → Option SpanState → ℕ
 live_where key None = 0
 live_where key (Some span) = cond {A = ℕ} (is_live key span) 1 0
 
-same_span-sym : (a b : SpanId) → same_span a b ≡ same_span b a
-same_span-sym a b = rw (eqb-sym a.shard b.shard, eqb-sym a.serial b.serial) refl
-
 pub count-keys_in : (key : Key) (spans : List SpanState) → AllByRecursion IsLegalSpan spans → count_by (is_named key.span) spans ≤ 1 → count_by (same_key key) (keys_in spans) ≡ live_where key (find (is_named key.span) spans)
 unfolding keys_in
 count-keys_in key [] legal once = refl
@@ -212,7 +203,7 @@ count-keys_in key (span ∷ spans) legal once =
     by_name true here rest =
         let none : count_by (is_named key.span) spans ≡ 0 = omega (arith, total, one_where (is_named key.span span) here) in
         let later : count_by (same_key key) (flat_map keys_of spans) ≡ 0 = rest (omega arith) ∙ ap (live_where key) (find-none (is_named key.span) spans none) in
-        omega (arith, later, count-keys_of key span.gens span legal.0 (same_span-sym key.span span.id ∙ here))
+        omega (arith, later, count-keys_of key span.gens span legal.0 (same_span-flip key.span span.id ∙ here))
     by_name false other rest =
         let few : count_by (is_named key.span) spans ≤ 1 = omega (arith, total) in
-        omega (arith, rest few, count-keys_of_other key span (same_span-sym key.span span.id ∙ other))
+        omega (arith, rest few, count-keys_of_other key span (same_span-flip key.span span.id ∙ other))

@@ -16,7 +16,7 @@ use Rattle.shard.proofs.Lists.{count-append, count-cons, one_where}
 use Rattle.abandoned.specs.State.{PoolState, PooledState, paged_groups, spans_in as pooled_spans, spans_of as pooled_spans_of, summary as pooled_summary}
 use Rattle.mesh_graph.specs.declared.entry.Entry.{Entry}
 use Rattle.mesh_graph.specs.Groups.{Groups, IsAscending, ids}
-use Rattle.mesh_graph.proofs.Entries.{same_span-flip}
+use Rattle.span.proofs.Ids.{same_span-flip}
 use Rattle.certificate.specs.declared.certificate.Certificate.{Certificate}
 use Rattle.certificate.specs.Plans.{IsCertificateOf, IsPlanOf, sides_of}
 use Rattle.certificate.specs.Sides.{IsChoice, among}

@@ -1,9 +1,11 @@
 -- An end and an adoption as steps of the core, and their refusals.
-use Rattle.std.proofs.Common.{◌≡◌, ◌≢◌, ℕ, zero, suc, ◌<◌, ◌≤◌, ◌⊎◌, inl, inr, Bool, true, false, cond, ◌||◌, List, [], ◌∷◌, length, refl, sym, ap, subst, ◌∙◌, arith, Option, Some, None, slice_get, is_some}
+use Rattle.std.proofs.Common.{◌≡◌, ◌≢◌, ℕ, zero, suc, ◌<◌, ◌≤◌, ◌⊎◌, inl, inr, true, false, cond, ◌||◌, List, [], ◌∷◌, length, refl, sym, ap, subst, ◌∙◌, arith, Option, Some, None, slice_get, is_some}
 use Rattle.std.specs.Prelude.{◌↔◌, filter}
 use Rattle.std.specs.List.{list_any}
-use Rattle.std.proofs.lemmas.Bool.{cases_eq}
+use Rattle.std.proofs.Math.Bool.{or-true}
+use Rattle.std.proofs.lemmas.Bool.{cases_eq, false_from_ne_true}
 use Rattle.std.proofs.lemmas.Option.{slice_get_past}
+use Rattle.std.proofs.option.Match.{None-if_not_some}
 use Rattle.span.specs.declared.id.SpanId.{SpanId}
 use Rattle.shard.specs.Group.{GroupState}
 use Rattle.shard.specs.Sound.{IsSound as IsSoundShard}
@@ -15,7 +17,6 @@ use Rattle.abandoned.specs.declared.error.AdoptError.{AdoptError}
 use Rattle.abandoned.specs.declared.error.AdoptError.TheVariants as adopt_error
 use Rattle.abandoned.specs.declared.error.ReceiveError.{ReceiveError}
 use Rattle.abandoned.specs.declared.error.ReceiveError.TheVariants as receive_error
-use Rattle.abandoned.proofs.Searches.{none_from}
 use Rattle.arena_core.specs.declared.event.Event.TheVariants.{End, Adopt}
 use Rattle.arena_core.specs.declared.reply.Refusal.{Refusal}
 use Rattle.arena_core.specs.declared.reply.Refusal.TheVariants as refusal
@@ -54,10 +55,6 @@ IsStep-Adopts old number head before after pool sound here running adopts sound_
 
 -- refusals
 
-not_so : (b : Bool) → (b ≡ true → ⊥) → b ≡ false
-not_so true never = absurd (never refl)
-not_so false never = refl
-
 open_all : (groups : List GroupState) → AreClosedAsPlanned None groups → list_any (λ (g : GroupState). g.closed) groups ≡ false
 open_all [] each = refl
 open_all (group ∷ groups) each = rw (each 0 group refl) (open_all groups (λ index other here. each (suc index) other here))
@@ -72,7 +69,7 @@ pub CoreStep-end_refused : (old : CoreState) (number : ℕ) (shard : ShardState)
     → (IsInPool old.pool shard → ⊥) → AreClosedAsPlanned old.plan shard.groups → ((error ≡ receive_error.Ended) ↔ (shard.ended ≡ true)) → ((error ≡ receive_error.PlanOpen) ↔ ((shard.ended ≡ false) × (IsInPool old.pool shard → ⊥) × HasClosed shard.groups)) → CoreStep old (End number) (reply.Refused cause) old
 CoreStep-end_refused old number shard receive_error.OutOfMemory cause here gives single closed ended plan_open =
     let is : refusal.OutOfMemory ≡ cause = cc in
-    let running = not_so shard.ended (λ e. let no = ended.1 e in cc) in
+    let running = false_from_ne_true shard.ended (λ e. let no = ended.1 e in cc) in
     subst (λ c. CoreStep old (End number) (reply.Refused c) old) is ((shard, record { here = here; running = running }, λ some. let no = plan_open.1 (running, single, some) in cc), refl)
 CoreStep-end_refused old number shard receive_error.PlanOpen cause here gives single closed ended plan_open =
     let is : refusal.PlanOpen ≡ cause = cc in
@@ -109,10 +106,10 @@ pub CoreStep-adopt_refused : (old : CoreState) (number : ℕ) (shard : ShardStat
 CoreStep-adopt_refused old number shard adopt_error.OutOfMemory cause told single sound here gives why =
     let is : refusal.OutOfMemory ≡ cause = cc in
     let room : (shard.page_limit ≢ length shard.groups) = λ full. let no = why.spent.1 full in cc in
-    let running : shard.ended ≡ false = not_so shard.ended (λ e. let no = why.ended.1 (room, e) in cc) in
-    let no_plan : old.pool.has_plan ≡ false = not_so old.pool.has_plan (λ e. let no = why.plan_open.1 (room, running, single running, e) in cc) in
+    let running : shard.ended ≡ false = false_from_ne_true shard.ended (λ e. let no = why.ended.1 (room, e) in cc) in
+    let no_plan : old.pool.has_plan ≡ false = false_from_ne_true old.pool.has_plan (λ e. let no = why.plan_open.1 (room, running, single running, e) in cc) in
     subst (λ c. CoreStep old (Adopt number) (reply.Refused c) old) is
-    ((shard, record { here = here; running = running }, below_limit shard sound room, none_from old.plan (sym told ∙ no_plan), λ nothing. let no = why.nothing.1 (room, running, no_plan, nothing) in cc), refl)
+    ((shard, record { here = here; running = running }, below_limit shard sound room, None-if_not_some old.plan (sym told ∙ no_plan), λ nothing. let no = why.nothing.1 (room, running, no_plan, nothing) in cc), refl)
 CoreStep-adopt_refused old number shard adopt_error.PagesSpent cause told single sound here gives why =
     let is : refusal.PagesSpent ≡ cause = cc in
     subst (λ c. CoreStep old (Adopt number) (reply.Refused c) old) is ((shard, here, why.spent.0 refl), refl)
@@ -129,14 +126,14 @@ CoreStep-adopt_refused old number shard adopt_error.NothingToAdopt cause told si
     let facts = why.nothing.0 refl in
     subst (λ c. CoreStep old (Adopt number) (reply.Refused c) old) is (
       may_take-here old number shard sound here facts.0 facts.1,
-      none_from old.plan (sym told ∙ facts.2),
+      None-if_not_some old.plan (sym told ∙ facts.2),
       facts.3,
       refl,
     )
 
 -- a shard that adopts has not ended
 pub running-adopted : (shard : ShardState) → (shard.page_limit ≡ length shard.groups → ⊥) → ((shard.page_limit ≢ length shard.groups) × (shard.ended ≡ true) → ⊥) → shard.ended ≡ false
-running-adopted shard room ended = not_so shard.ended (λ e. ended (room, e))
+running-adopted shard room ended = false_from_ne_true shard.ended (λ e. ended (room, e))
 
 -- no shard of this number stands in the way
 pub may_take-nowhere : (core : CoreState) (number : ℕ) → length core.shards ≤ number → MayTake core number
@@ -182,9 +179,5 @@ pub unclosed : (groups : List GroupState) → (HasClosed groups → ⊥) → (in
 unclosed [] never index group here = absurd cc
 unclosed (first ∷ groups) never zero group here =
     let same : first ≡ group = cc in
-    not_so group.closed (λ closed. never (ap (λ b. b || list_any (λ (g : GroupState). g.closed) groups) (ap (λ (g : GroupState). g.closed) same ∙ closed)))
-unclosed (first ∷ groups) never (suc index) group here = unclosed groups (λ closed. never (ap (λ b. first.closed || b) closed ∙ or_true first.closed)) index group here
-  where
-    or_true : (b : Bool) → (b || true) ≡ true
-    or_true true = refl
-    or_true false = refl
+    false_from_ne_true group.closed (λ closed. never (ap (λ b. b || list_any (λ (g : GroupState). g.closed) groups) (ap (λ (g : GroupState). g.closed) same ∙ closed)))
+unclosed (first ∷ groups) never (suc index) group here = unclosed groups (λ closed. never (ap (λ b. first.closed || b) closed ∙ or-true first.closed)) index group here

@@ -4,6 +4,7 @@ use Rattle.std.specs.FinSet as set_of
 use Rattle.std.specs.FinSet.{contains}
 use Rattle.std.specs.Cmp.{nat_cmp_total}
 use Rattle.std.specs.FinSet.{contains-union, contains-remove}
+use Rattle.std.proofs.Math.Bool.{or-true}
 use Rattle.std.proofs.lemmas.Bool.{and_parts, cases_eq}
 use Rattle.bitmap.specs.Slots.{SlotSet, AreDisjoint}
 use Rattle.bitmap.specs.Operations.{AreDisjoint-at, AreDisjoint-by_slot}
@@ -117,11 +118,7 @@ plans_onto-pair [] k pair here = absurd cc
 plans_onto-pair (first ∷ pairs) zero pair here =
     let same : first ≡ pair = same_some here in
     ap (λ b. b || plans_onto pairs pair.1) (ap (λ (p : SpanId × SpanId). same_span p.1 pair.1) same ∙ same_span-self pair.1)
-plans_onto-pair (first ∷ pairs) (suc k) pair here = ap (λ b. same_span first.1 pair.1 || b) (plans_onto-pair pairs k pair here) ∙ or_true (same_span first.1 pair.1)
-  where
-    or_true : (b : Bool) → (b || true) ≡ true
-    or_true true = refl
-    or_true false = refl
+plans_onto-pair (first ∷ pairs) (suc k) pair here = ap (λ b. same_span first.1 pair.1 || b) (plans_onto-pair pairs k pair here) ∙ or-true (same_span first.1 pair.1)
 
 -- the plan goes on
 module _ (old new : CoreState) (pooled : KeepsPooled old.pool.groups new.pool.groups) (owned : KeepsAllClosed old.shards new.shards) where

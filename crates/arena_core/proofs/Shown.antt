@@ -2,6 +2,7 @@
 use Rattle.std.proofs.Common.{◌≡◌, ℕ, ◌+◌, ◌≤◌, Bool, true, false, cond, ◌||◌, refl, sym, ap, ◌∙◌, arith, Some, None, slice_get, is_some, eq-eqb}
 use Rattle.std.specs.Prelude.{sum_by}
 use Rattle.std.proofs.lemmas.Bool.{and_parts}
+use Rattle.std.proofs.option.Match.{None-if_not_some}
 use Rattle.span.specs.declared.id.SpanId.{SpanId}
 use Rattle.span.specs.declared.key.Key.{Key}
 use Rattle.span.specs.Ids.{same_span}
@@ -12,7 +13,6 @@ use Rattle.shard.specs.State.{ShardState, spans_in}
 use Rattle.shard.proofs.Logged.{same_plain_map}
 use Rattle.abandoned.specs.Shown.{shown as shown_by_pool}
 use Rattle.abandoned.specs.State.{PoolState, spans_in as pooled_spans}
-use Rattle.abandoned.proofs.Searches.{none_from}
 use Rattle.arena_core.specs.State.{CoreState, has_span, shard_with, shown, shown_at, with_pool, with_shard}
 use Rattle.arena_core.proofs.Lists.{count_by-found, count_by-missed, find-counted, slice_get-set_same, sum_by-set_at}
 use Rattle.arena_core.proofs.Owners.{bit, bit-injective, code, code-injective, issued-missed, issued-sum, issued-unpooled, value-missed, value-sum, value-unpooled}
@@ -137,8 +137,8 @@ module _ (old new : CoreState) (once : (id : SpanId) → times id old ≤ 1) (on
     issued = λ key. read_with_pool (λ plain. bit (plain.is_issued key)) (issued-sum old key (once key.span)) (issued-sum new key (once_new key.span));
     value_here = λ key has. ap (λ o. (shown_at new.pool o).value_of key) (found key.span has) ∙ ap (λ (c : CoreState). (shown_by_pool c.pool).value_of key) is;
     issued_here = λ key has. ap (λ o. (shown_at new.pool o).is_issued key) (found key.span has) ∙ ap (λ (c : CoreState). (shown_by_pool c.pool).is_issued key) is;
-    value_only = λ key none. value-unpooled pool key (count_by-missed (is_named key.span) (pooled_spans pool.groups) (none_from _ none));
-    issued_only = λ key none. issued-unpooled pool key (count_by-missed (is_named key.span) (pooled_spans pool.groups) (none_from _ none));
+    value_only = λ key none. value-unpooled pool key (count_by-missed (is_named key.span) (pooled_spans pool.groups) (None-if_not_some _ none));
+    issued_only = λ key none. issued-unpooled pool key (count_by-missed (is_named key.span) (pooled_spans pool.groups) (None-if_not_some _ none));
   }
     where
       read_with_pool : (read : PlainMap → ℕ) → IsSumOf read old → IsSumOf read new → read (shown new) + read (shown_by_pool old.pool) ≡ read (shown old) + read (shown_by_pool pool)

@@ -2,6 +2,7 @@
 use Rattle.std.proofs.Common.{◌≡◌, ℕ, zero, suc, ◌+◌, ◌≤◌, Bool, true, false, cond, List, [], ◌∷◌, refl, ap, ◌∙◌, arith, Some, None, slice_get, is_some}
 use Rattle.std.specs.Prelude.{find, count_by, sum_by}
 use Rattle.std.proofs.lemmas.List.Sums.{sum_by-append}
+use Rattle.std.proofs.option.Match.{None-if_not_some}
 use Rattle.span.specs.declared.id.SpanId.{SpanId}
 use Rattle.span.specs.Ids.{same_span}
 use Rattle.span.specs.State.{SpanState}
@@ -9,7 +10,6 @@ use Rattle.span.proofs.Ids.{same_id_from_test, test_from_same_id}
 use Rattle.shard.specs.State.{ShardState, spans_in}
 use Rattle.shard.proofs.Lists.{count-append, count-none, find-none}
 use Rattle.abandoned.specs.State.{PoolState, spans_in as pooled_spans}
-use Rattle.abandoned.proofs.Searches.{none_from}
 use Rattle.arena_core.specs.State.{CoreState, all_spans, has_span, shard_spans, shard_with, with_pool, with_shard}
 use Rattle.arena_core.proofs.Lists.{count_by-found, count_by-missed, find-counted, sum_by-flat_map, sum_by-set_at}
 
@@ -71,7 +71,7 @@ pub same_span-self : (id : SpanId) → same_span id id ≡ true
 same_span-self id = test_from_same_id id id refl
 
 pub span-missed : (id : SpanId) (shard : ShardState) → has_span id shard ≡ false → find (is_named id) (spans_in shard.groups) ≡ None
-span-missed id shard none = none_from _ none
+span-missed id shard none = None-if_not_some _ none
 
 pub times_in-missed : (id : SpanId) (shard : ShardState) → has_span id shard ≡ false → times_in id shard ≡ 0
 times_in-missed id shard none = count_by-missed (is_named id) (spans_in shard.groups) (span-missed id shard none)

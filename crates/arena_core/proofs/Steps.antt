@@ -1,6 +1,7 @@
 -- Each call of a shard or of the pool as a step of the core, exactly, and as a step of the plain map.
 use Rattle.std.proofs.Common.{◌≡◌, ℕ, zero, suc, ◌≤◌, ◌⊎◌, inl, inr, Bool, true, false, cond, refl, sym, ap, subst, ◌∙◌, arith, Some, None, set, slice_get, is_some}
 use Rattle.std.specs.Prelude.{◌↔◌}
+use Rattle.std.proofs.option.Match.{None-if_not_some}
 use Rattle.span.specs.declared.id.SpanId.{SpanId}
 use Rattle.span.specs.declared.key.Key.{Key}
 use Rattle.span.specs.Log.{Value as Word}
@@ -22,7 +23,6 @@ use Rattle.abandoned.specs.Calls.{Frees as FreesPooled, HasDoubled, IsDoubled, I
 use Rattle.abandoned.specs.Shown.{shown as shown_by_pool}
 use Rattle.abandoned.specs.Sound.{IsSound as IsSoundPool}
 use Rattle.abandoned.specs.State.{IsElsewhere as IsElsewherePooled, PoolState, PooledState, spans_of as pooled_spans_of}
-use Rattle.abandoned.proofs.Searches.{none_from}
 use Rattle.arena_core.specs.declared.event.Event.{Event}
 use Rattle.arena_core.specs.declared.event.Event.TheVariants.{Put, Free}
 use Rattle.arena_core.specs.declared.reply.Reply.{Reply}
@@ -169,7 +169,7 @@ IsStep-unfreed : (old : CoreState) (key : Key) (number : ℕ) (before after : Sh
     → IsStep old (Free key) (reply.Freed false) (with_shard old number after)
 IsStep-unfreed old key number before after sound here has found same =
     subst (IsStep old (Free key) (reply.Freed false)) (sym (with_shard-same old number before after here same))
-    (IsStep-dead old key sound (value-shard old sound key number before here has ∙ none_from _ (sym found)))
+    (IsStep-dead old key sound (value-shard old sound key number before here has ∙ None-if_not_some _ (sym found)))
 
 pub IsStep-Frees : (old : CoreState) (key : Key) (number : ℕ) (before after : ShardState) (answer : Freed) → HasSoundGroups old → slice_get old.shards number ≡ Some before → has_span key.span before ≡ true → Frees before key answer after
     → was_freed answer ≡ is_some ((shown_by before).value_of key) → shown_by after ≡ cond (was_freed answer) (without (shown_by before) key) (shown_by before) → IsSoundShard after
@@ -195,7 +195,7 @@ with_pool-same old pool same = λ i. record { limits = old.limits; shards = old.
 IsStep-unfreed_pooled : (old : CoreState) (key : Key) (pool : PoolState) → HasSoundGroups old → 1 ≤ times_pooled key.span old.pool → false ≡ is_some ((shown_by_pool old.pool).value_of key) → pool ≡ old.pool → IsStep old (Free key) (reply.Freed false) (with_pool old pool)
 IsStep-unfreed_pooled old key pool sound some found same =
     subst (IsStep old (Free key) (reply.Freed false)) (sym (with_pool-same old pool same))
-    (IsStep-dead old key sound (value-pool old sound key some ∙ none_from _ (sym found)))
+    (IsStep-dead old key sound (value-pool old sound key some ∙ None-if_not_some _ (sym found)))
 
 pub IsStep-FreesPooled : (old : CoreState) (key : Key) (pool : PoolState) (answer : Freed) → HasSoundGroups old → 1 ≤ times_pooled key.span old.pool → FreesPooled old.pool key answer pool
     → was_freed answer ≡ is_some ((shown_by_pool old.pool).value_of key) → shown_by_pool pool ≡ cond (was_freed answer) (without (shown_by_pool old.pool) key) (shown_by_pool old.pool) → IsSoundPool pool

@@ -2,6 +2,7 @@
 use Rattle.std.proofs.Common.{ℕ, ◌<◌, ◌≡◌, Bool, true, List, length, Option, Some, None, sym, ◌∙◌, ap, subst, inl, inr, arith, get_or, zero, suc, replicate}
 use Rattle.std.proofs.lemmas.Bool.{cases_lt}
 use Rattle.std.proofs.lemmas.List.{get_or-replicate, get_or_past, get_or-map, length-map, length-replicate}
+use Rattle.std.proofs.lemmas.Option.{slice_get-get_or}
 use Rattle.span.specs.declared.id.SpanId.{SpanId}
 use Rattle.span.specs.Ids.{same_span}
 use Rattle.certificate.proofs.Verdicts.{tells_span}
@@ -10,7 +11,6 @@ use Rattle.mesh_graph.specs.Groups.{Groups, IsAscending, any_compatible, are_par
 use Rattle.augment.specs.Walks.{Joins, group, before, Stands, IsSearched}
 use Rattle.augment.specs.Listed.{is_short}
 use Rattle.mesh_graph.specs.declared.entry.Entry.{Entry}
-use Rattle.mesh_graph.proofs.Building.{slice_get-within}
 use Rattle.mesh_graph.proofs.Entries.{any_compatible-at}
 use Rattle.mesh_graph.proofs.Order.{distinct-from_ascending}
 use Rattle.certificate.specs.Plans.{sides_of}
@@ -30,7 +30,7 @@ any_compatible-ids graph up_a up_b i j d i_in j_in =
     any_compatible-at graph (get_or (ids graph.abandoned) i d) (get_or (ids graph.owned) j d) i j left right up_a up_b i_in j_in
     (ap (same_span (get_or graph.abandoned i left).id) at_i ∙ tells_span.itself (get_or graph.abandoned i left).id)
     (ap (same_span (get_or graph.owned j right).id) at_j ∙ tells_span.itself (get_or graph.owned j right).id)
-    ∙ (λ k. are_partners (sym (slice_get-within graph.abandoned i left i_in) k) (sym (slice_get-within graph.owned j right j_in) k))
+    ∙ (λ k. are_partners (sym (slice_get-get_or graph.abandoned i left i_in) k) (sym (slice_get-get_or graph.owned j right j_in) k))
 
 -- who is in the short set was reached
 stands : (graph : Groups) (onto : List (Option ℕ)) (reached : List Bool) → (s : IsSearched graph onto reached) → (i : ℕ) → i < length onto → is_short reached (mate onto i) ≡ true → Stands s.entries i

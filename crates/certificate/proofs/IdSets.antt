@@ -2,7 +2,7 @@
 use Rattle.std.proofs.Common.{◌≡◌, ℕ, ◌+◌, ◌<◌, ◌≤◌, ◌||◌, Bool, true, false, List, [], ◌∷◌, ◌++◌, length, map, get_or, take, ap, refl, subst, sym, ◌∙◌, inl, inr, arith, eqb, eq-eqb, not, replicate, set, bit_or, ◌/◌, ◌%◌, ◌*◌, ◌^◌}
 use Rattle.std.specs.Cmp.{IsEquivalence}
 use Rattle.std.specs.List.{IsDistinct, list_any}
-use Rattle.std.proofs.Math.Bool.{or_comm}
+use Rattle.std.proofs.Math.Bool.{or-false, or_comm}
 use Rattle.std.proofs.Math.Numerals.{add-one}
 use Rattle.std.proofs.Math.Seq.{take-suc}
 use Rattle.std.proofs.lemmas.Bool.{cases_Bool, both_ways, ne_eqb}
@@ -11,9 +11,10 @@ use Rattle.std.proofs.lemmas.List.Folds.{list_any-append, list_any_none}
 use Rattle.std.proofs.lemmas.Nat.Bits.{bit_at-zero}
 use Rattle.std.proofs.lemmas.Map.Keys.{IsDistinct-push, apart_from_distinct}
 use Rattle.bitmap.specs.Slots.{has_bit}
+use Rattle.span.proofs.Ids.{same_span-flip}
 use Rattle.span.specs.declared.id.SpanId.{SpanId}
 use Rattle.span.specs.Ids.{rank, same_span}
-use Rattle.mesh_graph.proofs.Entries.{rank-apart, rank-same, same_span-flip}
+use Rattle.mesh_graph.proofs.Entries.{rank-apart, rank-same}
 use Rattle.mesh_graph.proofs.Building.{has_bit-set}
 use Rattle.certificate.proofs.Verdicts.{tells_span}
 
@@ -78,10 +79,6 @@ module _ {X : Type 0} (id_of : X → SpanId) (xs : List X) (k : ℕ) where
       ∙ ap (λ b. list_any (same_span id) (take k (map id_of xs)) || b) (sym (or-false (same_span id (id_of x))))
       ∙ sym (list_any-append (same_span id) (take k (map id_of xs)) (id_of x ∷ []))
       ∙ ap (list_any (same_span id)) (sym (next x l is))
-    where
-      or-false : (b : Bool) → (b || false) ≡ b
-      or-false true = refl
-      or-false false = refl
 
   -- a new id keeps the ids distinct
   pub distinct-insert : (words : List ℕ) (x : X) → HasFirst id_of xs k words → IsDistinct same_span (take k (map id_of xs)) → k < length xs → x ≡ get_or xs k x

@@ -1,8 +1,8 @@
 -- Texts that are cut at a byte, from the words that were joined.
-use Rattle.std.proofs.Common.{ℕ, ◌<◌, ◌≤◌, ◌≡◌, ◌==◌, not, Bool, true, false, List, [], ◌∷◌, ◌++◌, length, get_or, refl, ◌∙◌, ap, arith, suc, eqb, eq-eqb}
+use Rattle.std.proofs.Common.{ℕ, ◌<◌, ◌≤◌, ◌≡◌, ◌==◌, not, Bool, true, List, [], ◌∷◌, ◌++◌, length, get_or, refl, ◌∙◌, ap, arith, suc, eqb, eq-eqb}
 use Rattle.std.specs.List.{list_all}
 use Rattle.std.specs.Str.Parse.{AllDigits}
-use Rattle.std.proofs.lemmas.Bool.{and_parts, and_from, ne_eqb, both_ways}
+use Rattle.std.proofs.lemmas.Bool.{and_parts, and_from, ne_eqb, not-true}
 use Rattle.std.proofs.lemmas.List.Splits.{slice_split-cons_no, slice_split-cons_yes}
 use Rattle.std.proofs.lemmas.Str.Parse.{digit_at}
 use Rattle.certificate.specs.Words.{parts_of}
@@ -16,10 +16,6 @@ lacks-append c [] ys h k = k
 lacks-append c (x ∷ xs) ys h k =
     let p : (not (eqb x c) ≡ true) × (lacks c xs ≡ true) = and_parts (not (eqb x c)) (lacks c xs) h in
     and_from (not (eqb x c)) (lacks c (xs ++ ys)) p.0 (lacks-append c xs ys p.1 k)
-
-not-true : (b : Bool) → not b ≡ true → b ≡ false
-not-true true h = absurd (both_ways false refl h)
-not-true false h = refl
 
 -- the text before the first c
 pub parts-word : (c : ℕ) (xs ys : List ℕ) → lacks c xs ≡ true → parts_of c (xs ++ c ∷ ys) ≡ xs ∷ parts_of c ys

@@ -1,12 +1,13 @@
 -- Rows of bits, built bit by bit and row by row.
-use Rattle.std.proofs.Common.{ℕ, ◌+◌, ◌/◌, ◌%◌, ◌^◌, ◌*◌, ◌<◌, ◌≤◌, ◌≡◌, ◌||◌, ◌==◌, true, false, List, [], ◌∷◌, ◌++◌, length, map, refl, sym, ◌∙◌, ap, arith, get_or, set, inl, inr, zero, suc, Option, Some, None, eqb, eq-eqb, bit_or, w64, IfSome}
-use Rattle.std.specs.Int.{bit_at}
+use Rattle.std.proofs.Common.{ℕ, ◌+◌, ◌/◌, ◌%◌, ◌^◌, ◌*◌, ◌<◌, ◌≤◌, ◌≡◌, ◌||◌, true, false, List, [], ◌∷◌, ◌++◌, length, map, refl, sym, ◌∙◌, ap, arith, get_or, set, inl, inr, Option, Some, None, eqb, eq-eqb, bit_or, w64, IfSome}
 use Rattle.std.specs.List.{slice_get}
 use Rattle.std.specs.declared.vec.Vec.{Vec}
 use Rattle.std.specs.declared.alloc.Global.{Global}
 use Rattle.std.proofs.lemmas.Bool.{both_ways, cases_eq, cases_lt, ne_eqb}
-use Rattle.std.proofs.lemmas.List.{get_or-set_same, get_or-set_other, get_or_append_left, get_or_push, get_or-map, length-map, get_or_default}
+use Rattle.std.proofs.lemmas.List.{get_or_append_left, get_or_push, get_or-map, length-map, get_or_default}
+use Rattle.std.proofs.lemmas.Option.{slice_get-get_or, slice_get_past}
 use Rattle.std.proofs.lemmas.Nat.Bits.{bit_at_set_same, bit_at_set_other}
+use Rattle.bitmap.proofs.Edits.{other_bit, same_bit}
 use Rattle.bitmap.specs.Slots.{has_bit}
 use Rattle.mesh_graph.specs.declared.entry.Entry.{Entry}
 use Rattle.mesh_graph.specs.Groups.{Groups, are_compatible, are_partners, compatible_at, has_partner}
@@ -16,37 +17,14 @@ module _ (words : List ℕ) (slot : ℕ) (within : slot / 64 < length words) whe
   abbrev changed : ℕ → List ℕ
   changed word = set words (slot / 64) word
 
-  same_bit : (word : ℕ) → has_bit (changed word) slot ≡ (bit_at word (slot % 64) == 1)
-  same_bit word = rw (get_or-set_same words (slot / 64) word 0 within) refl
-
-  other_bit : (word q : ℕ) → (q ≡ slot → ⊥)
-      → ((i : ℕ) → i < 64 → (i ≡ slot % 64 → ⊥) → bit_at word i ≡ bit_at (get_or words (slot / 64) 0) i)
-      → has_bit (changed word) q ≡ has_bit words q
-  other_bit word q other keeps =
-      elim (cases_eq (q / 64) (slot / 64)) [
-        | inl same ↦ rw (same, get_or-set_same words (slot / 64) word 0 within, keeps (q % 64) (omega arith) (λ e. other (omega arith))) refl
-        | inr apart ↦ rw (get_or-set_other words (slot / 64) (q / 64) word 0 apart) refl
-      ]
-
   -- a word with one bit more
   pub has_bit-set : (q : ℕ) → has_bit (changed (bit_or (get_or words (slot / 64) 0) (1 * 2 ^ (slot % 64) % 2 ^ 64))) q ≡ (eqb q slot || has_bit words q)
   has_bit-set q =
       let word : ℕ = bit_or (get_or words (slot / 64) 0) (1 * 2 ^ (slot % 64) % 2 ^ 64) in
       elim (cases_eq q slot) as (λ _. has_bit (changed word) q ≡ (eqb q slot || has_bit words q)) [
-        | inl same ↦ rw (same, same_bit word, bit_at_set_same w64 (get_or words (slot / 64) 0) (slot % 64) (omega arith), eq-eqb slot slot refl) refl
-        | inr other ↦ rw (ne_eqb q slot other) (other_bit word q other (λ i small apart. bit_at_set_other w64 (get_or words (slot / 64) 0) (slot % 64) (omega arith) i apart))
+        | inl same ↦ rw (same, same_bit words slot within word, bit_at_set_same w64 (get_or words (slot / 64) 0) (slot % 64) (omega arith), eq-eqb slot slot refl) refl
+        | inr other ↦ rw (ne_eqb q slot other) (other_bit words slot within word q other (λ i small apart. bit_at_set_other w64 (get_or words (slot / 64) 0) (slot % 64) (omega arith) i apart))
       ]
-
--- reading a list that may end before
-pub slice_get-within : {X : Type 0} (xs : List X) (i : ℕ) (d : X) → i < length xs → slice_get xs i ≡ Some (get_or xs i d)
-slice_get-within [] i d h = absurd (omega arith)
-slice_get-within (x ∷ xs) zero d h = refl
-slice_get-within (x ∷ xs) (suc i) d h = slice_get-within xs i d (omega arith)
-
-pub slice_get-past : {X : Type 0} (xs : List X) (i : ℕ) → length xs ≤ i → slice_get xs i ≡ None
-slice_get-past [] i h = refl
-slice_get-past (x ∷ xs) zero h = absurd (omega arith)
-slice_get-past (x ∷ xs) (suc i) h = slice_get-past xs i (omega arith)
 
 -- what rows keep while they are filled up to place j
 pub record IsFilled (x : Entry) (owned : List Entry) (words : List ℕ) (j : ℕ) : Type 0 where
@@ -59,7 +37,7 @@ pub filled-set : (x y : Entry) (owned : List Entry) (words after : List ℕ) (j 
 filled-set x y owned words after j f l is e long bits = record {
   width = long ∙ f.width;
   below = λ q h. elim (cases_eq q j) [
-    | inl at ↦ bits q ∙ rw (at, eq-eqb j j refl, slice_get-within owned j y l, sym is) (sym e)
+    | inl at ↦ bits q ∙ rw (at, eq-eqb j j refl, slice_get-get_or owned j y l, sym is) (sym e)
     | inr n ↦ bits q ∙ rw (ne_eqb q j n) (f.below q (omega arith))
   ];
   above = λ q h. let n : q ≡ j → ⊥ = λ e. absurd (omega arith) in bits q ∙ rw (ne_eqb q j n) (f.above q (omega arith));
@@ -69,7 +47,7 @@ pub filled-skip : (x y : Entry) (owned : List Entry) (words : List ℕ) (j : ℕ
 filled-skip x y owned words j f l is e = record {
   width = f.width;
   below = λ q h. elim (cases_eq q j) [
-    | inl at ↦ f.above q (omega arith) ∙ rw (at, slice_get-within owned j y l, sym is) (sym e)
+    | inl at ↦ f.above q (omega arith) ∙ rw (at, slice_get-get_or owned j y l, sym is) (sym e)
     | inr n ↦ f.below q (omega arith)
   ];
   above = λ q h. f.above q (omega arith);
@@ -80,7 +58,7 @@ row-from_filled x owned words j past f = record {
   width = f.width;
   bits = λ q. elim (cases_lt q j) [
     | inl l ↦ f.below q l
-    | inr g ↦ f.above q g ∙ rw (slice_get-past owned q (omega arith)) refl
+    | inr g ↦ f.above q g ∙ rw (slice_get_past owned q (omega arith)) refl
   ];
 }
 
@@ -100,7 +78,7 @@ row-bit [] owned rows high are i j l = absurd (omega arith)
 row-bit (x ∷ abandoned) owned [] high are i j l = absurd (omega arith)
 row-bit (x ∷ abandoned) owned (r ∷ rows) high are i j l =
     let words : get_or (words_of (r ∷ rows)) i [] ≡ (get_or (r ∷ rows) i r).items = get_or-map (λ (v : Vec ℕ Global). v.items) (r ∷ rows) i r [] (omega arith) in
-    ap (λ ws. has_bit ws j) words ∙ (are i x r l).bits j ∙ ap (λ o. are_partners o (slice_get owned j)) (sym (slice_get-within (x ∷ abandoned) i x l))
+    ap (λ ws. has_bit ws j) words ∙ (are i x r l).bits j ∙ ap (λ o. are_partners o (slice_get owned j)) (sym (slice_get-get_or (x ∷ abandoned) i x l))
 
 row-width : (abandoned owned : List Entry) (rows : List (Vec ℕ Global)) → length rows ≡ length abandoned
     → ((i : ℕ) (x : Entry) (d : Vec ℕ Global) → i < length abandoned → IsRow (get_or abandoned i x) owned (get_or rows i d).items)
@@ -138,7 +116,7 @@ pub compatible_at-within : (s : Groups) (i j : ℕ) → compatible_at s i j ≡ 
 unfolding compatible_at
 compatible_at-within s i j h = elim (cases_lt j (length s.owned)) [
   | inl l ↦ l
-  | inr g ↦ absurd (both_ways (are_partners (slice_get s.abandoned i) (slice_get s.owned j)) (ap (are_partners (slice_get s.abandoned i)) (slice_get-past s.owned j g) ∙ none (slice_get s.abandoned i)) h)
+  | inr g ↦ absurd (both_ways (are_partners (slice_get s.abandoned i) (slice_get s.owned j)) (ap (are_partners (slice_get s.abandoned i)) (slice_get_past s.owned j g) ∙ none (slice_get s.abandoned i)) h)
 ]
   where
     none : (x : Option Entry) → are_partners x None ≡ false

@@ -1,7 +1,8 @@
 -- Entries in ascending order of ids
 use Rattle.std.proofs.Common.{ℕ, ◌+◌, ◌<◌, ◌≤◌, ◌≡◌, Bool, true, false, ◌&&◌, List, length, map, refl, sym, ◌∙◌, ap, inl, inr, arith, get_or, eqb-true, eq-eqb, eqb, [], ◌∷◌, IsTrue, ◌↔◌, Option, Some, None, is_some, IfSome, IfNone}
 use Rattle.std.specs.List.{list_any}
-use Rattle.std.proofs.lemmas.Bool.{cases_Bool, cases_lt, cases_eq, both_ways, and_parts, and_from, ne_eqb, or_parts}
+use Rattle.std.proofs.Math.Bool.{and-false}
+use Rattle.std.proofs.lemmas.Bool.{cases_Bool, cases_lt, cases_eq, both_ways, and_parts, and_from, or_parts}
 use Rattle.std.proofs.lemmas.List.{get_or_default, length-map, get_or-map}
 use Rattle.std.specs.Ordering.{nat_cmp}
 use Rattle.std.specs.FinSet.{len, len-empty, empty_of_len, intersection}
@@ -125,10 +126,6 @@ pub any_compatible-no_right : (s : Groups) (a b : SpanId) → has_id s.owned b �
 any_compatible-no_right s a b h =
     list_any_none (λ x. same_span x.id a && list_any (λ y. same_span y.id b && are_compatible x y) s.owned) s.abandoned (λ k d l.
     ap (λ t. same_span (get_or s.abandoned k d).id a && t) (any_none s.owned b (are_compatible (get_or s.abandoned k d)) h) ∙ and-false (same_span (get_or s.abandoned k d).id a))
-  where
-    and-false : (t : Bool) → (t && false) ≡ false
-    and-false true = refl
-    and-false false = refl
 
 pub any_compatible-read : (s : Groups) (a b : SpanId) (i j : ℕ) (x y : Entry) → IsAscending (ids s.abandoned) → IsAscending (ids s.owned) → i < length s.abandoned → j < length s.owned
     → ((d : Entry) → same_span (get_or s.abandoned i d).id a ≡ true) → ((d : Entry) → same_span (get_or s.owned j d).id b ≡ true) → x ≡ get_or s.abandoned i x → y ≡ get_or s.owned j y
@@ -142,12 +139,3 @@ pub has_id-from_place : (place : Option ℕ) (entries : List Entry) (id : SpanId
 has_id-from_place None entries id within found none = sym none
 has_id-from_place (Some k) [] id within found none = absurd (omega arith)
 has_id-from_place (Some k) (x ∷ entries) id within found none = sym (list_any_at (λ (y : Entry). same_span y.id id) (x ∷ entries) k x within (found x))
-
-eqb-flip : (x y : ℕ) → eqb x y ≡ eqb y x
-eqb-flip x y = elim (cases_eq x y) [
-  | inl e ↦ eq-eqb x y e ∙ sym (eq-eqb y x (sym e))
-  | inr n ↦ ne_eqb x y n ∙ sym (ne_eqb y x (λ e. n (sym e)))
-]
-
-pub same_span-flip : (a b : SpanId) → same_span a b ≡ same_span b a
-same_span-flip a b = λ i. eqb-flip a.shard b.shard i && eqb-flip a.serial b.serial i

@@ -6,12 +6,13 @@ use Rattle.std.proofs.lemmas.Bool.{cases_eq, cases_lt}
 use Rattle.std.proofs.lemmas.List.{get_or-map, length-map, get_or_default}
 use Rattle.std.proofs.lemmas.Map.Keys.{apart_from_distinct, IsDistinct-from_apart, IsDistinct-IsPermutation}
 use Rattle.std.proofs.lemmas.List.Sorted.{IsPermutation-sym}
+use Rattle.span.proofs.Ids.{same_span-flip}
 use Rattle.span.specs.declared.id.SpanId.{SpanId}
 use Rattle.span.specs.Ids.{rank, same_span}
 use Rattle.mesh_graph.proofs.Order.{distinct-from_ascending}
 use Rattle.mesh_graph.specs.declared.entry.Entry.{Entry}
 use Rattle.mesh_graph.specs.Groups.{IsAscending, ids}
-use Rattle.mesh_graph.proofs.Entries.{rank-apart, rank_at, rank_at-read, same_span-flip}
+use Rattle.mesh_graph.proofs.Entries.{rank-apart, rank_at, rank_at-read}
 
 abbrev same_id : Entry → Entry → Bool
 same_id x y = same_span x.id y.id

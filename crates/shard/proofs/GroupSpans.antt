@@ -2,6 +2,7 @@
 use Rattle.std.proofs.Common.{zero, suc, ◌≡◌, ℕ, ◌+◌, ◌≤◌, Bool, true, false, List, [], ◌∷◌, ◌++◌, append_assoc, None, Some, set, slice_get, ◌∙◌, ap, subst, refl, inl, inr, arith}
 use Rattle.std.specs.Prelude.{count_by, find, insert, remove}
 use Rattle.std.specs.List.{flat_map}
+use Rattle.std.proofs.lemmas.Bool.{false_from_ne_true}
 use Rattle.std.proofs.lemmas.Grind.{flat_map-append}
 use Rattle.span.specs.Ids.{same_span}
 use Rattle.span.specs.State.{SpanState}
@@ -12,7 +13,6 @@ use Rattle.shard.specs.Shown.{span_named}
 use Rattle.shard.proofs.Lists.{count-append, count-none, count-some, find-none, found_at, in_either, part_at, same_some, split_at}
 use Rattle.shard.proofs.Logged.{named-here, others}
 use Rattle.shard.proofs.Removed.{none_or_some}
-use Rattle.shard.proofs.Unions.{false_or_true}
 
 -- how often the id stands among the spans
 abbrev pub times : SpanId → List SpanState → ℕ
@@ -160,7 +160,7 @@ module _ {G : Type 0} (spans_of : G → List SpanState) where
 
   pub times-elsewhere : (groups : List G) (id : SpanId) → IsInNone groups id → times id (all_in groups) ≡ 0
   times-elsewhere groups id elsewhere = count-spans_in (λ (s : SpanState). same_span s.id id) groups
-      (λ index place group span stands. false_or_true (same_span span.id id) (λ same. elsewhere index group stands.0 place (span, stands.1, same_id_from_test span.id id same)))
+      (λ index place group span stands. false_from_ne_true (same_span span.id id) (λ same. elsewhere index group stands.0 place (span, stands.1, same_id_from_test span.id id same)))
 
   pub elsewhere-times : (groups : List G) (id : SpanId) → times id (all_in groups) ≡ 0 → IsInNone groups id
   elsewhere-times groups id none index group here place found =

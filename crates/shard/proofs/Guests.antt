@@ -5,7 +5,8 @@ use Rattle.std.specs.FinMap as map
 use Rattle.std.specs.Cmp.{nat_cmp_total, unsigned_tied}
 use Rattle.std.specs.FinSet.{contains, union, empty, contains-insert, contains-union, contains-empty}
 use Rattle.std.specs.Ordering.{nat_cmp, eq_by_cmp}
-use Rattle.std.proofs.lemmas.Bool.{cases_eq, ne_eqb}
+use Rattle.std.proofs.Math.Bool.{or-false, or_assoc}
+use Rattle.std.proofs.lemmas.Bool.{cases_eq, false≢true, ne_eqb, or_left, or_right}
 use Rattle.bitmap.specs.Operations.{AreDisjoint-at, AreDisjoint-by_slot}
 use Rattle.bitmap.specs.Slots.{AreDisjoint, SlotSet}
 use Rattle.bitmap.specs.Words.{same_slots}
@@ -26,21 +27,13 @@ use Rattle.shard.proofs.Logs.{contains-live_slots-empty, contains-worn_slots-emp
 use Rattle.shard.proofs.Tables.{length-blank_page}
 use Rattle.shard.proofs.Unions.{AreDisjoint-empty}
 
-or_assoc : (a b c : Bool) → ((a || b) || c) ≡ (a || (b || c))
-or_assoc true b c = refl
-or_assoc false b c = refl
-
 pub union_of-push : (spans : List SpanState) (guest : SpanState) → union_of (spans ++ guest ∷ []) ≡ union (union_of spans) (live_slots guest.log)
 union_of-push [] guest = same_slots _ _ (λ q.
     contains-union nat_cmp_total (live_slots guest.log) empty q
     ∙ ap (λ b. contains (live_slots guest.log) q || b) (contains-empty nat_cmp q)
-    ∙ or_none (contains (live_slots guest.log) q)
+    ∙ or-false (contains (live_slots guest.log) q)
     ∙ ap (λ b. b || contains (live_slots guest.log) q) (sym (contains-empty nat_cmp q))
     ∙ sym (contains-union nat_cmp_total empty (live_slots guest.log) q))
-  where
-    or_none : (b : Bool) → (b || false) ≡ b
-    or_none true = refl
-    or_none false = refl
 union_of-push (span ∷ spans) guest = same_slots _ _ (λ q.
     contains-union nat_cmp_total (live_slots span.log) (union_of (spans ++ guest ∷ [])) q
     ∙ ap (λ s. contains (live_slots span.log) q || contains s q) (union_of-push spans guest)
@@ -48,14 +41,6 @@ union_of-push (span ∷ spans) guest = same_slots _ _ (λ q.
     ∙ sym (or_assoc (contains (live_slots span.log) q) (contains (union_of spans) q) (contains (live_slots guest.log) q))
     ∙ ap (λ b. b || contains (live_slots guest.log) q) (sym (contains-union nat_cmp_total (live_slots span.log) (union_of spans) q))
     ∙ sym (contains-union nat_cmp_total (union (live_slots span.log) (union_of spans)) (live_slots guest.log) q))
-
-pub true_right : (a b : Bool) → b ≡ true → (a || b) ≡ true
-true_right true b is = refl
-true_right false b is = is
-
-pub true_left : (a b : Bool) → a ≡ true → (a || b) ≡ true
-true_left true b is = refl
-true_left false b is = absurd cc
 
 pub either : (a b : Bool) {P : Type 0} → (a || b) ≡ true → (a ≡ true → P) → (b ≡ true → P) → P
 either true b is left right = left refl
@@ -69,10 +54,10 @@ AreApart-push (span ∷ spans) guest apart new = (
       (sym (contains-union nat_cmp_total (union_of spans) (live_slots guest.log) q) ∙ ap (λ s. contains s q) (sym (union_of-push spans guest)) ∙ other)
       (λ in_spans. AreDisjoint-at (live_slots span.log) (union_of spans) apart.0 q inside in_spans)
       (λ in_guest. AreDisjoint-at (live_slots guest.log) (union (live_slots span.log) (union_of spans)) new q in_guest
-      (contains-union nat_cmp_total (live_slots span.log) (union_of spans) q ∙ true_left (contains (live_slots span.log) q) (contains (union_of spans) q) inside))),
+      (contains-union nat_cmp_total (live_slots span.log) (union_of spans) q ∙ or_left (contains (live_slots span.log) q) (contains (union_of spans) q) inside))),
   AreApart-push spans guest apart.1 (AreDisjoint-by_slot (live_slots guest.log) (union_of spans) (λ q inside other.
       AreDisjoint-at (live_slots guest.log) (union (live_slots span.log) (union_of spans)) new q inside
-      (contains-union nat_cmp_total (live_slots span.log) (union_of spans) q ∙ true_right (contains (live_slots span.log) q) (contains (union_of spans) q) other))),
+      (contains-union nat_cmp_total (live_slots span.log) (union_of spans) q ∙ or_right (contains (live_slots span.log) q) (contains (union_of spans) q) other))),
 )
 
 -- spans that come behind others
@@ -100,10 +85,10 @@ AreApart-append (span ∷ spans) more apart also new = (
       (sym (contains-union nat_cmp_total (union_of spans) (union_of more) q) ∙ ap (λ s. contains s q) (sym (union_of-append spans more)) ∙ other)
       (λ in_spans. AreDisjoint-at (live_slots span.log) (union_of spans) apart.0 q inside in_spans)
       (λ in_more. AreDisjoint-at (union (live_slots span.log) (union_of spans)) (union_of more) new q
-      (contains-union nat_cmp_total (live_slots span.log) (union_of spans) q ∙ true_left (contains (live_slots span.log) q) (contains (union_of spans) q) inside) in_more)),
+      (contains-union nat_cmp_total (live_slots span.log) (union_of spans) q ∙ or_left (contains (live_slots span.log) q) (contains (union_of spans) q) inside) in_more)),
   AreApart-append spans more apart.1 also (AreDisjoint-by_slot (union_of spans) (union_of more) (λ q inside other.
       AreDisjoint-at (union (live_slots span.log) (union_of spans)) (union_of more) new q
-      (contains-union nat_cmp_total (live_slots span.log) (union_of spans) q ∙ true_right (contains (live_slots span.log) q) (contains (union_of spans) q) inside) other)),
+      (contains-union nat_cmp_total (live_slots span.log) (union_of spans) q ∙ or_right (contains (live_slots span.log) q) (contains (union_of spans) q) inside) other)),
 )
 
 -- a span with one put, and two of them on a page
@@ -162,10 +147,7 @@ pub AreDisjoint-first : (a b : SpanId) (gens slot other value more : ℕ) → (o
 AreDisjoint-first a b gens slot other value more differ = AreDisjoint-by_slot _ _ (λ q inside there.
     differ (sym (live_slots-first b gens other more q inside) ∙ live_slots-first a gens slot value q
     (either (contains (live_slots (with_put (new_span a gens) slot value).log) q) (contains empty q) (sym (contains-union nat_cmp_total (live_slots (with_put (new_span a gens) slot value).log) empty q) ∙ there)
-    (λ live. live) (λ none. absurd (clash (sym (contains-empty nat_cmp q) ∙ none))))))
-  where
-    clash : false ≡ true → ⊥
-    clash e = cc
+    (λ live. live) (λ none. absurd (false≢true (sym (contains-empty nat_cmp q) ∙ none))))))
 
 -- a head with 7 at slot 0 and a guest with 8 at slot 1, on a page with these words
 pub IsSoundWhole-first : (a b : SpanId) → (a ≡ b → ⊥) → (spans : SpansState) (words : List ℕ) → spans ≡ record { head = with_put (new_span a 2) 0 7; guests = with_put (new_span b 2) 1 8 ∷ [] } → words ≡ set (set blank_page 0 7) 1 8

@@ -3,12 +3,12 @@ use Rattle.std.proofs.Common.{zero, suc, [], ◌∷◌, ◌≡◌, ℕ, ◌+◌,
 use Rattle.std.specs.Ordering.{nat_cmp, eq_by_cmp}
 use Rattle.std.specs.Cmp.{nat_cmp_total, unsigned_tied}
 use Rattle.std.specs.FinSet.{contains, empty, insert, remove, contains-empty, contains-insert, contains-remove}
-use Rattle.std.proofs.lemmas.Bool.{cases_eq, cases_lt, ne_eqb}
+use Rattle.std.proofs.Math.Bool.{and-false}
+use Rattle.std.proofs.lemmas.Bool.{and_parts, cases_eq, cases_lt, ne_eqb}
 use Rattle.std.proofs.lemmas.Option.{get_or_from_slice_get, slice_get-get_or}
 use Rattle.bitmap.specs.Slots.{SlotSet, IsLowest}
 use Rattle.bitmap.specs.Words.{contains-slots_where, same_slots}
 use Rattle.shard.specs.Rooms.{has_index, indexes_in}
-use Rattle.shard.proofs.Logs.{and_both}
 
 pub contains-indexes_in : (parts : List SlotSet) (q : ℕ) → contains (indexes_in parts) q ≡ (has_index parts q && nat_lt q 1024)
 unfolding indexes_in
@@ -97,7 +97,7 @@ module _ (parts : List SlotSet) (four : length parts ≡ 4) (at : ℕ) (low : at
         let bit : (256 * at + slot) % 256 ≡ slot = omega arith in
         contains-indexes_in parts (256 * at + slot) ∙ and_low (has_index parts (256 * at + slot)) (256 * at + slot) (omega arith) ∙ rw (place, bit, here) least.inside;
     lower = λ other member.
-        let has : has_index parts other ≡ true = (and_both (has_index parts other) (nat_lt other 1024) (sym (contains-indexes_in parts other) ∙ member)).0 in
+        let has : has_index parts other ≡ true = (and_parts (has_index parts other) (nat_lt other 1024) (sym (contains-indexes_in parts other) ∙ member)).0 in
         elim (cases_lt other (256 * at + slot)) [
           | inl less ↦ absurd (elim (cases_lt other (256 * at)) [
             | inl earlier ↦ clash (sym has ∙ before other earlier)
@@ -125,11 +125,7 @@ indexes_in-empty parts none = same_slots _ _ (λ q. contains-indexes_in parts q 
   where
     each : (q : ℕ) → (q < 1024) ⊎ (1024 ≤ q) → (has_index parts q && nat_lt q 1024) ≡ false
     each q (inl low) = rw (none q low) refl
-    each q (inr high) = rw (le-ltb q 1024 high) (and_false (has_index parts q))
-      where
-        and_false : (b : Bool) → (b && false) ≡ false
-        and_false true = refl
-        and_false false = refl
+    each q (inr high) = rw (le-ltb q 1024 high) (and-false (has_index parts q))
 
 pub has_index-empty : (index : ℕ) → index < 1024 → has_index (empty ∷ empty ∷ empty ∷ empty ∷ []) index ≡ false
 has_index-empty index low = rw (each (index / 256)) (contains-empty nat_cmp (index % 256))

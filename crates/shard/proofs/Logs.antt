@@ -1,9 +1,10 @@
 -- Which keys a log leaves live, and what an empty log leaves.
-use Rattle.std.proofs.Common.{◌≡◌, ◌∙◌, ℕ, ◌≤◌, Bool, true, false, ◌&&◌, List, [], Option, Some, None, is_some, IsSomeAnd, ap, sym, refl, inl, inr, eq-eqb}
+use Rattle.std.proofs.Common.{◌≡◌, ◌∙◌, ℕ, ◌≤◌, false, List, [], Option, Some, None, is_some, IsSomeAnd, ap, sym, refl, inl, inr, eq-eqb}
 use Rattle.std.specs.FinMap as map
 use Rattle.std.specs.FinSet.{contains, contains-empty}
 use Rattle.std.specs.Ordering.{nat_cmp}
-use Rattle.std.proofs.lemmas.Bool.{cases_eq, ne_eqb}
+use Rattle.std.proofs.lemmas.Bool.{cases_eq, false_from_ne_true, ne_eqb}
+use Rattle.std.proofs.option.Match.{None-if_not_some}
 use Rattle.span.proofs.Changes.{get-free}
 use Rattle.span.proofs.Slots.{live_slots-empty, worn_slots-empty}
 use Rattle.span.proofs.Values.{Holds-value_in}
@@ -13,24 +14,12 @@ use Rattle.span.specs.declared.change.Change.{Change}
 use Rattle.span.specs.declared.key.Key.{Key}
 use Rattle.shard.specs.Group.{with_free}
 
-pub and_both : (a b : Bool) → (a && b) ≡ true → (a ≡ true) × (b ≡ true)
-and_both true b e = (refl, e)
-and_both false b e = absurd cc
-
 -- a key that is not live finds no value
 pub is_some-value_in-gone : (log : List Change) (slot generation : ℕ) → (Holds log slot generation → ⊥) → is_some (value_in log slot generation) ≡ false
-is_some-value_in-gone log slot generation gone = by_test (is_some (value_in log slot generation)) (λ found. gone (Holds-value_in log slot generation found))
-  where
-    by_test : (b : Bool) → (b ≡ true → ⊥) → b ≡ false
-    by_test true not = absurd (not refl)
-    by_test false not = refl
+is_some-value_in-gone log slot generation gone = false_from_ne_true (is_some (value_in log slot generation)) (λ found. gone (Holds-value_in log slot generation found))
 
 pub value_in-gone : (log : List Change) (slot generation : ℕ) → (Holds log slot generation → ⊥) → value_in log slot generation ≡ None
-value_in-gone log slot generation gone = no_value (value_in log slot generation) (is_some-value_in-gone log slot generation gone)
-  where
-    no_value : (o : Option Value) → is_some o ≡ false → o ≡ None
-    no_value None e = refl
-    no_value (Some value) e = absurd cc
+value_in-gone log slot generation gone = None-if_not_some (value_in log slot generation) (is_some-value_in-gone log slot generation gone)
 
 -- and one that is live finds the value of its slot
 pub value_in-held : (log : List Change) (slot generation : ℕ) (value : Value) → Holds log slot generation → ((held : Held) → map.get (replay log) slot ≡ Some held → value ≡ held.value) → value_in log slot generation ≡ Some value

@@ -1,8 +1,9 @@
 -- A shard stays sound at a put into a span that it opens.
-use Rattle.std.proofs.Common.{zero, suc, ◌≡◌, ℕ, ◌+◌, ◌<◌, ◌≤◌, Bool, true, false, cond, ◌&&◌, ◌==◌, List, [], ◌∷◌, length, length-set, insert, None, Some, set, slice_get, get_or-set_same, ◌∙◌, ap, sym, subst, refl, inl, inr, arith, eq-eqb}
+use Rattle.std.proofs.Common.{zero, suc, ◌≡◌, ℕ, ◌+◌, ◌<◌, ◌≤◌, Bool, true, false, cond, ◌==◌, List, [], ◌∷◌, length, length-set, insert, None, Some, set, slice_get, get_or-set_same, ◌∙◌, ap, sym, subst, refl, inl, inr, arith, eq-eqb}
 use Rattle.std.specs.Prelude.{count_by}
 use Rattle.std.specs.Option.{IsSome}
 use Rattle.std.specs.FinMap as map
+use Rattle.std.proofs.Math.Bool.{and-false}
 use Rattle.std.proofs.lemmas.Bool.{cases_eq, ne_eqb}
 use Rattle.std.specs.Ordering.{nat_cmp}
 use Rattle.span.specs.Ids.{rank, same_span}
@@ -49,13 +50,9 @@ module _ (old : ShardState) (sound : IsSound old) (id : SpanId) (page index valu
   unlike at_group at g s stands = elim (cases_eq s.id.shard id.shard) [
     | inl same ↦
         let less : s.id.serial < old.opened = sound.serials at_group at g s stands (same ∙ own) in
-        rw (ne_eqb s.id.serial id.serial (λ e. omega arith)) (and_false (s.id.shard == id.shard))
+        rw (ne_eqb s.id.serial id.serial (λ e. omega arith)) (and-false (s.id.shard == id.shard))
     | inr other ↦ rw (ne_eqb s.id.shard id.shard other) refl
   ]
-    where
-      and_false : (b : Bool) → (b && false) ≡ false
-      and_false true = refl
-      and_false false = refl
 
   other_rank : (s : SpanState) → same_span s.id id ≡ false → rank s.id ≡ rank id → ⊥
   other_rank s differ same =

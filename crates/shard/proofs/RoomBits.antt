@@ -1,10 +1,10 @@
 -- The groups that may have a usable slot, after each change.
-use Rattle.std.proofs.Common.{◌≡◌, ℕ, ◌+◌, ◌<◌, ◌≤◌, ◌⊎◌, Bool, true, false, ◌||◌, not, ◌&&◌, List, [], length, length-set, insert, Some, set, slice_get, ◌∙◌, ap, sym, subst, refl, inl, inr, arith, eq-eqb, eqb, get_or, lt-ltb, le-ltb, nat_lt}
+use Rattle.std.proofs.Common.{◌≡◌, ℕ, ◌+◌, ◌<◌, ◌≤◌, ◌⊎◌, Bool, true, false, ◌||◌, not, List, [], length, length-set, insert, Some, set, slice_get, ◌∙◌, ap, sym, subst, refl, inl, inr, arith, eq-eqb, eqb, get_or, lt-ltb, le-ltb, nat_lt}
 use Rattle.std.specs.Ordering.{nat_cmp, eq_by_cmp}
-use Rattle.std.specs.Cmp.{nat_cmp_total, unsigned_tied}
+use Rattle.std.specs.Cmp.{nat_cmp_total, second_so, unsigned_tied}
 use Rattle.std.specs.FinSet as finset
 use Rattle.std.specs.FinSet.{contains, empty, len, contains-empty, contains-insert, contains-remove}
-use Rattle.std.proofs.lemmas.Bool.{cases_eq, cases_lt, ltb-true, ne_eqb}
+use Rattle.std.proofs.lemmas.Bool.{cases_eq, cases_lt, false_from_ne_true, ltb-true, ne_eqb}
 use Rattle.std.proofs.lemmas.Option.{slice_get_read}
 use Rattle.bitmap.specs.Slots.{SlotSet, IsLowest}
 use Rattle.span.proofs.Keeping.{len-remove_member, some_member}
@@ -15,7 +15,6 @@ use Rattle.shard.specs.Rooms.{HasRooms, IsFirstRoom}
 use Rattle.shard.specs.Sound.{IsSound}
 use Rattle.shard.specs.State.{ShardState}
 use Rattle.shard.proofs.Lists.{cases-insert, cases-set, get_within, length_insert, same_some}
-use Rattle.shard.proofs.Unions.{false_or_true}
 
 clash : true ≡ false → ⊥
 clash e = cc
@@ -51,18 +50,14 @@ module _ (groups : List GroupState) (rooms : SlotSet) (has : HasRooms groups roo
     ];
   }
     where
-      second : (a b : Bool) → (a && b) ≡ true → b ≡ true
-      second true b e = e
-      second false b e = absurd cc
-
       inside : (q : ℕ) → contains (finset.remove rooms index) q ≡ true → contains rooms q ≡ true
-      inside q member = second (not (eq_by_cmp nat_cmp q index)) (contains rooms q) (sym (contains-remove nat_cmp_total rooms index q) ∙ member)
+      inside q member = second_so (not (eq_by_cmp nat_cmp q index)) (contains rooms q) (sym (contains-remove nat_cmp_total rooms index q) ∙ member)
 
   pub IsFirstRoom-lowest : (index : ℕ) (group : GroupState) (slot : ℕ) → IsLowest rooms index → slice_get groups index ≡ Some group → IsLowestUsable group slot → IsFirstRoom groups index group slot
   IsFirstRoom-lowest index group slot least here usable = record {
     here = here;
     slot_is = usable;
-    earlier = λ other before less there. has.others other before there (false_or_true (contains rooms other) (λ member. let low : index ≤ other = least.lower other member in absurd (omega arith)));
+    earlier = λ other before less there. has.others other before there (false_from_ne_true (contains rooms other) (λ member. let low : index ≤ other = least.lower other member in absurd (omega arith)));
   }
 
   pub IsFull-empty : rooms ≡ empty → IsFull groups

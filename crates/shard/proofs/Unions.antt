@@ -3,7 +3,8 @@ use Rattle.std.proofs.Common.{zero, suc, ◌≡◌, ℕ, Bool, true, false, not,
 use Rattle.std.specs.Ordering.{nat_cmp, eq_by_cmp}
 use Rattle.std.specs.Cmp.{nat_cmp_total, unsigned_tied}
 use Rattle.std.specs.FinSet.{contains, insert, remove, union, empty, contains-insert, contains-remove, contains-union, contains-empty}
-use Rattle.std.proofs.lemmas.Bool.{cases_eq, ne_eqb}
+use Rattle.std.proofs.Math.Bool.{or_assoc, or_comm}
+use Rattle.std.proofs.lemmas.Bool.{cases_eq, false_from_ne_true, ne_eqb}
 use Rattle.bitmap.specs.Slots.{SlotSet, AreDisjoint}
 use Rattle.bitmap.specs.Words.{same_slots}
 use Rattle.bitmap.specs.Operations.{AreDisjoint-at, AreDisjoint-by_slot}
@@ -29,10 +30,6 @@ outside_left a b q h = or_false_left _ _ (sym (contains-union nat_cmp_total a b 
 pub outside_right : (a b : SlotSet) (q : ℕ) → contains (union a b) q ≡ false → contains b q ≡ false
 outside_right a b q h = or_false_right _ _ (sym (contains-union nat_cmp_total a b q) ∙ h)
 
-or_assoc : (a b c : Bool) → ((a || b) || c) ≡ (a || (b || c))
-or_assoc true b c = refl
-or_assoc false b c = refl
-
 pub union-insert : (a b : SlotSet) (slot : ℕ) → union (insert a slot) b ≡ insert (union a b) slot
 union-insert a b slot = same_slots _ _ (λ q.
     contains-union nat_cmp_total (insert a slot) b q
@@ -40,10 +37,6 @@ union-insert a b slot = same_slots _ _ (λ q.
     ∙ or_assoc (eq_by_cmp nat_cmp q slot) (contains a q) (contains b q)
     ∙ ap (λ x. eq_by_cmp nat_cmp q slot || x) (sym (contains-union nat_cmp_total a b q))
     ∙ sym (contains-insert nat_cmp_total (union a b) slot q))
-
-pub false_or_true : (b : Bool) → (b ≡ true → ⊥) → b ≡ false
-false_or_true false h = refl
-false_or_true true h = absurd (h refl)
 
 clash : true ≡ false → ⊥
 clash e = cc
@@ -85,14 +78,8 @@ union-remove_left a b slot out = same_slots _ _ (λ q.
       | inr else ↦ rw (unsigned_tied q slot, ne_eqb q slot else) refl
     ]
 
-or_swap : (a b : Bool) → (a || b) ≡ (b || a)
-or_swap true true = refl
-or_swap true false = refl
-or_swap false true = refl
-or_swap false false = refl
-
 union-swap : (a b : SlotSet) → union a b ≡ union b a
-union-swap a b = same_slots _ _ (λ q. contains-union nat_cmp_total a b q ∙ or_swap (contains a q) (contains b q) ∙ sym (contains-union nat_cmp_total b a q))
+union-swap a b = same_slots _ _ (λ q. contains-union nat_cmp_total a b q ∙ or_comm (contains a q) (contains b q) ∙ sym (contains-union nat_cmp_total b a q))
 
 pub union-remove_right : (a b : SlotSet) (slot : ℕ) → contains a slot ≡ false → union a (remove b slot) ≡ remove (union a b) slot
 union-remove_right a b slot out = union-swap a (remove b slot) ∙ union-remove_left b a slot out ∙ ap (λ s. remove s slot) (union-swap b a)
@@ -104,13 +91,13 @@ member_of_union (first ∷ rest) zero span slot at live =
     let same : first ≡ span = cc in
     contains-union nat_cmp_total (live_slots first.log) (union_of rest) slot ∙ rw (same, live) refl
 member_of_union (first ∷ rest) (suc place) span slot at live =
-    contains-union nat_cmp_total (live_slots first.log) (union_of rest) slot ∙ rw (member_of_union rest place span slot at live) (or_swap _ true)
+    contains-union nat_cmp_total (live_slots first.log) (union_of rest) slot ∙ rw (member_of_union rest place span slot at live) (or_comm _ true)
 
 outside_if_disjoint : (a b : SlotSet) (q : ℕ) → AreDisjoint a b → contains a q ≡ true → contains b q ≡ false
-outside_if_disjoint a b q apart inside = false_or_true (contains b q) (AreDisjoint-at a b apart q inside)
+outside_if_disjoint a b q apart inside = false_from_ne_true (contains b q) (AreDisjoint-at a b apart q inside)
 
 outside_if_disjoint_right : (a b : SlotSet) (q : ℕ) → AreDisjoint a b → contains b q ≡ true → contains a q ≡ false
-outside_if_disjoint_right a b q apart inside = false_or_true (contains a q) (λ other. AreDisjoint-at a b apart q other inside)
+outside_if_disjoint_right a b q apart inside = false_from_ne_true (contains a q) (λ other. AreDisjoint-at a b apart q other inside)
 
 module _ (slot : ℕ) (span after : SpanState) (live : contains (live_slots span.log) slot ≡ true) (less : live_slots after.log ≡ remove (live_slots span.log) slot) where
   -- where one span loses a slot, the union loses it, and the spans stay apart
@@ -132,7 +119,7 @@ module _ (slot : ℕ) (span after : SpanState) (live : contains (live_slots span
       )
 
 pub union-empty : (s : SlotSet) → union s empty ≡ s
-union-empty s = same_slots _ _ (λ q. contains-union nat_cmp_total s empty q ∙ rw (contains-empty nat_cmp q) (or_swap (contains s q) false))
+union-empty s = same_slots _ _ (λ q. contains-union nat_cmp_total s empty q ∙ rw (contains-empty nat_cmp q) (or_comm (contains s q) false))
 
 pub AreDisjoint-empty : (s : SlotSet) → AreDisjoint s empty
 AreDisjoint-empty s = AreDisjoint-by_slot _ _ (λ q inside other. absurd (let e : false ≡ true = sym (contains-empty nat_cmp q) ∙ other in cc))

@@ -1,7 +1,7 @@
 use Rattle.std.proofs.Common.{◌≡◌, Some, ap, length, map, subst, sym, ◌∙◌, refl}
 use Rattle.std.proofs.lemmas.List.{length-map, with_items_is}
+use Rattle.std.proofs.option.Match.{None-if_not_some}
 use Rattle.std.specs.Vec.{with_items}
-use Rattle.abandoned.proofs.Searches.{none_from}
 use Rattle.arena_core.specs.Closings.{AreOpen, closed_onto}
 use Rattle.arena_core.specs.Kept.{state_of}
 use Rattle.arena_core.specs.Marks.{AreDistinct, IsLargest}
@@ -17,7 +17,7 @@ largest_plan-requires-clause-distinct c = subst (AreDistinct c.self.inside.pool)
 
 pub close_planned-requires : goal.close_planned-requires
 close_planned-requires c =
-    subst AreOpen (sym c.deref_mut.ensures.value) (AreOpen-none (state_of c.self.inside) c.self.invariant (none_from c.self.inside.plan (sym c.is_open.ensures ∙ c.if-is_open.false)))
+    subst AreOpen (sym c.deref_mut.ensures.value) (AreOpen-none (state_of c.self.inside) c.self.invariant (None-if_not_some c.self.inside.plan (sym c.is_open.ensures ∙ c.if-is_open.false)))
 
 largest : (c : goal.After-begin) → IsLargest c.self.inside.pool c.self.inside.shards.items c.in-Ok.certificate
 largest c = subst (λ shards. IsLargest c.self.inside.pool shards c.in-Ok.certificate) c.deref-2.ensures.value (c.in-Ok.ensures {u = tt})
