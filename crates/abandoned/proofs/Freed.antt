@@ -7,6 +7,7 @@ use Rattle.std.specs.Ordering.{nat_cmp}
 use Rattle.std.proofs.lemmas.Bool.{cases_eq}
 use Rattle.std.proofs.lemmas.List.Edits.{length-remove}
 use Rattle.std.proofs.lemmas.List.Sums.{length-filter}
+use Rattle.std.proofs.lemmas.Option.{slice_get_within}
 use Rattle.span.specs.Ids.{rank, same_span}
 use Rattle.span.specs.Log.{Holds, IsLegal}
 use Rattle.span.specs.State.{SpanState}
@@ -20,7 +21,7 @@ use Rattle.shard.specs.Moves.{without_page}
 use Rattle.shard.specs.declared.shard.Freed.{Freed}
 use Rattle.shard.specs.declared.shard.Freed.TheVariants as freed
 use Rattle.shard.proofs.GroupSpans.{times}
-use Rattle.shard.proofs.Lists.{after-set, before-set, cases-set, count-set, get_within, same_some}
+use Rattle.shard.proofs.Lists.{after-set, before-set, cases-set, count-set, same_some}
 use Rattle.shard.proofs.Logs.{was_held}
 use Rattle.shard.proofs.Removed.{before-remove, cases-remove, count-remove, set-insert}
 use Rattle.shard.proofs.Unions.{live_if_held, lose_key, member_of_union}
@@ -37,7 +38,7 @@ use Rattle.abandoned.proofs.TakenIn.{empty_or_not}
 -- the place that a group leaves is the place of its head
 place-left_over : (old : PoolState) (sound : IsSound old) (index : ℕ) (group : PooledState) → slice_get old.groups index ≡ Some group → IsPlaceFor (remove old.groups index) group.head.id index
 place-left_over old sound index group here = record {
-  within = let low = get_within old.groups index group here in omega (arith, length-remove old.groups index low);
+  within = let low = slice_get_within old.groups index group here in omega (arith, length-remove old.groups index low);
   before = λ other g less there. elim (cases-remove old.groups index other g there) [
     | inl low ↦ sound.ascending other index g group less low.1 here
     | inr high ↦ absurd (let above : index ≤ other = high.0 in omega arith)

@@ -1,10 +1,11 @@
 -- Where a head would stand among the pool's groups, and how many there are.
 use Rattle.std.proofs.Common.{◌≡◌, ℕ, zero, suc, ◌<◌, ◌≤◌, List, length, Some, slice_get, refl, inl, inr, arith}
 use Rattle.std.proofs.lemmas.Bool.{cases_lt}
+use Rattle.std.proofs.lemmas.Option.{slice_get_within}
 use Rattle.span.specs.Ids.{rank}
 use Rattle.span.specs.declared.id.SpanId.{SpanId}
 use Rattle.shard.proofs.HeadPlaces.{IsLower, higher-lower}
-use Rattle.shard.proofs.Lists.{get_within, there_at}
+use Rattle.shard.proofs.Lists.{there_at}
 use Rattle.abandoned.specs.Calls.{IsPlaceFor}
 use Rattle.abandoned.specs.State.{Ascend, IsElsewhere, PooledState}
 use Rattle.abandoned.proofs.Heads.{head_id}
@@ -31,7 +32,7 @@ at_most_ids groups ascend = elim (cases_lt 65536 (length groups)) [
     below_rank : (index : ℕ) (group : PooledState) → slice_get groups index ≡ Some group → index ≤ rank group.head.id
     below_rank zero group here = omega arith
     below_rank (suc index) group here =
-        let earlier = there_at groups index (let less = get_within groups (suc index) group here in omega arith) in
+        let earlier = there_at groups index (let less = slice_get_within groups (suc index) group here in omega arith) in
         let low = below_rank index earlier.0 earlier.1 in
         let less = ascend index (suc index) earlier.0 group (omega arith) earlier.1 here in
         omega arith

@@ -1,13 +1,14 @@
 -- A span that was found, and the group that is read there.
 use Rattle.std.proofs.Common.{◌≡◌, ◌<◌, ℕ, List, length, Some, get_or, ◌∙◌, ap, sym, subst, slice_get}
+use Rattle.std.proofs.lemmas.Option.{slice_get_within}
 use Rattle.span.specs.State.{SpanState}
 use Rattle.span.specs.declared.id.SpanId.{SpanId}
 use Rattle.abandoned.specs.State.{IsHere, PooledState, spans_of}
-use Rattle.shard.proofs.Lists.{get_within, read_at, same_some}
+use Rattle.shard.proofs.Lists.{read_at, same_some}
 
 module _ (groups : List PooledState) (id : SpanId) (index place : ℕ) (group : PooledState) (span : SpanState) (here : IsHere groups id index place group span) where
   pub index_within : index < length groups
-  index_within = get_within groups index group here.group_is
+  index_within = slice_get_within groups index group here.group_is
 
   module _ (read : PooledState) (is : read ≡ get_or groups index read) where
     pub read_is : slice_get groups index ≡ Some read
@@ -20,7 +21,7 @@ module _ (groups : List PooledState) (id : SpanId) (index place : ℕ) (group : 
     span_there = subst (λ (g : PooledState). slice_get (spans_of g) place ≡ Some span) same_group here.span_is
 
     pub place_within : place < length (spans_of read)
-    place_within = get_within (spans_of read) place span span_there
+    place_within = slice_get_within (spans_of read) place span span_there
 
     pub here_read : (other : SpanState) → slice_get (spans_of read) place ≡ Some other → IsHere groups id index place read other
     here_read other at = record {

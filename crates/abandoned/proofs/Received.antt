@@ -20,6 +20,7 @@ use Rattle.abandoned.specs.Sound.{IsSound}
 use Rattle.abandoned.specs.State.{IsElsewhere, PoolState, spans_in, spans_of}
 use Rattle.abandoned.proofs.TakenIn.{AreSound}
 use Rattle.std.proofs.lemmas.Bool.{cases_eq, false_from_ne_true, ne_eqb}
+use Rattle.std.proofs.lemmas.Option.{none-some}
 
 -- where no span of the shard is in the pool, none stands twice in both
 pub AreApart-receiving : (pool : PoolState) (shard : ShardState) → IsSound pool → IsSoundShard shard → (IsInPool pool shard → ⊥) → AreApart pool shard
@@ -87,7 +88,7 @@ no_page pages none = same_nat_map pages finite.empty (λ q. by_get q (finite.get
 pub ended_after : (old new : ShardState) → IsEmptied old new → IsSoundShard new
     → ◌≡◌ {A = ShardState} (record new { ended = true; onto = None }) (record old { ended = true; onto = None; groups = []; table = record old.table { spans = finite.empty; pages = finite.empty } })
 ended_after old new is sound =
-    let spans : new.table.spans ≡ finite.empty = no_span new.table.spans (λ number page mapped. let found = sound.only number page mapped in none_has (ap (λ (gs : List GroupState). slice_get gs found.0) (sym is.groups) ∙ found.4.0)) in
+    let spans : new.table.spans ≡ finite.empty = no_span new.table.spans (λ number page mapped. let found = sound.only number page mapped in none-some _ (ap (λ (gs : List GroupState). slice_get gs found.0) (sym is.groups) ∙ found.4.0)) in
     let pages : new.table.pages ≡ finite.empty = no_page new.table.pages (sound.pages ∙ ap length is.groups) in
     λ i. record {
       number = is.number i;
@@ -99,6 +100,3 @@ ended_after old new is sound =
       table = record { spans = spans i; pages = pages i; span_room = is.span_room i; page_room = is.page_room i };
       onto = None;
     }
-  where
-    none_has : {X : Type 0} {x : X} → None ≡ Some x → ⊥
-    none_has e = cc

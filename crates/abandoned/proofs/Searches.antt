@@ -1,10 +1,11 @@
 -- What a walk over a list knows of the places that it has passed.
-use Rattle.std.proofs.Common.{◌≡◌, ℕ, ◌+◌, ◌<◌, ◌≤◌, List, [], ◌∷◌, ◌++◌, length, true, false, Some, take, slice_get, zero, suc, ap, sym, subst, ◌∙◌, inl, inr, arith}
+use Rattle.std.proofs.Common.{◌≡◌, ℕ, ◌+◌, ◌<◌, ◌≤◌, List, [], ◌∷◌, ◌++◌, length, Some, take, slice_get, zero, suc, ap, sym, subst, ◌∙◌, inl, inr, arith}
 use Rattle.std.proofs.lemmas.Bool.{cases_eq}
 use Rattle.std.proofs.lemmas.List.{length-append}
+use Rattle.std.proofs.lemmas.Option.{slice_get_within}
 use Rattle.shard.specs.Group.{GroupState, spans_of}
 use Rattle.shard.specs.State.{spans_in}
-use Rattle.shard.proofs.Lists.{get_within, same_some}
+use Rattle.shard.proofs.Lists.{same_some}
 
 module _ {X : Type 0} (P : X → Type 0) where
   pub below_next : (xs : List X) (at : ℕ) (x : X) → slice_get xs at ≡ Some x → (P x → ⊥) → ((other : ℕ) (y : X) → other < at → slice_get xs other ≡ Some y → P y → ⊥)
@@ -15,10 +16,7 @@ module _ {X : Type 0} (P : X → Type 0) where
   ]
 
   pub not_there : (xs : List X) (at : ℕ) → length xs ≤ at → ((other : ℕ) (y : X) → other < at → slice_get xs other ≡ Some y → P y → ⊥) → ((place : ℕ) × (x : X) × (slice_get xs place ≡ Some x) × P x) → ⊥
-  not_there xs at past before (place, x, there, p) = before place x (let low = get_within xs place x there in omega arith) there p
-
-pub never : {P : Type 0} → false ≡ true → P
-never e = cc
+  not_there xs at past before (place, x, there, p) = before place x (let low = slice_get_within xs place x there in omega arith) there p
 
 -- the spans of one group more
 pub length-more : (groups : List GroupState) (at : ℕ) (group : GroupState) → slice_get groups at ≡ Some group → length (spans_in (take (at + 1) groups)) ≡ length (spans_in (take at groups)) + length (spans_of group)

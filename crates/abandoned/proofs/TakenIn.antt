@@ -62,9 +62,6 @@ module _ (old : PoolState) (sound : IsSound old) (whole : WholeState) (fits : Is
     abbrev table : TableState
     table = with_page old.table (spans_moved whole) page words
 
-    none_has : {X : Type 0} {x : X} → None ≡ Some x → ⊥
-    none_has e = cc
-
     -- no group had the page
     not_of_group : (index : ℕ) (g : PooledState) → slice_get old.groups index ≡ Some g → g.page ≡ Some page → ⊥
     not_of_group index g there is = let e : is_some (map.get old.table.pages page) ≡ true = (sound_paged old sound index g there page is).has_page in let f : false ≡ true = ap (λ (o : Option (List ℕ)). is_some o) (sym fresh) ∙ e in cc

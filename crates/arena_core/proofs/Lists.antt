@@ -33,10 +33,6 @@ sum_by-set_at f xs i x y here =
     ap (λ z. sum_by f (set xs i y) + f z) (sym (get_or_from_slice_get xs i x x here))
     ∙ sum_by-set f xs i y x (slice_get_within xs i x here)
 
-pub slice_get-nil : {X : Type 0} {x : X} (index : ℕ) → slice_get [] index ≡ Some x → ⊥
-slice_get-nil zero here = cc
-slice_get-nil (suc index) here = cc
-
 pub slice_get-map_at : {X Y : Type 0} (f : X → Y) (xs : List X) (i : ℕ) (x : X) → slice_get xs i ≡ Some x → slice_get (map f xs) i ≡ Some (f x)
 slice_get-map_at f xs i x here = slice_get-map f xs i ∙ ap (option_map f) here
 

@@ -1,7 +1,7 @@
 -- What a mark and a close leave: a sound core, which shows the same map.
 use Rattle.std.proofs.Common.{◌≡◌, ℕ, ◌<◌, ◌≤◌, Bool, true, false, refl, sym, ap, subst, ◌∙◌, arith, Option, Some, None, slice_get, set, length, map, get_or}
 use Rattle.std.proofs.Math.ListN.{length-set}
-use Rattle.std.proofs.lemmas.Option.{get_or_from_slice_get}
+use Rattle.std.proofs.lemmas.Option.{get_or_from_slice_get, slice_get_within}
 use Rattle.std.specs.Vec.{with_item}
 use Rattle.std.proofs.lemmas.List.{length-map}
 use Rattle.span.specs.declared.id.SpanId.{SpanId}
@@ -9,7 +9,7 @@ use Rattle.shard.specs.Closes.{opened_group}
 use Rattle.shard.specs.Group.{GroupState, occupied}
 use Rattle.shard.specs.Sound.{IsSound as IsSoundShard}
 use Rattle.shard.specs.State.{ShardState}
-use Rattle.shard.proofs.Lists.{get_within, set-same}
+use Rattle.shard.proofs.Lists.{set-same}
 use Rattle.abandoned.specs.Sound.{IsSound as IsSoundPool}
 use Rattle.abandoned.specs.State.{PoolState}
 use Rattle.fold.specs.Folds.{Steps}
@@ -142,7 +142,7 @@ shard-named core id number shard sound (other, here, some) read =
 
 -- a shard that was named is one of 64
 pub number-named : (core : CoreState) (id : SpanId) (number : ℕ) → HasSoundGroups core → StandsAt core id (owner.Shard number) → number < 64
-number-named core id number sound (other, here, some) = let within = get_within core.shards number other here in omega (arith, sound.within.shards.1, sound.count)
+number-named core id number sound (other, here, some) = let within = slice_get_within core.shards number other here in omega (arith, sound.within.shards.1, sound.count)
 
 -- the next pair's owned group is in a shard
 module _ (core : CoreState) (sound : IsSound core) (plan : OpenPlan) (pair : SpanId × SpanId) (next : IsNext core plan pair) where

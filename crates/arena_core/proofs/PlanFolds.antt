@@ -2,12 +2,13 @@
 use Rattle.std.proofs.Common.{◌≡◌, ◌≢◌, ℕ, suc, ◌+◌, ◌<◌, ◌≤◌, List, [], ◌∷◌, ◌++◌, ◌⊎◌, inl, inr, refl, sym, ap, subst, ◌∙◌, arith, Some, set, slice_get, length}
 use Rattle.std.specs.Prelude.{remove}
 use Rattle.std.proofs.lemmas.Bool.{cases_eq}
+use Rattle.std.proofs.lemmas.Option.{slice_get_within}
 use Rattle.span.specs.declared.id.SpanId.{SpanId}
 use Rattle.span.specs.State.{SpanState}
 use Rattle.shard.specs.Group.{GroupState}
 use Rattle.shard.specs.Moves.{IsHeadOf}
 use Rattle.shard.specs.State.{ShardState}
-use Rattle.shard.proofs.Lists.{cases-set, get_within, same_some}
+use Rattle.shard.proofs.Lists.{cases-set, same_some}
 use Rattle.abandoned.specs.State.{IsHeadOf as IsPooledHeadOf, PoolState, PooledState}
 use Rattle.shard.proofs.Removed.{after-remove}
 use Rattle.arena_core.specs.Plan.{IsCarriedOut, IsEmptied, IsGuest, IsOwned, IsPooled, IsUnderWay, IsWaiting, is_planned, with_next_done}
@@ -132,7 +133,7 @@ module _ (old : CoreState) (plan : OpenPlan) (pair : SpanId × SpanId) (number :
 
     pub IsUnderWay-folded : IsUnderWay new (with_next_done plan)
     IsUnderWay-folded = record {
-      within = let inside = get_within plan.pairs plan.done pair next in omega arith;
+      within = let inside = slice_get_within plan.pairs plan.done pair next in omega arith;
       abandoned_once = under.abandoned_once;
       owned_once = under.owned_once;
       stands = λ k p at. stands_still k p at (cases_eq k plan.done);
@@ -170,7 +171,7 @@ module _ (old : CoreState) (plan : OpenPlan) (under : IsUnderWay old plan) (pair
 
   pub IsUnderWay-passed : IsUnderWay passed (with_next_done plan)
   IsUnderWay-passed = record {
-    within = let inside = get_within plan.pairs plan.done pair next in omega arith;
+    within = let inside = slice_get_within plan.pairs plan.done pair next in omega arith;
     abandoned_once = under.abandoned_once;
     owned_once = under.owned_once;
     stands = λ k p at. let (group, is) = under.stands k p at in (group, owned_too p.1 group is);

@@ -1,12 +1,12 @@
 -- A mark's pairs wait: what it sees are groups of the pool and of the shards.
-use Rattle.std.proofs.Common.{◌≡◌, ℕ, suc, ◌<◌, ◌≤◌, Bool, true, false, cond, ◌&&◌, ◌||◌, List, [], ◌∷◌, ◌⊎◌, inl, inr, refl, sym, ap, subst, ◌∙◌, arith, Some, slice_get, map, get_or, is_some, eqb-true}
+use Rattle.std.proofs.Common.{◌≡◌, ℕ, suc, ◌<◌, ◌≤◌, Bool, true, false, cond, ◌&&◌, ◌||◌, List, [], ◌∷◌, ◌⊎◌, inl, inr, refl, sym, ap, subst, ◌∙◌, arith, Some, slice_get, map, get_or, is_some, eqb-true, map-id}
 use Rattle.std.specs.Prelude.{filter}
 use Rattle.std.specs.List.{AllByRecursion, IsDistinct, list_any}
 use Rattle.std.specs.List.Sorted.{IsPermutation}
 use Rattle.std.proofs.lemmas.Bool.{and_parts, cases_lt}
 use Rattle.std.proofs.lemmas.List.{length-map}
 use Rattle.std.proofs.lemmas.List.Elements.{All-from_recursion, recursion_from_All}
-use Rattle.std.proofs.lemmas.Option.{get_or_from_slice_get}
+use Rattle.std.proofs.lemmas.Option.{get_or_from_slice_get, slice_get_within}
 use Rattle.std.proofs.lemmas.Map.Keys.{apart_from_distinct}
 use Rattle.std.proofs.lemmas.Map.Views.{All-map-IsPermutation}
 use Rattle.std.specs.FinSet.{intersection, len, empty_of_len}
@@ -16,7 +16,6 @@ use Rattle.span.specs.Ids.{same_span}
 use Rattle.span.proofs.Ids.{same_id_from_test, test_from_same_id}
 use Rattle.shard.specs.Group.{GroupState, occupied}
 use Rattle.shard.specs.State.{ShardState, summary}
-use Rattle.shard.proofs.Lists.{get_within}
 use Rattle.abandoned.specs.State.{PooledState, summary as pooled_summary}
 use Rattle.mesh_graph.specs.Groups.{Groups, any_compatible, are_compatible}
 use Rattle.mesh_graph.specs.declared.entry.Entry.{Entry}
@@ -31,13 +30,9 @@ each-to : {X : Type 0} {P Q : X → Type 0} (xs : List X) → ((x : X) → P x �
 each-to [] to all = tt
 each-to (x ∷ xs) to all = (to x all.0, each-to xs to all.1)
 
-map_same : {X : Type 0} (xs : List X) → map (λ x. x) xs ≡ xs
-map_same [] = refl
-map_same (x ∷ xs) = ap (λ l. x ∷ l) (map_same xs)
-
 each-permuted : {X : Type 0} (P : X → Type 0) (xs ys : List X) → IsPermutation xs ys → AllByRecursion P xs → AllByRecursion P ys
 each-permuted P xs ys moved all =
-    subst (AllByRecursion P) (map_same ys) (recursion_from_All P (map (λ x. x) ys) (All-map-IsPermutation (λ x. x) P xs ys moved (All-from_recursion P (map (λ x. x) xs) (subst (AllByRecursion P) (sym (map_same xs)) all))))
+    subst (AllByRecursion P) (map-id ys) (recursion_from_All P (map (λ x. x) ys) (All-map-IsPermutation (λ x. x) P xs ys moved (All-from_recursion P (map (λ x. x) xs) (subst (AllByRecursion P) (sym (map-id xs)) all))))
 
 -- the element by which a test of the list passes
 any-which : {X : Type 0} {P : X → Type 0} (test : X → Bool) (xs : List X) → AllByRecursion P xs → list_any test xs ≡ true → (x : X) × (test x ≡ true) × P x
@@ -117,7 +112,7 @@ once-IsDistinct f xs distinct i j p q at_i at_j same = by_order (cases_lt i j) (
     never : (a b : ℕ) (x y : _) → slice_get xs a ≡ Some x → slice_get xs b ≡ Some y → f x ≡ f y → a < b → ⊥
     never a b x y at_a at_b is below =
         let apart : same_span (get_or (map f xs) a (f x)) (get_or (map f xs) b (f x)) ≡ false =
-        apart_from_distinct same_span (map f xs) a b (f x) distinct below (let inside = get_within xs b y at_b in omega (arith, length-map xs f)) in
+        apart_from_distinct same_span (map f xs) a b (f x) distinct below (let inside = slice_get_within xs b y at_b in omega (arith, length-map xs f)) in
         let one : same_span (f x) (f y) ≡ true = test_from_same_id (f x) (f y) is in
         let e : true ≡ false = sym one ∙ ap (λ id. same_span id (f y)) (sym (get_or_from_slice_get (map f xs) a (f x) (f x) (slice_get-map_at f xs a x at_a))) ∙ ap (same_span (get_or (map f xs) a (f x))) (sym (get_or_from_slice_get (map f xs) b (f y) (f x) (slice_get-map_at f xs b y at_b))) ∙ apart in
         cc
@@ -148,7 +143,7 @@ IsUnderWay-marked old new seen pairs abandoned owned plan pooled_still owned_sti
   where
     waits_at : (k : ℕ) (pair : SpanId × SpanId) → slice_get pairs k ≡ Some pair → IsWaiting new pair
     waits_at k pair at =
-        let inside = get_within pairs k pair at in
+        let inside = slice_get_within pairs k pair at in
         let compatible : any_compatible seen pair.0 pair.1 ≡ true = subst (λ (p : SpanId × SpanId). any_compatible seen p.0 p.1 ≡ true) (get_or_from_slice_get pairs k pair pair at) (sym (compatible-sides_of seen (get_or pairs k pair).0 (get_or pairs k pair).1) ∙ plan.compatible k pair inside) in
         let found = IsWaiting-seen old seen abandoned owned pair compatible in
         let (now, now_is, same) = owned_still pair.1 found.owned found.is_owned in

@@ -1,6 +1,7 @@
 -- What each event does to the open plan.
 use Rattle.std.proofs.Common.{◌≡◌, ℕ, suc, ◌<◌, ◌≤◌, Bool, true, false, cond, ◌||◌, List, [], ◌∷◌, inl, inr, refl, sym, ap, subst, ◌∙◌, arith, Option, Some, None, set, slice_get, is_some}
 use Rattle.std.specs.Prelude.{MatchOption}
+use Rattle.std.proofs.lemmas.Option.{none-some}
 use Rattle.span.specs.declared.id.SpanId.{SpanId}
 use Rattle.span.specs.declared.key.Key.{Key}
 use Rattle.span.specs.Ids.{same_span}
@@ -30,7 +31,7 @@ use Rattle.arena_core.specs.declared.event.Event.TheVariants.{Put, Free, End, Ad
 use Rattle.arena_core.specs.declared.reply.Reply.{Reply}
 use Rattle.arena_core.specs.declared.reply.Reply.TheVariants as reply
 use Rattle.arena_core.proofs.Changes.{opened-somewhere}
-use Rattle.arena_core.proofs.Lists.{each-set, slice_get-nil}
+use Rattle.arena_core.proofs.Lists.{each-set}
 use Rattle.arena_core.proofs.PlanKept.{IsFewer-freed, IsUnderWay-kept, KeepsAllClosed, KeepsAllClosed-same, KeepsAllClosed-set, KeepsClosed-Frees, KeepsClosed-Puts, KeepsPooled, KeepsPooled-Frees, KeepsPooled-Receives, KeepsPooled-same, has_plan-Frees, has_plan-Receives, plans_onto-pair}
 use Rattle.arena_core.proofs.Moves.{IsStep-Adopts, IsStep-Receives}
 use Rattle.arena_core.proofs.Spans.{times-parts, times_in-found, times_in-le, times_pooled}
@@ -155,7 +156,7 @@ pub KeepsPlan-Receives : (old : CoreState) → IsSound old → (number : ℕ) (b
 KeepsPlan-Receives old sound number before after pool here unclosed receives =
     KeepsPlan-kept old (with_pool (with_shard old number after) pool) sound.plan refl (has_plan-Receives old.pool pool before after receives) (KeepsPooled-Receives old.pool pool before after receives)
     (KeepsAllClosed-set old.shards number before after here (λ index group at closed. absurd (let both : true ≡ false = sym closed ∙ unclosed index group at in cc)))
-    (AreAllClosedAsPlanned-set old.plan old.shards number after sound.plan.closed (λ index group at. absurd (let none : slice_get [] index ≡ Some group = ap (λ (s : ShardState). slice_get s.groups index) (sym receives.after) ∙ at in slice_get-nil index none)))
+    (AreAllClosedAsPlanned-set old.plan old.shards number after sound.plan.closed (λ index group at. absurd (none-some group (ap (λ (s : ShardState). slice_get s.groups index) (sym receives.after) ∙ at))))
 
 -- adoptions
 

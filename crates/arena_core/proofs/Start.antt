@@ -3,6 +3,7 @@ use Rattle.std.proofs.Common.{◌≡◌, ℕ, zero, suc, ◌+◌, ◌<◌, ◌++
 use Rattle.std.specs.Prelude.{sum_by}
 use Rattle.std.specs.List.{range_with_len}
 use Rattle.std.proofs.lemmas.List.FromFn.{length-map-range_with_len}
+use Rattle.std.proofs.lemmas.Option.{none-some}
 use Rattle.span.specs.declared.id.SpanId.{SpanId}
 use Rattle.span.specs.PlainMap.{empty_map}
 use Rattle.span.specs.State.{SpanState}
@@ -16,7 +17,6 @@ use Rattle.arena_core.specs.Sound.{HasSoundGroups, IsSound, IsSoundAt}
 use Rattle.arena_core.specs.State.{AreWithin, CoreState, Limits, all_spans, OpenPlan, limits_of, new_core, new_pool, new_shard, opened_by, shard_spans, shard_with, shown, shown_at}
 use Rattle.arena_core.proofs.Changes.{indicator, past-indicator}
 use Rattle.arena_core.proofs.Groups.{strays, strays-each}
-use Rattle.arena_core.proofs.Lists.{slice_get-nil}
 use Rattle.arena_core.proofs.Spans.{named, shard_with-nowhere, sum_all}
 
 sum-new : (w : SpanState → ℕ) (limits : Limits) (numbers : List ℕ) → sum_by w (shard_spans (map (new_shard limits.page_limit limits.gens) numbers)) ≡ 0
@@ -93,4 +93,4 @@ IsSound-new_core limits groups = record {
     no_group : (number : ℕ) (shard : ShardState) → slice_get (new_core limits).shards number ≡ Some shard → (index : ℕ) (group : GroupState) → slice_get shard.groups index ≡ Some group → ⊥
     no_group number shard here index group at =
         let is = slice_get-range limits 0 limits.shards number shard here in
-        slice_get-nil index (ap (λ (s : ShardState). slice_get s.groups index) is.1 ∙ at)
+        none-some _ (ap (λ (s : ShardState). slice_get s.groups index) is.1 ∙ at)

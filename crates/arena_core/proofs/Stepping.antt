@@ -1,6 +1,7 @@
 -- The next pair of the open plan is carried out: it is neither absent nor a clash.
 use Rattle.std.proofs.Common.{◌≡◌, ℕ, ◌≤◌, true, false, inl, inr, refl, sym, ap, subst, ◌∙◌, arith, Some, slice_get, is_some, Bool}
 use Rattle.std.specs.Prelude.{MatchOption}
+use Rattle.std.proofs.lemmas.Option.{none-some}
 use Rattle.bitmap.specs.Slots.{SlotSet, AreDisjoint}
 use Rattle.bitmap.specs.Operations.{AreDisjoint-at, AreDisjoint-by_slot}
 use Rattle.span.specs.declared.id.SpanId.{SpanId}
@@ -25,7 +26,6 @@ use Rattle.arena_core.specs.declared.event.Event.TheVariants.{Step}
 use Rattle.arena_core.specs.declared.reply.Reply.TheVariants.{Stepped}
 use Rattle.arena_core.proofs.Changes.{HasSoundGroups-moved, at_most_once, sum_all-moved}
 use Rattle.arena_core.proofs.Groups.{IsMove}
-use Rattle.arena_core.proofs.Lists.{slice_get-nil}
 use Rattle.arena_core.proofs.Logged.{shown-same}
 use Rattle.arena_core.proofs.PlanFolds.{AreAllClosedAsPlanned-folded, IsFold, IsUnderWay-folded, IsUnderWay-passed}
 use Rattle.arena_core.proofs.PlanSteps.{AreAllClosedAsPlanned, IsSoundStep}
@@ -97,7 +97,7 @@ module _ (old : CoreState) (sound : IsSound old) (plan : OpenPlan) (pair : SpanI
     running = by_end before.ended refl
       where
         by_end : (b : Bool) → before.ended ≡ b → b ≡ false
-        by_end true e = absurd (slice_get-nil waits.is_owned.index (ap (λ gs. slice_get gs waits.is_owned.index) (sym (sound_before.none_left e)) ∙ owned_here.here))
+        by_end true e = absurd (none-some _ (ap (λ gs. slice_get gs waits.is_owned.index) (sym (sound_before.none_left e)) ∙ owned_here.here))
         by_end false e = refl
 
     present : fold.IsAbsent old.pool before pair.0 pair.1 → ⊥

@@ -1,9 +1,10 @@
 -- One more place of the lists of pairs and short members
-use Rattle.std.proofs.Common.{ℕ, ◌+◌, ◌<◌, ◌≡◌, Bool, true, false, List, [], ◌∷◌, ◌++◌, length, Option, Some, None, refl, sym, ◌∙◌, ap, arith, get_or, cond, drop, zero, suc}
+use Rattle.std.proofs.Common.{ℕ, ◌+◌, ◌<◌, ◌≡◌, Bool, true, false, List, [], ◌∷◌, ◌++◌, length, Option, Some, None, refl, sym, ◌∙◌, ap, arith, get_or, cond, drop}
 use Rattle.std.specs.List.{slice_get}
 use Rattle.std.proofs.lemmas.List.{drop_more, get_or_default, append_assoc}
 use Rattle.std.specs.Option.{is_some}
 use Rattle.std.proofs.lemmas.List.Sums.{sum_by-cons}
+use Rattle.std.proofs.lemmas.Option.{get_or_from_slice_get}
 use Rattle.augment.specs.Mates.{mate}
 use Rattle.augment.specs.Walks.{pair_count}
 use Rattle.augment.specs.Listed.{pairs_of, is_short, short_of}
@@ -15,9 +16,7 @@ a_member (x ∷ xs) i l = x
 
 -- what is read stands at its place
 pub read_at : {K : Type 0} (xs : List K) (i : ℕ) (x : K) → slice_get xs i ≡ Some x → x ≡ get_or xs i x
-read_at [] i x h = let no : None ≡ Some x = h in cc
-read_at (y ∷ xs) zero x h = let e : Some y ≡ Some x = h in cc
-read_at (y ∷ xs) (suc i) x h = read_at xs i x h
+read_at xs i x h = sym (get_or_from_slice_get xs i x x h)
 
 pub pairs_none : {K : Type 0} (right left : List K) (ms : List (Option ℕ)) (i : ℕ) (d : K) → i < length left → i < length ms → mate ms i ≡ None → pairs_of right (drop i left) (drop i ms) ≡ pairs_of right (drop (i + 1) left) (drop (i + 1) ms)
 pairs_none right left ms i d l m e =

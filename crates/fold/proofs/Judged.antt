@@ -1,5 +1,6 @@
 -- Which answer two groups get.
-use Rattle.std.proofs.Common.{◌≡◌, ℕ, ◌+◌, ◌<◌, ◌≤◌, length, true, false, Option, None, Some, is_some, slice_get, ◌∙◌, ap, sym, subst, refl, inl, inr}
+use Rattle.std.proofs.Common.{◌≡◌, ℕ, ◌+◌, ◌<◌, ◌≤◌, length, true, false, Some, is_some, slice_get, ◌∙◌, ap, sym, subst, inl, inr}
+use Rattle.std.proofs.option.Match.{None-if_not_some}
 use Rattle.bitmap.specs.Slots.{AreDisjoint, SlotSet}
 use Rattle.span.specs.State.{SpanState}
 use Rattle.span.specs.declared.id.SpanId.{SpanId}
@@ -51,11 +52,7 @@ module _ (pool : PoolState) (sound : IsSound pool) (shard : ShardState) (sound_s
   present (inr (inr doubled)) = fresh doubled
 
   pub IsEmptied-here : is_some group.page ≡ false → IsEmptied pool shard a b
-  IsEmptied-here no_page = (present, (index, group, from, no_page_from group.page no_page))
-    where
-      no_page_from : (o : Option ℕ) → is_some o ≡ false → o ≡ None
-      no_page_from None e = refl
-      no_page_from (Some page) e = absurd cc
+  IsEmptied-here no_page = (present, (index, group, from, None-if_not_some group.page no_page))
 
   module _ (has_page : is_some group.page ≡ true) where
     paged : IsEmptied pool shard a b → ⊥

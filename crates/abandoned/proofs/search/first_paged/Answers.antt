@@ -1,8 +1,8 @@
 use Rattle.std.proofs.Common.{◌≡◌, ◌∙◌, None, ap, refl, slice_get, subst, sym, arith, inl, inr}
 use Rattle.std.proofs.lemmas.Bool.{cases_eq}
-use Rattle.std.proofs.lemmas.Option.{slice_get_read}
+use Rattle.std.proofs.lemmas.Option.{slice_get_read, slice_get_within}
 use Rattle.std.proofs.option.Match.{None-if_not_some}
-use Rattle.shard.proofs.Lists.{get_within, same_some}
+use Rattle.shard.proofs.Lists.{same_some}
 use Rattle.abandoned.specs.State.{PooledState}
 use Rattle.abandoned.proofs.search.first_paged.Goals as goal
 
@@ -21,4 +21,4 @@ loop-index-preserved c other group less there = elim (cases_eq other c.loop-inde
 ]
 
 pub returns-clause-first : goal.returns-clause-first
-returns-clause-first c index group there = c.loop-index.invariant index group (let low = get_within c.args.groups.now index group there in omega arith) there
+returns-clause-first c index group there = c.loop-index.invariant index group (let low = slice_get_within c.args.groups.now index group there in omega arith) there

@@ -1,9 +1,9 @@
 use Rattle.std.proofs.Common.{ap, refl, slice_get, subst, sym, ◌∙◌, arith, inl, inr}
 use Rattle.std.proofs.lemmas.Bool.{cases_eq}
-use Rattle.std.proofs.lemmas.Option.{slice_get_read}
+use Rattle.std.proofs.lemmas.Option.{slice_get_read, slice_get_within}
 use Rattle.shard.specs.Group.{HasNoSpan}
 use Rattle.abandoned.specs.State.{PooledState, spans_of}
-use Rattle.shard.proofs.Lists.{get_within, same_some}
+use Rattle.shard.proofs.Lists.{same_some}
 use Rattle.abandoned.proofs.search.search.Goals as goal
 
 pub returns-in-Some : goal.returns-in-Some
@@ -20,4 +20,4 @@ loop-index-preserved c other group less there = elim (cases_eq other c.loop-inde
 ]
 
 pub returns : goal.returns
-returns c index group there = c.loop-index.invariant index group (let low = get_within c.args.groups.now index group there in omega arith) there
+returns c index group there = c.loop-index.invariant index group (let low = slice_get_within c.args.groups.now index group there in omega arith) there

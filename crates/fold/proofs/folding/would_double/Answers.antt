@@ -1,5 +1,5 @@
 use Rattle.std.proofs.Common.{refl, arith}
-use Rattle.abandoned.proofs.Searches.{never}
+use Rattle.std.proofs.lemmas.Bool.{false≢true}
 use Rattle.fold.proofs.Judged.{HasNoneTaken-all, HasNoneTaken-next, WouldDouble-taken}
 use Rattle.fold.proofs.folding.would_double.Goals as goal
 
@@ -11,11 +11,11 @@ returns-then-is_taken c = (
 
 pub loop-place-preserved : goal.loop-place-preserved
 loop-place-preserved c =
-    HasNoneTaken-next c.args.pool.now c.requires.sound c.args.shard.now c.args.head c.loop-place.place c.in-Some.id c.in-Some.ensures (λ taken. never (c.if-is_taken.ensures.1 taken)) c.loop-place.invariant
+    HasNoneTaken-next c.args.pool.now c.requires.sound c.args.shard.now c.args.head c.loop-place.place c.in-Some.id c.in-Some.ensures (λ taken. false≢true (c.if-is_taken.ensures.1 taken)) c.loop-place.invariant
 
 pub returns : goal.returns
 returns c =
     let (index, group, from, spans_is) = c.requires.group in (
-      (λ t. never t),
+      (λ t. absurd (false≢true t)),
       (λ found. absurd (HasNoneTaken-all c.args.pool.now c.requires.sound c.args.shard.now c.args.head c.loop-place.place index group from (omega (arith, spans_is, c.loop-place-test.false)) c.loop-place.invariant found)),
     )

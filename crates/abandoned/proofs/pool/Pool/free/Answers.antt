@@ -1,9 +1,9 @@
 use Rattle.std.proofs.Common.{Bool, ◌≡◌, ◌∙◌, ℕ, List, Some, length, ap, set, sym, subst, refl, slice_get, arith}
+use Rattle.std.proofs.lemmas.Bool.{true≢false}
 use Rattle.page_table.specs.State.{TableState}
 use Rattle.shard.specs.declared.shard.Freed.TheVariants.{No, NotHere, Yes}
 use Rattle.shard.specs.Group.{with_free}
 use Rattle.shard.proofs.Lists.{set-same}
-use Rattle.shard.proofs.Places.{clash}
 use Rattle.abandoned.specs.Calls.{Leaves}
 use Rattle.abandoned.specs.Kept.{state_of}
 use Rattle.abandoned.specs.State.{IsElsewhere, IsHere, PoolState, PooledState, with_span}
@@ -58,7 +58,7 @@ returns-then-not-free-clause-step c =
       c.index_mut-group.result.now,
       c.span_at.result.now,
       subst (λ (s : PoolState). IsHere s.groups c.args.key.now.span c.in-Some.index c.in-Some.place c.index_mut-group.result.now c.span_at.result.now) c.self.view_is here,
-      (λ holds. clash (sym (((c.if-not-free.ensures {u = tt}).found c.span_at.result.now c.span_at.ensures).1 (sym here.id_is, holds)))),
+      (λ holds. true≢false (sym (((c.if-not-free.ensures {u = tt}).found c.span_at.result.now c.span_at.ensures).1 (sym here.id_is, holds)))),
       ap length c.log-at.ensures.changes,
       same_pool c.self.inside.groups.items c.self.inside.table c.free.new.table c.self.inside.page_room c.self.inside.span_room c.in-Some.index c.self.inside.has_plan c.index_mut-group.result.now c.free.new.self read same.0 same.1 ∙ c.self.view_is,
     )

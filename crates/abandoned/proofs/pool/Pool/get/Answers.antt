@@ -1,8 +1,8 @@
 use Rattle.std.proofs.Common.{◌∙◌, ap, length, refl, subst, sym, arith}
 use Rattle.std.specs.Prelude.{slice_index}
+use Rattle.std.proofs.lemmas.Bool.{true≢false}
 use Rattle.page_table.specs.State.{words_of}
 use Rattle.shard.specs.declared.shard.Found.TheVariants.{Gone, NotHere, Value}
-use Rattle.shard.proofs.Places.{clash}
 use Rattle.abandoned.specs.Kept.{state_of}
 use Rattle.abandoned.specs.State.{IsElsewhere, IsHere, PoolState}
 use Rattle.abandoned.proofs.Here.{found_in, here_read, index_within, place_within}
@@ -37,7 +37,7 @@ returns-then-not-find-clause-found c =
       c.index-group.result.now,
       c.span_at-span.result.now,
       subst (λ (s : PoolState). IsHere s.groups c.args.key.now.span c.in-Some.index c.in-Some.place c.index-group.result.now c.span_at-span.result.now) c.self.view_is here,
-      (λ holds. clash (sym (c.if-not-find.ensures.1 (sym here.id_is, holds)))),
+      (λ holds. true≢false (sym (c.if-not-find.ensures.1 (sym here.id_is, holds)))),
       ap length c.log-at.ensures.changes,
     )
 

@@ -1,9 +1,10 @@
 use Rattle.std.proofs.Common.{refl, subst, sym, arith}
+use Rattle.std.proofs.lemmas.Bool.{false≢true}
 use Rattle.span.specs.State.{SpanState}
 use Rattle.span.specs.declared.id.SpanId.{SpanId}
 use Rattle.shard.specs.Group.{all_spans}
 use Rattle.abandoned.specs.State.{IsElsewhere}
-use Rattle.abandoned.proofs.Searches.{below_next, never, not_there}
+use Rattle.abandoned.proofs.Searches.{below_next, not_there}
 use Rattle.abandoned.proofs.pool.Pool.has_any.Goals as goal
 
 pub returns-then-has : goal.returns-then-has
@@ -15,10 +16,10 @@ returns-then-has c = (
 pub loop-place-preserved : goal.loop-place-preserved
 loop-place-preserved c =
     below_next (λ (s : SpanState). IsElsewhere c.args.self.now.groups s.id → ⊥) (all_spans c.args.spans.now) c.loop-place.place c.span_at.result.now c.span_at.ensures
-    (λ away. never (c.if-has.ensures.1 (subst (λ (id : SpanId). IsElsewhere c.args.self.now.groups id → ⊥) (sym c.id.ensures) away))) c.loop-place.invariant
+    (λ away. false≢true (c.if-has.ensures.1 (subst (λ (id : SpanId). IsElsewhere c.args.self.now.groups id → ⊥) (sym c.id.ensures) away))) c.loop-place.invariant
 
 pub returns : goal.returns
 returns c = (
-  (λ t. never t),
+  (λ t. absurd (false≢true t)),
   (λ found. absurd (not_there (λ (s : SpanState). IsElsewhere c.args.self.now.groups s.id → ⊥) (all_spans c.args.spans.now) c.loop-place.place (omega arith) c.loop-place.invariant found)),
 )

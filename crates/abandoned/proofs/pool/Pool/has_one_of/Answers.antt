@@ -1,8 +1,9 @@
 use Rattle.std.proofs.Common.{refl, subst, sym, arith}
+use Rattle.std.proofs.lemmas.Bool.{false≢true}
 use Rattle.shard.specs.Group.{GroupState, SpansState, all_spans, spans_of}
 use Rattle.shard.proofs.Lists.{there_at}
 use Rattle.abandoned.specs.Calls.{HasAny}
-use Rattle.abandoned.proofs.Searches.{below_next, never, not_there}
+use Rattle.abandoned.proofs.Searches.{below_next, not_there}
 use Rattle.abandoned.proofs.pool.Pool.has_one_of.Goals as goal
 
 pub returns-then-has_any-clause-has : goal.returns-then-has_any-clause-has
@@ -16,10 +17,10 @@ pub loop-index-preserved : goal.loop-index-preserved
 loop-index-preserved c =
     let at = there_at c.args.shard.now.groups c.loop-index.index (omega arith) in
     below_next (λ (g : GroupState). HasAny c.args.self.now.groups (spans_of g)) c.args.shard.now.groups c.loop-index.index at.0 at.1
-    (λ found. never (c.if-has_any.ensures.1 (subst (λ (s : SpansState). HasAny c.args.self.now.groups (all_spans s)) (sym (c.spans_at.ensures at.0 at.1)) found))) c.loop-index.invariant
+    (λ found. false≢true (c.if-has_any.ensures.1 (subst (λ (s : SpansState). HasAny c.args.self.now.groups (all_spans s)) (sym (c.spans_at.ensures at.0 at.1)) found))) c.loop-index.invariant
 
 pub returns-clause-has : goal.returns-clause-has
 returns-clause-has c = (
-  (λ t. never t),
+  (λ t. absurd (false≢true t)),
   (λ found. absurd (not_there (λ (g : GroupState). HasAny c.args.self.now.groups (spans_of g)) c.args.shard.now.groups c.loop-index.index (omega arith) c.loop-index.invariant found)),
 )

@@ -1,9 +1,10 @@
 use Rattle.std.proofs.Common.{◌≡◌, ◌∙◌, ◌⊎◌, ap, refl, subst, sym, inl, inr, arith}
+use Rattle.std.proofs.lemmas.Bool.{false≢true}
 use Rattle.span.specs.State.{SpanState}
 use Rattle.span.specs.declared.id.SpanId.{SpanId}
 use Rattle.shard.specs.Group.{all_spans}
 use Rattle.shard.specs.State.{IsElsewhere}
-use Rattle.abandoned.proofs.Searches.{below_next, never, not_there}
+use Rattle.abandoned.proofs.Searches.{below_next, not_there}
 use Rattle.abandoned.proofs.pool.handover.is_doubled.Goals as goal
 
 pub returns-then-shard-number : goal.returns-then-shard-number
@@ -20,11 +21,11 @@ loop-place-preserved c =
     below_next (λ (s : SpanState). (s.id.shard ≡ c.args.shard.now.number) ⊎ (IsElsewhere c.args.shard.now.groups s.id → ⊥)) (all_spans c.args.spans.now) c.loop-place.place c.span_at.result.now c.span_at.ensures
     (λ either. elim either [
       | inl own ↦ c.if-shard-number.false (c.shard.ensures.value ∙ ap (λ (id : SpanId). id.shard) c.id-id.ensures ∙ own ∙ sym c.number.ensures)
-      | inr here ↦ never (c.if-has.ensures.1 (subst (λ (id : SpanId). IsElsewhere c.args.shard.now.groups id → ⊥) (sym c.id-id.ensures) here))
+      | inr here ↦ false≢true (c.if-has.ensures.1 (subst (λ (id : SpanId). IsElsewhere c.args.shard.now.groups id → ⊥) (sym c.id-id.ensures) here))
     ]) c.loop-place.invariant
 
 pub returns : goal.returns
 returns c = (
-  (λ t. never t),
+  (λ t. absurd (false≢true t)),
   (λ found. absurd (not_there (λ (s : SpanState). (s.id.shard ≡ c.args.shard.now.number) ⊎ (IsElsewhere c.args.shard.now.groups s.id → ⊥)) (all_spans c.args.spans.now) c.loop-place.place (omega arith) c.loop-place.invariant found)),
 )

@@ -1,5 +1,7 @@
 use Rattle.std.proofs.Common.{◌≡◌, ◌∙◌, Some, length, ap, sym, subst, refl, slice_get}
 use Rattle.std.specs.Prelude.{vec_capacity}
+use Rattle.std.proofs.lemmas.Bool.{OnTrue_at, true≢false}
+use Rattle.std.proofs.lemmas.Option.{slice_get_within}
 use Rattle.shard.specs.Group.{GroupState, spans_of, with_span, with_free}
 use Rattle.shard.specs.Kept.{state_of}
 use Rattle.shard.specs.State.{ShardState, IsElsewhere, IsHere}
@@ -7,8 +9,7 @@ use Rattle.shard.specs.declared.shard.Freed.TheVariants.{No, NotHere, Yes}
 use Rattle.shard.proofs.FreeHere.{IsSound-free_here}
 use Rattle.shard.proofs.GuestRoom.{HasGuestRoom-span}
 use Rattle.shard.proofs.Here.{found_in, here_read, read_is}
-use Rattle.shard.proofs.Lists.{get_within, same_some}
-use Rattle.shard.proofs.Places.{clash, on_true}
+use Rattle.shard.proofs.Lists.{same_some}
 use Rattle.shard.proofs.RoomBits.{HasRooms-free}
 use Rattle.shard.proofs.ShownLogs.{IsSound-Frees, shown-Frees, was_freed-Frees}
 use Rattle.shard.proofs.shard.Shard.free.Goals as goal
@@ -28,7 +29,7 @@ returns-then-not-find-clause-step c =
       c.index.result.now,
       c.span_at-span.result.now,
       subst (λ (s : ShardState). IsHere s.groups c.args.key.now.span c.in-Some.index c.in-Some.place c.index.result.now c.span_at-span.result.now) c.self.view_is here,
-      (λ holds. clash (sym (c.if-not-find.ensures.1 (sym here.id_is, holds)))),
+      (λ holds. true≢false (sym (c.if-not-find.ensures.1 (sym here.id_is, holds)))),
       ap length c.log-at.ensures.changes,
       refl,
     )
@@ -46,7 +47,7 @@ here_now c =
 freed_now : (c : goal.After-insert) → c.free.new.self ≡ with_span c.index_mut.result.now c.in-Some.place (with_free c.span_at-span.result.now c.args.key.now)
 freed_now c =
     let here = here_now c in
-    on_true c.free.result
+    OnTrue_at
     ((c.free.ensures.found c.span_at-span.result.now here.span_is).1 (sym here.id_is, (c.if-not-find.ensures.0 refl).1))
     (c.free.ensures.freed c.span_at-span.result.now here.span_is)
 
@@ -60,7 +61,7 @@ invariant_of-self c =
       pages_fit = c.self.invariant.pages_fit;
       gens_fit = c.self.invariant.gens_fit;
       sound = rw (freed_now c) (IsSound-free_here (state_of c.self.inside) c.self.invariant.sound c.in-Some.index c.in-Some.place group span c.args.key.now (here.group_is, here.span_is) (c.if-not-find.ensures.0 refl).1);
-      rooms = rw c.insert.ensures (HasRooms-free c.self.inside.groups.items c.self.inside.rooms c.self.invariant.rooms c.in-Some.index c.free.new.self (get_within c.self.inside.groups.items c.in-Some.index group here.group_is));
+      rooms = rw c.insert.ensures (HasRooms-free c.self.inside.groups.items c.self.inside.rooms c.self.invariant.rooms c.in-Some.index c.free.new.self (slice_get_within c.self.inside.groups.items c.in-Some.index group here.group_is));
       room_for_groups = c.self.invariant.room_for_groups;
       no_guests = c.self.invariant.no_guests;
       room_for_guests = rw (freed_now c)

@@ -1,8 +1,8 @@
 use Rattle.std.proofs.Common.{◌∙◌, ap, length, refl, subst, sym}
+use Rattle.std.proofs.lemmas.Bool.{true≢false}
 use Rattle.shard.specs.State.{ShardState, IsElsewhere, IsHere, word_at}
 use Rattle.shard.specs.declared.shard.Found.TheVariants.{Gone, NotHere, Value}
 use Rattle.shard.proofs.Here.{found_in, here_read, read_is}
-use Rattle.shard.proofs.Places.{clash}
 use Rattle.shard.proofs.ShownLogs.{value_found-Gets}
 use Rattle.shard.proofs.shard.Shard.get.Goals as goal
 
@@ -43,7 +43,7 @@ returns-else-find-clause-found c =
       c.index-group.result.now,
       c.span_at-span.result.now,
       subst (λ (s : ShardState). IsHere s.groups c.args.key.now.span c.in-Some.index c.in-Some.place c.index-group.result.now c.span_at-span.result.now) c.self.view_is here,
-      (λ holds. clash (sym (c.if-find.ensures.1 (sym here.id_is, holds)))),
+      (λ holds. true≢false (sym (c.if-find.ensures.1 (sym here.id_is, holds)))),
       ap length c.log-at.ensures.changes,
     )
 
