@@ -66,6 +66,19 @@ count-filter test (x ∷ xs) = sum_by-cons (λ y. cond (test y) 1 0) x xs ∙ ap
     one true y ys = omega arith
     one false y ys = omega arith
 
+-- some member of a filter
+any-filter : {X : Type 0} (p q : X → Bool) (xs : List X) → list_any q (filter p xs) ≡ list_any (λ x. p x && q x) xs
+any-filter p q [] = refl
+any-filter p q (x ∷ xs) = elim (cases_Bool (p x)) [
+  | inl e ↦ rw e (ap (λ b. q x || b) (any-filter p q xs))
+  | inr e ↦ rw e (any-filter p q xs)
+]
+
+-- the groups that are compatible with some group whose id is in the set, where those are taken out first
+pub filter-members : (words : List ℕ) (abandoned owned : List Entry)
+    → filter (λ y. list_any (λ x. are_compatible x y) (filter (λ x. has_bit words (rank x.id)) abandoned)) owned ≡ filter (λ y. has_chosen words abandoned y) owned
+filter-members words abandoned owned = (λ k. filter (λ y. any-filter (λ (x : Entry). has_bit words (rank x.id)) (λ x. are_compatible x y) abandoned k) owned)
+
 -- the partners, as a filter of the owned groups
 pub partners_of-filter : (s : Groups) (short : List SpanId) (words : List ℕ) → IsAscending (ids s.owned) → ((id : SpanId) → has_bit words (rank id) ≡ list_any (same_span id) short)
     → partners_of s short ≡ map (λ y. y.id) (filter (λ y. has_chosen words s.abandoned y) s.owned)

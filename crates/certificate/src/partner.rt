@@ -1,6 +1,9 @@
 // The partners of a short set, found by tests of two sets.
 ghost use Rattle.std.specs.Prelude.{◌≡◌, ◌<◌, ◌^◌, length, map, IfOk};
-ghost use Rattle.std.specs.List.{count_by, filter};
+ghost use Rattle.std.specs.List.{count_by, filter, list_any};
+ghost use Rattle.bitmap.specs.Slots.{has_bit};
+ghost use Rattle.span.specs.Ids.{rank};
+ghost use Rattle.mesh_graph.specs.Groups.{are_compatible};
 ghost use Rattle.certificate.specs.Chosen.{has_chosen};
 ghost use Rattle.certificate.specs.Plans.{partners_of};
 
@@ -20,7 +23,9 @@ pub fn partners(
     ensures { IfOk result (λ found. found.items ≡ partners_of snapshot.now short.now) }
 {
     let chosen = IdSet::of(short.ids());
-    let found = partners_among(alloc, snapshot.abandoned(), &chosen, snapshot.owned())?;
+    // A short set is mostly small or empty, so its groups are taken out once, and not looked for at each owned group.
+    let members = members(alloc, snapshot.abandoned(), &chosen)?;
+    let found = partners_among(alloc, &members, snapshot.owned())?;
     Ok(found)
 }
 
@@ -33,19 +38,37 @@ pub(crate) fn partner_count(snapshot: &Snapshot, short: &[SpanId]) -> usize
     count_among(snapshot.abandoned(), &chosen, snapshot.owned())
 }
 
+/// The groups whose ids are in the set.
+fn members(alloc: Global, abandoned: &[Entry], chosen: &IdSet) -> Result<Vec<Entry>, AllocError>
+    ensures { IfOk result (λ found. found.items ≡ filter (λ x. has_bit chosen.now.words (rank x.id)) abandoned.now) }
+{
+    abandoned
+        .iter()
+        .filter(|entry| chosen.contains(entry.id))
+        .copied()
+        .collect(alloc)
+}
+
+/// The ids of the owned groups that are compatible with some member.
 fn partners_among(
     alloc: Global,
-    abandoned: &[Entry],
-    chosen: &IdSet,
+    members: &[Entry],
     owned: &[Entry],
 ) -> Result<Vec<SpanId>, AllocError>
-    ensures { IfOk result (λ found. found.items ≡ map (λ y. y.id) (filter (λ y. has_chosen chosen.now.words abandoned.now y) owned.now)) }
+    ensures { IfOk result (λ found. found.items ≡ map (λ y. y.id) (filter (λ y. list_any (λ x. are_compatible x y) members.now) owned.now)) }
 {
     owned
         .iter()
-        .filter(|entry| is_partner(abandoned, chosen, entry))
+        .filter(|entry| fits_some(members, entry))
         .map(|entry| entry.id)
         .collect(alloc)
+}
+
+/// Whether the owned group is compatible with some member.
+fn fits_some(members: &[Entry], owned: &Entry) -> bool
+    ensures { result ≡ list_any (λ x. are_compatible x owned.now) members.now }
+{
+    members.iter().any(|entry| entry.is_compatible(owned))
 }
 
 fn count_among(abandoned: &[Entry], chosen: &IdSet, owned: &[Entry]) -> usize
