@@ -3,7 +3,7 @@
 here=$(cd "$(dirname "${BASH_SOURCE[0]}")" && pwd)
 top=$(dirname "$here")
 built="$here/out/target/release"
-program="$top/crates/trace_runner/out/trace_runner"
+program="$top/crates/meshrun/out/meshrun"
 packages="librust-slab-dev librust-slotmap-dev librust-sharded-slab-dev libmimalloc2.0 libjemalloc2"
 
 # The peers, from Debian's packages; where all are there, nothing is asked of the network.

@@ -20,4 +20,3 @@ pub mod Recalls
 pub mod Replay
 pub mod Verdict
 pub mod Store
-pub mod Done

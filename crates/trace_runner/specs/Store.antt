@@ -19,7 +19,12 @@ IsSaved held None certificate old new = new ≡ old
 IsSaved held (Some path) [] old new = new ≡ old
 IsSaved held (Some path) (byte ∷ bytes) old new = Tells (held new path) (byte ∷ bytes) × KeepsOthers held path old new
 
--- at `Io` a write of the certificate may have failed; at another fault no file was written
-abbrev pub IsKeptBut : {D : Type 0} → (old new : D) → Fault → Type 0
-IsKeptBut old new fault.Io = ⊤
-IsKeptBut old new _ = new ≡ old
+-- all files hold what they held, but for that of the path, where there is one
+abbrev pub KeepsBut : {D : Type 0} → (held : D → List ℕ → Option (List ℕ)) → (path : Option (List ℕ)) → (old new : D) → Type 0
+KeepsBut held None old new = new ≡ old
+KeepsBut held (Some path) old new = KeepsOthers held path old new
+
+-- at `Io` the write of the file with this path may have failed, and the others are as they were; at another fault no file was written
+abbrev pub IsKeptBut : {D : Type 0} → (held : D → List ℕ → Option (List ℕ)) → (path : Option (List ℕ)) → (old new : D) → Fault → Type 0
+IsKeptBut held path old new fault.Io = KeepsBut held path old new
+IsKeptBut held path old new _ = new ≡ old

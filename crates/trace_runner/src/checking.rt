@@ -52,6 +52,3 @@ fn verdict_line(
     line.extend_from_slice(b"\n")?;
     Ok(line)
 }
-
-#[cfg(test)]
-mod tests;

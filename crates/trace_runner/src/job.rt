@@ -205,6 +205,3 @@ impl<'a> Job<'a> {
         Ok(job_of(&matches))
     }
 }
-
-#[cfg(test)]
-mod tests;

@@ -56,6 +56,3 @@ pub fn give<S: Sink>(sink: &mut S, bytes: &[u8]) -> Result<(), SinkFailed>
     }
     Ok(())
 }
-
-#[cfg(test)]
-mod tests;

@@ -113,6 +113,3 @@ pub fn tell<O: Sink, E: Sink>(
     give(err, message.as_slice())?;
     Ok(fault.status())
 }
-
-#[cfg(test)]
-mod tests;

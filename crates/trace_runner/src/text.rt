@@ -39,8 +39,6 @@ mod name;
 mod numeral;
 mod parsing;
 mod reading;
-#[cfg(test)]
-mod tests;
 mod trace;
 mod words;
 

@@ -88,6 +88,3 @@ pub(crate) fn report_text(
     push_ending(&mut text, ending)?;
     Ok(text)
 }
-
-#[cfg(test)]
-mod tests;

@@ -1,0 +1,170 @@
+//! Replays traces, and checks certificates of plans, for files.
+//!
+//! `meshrun run [TRACE] [--serial] [--replies] [--certificate FILE]` replays the trace of a file, or of its standard input
+//! where none is named, and `meshrun check FILE` checks a certificate. It ends with status 0 where the report was written,
+//! the certificate is accepted, or help was asked for; 1 where the text is no trace or no certificate, or the certificate
+//! is rejected; 2 where the words name no job, 3 where memory ran out, and 5 where a read or a write failed.
+//!
+//! All that it does is done by `trace_runner`; here files and words are read, which have no model, and the tests stand that
+//! go through all crates.
+#![tactic(auto)]
+
+ghost use Rattle.std.specs.Prelude.{◌≡◌, ◌<◌, ◌≤◌, ◌+◌, ◌-◌, ◌^◌, ℕ, List, Option, IfErr, IfOk, OnOk};
+ghost use Rattle.meshrun.specs.Done.{Does, IsDone, IsReplayed, certificate_of, status_of_verdict};
+ghost use Rattle.trace_runner.specs.Job.{shown};
+ghost use Rattle.trace_runner.specs.Store.{IsKeptBut};
+ghost use Rattle.trace_runner.specs.Verdict.{WritesVerdict};
+
+use std::env::{self, Env};
+use std::fs;
+use std::io::{self, Input, Read};
+use std::process::ExitCode;
+use std::rt::Files;
+use trace_runner::{Disk, Fault, Job, Out, Sink, Store, check_text, replay_serial, save, tell};
+
+/// The words after the program's own name.
+fn words_after_name(rt: &(impl Env + AllocGlobal)) -> io::Result<Vec<String>> {
+    let mut words = Vec::new(rt.alloc());
+    for word in env::args(rt)?.skip(1) {
+        words.push(word)?;
+    }
+    Ok(words)
+}
+
+/// The bytes of the file, or of standard input where no file is named.
+fn trace_text(rt: &(impl Files + Input + AllocGlobal), path: Option<&str>) -> io::Result<Vec<u8>> {
+    match path {
+        Some(path) => fs::read(rt, path),
+        None => {
+            let mut text = Vec::new(rt.alloc());
+            rt.reader().read_to_end(&mut text)?;
+            Ok(text)
+        }
+    }
+}
+
+/// Replays the trace of the file, or of standard input where no file is named, writes its report to `out`, and then the
+/// certificate of the last mark that planned, if there was one, to the file that is named for it.
+fn run_trace<R: Files + Input + AllocGlobal, S: Sink, D: Store>(
+    rt: &R,
+    path: Option<&str>,
+    replies: bool,
+    certificate: Option<&str>,
+    out: &mut S,
+    store: &mut D,
+) -> Result<(), Fault>
+    requires sink_room { S.failures out.old < 2 ^ 64 - 1 }
+    requires store_room { D.failures store.old < 2 ^ 64 - 1 }
+    ensures done { OnOk result (IsReplayed D.held replies (shown certificate.entry) (S.taken out.old) (S.taken out.new) store.old store.new) }
+    ensures succeeded { OnOk result (S.failures out.new ≡ S.failures out.old) }
+    ensures failures { S.failures out.new ≤ S.failures out.old + 1 }
+    ensures stored { OnOk result (D.failures store.new ≡ D.failures store.old) }
+    ensures store_failures { D.failures store.new ≤ D.failures store.old + 1 }
+    ensures kept { IfErr result (IsKeptBut D.held (shown certificate.entry) store.old store.new) }
+{
+    let text = trace_text(rt, path)?;
+    let mut bytes = Vec::new(rt.alloc());
+    replay_serial(rt.alloc(), &text, replies, out, &mut bytes)?;
+    save(store, certificate, &bytes)?;
+    Ok(())
+}
+
+/// Checks the certificate of the file, writes the verdict to `out`, and answers whether it is accepted.
+fn check_file<R: Files + AllocGlobal, S: Sink>(
+    rt: &R,
+    path: &str,
+    out: &mut S,
+) -> Result<bool, Fault>
+    requires { S.failures out.old < 2 ^ 64 - 1 }
+    ensures done { IfOk result (λ accepted. (text : List ℕ) × WritesVerdict text (S.taken out.old) (S.taken out.new) accepted) }
+    ensures succeeded { OnOk result (S.failures out.new ≡ S.failures out.old) }
+    ensures failures { S.failures out.new ≤ S.failures out.old + 1 }
+{
+    let text = fs::read(rt, path)?;
+    let accepted = check_text(rt.alloc(), &text, out)?;
+    Ok(accepted)
+}
+
+/// The status with which the program ends after a check.
+fn verdict_status(accepted: bool) -> u8
+    ensures { result ≡ status_of_verdict accepted }
+{
+    if accepted { 0 } else { 1 }
+}
+
+/// Does the job: writes to `out`, and to `store` where a file is named for the certificate, and answers the status with
+/// which the program ends: 1 where a certificate is rejected, and else 0.
+fn do_job<R: Files + Input + AllocGlobal, S: Sink, D: Store>(
+    rt: &R,
+    job: Job<'_>,
+    out: &mut S,
+    store: &mut D,
+) -> Result<u8, Fault>
+    requires sink_room { S.failures out.old < 2 ^ 64 - 1 }
+    requires store_room { D.failures store.old < 2 ^ 64 - 1 }
+    ensures done { IfOk result (Does D.held job.entry (S.taken out.old) (S.taken out.new) store.old store.new) }
+    ensures succeeded { OnOk result (S.failures out.new ≡ S.failures out.old) }
+    ensures failures { S.failures out.new ≤ S.failures out.old + 1 }
+    ensures stored { OnOk result (D.failures store.new ≡ D.failures store.old) }
+    ensures store_failures { D.failures store.new ≤ D.failures store.old + 1 }
+    ensures kept { IfErr result (IsKeptBut D.held (certificate_of job.entry) store.old store.new) }
+{
+    match job {
+        // Until calls run on threads, every run is serial.
+        Job::Run {
+            trace,
+            serial: _,
+            replies,
+            certificate,
+        } => {
+            run_trace(rt, trace, replies, certificate, out, store)?;
+            Ok(0)
+        }
+        Job::Check { file } => {
+            let accepted = check_file(rt, file, out)?;
+            Ok(verdict_status(accepted))
+        }
+    }
+}
+
+/// Does the job that the program's words name.
+fn do_named_job<R: Env + Files + Input + AllocGlobal, S: Sink, D: Store>(
+    rt: &R,
+    out: &mut S,
+    store: &mut D,
+) -> Result<u8, Fault>
+    requires sink_room { S.failures out.old < 2 ^ 64 - 1 }
+    requires store_room { D.failures store.old < 2 ^ 64 - 1 }
+    ensures done { IfOk result (IsDone D.held (S.taken out.old) (S.taken out.new) store.old store.new) }
+    ensures succeeded { OnOk result (S.failures out.new ≡ S.failures out.old) }
+    ensures failures { S.failures out.new ≤ S.failures out.old + 1 }
+    ensures stored { OnOk result (D.failures store.new ≡ D.failures store.old) }
+    ensures store_failures { D.failures store.new ≤ D.failures store.old + 1 }
+    ensures kept { IfErr result (λ fault. (path : Option (List ℕ)) × IsKeptBut D.held path store.old store.new fault) }
+{
+    let words = words_after_name(rt)?;
+    let mut texts = Vec::new(rt.alloc());
+    for word in &words {
+        texts.push(word.as_str())?;
+    }
+    let job = Job::from_words(rt.alloc(), &texts)?;
+    do_job(rt, job, out, store)
+}
+
+fn main(rt: HostRuntime) -> ExitCode {
+    let mut out = Out::new(rt.stdout());
+    let mut err = Out::new(rt.stderr());
+    let status = match do_named_job(&rt, &mut out, &mut Disk::new(&rt)) {
+        Ok(status) => status,
+        Err(fault) => match tell(rt.alloc(), &fault, &mut out, &mut err) {
+            Ok(status) => status,
+            Err(error) => error.status(),
+        },
+    };
+    ExitCode::from(status)
+}
+
+#[cfg(test)]
+mod tests;
+#[cfg(test)]
+mod tour;

@@ -1,7 +1,0 @@
-use Rattle.std.proofs.Common.{refl, subst, sym}
-use Rattle.trace_runner.specs.Done.{Does}
-use Rattle.trace_runner.proofs.do_job.Goals as goal
-
-pub returns-in_ok-run_trace-in-Run-clause-done : goal.returns-in_ok-run_trace-in-Run-clause-done
-returns-in_ok-run_trace-in-Run-clause-done g c =
-    subst (λ job. Does g.D.Store.held job (g.S.Sink.taken c.args.out.now) (g.S.Sink.taken c.run_trace.new.out) c.args.store.now c.run_trace.new.store 0) (sym c.in-Run.is) (c.in_ok-run_trace-in-Run.ensures.done, refl)
