@@ -2,6 +2,10 @@
 use Rattle.std.specs.Prelude.{◌≡◌, ℕ, Bool, true, false, List, ◌++◌, Option, codes, if◌then◌else◌, ⊤}
 use Rattle.std.specs.Fmt.{decimal}
 use Rattle.std.specs.Io.KnownBytes.{Appends}
+use Rattle.std.specs.IoError.{error_kind}
+use Rattle.std.specs.declared.io.Error.{Error}
+use Rattle.std.specs.declared.io.ErrorKind as io_kind
+use Rattle.std.specs.declared.io.ErrorKind.TheVariants as io_kinds
 use Rattle.clap.specs.Words.{kind_of}
 use Rattle.clap.specs.declared.error.kind.ErrorKind.{ErrorKind}
 use Rattle.clap.specs.declared.error.kind.ErrorKind.TheVariants as kind
@@ -49,6 +53,15 @@ fault_of_check check_error.SinkFailed = fault.SinkFailed
 abbrev pub fault_of_job : JobError → Fault
 fault_of_job job_error.OutOfMemory = fault.OutOfMemory
 fault_of_job (job_error.Words error) = fault.Words error
+
+-- the system says that memory ran out
+abbrev pub is_want_of_memory : io_kind.ErrorKind → Bool
+is_want_of_memory io_kinds.OutOfMemory = true
+is_want_of_memory _ = false
+
+-- the program's fault where a file or standard input could not be read
+abbrev pub fault_of_io : Error → Fault
+fault_of_io error = if is_want_of_memory (error_kind error) then fault.OutOfMemory else fault.Io
 
 -- help or the version was asked for
 abbrev pub is_request : ErrorKind → Bool

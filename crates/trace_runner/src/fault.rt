@@ -4,7 +4,7 @@ ghost use Rattle.std.specs.Prelude.{◌≡◌};
 ghost use Rattle.trace_runner.specs.declared.fault.Fault.TheVariants as fault;
 ghost use Rattle.trace_runner.specs.declared.fault.ReplayError.TheVariants as replay_error;
 ghost use Rattle.trace_runner.specs.declared.fault.CheckError.TheVariants as check_error;
-ghost use Rattle.trace_runner.specs.Telling.{fault_of_check, fault_of_job, fault_of_replay, stop_of_parse, stop_of_read};
+ghost use Rattle.trace_runner.specs.Telling.{fault_of_check, fault_of_io, fault_of_job, fault_of_replay, stop_of_parse, stop_of_read};
 
 use crate::job::JobError;
 use crate::sink::SinkFailed;
@@ -221,6 +221,8 @@ impl<T: Drop> From<AllocFailed<T>> for Fault {
 }
 
 impl From<io::Error> for Fault {
+    ghost from_gives = { λ error stop. stop ≡ fault_of_io error };
+
     fn from(error: io::Error) -> Fault {
         match error.kind() {
             io::ErrorKind::OutOfMemory => Fault::OutOfMemory,

@@ -166,8 +166,9 @@ fn rejected(rt: HostRuntime) -> Result<(), Fail> {
         // 1 + 2 is not 3 + 1, and 0 + 3 is not.
         (10, "short 2", 13),
         (8, "folds 0", 9),
-        // 4.0 is no owned group.
+        // 4.0 is no owned group, and 2.1 no abandoned one.
         (9, "0.0 4.0", 0),
+        (13, "2.1", 0),
     ] {
         let text = with_line(rt.alloc(), number, line, left_out)?;
         answers(&rt, &text, 1, "rejected")?;
@@ -192,6 +193,8 @@ fn no_certificates(rt: HostRuntime) -> Result<(), Fail> {
             "3.0 020000000000000000000000000000000000000000000000000000000000000A",
             "line 7: set",
         ),
+        // A word that is no id comes before one that is out of range.
+        (9, "64.0 x", "line 9: form"),
         (12, "0.0", "line 12: order"),
         (14, "end\nend", "line 15: tail"),
     ] {
