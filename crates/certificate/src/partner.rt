@@ -23,7 +23,7 @@ pub fn partners(
     ensures { IfOk result (λ found. found.items ≡ partners_of snapshot.now short.now) }
 {
     let chosen = IdSet::of(short.ids());
-    // A short set is mostly small or empty, so its groups are taken out once, and not looked for at each owned group.
+    // Taken out once, so that each owned group is tested with these alone.
     let members = members(alloc, snapshot.abandoned(), &chosen)?;
     let found = partners_among(alloc, &members, snapshot.owned())?;
     Ok(found)
