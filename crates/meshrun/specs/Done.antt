@@ -1,10 +1,15 @@
--- What the program has written where it did its job.
-use Rattle.std.specs.Prelude.{◌≡◌, ℕ, Bool, true, false, List, Option, None}
+-- What the program has written where it did its job, and where it came to a halt.
+use Rattle.std.specs.Prelude.{◌≡◌, ◌+◌, ◌⊎◌, ℕ, Bool, true, false, List, Option, Err, ⊤}
 use Rattle.clap.specs.Walk.{Text}
+use Rattle.certificate.specs.Grammar.{certificate_in}
+use Rattle.certificate.specs.declared.text.cause.ReadError.TheVariants as read_error
 use Rattle.trace_runner.specs.Job.{IsJobOf, shown}
-use Rattle.trace_runner.specs.Replay.{WritesReport}
-use Rattle.trace_runner.specs.Store.{IsSaved}
-use Rattle.trace_runner.specs.Verdict.{WritesVerdict}
+use Rattle.trace_runner.specs.Replay.{WritesFront, WritesReport}
+use Rattle.trace_runner.specs.Store.{IsSaved, KeepsBut}
+use Rattle.trace_runner.specs.Trace.{IsFaultAt}
+use Rattle.trace_runner.specs.Verdict.{WritesVerdict, WritesVerdictFront}
+use Rattle.trace_runner.specs.declared.fault.Fault.{Fault}
+use Rattle.trace_runner.specs.declared.fault.Fault.TheVariants as fault
 use Rattle.trace_runner.specs.declared.job.Job.{Job}
 use Rattle.trace_runner.specs.declared.job.Job.TheVariants.{Run, Check}
 
@@ -12,11 +17,6 @@ use Rattle.trace_runner.specs.declared.job.Job.TheVariants.{Run, Check}
 abbrev pub status_of_verdict : Bool → ℕ
 status_of_verdict true = 0
 status_of_verdict false = 1
-
--- the file that the job names for a certificate
-abbrev pub certificate_of : Job → Option Text
-certificate_of (Run trace serial replies certificate) = shown certificate
-certificate_of (Check file) = None
 
 module _ {D : Type 0} (held : D → List ℕ → Option (List ℕ)) where
   -- a trace was replayed with this report, and the certificate of its last mark that planned is in the file that is named for it
@@ -33,3 +33,49 @@ module _ {D : Type 0} (held : D → List ℕ → Option (List ℕ)) where
   -- the job that words name was done
   abbrev pub IsDone : (old new : Option (List ℕ)) → (before after : D) → (status : ℕ) → Type 0
   IsDone old new before after status = (words : List Text) × (job : Job) × IsJobOf words job × Does job old new before after status
+
+-- where a check came to a halt: at a sink that failed, once, with a front of the verdict's line taken; at the fault of a text; or for want of
+-- memory or of a file that could be read; but for the first with nothing taken
+abbrev pub HaltsCheck : (failures_old failures_new : ℕ) → (old new : Option (List ℕ)) → Fault → Type 0
+HaltsCheck failures_old failures_new old new fault.SinkFailed = (failures_new ≡ failures_old + 1) × ((text : List ℕ) × WritesVerdictFront text old new)
+HaltsCheck failures_old failures_new old new (fault.BadCertificate line cause) = ((text : List ℕ) × (certificate_in text ≡ Err (read_error.BadCertificate line cause))) × (failures_new ≡ failures_old) × (new ≡ old)
+HaltsCheck failures_old failures_new old new fault.OutOfMemory = (failures_new ≡ failures_old) × (new ≡ old)
+HaltsCheck failures_old failures_new old new fault.Io = (failures_new ≡ failures_old) × (new ≡ old)
+HaltsCheck failures_old failures_new old new _ = ⊥
+
+-- what keeps words from naming a job: they name none, memory ran out, or they could not be read
+abbrev pub IsOfWords : Fault → Type 0
+IsOfWords (fault.Words error) = ⊤
+IsOfWords fault.OutOfMemory = ⊤
+IsOfWords fault.Io = ⊤
+IsOfWords _ = ⊥
+
+module _ {D : Type 0} (held : D → List ℕ → Option (List ℕ)) (failures : D → ℕ) where
+  -- nothing was written, and no write failed
+  abbrev pub IsUntouched : (failures_old failures_new : ℕ) → (old new : Option (List ℕ)) → (before after : D) → Type 0
+  IsUntouched failures_old failures_new old new before after = (failures_new ≡ failures_old) × (new ≡ old) × (after ≡ before)
+
+  -- the report was written whole; the write of the certificate's file failed, once, and the other files are as they were
+  abbrev pub IsUnsaved : (replies : Bool) → (certificate : Option Text) → (failures_old failures_new : ℕ) → (old new : Option (List ℕ)) → (before after : D) → Type 0
+  IsUnsaved replies certificate failures_old failures_new old new before after =
+      (failures_new ≡ failures_old) × ((text : List ℕ) × (bytes : List ℕ) × WritesReport text replies old new bytes) × (failures after ≡ failures before + 1) × KeepsBut held certificate before after
+
+  -- where a run came to a halt: at a sink that failed, once, with a front of the report taken and no file written; at a file that
+  -- could not be read, or that of the certificate, which could not be written; or with nothing written at the fault of a text, or for want of memory
+  abbrev pub HaltsRun : (replies : Bool) → (certificate : Option Text) → (failures_old failures_new : ℕ) → (old new : Option (List ℕ)) → (before after : D) → Fault → Type 0
+  HaltsRun replies certificate failures_old failures_new old new before after fault.SinkFailed = (failures_new ≡ failures_old + 1) × ((text : List ℕ) × WritesFront text replies old new) × (after ≡ before)
+  HaltsRun replies certificate failures_old failures_new old new before after fault.Io =
+      IsUntouched failures_old failures_new old new before after ⊎ IsUnsaved replies certificate failures_old failures_new old new before after
+  HaltsRun replies certificate failures_old failures_new old new before after (fault.BadTrace line cause) = ((text : List ℕ) × IsFaultAt text line cause) × IsUntouched failures_old failures_new old new before after
+  HaltsRun replies certificate failures_old failures_new old new before after fault.OutOfMemory = IsUntouched failures_old failures_new old new before after
+  HaltsRun replies certificate failures_old failures_new old new before after _ = ⊥
+
+  -- where the job came to a halt; a check writes no file
+  abbrev pub Halts : Job → (failures_old failures_new : ℕ) → (old new : Option (List ℕ)) → (before after : D) → Fault → Type 0
+  Halts (Run trace serial replies certificate) failures_old failures_new old new before after stop = HaltsRun replies (shown certificate) failures_old failures_new old new before after stop
+  Halts (Check file) failures_old failures_new old new before after stop = HaltsCheck failures_old failures_new old new stop × (after ≡ before)
+
+  -- no job was begun, and nothing was written; or the job that words name came to a halt
+  abbrev pub IsHalted : (failures_old failures_new : ℕ) → (old new : Option (List ℕ)) → (before after : D) → Fault → Type 0
+  IsHalted failures_old failures_new old new before after stop =
+      (IsOfWords stop × IsUntouched failures_old failures_new old new before after) ⊎ ((words : List Text) × (job : Job) × IsJobOf words job × Halts job failures_old failures_new old new before after stop)

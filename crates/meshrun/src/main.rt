@@ -9,10 +9,9 @@
 //! go through all crates.
 #![tactic(auto)]
 
-ghost use Rattle.std.specs.Prelude.{◌≡◌, ◌<◌, ◌≤◌, ◌+◌, ◌-◌, ◌^◌, ℕ, List, Option, IfErr, IfOk, OnOk};
-ghost use Rattle.meshrun.specs.Done.{Does, IsDone, IsReplayed, certificate_of, status_of_verdict};
+ghost use Rattle.std.specs.Prelude.{◌≡◌, ◌<◌, ◌≤◌, ◌+◌, ◌-◌, ◌^◌, ℕ, List, IfErr, IfOk, OnOk};
+ghost use Rattle.meshrun.specs.Done.{Does, Halts, HaltsCheck, HaltsRun, IsDone, IsHalted, IsReplayed, status_of_verdict};
 ghost use Rattle.trace_runner.specs.Job.{shown};
-ghost use Rattle.trace_runner.specs.Store.{IsKeptBut};
 ghost use Rattle.trace_runner.specs.Verdict.{WritesVerdict};
 
 use std::env::{self, Env};
@@ -60,7 +59,7 @@ fn run_trace<R: Files + Input + AllocGlobal, S: Sink, D: Store>(
     ensures failures { S.failures out.new ≤ S.failures out.old + 1 }
     ensures stored { OnOk result (D.failures store.new ≡ D.failures store.old) }
     ensures store_failures { D.failures store.new ≤ D.failures store.old + 1 }
-    ensures kept { IfErr result (IsKeptBut D.held (shown certificate.entry) store.old store.new) }
+    ensures err { IfErr result (HaltsRun D.held D.failures replies (shown certificate.entry) (S.failures out.old) (S.failures out.new) (S.taken out.old) (S.taken out.new) store.old store.new) }
 {
     let text = trace_text(rt, path)?;
     let mut bytes = Vec::new(rt.alloc());
@@ -79,6 +78,7 @@ fn check_file<R: Files + AllocGlobal, S: Sink>(
     ensures done { IfOk result (λ accepted. (text : List ℕ) × WritesVerdict text (S.taken out.old) (S.taken out.new) accepted) }
     ensures succeeded { OnOk result (S.failures out.new ≡ S.failures out.old) }
     ensures failures { S.failures out.new ≤ S.failures out.old + 1 }
+    ensures err { IfErr result (HaltsCheck (S.failures out.old) (S.failures out.new) (S.taken out.old) (S.taken out.new)) }
 {
     let text = fs::read(rt, path)?;
     let accepted = check_text(rt.alloc(), &text, out)?;
@@ -107,7 +107,7 @@ fn do_job<R: Files + Input + AllocGlobal, S: Sink, D: Store>(
     ensures failures { S.failures out.new ≤ S.failures out.old + 1 }
     ensures stored { OnOk result (D.failures store.new ≡ D.failures store.old) }
     ensures store_failures { D.failures store.new ≤ D.failures store.old + 1 }
-    ensures kept { IfErr result (IsKeptBut D.held (certificate_of job.entry) store.old store.new) }
+    ensures err { IfErr result (Halts D.held D.failures job.entry (S.failures out.old) (S.failures out.new) (S.taken out.old) (S.taken out.new) store.old store.new) }
 {
     match job {
         // Until calls run on threads, every run is serial.
@@ -140,7 +140,7 @@ fn do_named_job<R: Env + Files + Input + AllocGlobal, S: Sink, D: Store>(
     ensures failures { S.failures out.new ≤ S.failures out.old + 1 }
     ensures stored { OnOk result (D.failures store.new ≡ D.failures store.old) }
     ensures store_failures { D.failures store.new ≤ D.failures store.old + 1 }
-    ensures kept { IfErr result (λ fault. (path : Option (List ℕ)) × IsKeptBut D.held path store.old store.new fault) }
+    ensures err { IfErr result (IsHalted D.held D.failures (S.failures out.old) (S.failures out.new) (S.taken out.old) (S.taken out.new) store.old store.new) }
 {
     let words = words_after_name(rt)?;
     let mut texts = Vec::new(rt.alloc());

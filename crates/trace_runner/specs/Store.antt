@@ -1,7 +1,5 @@
 -- What becomes of the file that is named for a certificate.
 use Rattle.std.specs.Prelude.{◌≡◌, ◌≢◌, ℕ, List, [], ◌∷◌, Option, Some, None, ⊤}
-use Rattle.trace_runner.specs.declared.fault.Fault.{Fault}
-use Rattle.trace_runner.specs.declared.fault.Fault.TheVariants as fault
 
 -- if a file's bytes are told, they are these
 abbrev pub Tells : Option (List ℕ) → List ℕ → Type 0
@@ -23,8 +21,3 @@ IsSaved held (Some path) (byte ∷ bytes) old new = Tells (held new path) (byte 
 abbrev pub KeepsBut : {D : Type 0} → (held : D → List ℕ → Option (List ℕ)) → (path : Option (List ℕ)) → (old new : D) → Type 0
 KeepsBut held None old new = new ≡ old
 KeepsBut held (Some path) old new = KeepsOthers held path old new
-
--- at `Io` the write of the file with this path may have failed, and the others are as they were; at another fault no file was written
-abbrev pub IsKeptBut : {D : Type 0} → (held : D → List ℕ → Option (List ℕ)) → (path : Option (List ℕ)) → (old new : D) → Fault → Type 0
-IsKeptBut held path old new fault.Io = KeepsBut held path old new
-IsKeptBut held path old new _ = new ≡ old
