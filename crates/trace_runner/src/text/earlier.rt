@@ -122,30 +122,19 @@ impl Earlier {
         ensures awaits { self.new.awaits_mark ≡ self.old.awaits_mark }
     {
         let section = self.section;
+        let binding = |keys| Binding {
+            keys,
+            thread,
+            section,
+            line: place,
+        };
         match call {
             Call::Put { name, .. } => {
-                let keys = Keys::One;
-                self.names.insert(
-                    name.clone()?,
-                    Binding {
-                        keys,
-                        thread,
-                        section,
-                        line: place,
-                    },
-                )?;
+                self.names.insert(name.clone()?, binding(Keys::One))?;
             }
             Call::Fill { name, count, .. } => {
-                let keys = Keys::Many(*count);
-                self.names.insert(
-                    name.clone()?,
-                    Binding {
-                        keys,
-                        thread,
-                        section,
-                        line: place,
-                    },
-                )?;
+                self.names
+                    .insert(name.clone()?, binding(Keys::Many(*count)))?;
             }
             Call::End => {
                 self.ended.insert(thread)?;
