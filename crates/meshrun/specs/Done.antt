@@ -34,8 +34,8 @@ module _ {D : Type 0} (held : D → List ℕ → Option (List ℕ)) where
   abbrev pub IsDone : (old new : Option (List ℕ)) → (before after : D) → (status : ℕ) → Type 0
   IsDone old new before after status = (words : List Text) × (job : Job) × IsJobOf words job × Does job old new before after status
 
--- where a check came to a halt: at a sink that failed, once, with a front of the verdict's line taken; at the fault of a text; or for want of
--- memory or of a file that could be read; but for the first with nothing taken
+-- where a check came to a halt: at a sink that failed, once, with a front of the verdict's line taken; or with nothing taken, where a text was
+-- at fault, memory ran out, or the file could not be read
 abbrev pub HaltsCheck : (failures_old failures_new : ℕ) → (old new : Option (List ℕ)) → Fault → Type 0
 HaltsCheck failures_old failures_new old new fault.SinkFailed = (failures_new ≡ failures_old + 1) × ((text : List ℕ) × WritesVerdictFront text old new)
 HaltsCheck failures_old failures_new old new (fault.BadCertificate line cause) = ((text : List ℕ) × (certificate_in text ≡ Err (read_error.BadCertificate line cause))) × (failures_new ≡ failures_old) × (new ≡ old)
