@@ -5,7 +5,7 @@ use Rattle.certificate.specs.Grammar.{certificate_in}
 use Rattle.certificate.specs.declared.text.cause.ReadError.TheVariants as read_error
 use Rattle.trace_runner.specs.Job.{IsJobOf, shown}
 use Rattle.trace_runner.specs.Replay.{WritesFront, WritesReport}
-use Rattle.trace_runner.specs.Store.{IsSaved, KeepsBut}
+use Rattle.trace_runner.specs.Store.{IsSaved, IsUnsaved}
 use Rattle.trace_runner.specs.Trace.{IsFaultAt}
 use Rattle.trace_runner.specs.Verdict.{WritesVerdict, WritesVerdictFront}
 use Rattle.trace_runner.specs.declared.fault.Fault.{Fault}
@@ -55,17 +55,17 @@ module _ {D : Type 0} (held : D → List ℕ → Option (List ℕ)) (failures : 
   abbrev pub IsUntouched : (failures_old failures_new : ℕ) → (old new : Option (List ℕ)) → (before after : D) → Type 0
   IsUntouched failures_old failures_new old new before after = (failures_new ≡ failures_old) × (new ≡ old) × (after ≡ before)
 
-  -- the report was written whole; the write of the certificate's file failed, once, and the other files are as they were
-  abbrev pub IsUnsaved : (replies : Bool) → (certificate : Option Text) → (failures_old failures_new : ℕ) → (old new : Option (List ℕ)) → (before after : D) → Type 0
-  IsUnsaved replies certificate failures_old failures_new old new before after =
-      (failures_new ≡ failures_old) × ((text : List ℕ) × (bytes : List ℕ) × WritesReport text replies old new bytes) × (failures after ≡ failures before + 1) × KeepsBut held certificate before after
+  -- the report was written whole; there was a certificate, whose file could not be written: that failed once, and the other files are as they were
+  abbrev pub IsReplayedUnsaved : (replies : Bool) → (certificate : Option Text) → (failures_old failures_new : ℕ) → (old new : Option (List ℕ)) → (before after : D) → Type 0
+  IsReplayedUnsaved replies certificate failures_old failures_new old new before after =
+      (failures_new ≡ failures_old) × ((text : List ℕ) × (bytes : List ℕ) × WritesReport text replies old new bytes × IsUnsaved held certificate bytes before after) × (failures after ≡ failures before + 1)
 
   -- where a run came to a halt: at a sink that failed, once, with a front of the report taken and no file written; at a file that
   -- could not be read, or that of the certificate, which could not be written; or with nothing written at the fault of a text, or for want of memory
   abbrev pub HaltsRun : (replies : Bool) → (certificate : Option Text) → (failures_old failures_new : ℕ) → (old new : Option (List ℕ)) → (before after : D) → Fault → Type 0
   HaltsRun replies certificate failures_old failures_new old new before after fault.SinkFailed = (failures_new ≡ failures_old + 1) × ((text : List ℕ) × WritesFront text replies old new) × (after ≡ before)
   HaltsRun replies certificate failures_old failures_new old new before after fault.Io =
-      IsUntouched failures_old failures_new old new before after ⊎ IsUnsaved replies certificate failures_old failures_new old new before after
+      IsUntouched failures_old failures_new old new before after ⊎ IsReplayedUnsaved replies certificate failures_old failures_new old new before after
   HaltsRun replies certificate failures_old failures_new old new before after (fault.BadTrace line cause) = ((text : List ℕ) × IsFaultAt text line cause) × IsUntouched failures_old failures_new old new before after
   HaltsRun replies certificate failures_old failures_new old new before after fault.OutOfMemory = IsUntouched failures_old failures_new old new before after
   HaltsRun replies certificate failures_old failures_new old new before after _ = ⊥

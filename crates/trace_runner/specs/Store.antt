@@ -17,7 +17,7 @@ IsSaved held None certificate old new = new ≡ old
 IsSaved held (Some path) [] old new = new ≡ old
 IsSaved held (Some path) (byte ∷ bytes) old new = Tells (held new path) (byte ∷ bytes) × KeepsOthers held path old new
 
--- all files hold what they held, but for that of the path, where there is one
-abbrev pub KeepsBut : {D : Type 0} → (held : D → List ℕ → Option (List ℕ)) → (path : Option (List ℕ)) → (old new : D) → Type 0
-KeepsBut held None old new = new ≡ old
-KeepsBut held (Some path) old new = KeepsOthers held path old new
+-- there was a certificate to write and a file named for it, of which nothing is known now; the others hold what they held
+abbrev pub IsUnsaved : {D : Type 0} → (held : D → List ℕ → Option (List ℕ)) → (path : Option (List ℕ)) → (certificate : List ℕ) → (old new : D) → Type 0
+IsUnsaved held (Some path) (byte ∷ bytes) old new = KeepsOthers held path old new
+IsUnsaved held _ _ old new = ⊥

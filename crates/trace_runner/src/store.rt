@@ -1,7 +1,7 @@
 //! Where the certificate of a run goes.
 
 ghost use Rattle.std.specs.Prelude.{◌≡◌, ◌<◌, ◌+◌, ◌-◌, ◌^◌, List, ℕ, Option, None, OnErr, OnOk};
-ghost use Rattle.trace_runner.specs.Store.{IsSaved, KeepsBut, KeepsOthers, Tells};
+ghost use Rattle.trace_runner.specs.Store.{IsSaved, IsUnsaved, KeepsOthers, Tells};
 ghost use Rattle.trace_runner.specs.Job.{shown};
 
 use std::fs;
@@ -76,7 +76,7 @@ pub fn save<D: Store>(
     ensures saved { OnOk result (IsSaved D.held (shown path.entry) certificate.now store.old store.new) }
     ensures succeeded { OnOk result (D.failures store.new ≡ D.failures store.old) }
     ensures failed { OnErr result (D.failures store.new ≡ D.failures store.old + 1) }
-    ensures kept { OnErr result (KeepsBut D.held (shown path.entry) store.old store.new) }
+    ensures unsaved { OnErr result (IsUnsaved D.held (shown path.entry) certificate.now store.old store.new) }
 {
     match path {
         Some(path) if !certificate.is_empty() => store.write(path, certificate),
