@@ -17,6 +17,7 @@ use Rattle.arena_core.specs.declared.reply.Reply.TheVariants.{Issued, Found, Fre
 use Rattle.trace_runner.specs.declared.report.Answer.{Answer}
 use Rattle.trace_runner.specs.declared.report.Answer.TheVariants as answer
 use Rattle.trace_runner.specs.declared.report.LineAnswer.{LineAnswer}
+use Rattle.trace_runner.specs.declared.text.line.Binding.{Binding}
 use Rattle.trace_runner.specs.declared.text.line.Call.{Call}
 use Rattle.trace_runner.specs.declared.text.line.Call.TheVariants.{Put, Fill, Get, Free, Sweep, End}
 use Rattle.trace_runner.specs.declared.text.line.Line.{Line}
@@ -30,9 +31,13 @@ abbrev pub key_made : Made → Option Key
 key_made (Called event (Issued key) core) = Some key
 key_made made = None
 
--- the key of a name and a place: what that put of the line that binds the name gave out
+-- what the put at a place of the line that binds a name gave out
+abbrev pub key_bound : List Did → ℕ → Binding → Option Key
+key_bound done place binding = option_and_then (λ did. option_and_then key_made (slice_get did.calls place)) (slice_get done binding.line)
+
+-- the key of a name and a place
 abbrev pub key_at : List Line → List Did → List ℕ → ℕ → Option Key
-key_at lines done name place = option_and_then (λ binding. option_and_then (λ did. option_and_then key_made (slice_get did.calls place)) (slice_get done binding.line)) (binding_of name lines)
+key_at lines done name place = option_and_then (λ binding. key_bound done place binding) (binding_of name lines)
 
 -- the key that a reference names; a plain name is that of its only put
 abbrev pub key_of : List Line → List Did → Reference → Option Key

@@ -1,6 +1,6 @@
 //! Runs the lines of a trace on a core.
 
-ghost use Rattle.std.specs.Prelude.{◌≡◌, ◌+◌, ◌-◌, ◌≤◌, ◌^◌, ◌<◌, ◌&&◌, ◌||◌, ◌==◌, ◌++◌, [], ◌∷◌, true, false, not, List, ℕ, Some, None, filter, map, OnOk, IfOk, length, nat_lt, slice_get, slice_range, take, unwrap_or, if◌then◌else◌};
+ghost use Rattle.std.specs.Prelude.{◌≡◌, ◌+◌, ◌-◌, ◌≤◌, ◌^◌, ◌<◌, ◌&&◌, ◌||◌, ◌==◌, ◌++◌, [], ◌∷◌, true, false, not, List, ℕ, Some, None, filter, map, OnOk, IfOk, length, nat_lt, option_and_then, slice_get, slice_range, take, unwrap_or, if◌then◌else◌};
 ghost use Rattle.std.specs.List.{range_with_len};
 ghost use Rattle.arena_core.specs.State.{CoreState};
 ghost use Rattle.trace_runner.specs.Barrier.{is_barrier};
@@ -8,13 +8,13 @@ ghost use Rattle.trace_runner.specs.Recalls.{CanLeave, Carries, EndsBelow, EndsO
 ghost use Rattle.trace_runner.specs.Causes.{call_ends, ends, first_cause, is_adopt, is_call_over};
 ghost use Rattle.trace_runner.specs.Made.{Did, Called, Calls, Keyless, Leaves};
 ghost use Rattle.trace_runner.specs.News.{News};
-ghost use Rattle.trace_runner.specs.Runs.{IsRun, answer_to, asked_by, asked_by_call, ends_asked, finishing, on_key, IsTold, key_at, key_of};
+ghost use Rattle.trace_runner.specs.Runs.{IsRun, answer_to, asked_by, asked_by_call, ends_asked, finishing, on_key, IsTold, key_at, key_bound, key_of};
 ghost use Rattle.arena_core.specs.declared.event.Event.TheVariants as event;
 ghost use Rattle.arena_core.specs.declared.event.Event.{Event};
 
 use crate::plans::Plans;
 use crate::report::{Answer, LineAnswer, PlanNote};
-use crate::text::{Call, Line, Name, Reference, Trace};
+use crate::text::{Binding, Call, Line, Name, Reference, Trace};
 use arena_core::{Core, Event, Refusal, Reply};
 use span::Key;
 use std::alloc::{AllocError, Global};
@@ -135,13 +135,12 @@ impl<'t> Run<'t> {
         }
     }
 
-    /// The key of a name and a place.
-    fn key_named(&self, name: &Name, place: u32) -> Option<Key>
+    /// The key that a put of the line that binds a name gave out.
+    fn key_bound(&self, binding: Option<Binding>, place: u32) -> Option<Key>
         requires { IsRunning self.now.answers.items self.now.starts.items }
-        ensures { (done : List Did) → Recalls done self.now.answers.items self.now.starts.items → result ≡ key_at self.now.trace.now.lines.items done name.now place }
+        ensures { (done : List Did) → Recalls done self.now.answers.items self.now.starts.items → result ≡ option_and_then (λ binding. key_bound done place binding) binding }
     {
-        let line = self.trace.binding(name)?.line;
-        self.key_at(line, place as usize)
+        self.key_at(binding?.line, place as usize)
     }
 
     /// The key that a reference names.
@@ -149,38 +148,35 @@ impl<'t> Run<'t> {
         requires { IsRunning self.now.answers.items self.now.starts.items }
         ensures { (done : List Did) → Recalls done self.now.answers.items self.now.starts.items → result ≡ key_of self.now.trace.now.lines.items done reference.now }
     {
-        self.key_named(&reference.name, reference.index.unwrap_or(0))
+        let binding = self.trace.binding(&reference.name);
+        self.key_bound(binding, reference.index.unwrap_or(0))
     }
 
-    /// Frees the key of a name and a place.
-    fn free(&mut self, number: usize, name: &Name, place: u32) -> Result<(), AllocError>
-        requires running { IsRunning self.old.answers.items self.old.starts.items }
-        ensures made { (done : List Did) → Recalls done self.old.answers.items self.old.starts.items
-            → OnOk result (Makes number (on_key event.Free (key_at self.old.trace.now.lines.items done name.now place) ∷ []) self.old.core self.old.answers.items self.new.core self.new.answers.items) }
+    /// Frees the key, where it was given out.
+    fn free(&mut self, number: usize, key: Option<Key>) -> Result<(), AllocError>
+        ensures made { OnOk result (Makes number (on_key event.Free key ∷ []) self.old.core self.old.answers.items self.new.core self.new.answers.items) }
         ensures starts { self.new.starts ≡ self.old.starts }
         ensures shards { KeepsPlan self.old.core self.new.core }
         ensures plans { self.new.plans ≡ self.old.plans }
         ensures leaving { self.new.leaving ≡ self.old.leaving }
         ensures trace { self.new.trace.now ≡ self.old.trace.now }
     {
-        match self.key_named(name, place) {
+        match key {
             Some(key) => self.call(number, Event::Free { key }),
             None => self.skip(number),
         }
     }
 
-    /// Looks the key of a reference up.
-    fn get(&mut self, number: usize, reference: &Reference) -> Result<(), AllocError>
-        requires running { IsRunning self.old.answers.items self.old.starts.items }
-        ensures made { (done : List Did) → Recalls done self.old.answers.items self.old.starts.items
-            → OnOk result (Makes number (on_key event.Get (key_of self.old.trace.now.lines.items done reference.now) ∷ []) self.old.core self.old.answers.items self.new.core self.new.answers.items) }
+    /// Looks the key up, where it was given out.
+    fn get(&mut self, number: usize, key: Option<Key>) -> Result<(), AllocError>
+        ensures made { OnOk result (Makes number (on_key event.Get key ∷ []) self.old.core self.old.answers.items self.new.core self.new.answers.items) }
         ensures starts { self.new.starts ≡ self.old.starts }
         ensures shards { KeepsPlan self.old.core self.new.core }
         ensures plans { self.new.plans ≡ self.old.plans }
         ensures leaving { self.new.leaving ≡ self.old.leaving }
         ensures trace { self.new.trace.now ≡ self.old.trace.now }
     {
-        match self.key_of(reference) {
+        match key {
             Some(key) => self.call(number, Event::Get { key }),
             None => self.skip(number),
         }
@@ -197,8 +193,10 @@ impl<'t> Run<'t> {
         ensures leaving { self.new.leaving ≡ self.old.leaving }
         ensures trace { self.new.trace.now ≡ self.old.trace.now }
     {
+        let binding = self.trace.binding(name);
         for place in from..to {
-            self.free(number, name, place)?;
+            let key = self.key_bound(binding, place);
+            self.free(number, key)?;
         }
         Ok(())
     }
@@ -242,8 +240,14 @@ impl<'t> Run<'t> {
                 },
             ),
             Call::Fill { count, value, .. } => self.fill(number, thread, *count, *value),
-            Call::Get { key } => self.get(number, key),
-            Call::Free { key } => self.free(number, &key.name, key.index.unwrap_or(0)),
+            Call::Get { key } => {
+                let key = self.key_of(key);
+                self.get(number, key)
+            }
+            Call::Free { key } => {
+                let key = self.key_of(key);
+                self.free(number, key)
+            }
             Call::Sweep { name, from, to } => self.sweep(number, name, *from, *to),
             Call::End => self.leave(number, thread),
         }

@@ -4,7 +4,6 @@ use Rattle.std.proofs.lemmas.List.FromFn.{map-range_with_len_more}
 use Rattle.trace_runner.specs.Recalls.{Makes, Recalls}
 use Rattle.trace_runner.specs.Made.{Asked, Did}
 use Rattle.trace_runner.specs.Runs.{key_at, on_key}
-use Rattle.trace_runner.specs.declared.text.line.Line.{Line}
 use Rattle.arena_core.specs.declared.event.Event.TheVariants as event
 use Rattle.trace_runner.proofs.Making.{Makes-append, Recalls-makes}
 use Rattle.trace_runner.proofs.Shards.{KeepsPlan-trans}
@@ -23,8 +22,7 @@ module _ (c : goal.In_ok-free) where
   freed : (done : List Did) → Recalls done c.args.self.now.answers.items c.args.self.now.starts.items
       → Makes c.args.number (asked done c.loop-place.place ∷ []) c.loop-place.self.core c.loop-place.self.answers.items c.free.new.self.core c.free.new.self.answers.items
   unfolding asked
-  freed done recalls = subst (λ (lines : List Line). Makes c.args.number (on_key event.Free (key_at lines done c.args.name.now c.loop-place.place) ∷ []) c.loop-place.self.core c.loop-place.self.answers.items c.free.new.self.core c.free.new.self.answers.items)
-      (ap (λ t. t.lines.items) c.loop-place.invariant.trace) (c.in_ok-free.ensures.made done (recalls_now done recalls))
+  freed done recalls = rw (← c.binding-binding.ensures, ← c.key_bound-key.ensures done (recalls_now done recalls)) c.in_ok-free.ensures.made
 
 pub loop-place-preserved : goal.loop-place-preserved
 unfolding asked
@@ -39,7 +37,7 @@ loop-place-preserved c = record {
   bound = omega arith;
   running =
       let before = c.loop-place.invariant.running in
-      (before.0, rw c.free.ensures.starts (Recalls-makes before.0 c.args.number _ c.loop-place.self.core c.free.new.self.core c.loop-place.self.answers.items c.free.new.self.answers.items c.loop-place.self.starts.items before.1 (c.in_ok-free.ensures.made before.0 before.1)));
+      (before.0, rw c.free.ensures.starts (Recalls-makes before.0 c.args.number _ c.loop-place.self.core c.free.new.self.core c.loop-place.self.answers.items c.free.new.self.answers.items c.loop-place.self.starts.items before.1 c.in_ok-free.ensures.made));
   starts = c.free.ensures.starts ∙ c.loop-place.invariant.starts;
   trace = c.free.ensures.trace ∙ c.loop-place.invariant.trace;
   leaving = c.free.ensures.leaving ∙ c.loop-place.invariant.leaving;
