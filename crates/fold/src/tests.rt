@@ -107,28 +107,33 @@ fn fold(rt: &impl Abort, pool: &mut Pool, shard: &mut Shard, onto: u32) -> Resul
 
 #[test]
 fn folds_two_groups(rt: HostRuntime) -> Result<(), Fail> {
+    let (moved, freed, kept) = (key(0, 0)?, key(1, 0)?, key(1, 1)?);
     let mut pool = pool_with(rt.alloc(), 7)?;
     let mut shard = shard_with(rt.alloc(), 1, &[5, 8])?;
-    shard.free(&key(1, 0)?);
+    shard.free(&freed);
     let step = fold(&rt, &mut pool, &mut shard, 1)?;
-    assert_eq!(rt; step, Step::Folded);
-    assert_eq!(rt; (pool.pages(), shard.pages()), (0, 1));
-    assert_eq!(rt; pool.get(&key(0, 0)?), Found::NotHere);
-    assert_eq!(rt; shard.get(&key(0, 0)?), Found::Value(7, 1));
-    assert_eq!(rt; shard.get(&key(1, 1)?), Found::Value(8, 3));
+    assert_eq!(rt; (step, pool.pages(), shard.pages()), (Step::Folded, 0, 1));
+    assert_eq!(rt;
+        (pool.get(&moved), shard.get(&moved)),
+        (Found::NotHere, Found::Value(7, 1))
+    );
+    assert_eq!(rt; shard.get(&kept), Found::Value(8, 3));
     Ok(())
 }
 
 // The shard's maps are full at three groups, and its lists at four.
 #[test]
 fn folds_where_there_is_no_room(rt: HostRuntime) -> Result<(), Fail> {
+    let (moved, kept) = (key(0, 0)?, key(1, 1)?);
     for groups in [3, 4] {
         let mut pool = pool_with(rt.alloc(), 7)?;
         let mut shard = shard_of(rt.alloc(), 1, groups, 8)?;
         let step = fold(&rt, &mut pool, &mut shard, 1)?;
-        assert_eq!(rt; step, Step::Folded);
-        assert_eq!(rt; shard.get(&key(0, 0)?), Found::Value(7, 1));
-        assert_eq!(rt; shard.get(&key(1, 1)?), Found::Value(8, 3));
+        let found = (shard.get(&moved), shard.get(&kept));
+        assert_eq!(rt;
+            (step, found),
+            (Step::Folded, (Found::Value(7, 1), Found::Value(8, 3)))
+        );
     }
     Ok(())
 }
