@@ -157,7 +157,8 @@ impl Shard {
         live
     }
 
-    /// The head of each group and the slots that are live in one of its spans, by ascending head.
+    /// The head of each group and the slots that are live in one of its spans, by ascending head. The
+    /// error is want of memory for the list.
     pub fn groups(&self) -> Result<Vec<(SpanId, Bits256)>, AllocError>
         ensures items { IfOk result (λ groups. groups.items ≡ map summary self.now.groups) }
         ensures ascending { IsStrictlyIncreasing (map (λ group. rank group.head.id) self.now.groups) }

@@ -194,7 +194,8 @@ impl<'a> Job<'a> {
     /// Reads the words after the program's own name.
     ///
     /// `Words` comes where they are neither `run [TRACE] [--serial] [--replies] [--certificate FILE]`
-    /// nor `check FILE`, or where they ask for help by `--help` or `-h`.
+    /// nor `check FILE`, or where they ask for help by `--help` or `-h`; and `OutOfMemory` where memory
+    /// ran out.
     pub fn from_words(alloc: Global, words: &'a [&'a str]) -> Result<Job<'a>, JobError>
         ensures named { IfOk result (IsJobOf (texts words.entry.now)) }
         ensures accepted { OnOk result (kinds_of (texts words.entry.now) ≡ []) }
