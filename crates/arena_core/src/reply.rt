@@ -76,7 +76,7 @@ impl From<PutError> for Refusal {
     }
 }
 
-// Why an end is refused, by why the pool does not receive the shard. No span stands twice in a core.
+/// Why an end is refused, by why the pool does not receive the shard. No span stands twice in a core.
 pub fn end_refusal(error: ReceiveError) -> Refusal
     requires { error ≢ ReceiveError.Doubled }
     ensures { refusal_of_end error ≡ Some result }
@@ -89,7 +89,7 @@ pub fn end_refusal(error: ReceiveError) -> Refusal
     }
 }
 
-// Why an adoption is refused, by why the pool gives nothing. No span stands twice in a core.
+/// Why an adoption is refused, by why the pool gives nothing. No span stands twice in a core.
 pub fn adopt_refusal(error: AdoptError) -> Refusal
     requires { error ≢ AdoptError.Doubled }
     ensures { refusal_of_adoption error ≡ Some result }

@@ -1,5 +1,6 @@
 //! What help says below its list of words.
 
+/// Of the program itself.
 pub const PROGRAM_HELP: &str = "\
 A trace is a text with one call on a line, as threads of a program might make them: one puts a
 value under a new key, looks a key up, or frees it. A certificate is a text that shows that no plan
@@ -17,6 +18,7 @@ Exit status:
   3  memory ran out
   5  a file could not be read or written";
 
+/// Of `run`.
 pub const RUN_HELP: &str = "\
 A trace is a text: five lines of header, and then one call on a line. In this one, thread 0 puts the
 value 5 under a new key, which the trace calls a, looks it up, and frees it:
@@ -44,6 +46,7 @@ Examples:
   meshrun run --replies examples/stale_key.trace
   meshrun run --certificate last.cert examples/chain_of_eight.trace";
 
+/// Of `check`.
 pub const CHECK_HELP: &str = "\
 A certificate has the groups that a plan of folds could choose from, the plan, and a short set, which
 shows that no plan has more folds. The check believes neither: it looks whether they say so.

@@ -66,6 +66,7 @@ impl fmt::Display for Cause {
 /// Why a text was not read.
 #[derive(Clone, Copy, Debug, PartialEq, Eq, Error)]
 pub enum ParseError {
+    /// Memory ran out.
     #[error("out of memory")]
     OutOfMemory,
     /// The first line at fault, counted from 1, and its first cause.

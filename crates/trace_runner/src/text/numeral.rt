@@ -10,6 +10,7 @@ ghost use Rattle.trace_runner.specs.Number.{clipped_number, HasValue, Says};
 /// A number in digits, of any length.
 #[derive(Clone, Copy, Debug, PartialEq, Eq)]
 pub enum Number {
+    /// Its value.
     Fits(u128),
     /// It is above the greatest `u128`.
     Large,
