@@ -6,6 +6,7 @@ pub mod Members
 pub mod PartnersFilter
 pub mod ReadAgain
 pub mod Rereading
+pub mod Spelling
 pub mod Split
 pub mod Verdicts
 pub mod Written

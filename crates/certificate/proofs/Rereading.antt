@@ -52,10 +52,11 @@ fold_lines c = title_body (codes "folds") (length c.plan) ∷ (map pair_body c.p
 abbrev owned_lines : Certificate → List (List ℕ)
 owned_lines c = title_body (codes "owned") (length c.snapshot.owned) ∷ (map entry_body c.snapshot.owned ++ fold_lines c)
 
-abbrev all_lines : Certificate → List (List ℕ)
+abbrev pub all_lines : Certificate → List (List ℕ)
 all_lines c = codes "meshcert 1" ∷ (title_body (codes "abandoned") (length c.snapshot.abandoned) ∷ (map entry_body c.snapshot.abandoned ++ owned_lines c))
 
-parts_of-text : (c : Certificate) → IsWritable c → parts_of 10 (certificate_text c) ≡ all_lines c
+-- the lines that are written
+pub parts_of-text : (c : Certificate) → IsWritable c → parts_of 10 (certificate_text c) ≡ all_lines c
 unfolding certificate_text
 parts_of-text c w =
     let last : parts_of 10 (codes "end\n") ≡ codes "end" ∷ [] ∷ [] = refl in

@@ -1,7 +1,7 @@
 // Reads certificates.
 ghost use Rattle.std.specs.Prelude.{◌≡◌, ◌+◌, ◌<◌, ◌≤◌, length, IfOk};
 ghost use Rattle.certificate.specs.Grammar.{Reads, at_line, body_in, certificate_in, end_in, fixed_in, line_in, outline_of};
-ghost use Rattle.certificate.specs.Text.{IsWritable};
+ghost use Rattle.certificate.specs.Text.{IsWritable, certificate_text};
 ghost use Rattle.certificate.specs.Words.{contents_of};
 
 use super::cause::{Cause, ReadError};
@@ -20,6 +20,17 @@ use std::alloc::Global;
 ///
 /// `BadCertificate` where the text is no certificate; `OutOfMemory` where memory runs out.
 pub fn read(alloc: Global, text: &[u8]) -> Result<Certificate, ReadError>
+    ensures read { Reads outline_of result (certificate_in text.now) }
+    ensures writable { IfOk result IsWritable }
+
+    // An accepted text is the very text that is written of what was read.
+    ensures text { IfOk result (λ certificate. text.now ≡ certificate_text certificate) }
+{
+    read_text(alloc, text)
+}
+
+/// The first line and the rest.
+fn read_text(alloc: Global, text: &[u8]) -> Result<Certificate, ReadError>
     ensures read { Reads outline_of result (certificate_in text.now) }
     ensures writable { IfOk result IsWritable }
 {

@@ -1,0 +1,17 @@
+use Rattle.std.proofs.Common.{sym, subst}
+use Rattle.std.proofs.lemmas.Result.{err_from_is_err_and}
+use Rattle.certificate.specs.declared.certificate.Certificate.{Certificate}
+use Rattle.certificate.specs.Grammar.{Reads, certificate_in, outline_of}
+use Rattle.certificate.proofs.Items.{Reads-err, then-err, then-ok}
+use Rattle.certificate.proofs.text.reading.read_text.Goals as goal
+
+pub returns-in_err-read_fixed-clause-read : goal.returns-in_err-read_fixed-clause-read
+unfolding certificate_in
+returns-in_err-read_fixed-clause-read c =
+    let p = err_from_is_err_and c.from_residual-in_err-read_fixed.result c.from_residual-in_err-read_fixed.ensures.1 in
+    rw (p.1, p.2) (Reads-err {X = Certificate} outline_of _ _ (then-err _ _ _ (rw (c.deref.ensures.value, c.in_ok-lines.ensures) at c.in_err-read_fixed.ensures.read)))
+
+pub returns-clause-read : goal.returns-clause-read
+unfolding certificate_in
+returns-clause-read c =
+    subst (Reads outline_of c.read_body.result) (sym (then-ok _ _ _ (rw (c.deref.ensures.value, c.in_ok-lines.ensures) at c.in_ok-read_fixed.ensures.read))) (rw (c.deref-2.ensures.value, c.in_ok-lines.ensures) at c.read_body.ensures.read)
