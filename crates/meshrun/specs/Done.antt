@@ -6,7 +6,7 @@ use Rattle.certificate.specs.declared.text.cause.ReadError.TheVariants as read_e
 use Rattle.trace_runner.specs.Job.{IsJobOf, shown}
 use Rattle.trace_runner.specs.Replay.{WritesFront, WritesReport}
 use Rattle.trace_runner.specs.Store.{IsSaved, IsUnsaved}
-use Rattle.trace_runner.specs.Trace.{IsFaultAt}
+use Rattle.trace_text.specs.Trace.{IsFaultAt}
 use Rattle.trace_runner.specs.Verdict.{WritesVerdict, WritesVerdictFront}
 use Rattle.trace_runner.specs.declared.fault.Fault.{Fault}
 use Rattle.trace_runner.specs.declared.fault.Fault.TheVariants as fault

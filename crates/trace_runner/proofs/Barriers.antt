@@ -6,10 +6,10 @@ use Rattle.std.proofs.lemmas.List.Sums.{take_while-cons}
 use Rattle.std.proofs.lemmas.List.Folds.{list_any-append}
 use Rattle.std.proofs.lemmas.Bool.{or_left, cases_Bool}
 use Rattle.std.proofs.Math.Bool.{or_comm, or-false}
-use Rattle.trace_runner.proofs.Knowing.{has_ended-push}
+use Rattle.trace_text.proofs.Knowing.{has_ended-push}
 use Rattle.trace_runner.specs.Barrier.{is_barrier, open_lines}
-use Rattle.trace_runner.specs.Causes.{ends, has_ended}
-use Rattle.trace_runner.specs.declared.text.line.Line.{Line}
+use Rattle.trace_text.specs.Causes.{ends, has_ended}
+use Rattle.trace_text.specs.declared.line.Line.{Line}
 
 abbrev passes : Line → Bool
 passes line = not (is_barrier line)

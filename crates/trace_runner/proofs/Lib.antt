@@ -1,12 +1,3 @@
-pub mod Digits
-pub mod Ends
-pub mod Forms
-pub mod Lines
-pub mod Clips
-pub mod Bindings
-pub mod Knowing
-pub mod Texts
-pub mod Exclusion
 pub mod Taken
 pub mod Given
 pub mod Entered

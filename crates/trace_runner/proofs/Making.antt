@@ -13,8 +13,8 @@ use Rattle.trace_runner.specs.News.{News, with_all_made, with_made}
 use Rattle.trace_runner.specs.Recalls.{Carries, Makes, MakesLine, Recalls, news_at, settling_with}
 use Rattle.trace_runner.specs.Runs.{Happens, IsAnswered, IsTold, answers_from, ends_asked, finishing, on_line, stepping}
 use Rattle.trace_runner.specs.declared.plans.Plans.{Plans}
-use Rattle.trace_runner.specs.declared.text.line.Call.{Call}
-use Rattle.trace_runner.specs.declared.text.line.Line.TheVariants as line
+use Rattle.trace_text.specs.declared.line.Call.{Call}
+use Rattle.trace_text.specs.declared.line.Line.TheVariants as line
 use Rattle.arena_core.specs.declared.event.Event.{Event}
 use Rattle.arena_core.specs.declared.event.Event.TheVariants.{Put, Get, Free, End, Adopt, Mark, Step, Close}
 use Rattle.arena_core.specs.declared.reply.Reply.TheVariants.{ShardEnded}

@@ -11,7 +11,7 @@ use Rattle.trace_runner.specs.Report.{AreInOrder}
 use Rattle.trace_runner.specs.Runs.{IsRun, answers_from, on_line}
 use Rattle.trace_runner.specs.declared.report.PlanNote.{PlanNote}
 use Rattle.trace_runner.specs.declared.report.LineAnswer.{LineAnswer}
-use Rattle.trace_runner.specs.declared.text.line.Line.{Line}
+use Rattle.trace_text.specs.declared.line.Line.{Line}
 
 AreInOrder-push : (told : ℕ) (notes : List PlanNote) (note : PlanNote) → AreInOrder told note.above notes → AreInOrder told note.above (notes ++ note ∷ [])
 AreInOrder-push told [] note order = (order, omega arith)

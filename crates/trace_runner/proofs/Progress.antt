@@ -11,24 +11,24 @@ use Rattle.std.proofs.lemmas.List.Elements.{filter-append}
 use Rattle.std.proofs.lemmas.List.{append-nil, get_or_append_left, length-map, length_push, take-append-le}
 use Rattle.arena_core.specs.State.{CoreState}
 use Rattle.trace_runner.specs.Barrier.{is_barrier, leavers, open_lines}
-use Rattle.trace_runner.specs.Causes.{ends, has_ended, first_cause, is_adopt, thread_of}
+use Rattle.trace_text.specs.Causes.{ends, has_ended, first_cause, is_adopt, thread_of}
 use Rattle.trace_runner.specs.Recalls.{CanLeave, Carries, EndsBelow, HasCome, IsReady, KnowsPlan, MakesLine, Recalls, Serves, news_at, settling_with}
 use Rattle.trace_runner.specs.Made.{Did, all_made, asked_of, made_by}
 use Rattle.trace_runner.specs.News.{News, news_of, no_news, with_all_made, with_answers, with_line}
 use Rattle.trace_runner.specs.Runs.{DoLines, Does, IsRun, answers_from, asked_by, calls_at, calls_in, ends_asked, finishing, on_line, pairs_left_of, planning_at, settling_at}
 use Rattle.trace_runner.specs.declared.plans.Plans.{Plans}
 use Rattle.trace_runner.specs.declared.report.LineAnswer.{LineAnswer}
-use Rattle.trace_runner.specs.declared.text.header.Header.{Header}
-use Rattle.trace_runner.specs.declared.text.line.Call.TheVariants.{Put, Fill, Get, Free, Sweep, End}
-use Rattle.trace_runner.specs.declared.text.line.Line.{Line}
-use Rattle.trace_runner.specs.declared.text.line.Line.TheVariants as line
+use Rattle.trace_text.specs.declared.header.Header.{Header}
+use Rattle.trace_text.specs.declared.line.Call.TheVariants.{Put, Fill, Get, Free, Sweep, End}
+use Rattle.trace_text.specs.declared.line.Line.{Line}
+use Rattle.trace_text.specs.declared.line.Line.TheVariants as line
 use Rattle.trace_runner.proofs.Barriers.{has_ended-open, has_ended-open-push}
-use Rattle.trace_runner.proofs.Clips.{AllFine, all_fine}
-use Rattle.trace_runner.proofs.Knowing.{has_ended-push}
+use Rattle.trace_text.proofs.Clips.{AllFine, all_fine}
+use Rattle.trace_text.proofs.Knowing.{has_ended-push}
 use Rattle.trace_runner.proofs.Making.{IsAnswered-append, IsAnswered-none}
 use Rattle.trace_runner.proofs.Notes.{above-all_made}
 use Rattle.trace_runner.proofs.Recalling.{answers_from-append, take_line}
-use Rattle.trace_runner.proofs.Texts.{first_cause-none}
+use Rattle.trace_text.proofs.Texts.{first_cause-none}
 
 DoLines-push : (shards : ℕ) (all : List Line) (start : CoreState) (lines : List Line) (line : Line) (done after : List Did) (did : Did) → DoLines shards all start lines done after → Does shards all start after line did
     → DoLines shards all start (lines ++ line ∷ []) done (after ++ did ∷ [])

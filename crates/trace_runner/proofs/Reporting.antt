@@ -13,8 +13,8 @@ use Rattle.trace_runner.specs.Report.{report_text}
 use Rattle.trace_runner.specs.Runs.{IsRun}
 use Rattle.trace_runner.specs.declared.report.Ending.{Ending}
 use Rattle.trace_runner.specs.declared.report.LineAnswer.{LineAnswer}
-use Rattle.trace_runner.specs.declared.text.header.Header.{Header}
-use Rattle.trace_runner.specs.declared.text.trace.Trace.{Trace}
+use Rattle.trace_text.specs.declared.header.Header.{Header}
+use Rattle.trace_text.specs.declared.trace.Trace.{Trace}
 
 -- a new shard has not ended, whether or not there is one
 not_ended : (page_limit gens : ℕ) (o : Option ℕ) → option_map_or (λ (shard : ShardState). shard.ended) (option_map (new_shard page_limit gens) o) false ≡ false

@@ -1,9 +1,9 @@
 -- The barrier between two sections: the adoptions that wait for a mark, and the mark.
 use Rattle.std.specs.Prelude.{Bool, true, false, not, ℕ, List, filter, reverse}
 use Rattle.std.specs.List.{range_with_len, take_while}
-use Rattle.trace_runner.specs.Causes.{has_ended}
-use Rattle.trace_runner.specs.declared.text.line.Line.{Line}
-use Rattle.trace_runner.specs.declared.text.line.Line.TheVariants as line
+use Rattle.trace_text.specs.Causes.{has_ended}
+use Rattle.trace_text.specs.declared.line.Line.{Line}
+use Rattle.trace_text.specs.declared.line.Line.TheVariants as line
 
 -- the line is one of a barrier; no thread's line stands between an adoption and its mark
 abbrev pub is_barrier : Line → Bool

@@ -1,15 +1,5 @@
-pub mod Number
-pub mod Words
-pub mod Name
 pub mod Made
 pub mod News
-pub mod Reference
-pub mod Form
-pub mod Causes
-pub mod Within
-pub mod Header
-pub mod Earlier
-pub mod Trace
 pub mod Sink
 pub mod Report
 pub mod Job

@@ -5,7 +5,7 @@ use Rattle.std.specs.HashSet.{HashSet}
 use Rattle.std.specs.Option.{option_map, option_map_or}
 use Rattle.span.specs.declared.key.Key.{Key}
 use Rattle.trace_runner.specs.Barrier.{is_barrier, open_lines}
-use Rattle.trace_runner.specs.Causes.{has_ended, is_call, is_call_over, thread_of}
+use Rattle.trace_text.specs.Causes.{has_ended, is_call, is_call_over, thread_of}
 use Rattle.arena_core.specs.State.{CoreState}
 use Rattle.trace_runner.specs.Made.{Asked, Did, Made, all_made, asked_of}
 use Rattle.trace_runner.specs.News.{News, news_of, with_all_made}
@@ -17,7 +17,7 @@ use Rattle.arena_core.specs.declared.reply.Reply.{Reply}
 use Rattle.arena_core.specs.declared.reply.Reply.TheVariants.{Marked, Stepped, NoPairLeft, Closed, NoPlan, Refused}
 use Rattle.arena_core.specs.declared.reply.Refusal.TheVariants.{Ended, PlanOpen, TooMany, Config}
 use Rattle.trace_runner.specs.declared.report.LineAnswer.{LineAnswer}
-use Rattle.trace_runner.specs.declared.text.line.Line.{Line}
+use Rattle.trace_text.specs.declared.line.Line.{Line}
 
 -- ---- the answers
 

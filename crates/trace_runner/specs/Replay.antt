@@ -7,13 +7,13 @@ use Rattle.trace_runner.specs.News.{News}
 use Rattle.trace_runner.specs.Report.{report_text}
 use Rattle.trace_runner.specs.Runs.{IsRun}
 use Rattle.trace_runner.specs.Sink.{AppendsFront}
-use Rattle.trace_runner.specs.Trace.{IsFaultAt, IsTrace}
+use Rattle.trace_text.specs.Trace.{IsFaultAt, IsTrace}
 use Rattle.trace_runner.specs.declared.fault.ReplayError.{ReplayError}
 use Rattle.trace_runner.specs.declared.fault.ReplayError.TheVariants.{OutOfMemory, BadTrace, SinkFailed}
 use Rattle.trace_runner.specs.declared.report.Ending.{Ending}
 use Rattle.trace_runner.specs.declared.report.LineAnswer.{LineAnswer}
-use Rattle.trace_runner.specs.declared.text.header.Header.{Header}
-use Rattle.trace_runner.specs.declared.text.trace.Trace.{Trace}
+use Rattle.trace_text.specs.declared.header.Header.{Header}
+use Rattle.trace_text.specs.declared.trace.Trace.{Trace}
 
 -- the core that the header asks for, which has no key yet
 abbrev pub start_of : Header → CoreState

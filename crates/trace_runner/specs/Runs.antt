@@ -5,7 +5,7 @@ use Rattle.span.specs.declared.key.Key.{Key}
 use Rattle.trace_runner.specs.Barrier.{is_barrier, leavers}
 use Rattle.trace_runner.specs.Made.{Asked, Calls, Keyless, Leaves, Made, Called, Unbound, Left, Did, all_made, asked_of, core_after, events_of, replies_of}
 use Rattle.trace_runner.specs.News.{News, all_news}
-use Rattle.trace_runner.specs.Causes.{binding_of}
+use Rattle.trace_text.specs.Causes.{binding_of}
 use Rattle.arena_core.specs.State.{CoreState, OpenPlan, shown}
 use Rattle.arena_core.specs.Step.{CoreRun, CoreStep}
 use Rattle.arena_core.specs.Plain.{PlainRun, erased}
@@ -17,12 +17,12 @@ use Rattle.arena_core.specs.declared.reply.Reply.TheVariants.{Issued, Found, Fre
 use Rattle.trace_runner.specs.declared.report.Answer.{Answer}
 use Rattle.trace_runner.specs.declared.report.Answer.TheVariants as answer
 use Rattle.trace_runner.specs.declared.report.LineAnswer.{LineAnswer}
-use Rattle.trace_runner.specs.declared.text.line.Binding.{Binding}
-use Rattle.trace_runner.specs.declared.text.line.Call.{Call}
-use Rattle.trace_runner.specs.declared.text.line.Call.TheVariants.{Put, Fill, Get, Free, Sweep, End}
-use Rattle.trace_runner.specs.declared.text.line.Line.{Line}
-use Rattle.trace_runner.specs.declared.text.line.Line.TheVariants as line
-use Rattle.trace_runner.specs.declared.text.name.Reference.{Reference}
+use Rattle.trace_text.specs.declared.line.Binding.{Binding}
+use Rattle.trace_text.specs.declared.line.Call.{Call}
+use Rattle.trace_text.specs.declared.line.Call.TheVariants.{Put, Fill, Get, Free, Sweep, End}
+use Rattle.trace_text.specs.declared.line.Line.{Line}
+use Rattle.trace_text.specs.declared.line.Line.TheVariants as line
+use Rattle.trace_text.specs.declared.name.Reference.{Reference}
 
 -- ---- what a line asks for
 

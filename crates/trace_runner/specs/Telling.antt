@@ -12,9 +12,9 @@ use Rattle.clap.specs.declared.error.kind.ErrorKind.TheVariants as kind
 use Rattle.certificate.specs.Causes as certificate_causes
 use Rattle.certificate.specs.declared.text.cause.ReadError.{ReadError}
 use Rattle.certificate.specs.declared.text.cause.ReadError.TheVariants as read_error
-use Rattle.trace_runner.specs.Causes.{word_of}
-use Rattle.trace_runner.specs.declared.text.cause.ParseError.{ParseError}
-use Rattle.trace_runner.specs.declared.text.cause.ParseError.TheVariants as parse_error
+use Rattle.trace_text.specs.Causes.{word_of}
+use Rattle.trace_text.specs.declared.cause.ParseError.{ParseError}
+use Rattle.trace_text.specs.declared.cause.ParseError.TheVariants as parse_error
 use Rattle.trace_runner.specs.declared.fault.Fault.{Fault}
 use Rattle.trace_runner.specs.declared.fault.Fault.TheVariants as fault
 use Rattle.trace_runner.specs.declared.fault.ReplayError.{ReplayError}

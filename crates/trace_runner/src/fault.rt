@@ -9,11 +9,11 @@ ghost use Rattle.trace_runner.specs.Telling.{fault_of_check, fault_of_io, fault_
 use crate::job::JobError;
 use crate::sink::SinkFailed;
 use crate::store::StoreFailed;
-use crate::text::{Cause, ParseError};
 use certificate::ReadError;
 use std::alloc::{AllocError, AllocFailed};
 use std::io;
 use thiserror::Error;
+use trace_text::{Cause, ParseError};
 
 /// Why a trace was not replayed.
 #[derive(Clone, Copy, Debug, PartialEq, Eq, Error)]

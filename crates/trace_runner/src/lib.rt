@@ -24,7 +24,6 @@ mod run;
 mod sink;
 mod store;
 mod telling;
-mod text;
 mod writing;
 
 pub use checking::check_text;
@@ -34,6 +33,6 @@ pub use replay::replay_serial;
 pub use sink::{Memory, Out, Sink, SinkFailed, give};
 pub use store::{Disk, Store, StoreFailed, save};
 pub use telling::{TellError, tell};
-pub use text::{
+pub use trace_text::{
     Binding, Call, Cause, Header, Keys, Line, Name, ParseError, Reference, Trace, parse,
 };

@@ -3,20 +3,20 @@
 ghost use Rattle.std.specs.Prelude.{◌≡◌, ◌<◌, ◌-◌, ◌^◌, IfOk, IfErr, List, OnErr, OnOk};
 ghost use Rattle.span.specs.PlainMap.{empty_map};
 ghost use Rattle.arena_core.specs.State.{shown};
-ghost use Rattle.trace_runner.specs.Header.{IsWithinLimits};
-ghost use Rattle.trace_runner.specs.Trace.{Spells};
-ghost use Rattle.trace_runner.specs.declared.text.header.Header.{Header};
-ghost use Rattle.trace_runner.specs.declared.text.line.Line.{Line};
+ghost use Rattle.trace_text.specs.Header.{IsWithinLimits};
+ghost use Rattle.trace_text.specs.Trace.{Spells};
+ghost use Rattle.trace_text.specs.declared.header.Header.{Header};
+ghost use Rattle.trace_text.specs.declared.line.Line.{Line};
 ghost use Rattle.trace_runner.specs.Replay.{IsNoFault, IsReportOf, Stops, WritesReport, start_of};
 
 use crate::fault::ReplayError;
 use crate::report::Ending;
 use crate::run::run_lines;
 use crate::sink::{Sink, give};
-use crate::text::{Header, Trace, parse};
 use crate::writing::report_text;
 use arena_core::{Core, CoreError};
 use std::alloc::{AllocError, Global};
+use trace_text::{Header, Trace, parse};
 
 /// Replays a trace: reads the text whole, runs its calls one after another on a core of its own, and gives the report to
 /// `out`, with a line for each call where `replies` asks for them. `cert` is then the text of the certificate of the last

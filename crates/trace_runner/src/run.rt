@@ -5,7 +5,7 @@ ghost use Rattle.std.specs.List.{range_with_len};
 ghost use Rattle.arena_core.specs.State.{CoreState};
 ghost use Rattle.trace_runner.specs.Barrier.{is_barrier};
 ghost use Rattle.trace_runner.specs.Recalls.{CanLeave, Carries, EndsBelow, EndsOne, HasCome, IsOpen, IsReady, IsRunning, IsServed, KeepsPlan, KnowsPlan, Makes, MakesLine, MayCall, Recalls, Serves, answers_if_run, has, key_if_run, news_at, settling_with};
-ghost use Rattle.trace_runner.specs.Causes.{call_ends, ends, first_cause, is_adopt, is_call_over};
+ghost use Rattle.trace_text.specs.Causes.{call_ends, ends, first_cause, is_adopt, is_call_over};
 ghost use Rattle.trace_runner.specs.Made.{Did, Called, Calls, Keyless, Leaves};
 ghost use Rattle.trace_runner.specs.News.{News};
 ghost use Rattle.trace_runner.specs.Runs.{IsRun, answer_to, asked_by, asked_by_call, ends_asked, finishing, on_key, IsTold, key_at, key_bound, key_of};
@@ -14,11 +14,11 @@ ghost use Rattle.arena_core.specs.declared.event.Event.{Event};
 
 use crate::plans::Plans;
 use crate::report::{Answer, LineAnswer, PlanNote};
-use crate::text::{Binding, Call, Line, Name, Reference, Trace};
 use arena_core::{Core, Event, Refusal, Reply};
 use span::Key;
 use std::alloc::{AllocError, Global};
 use std::collections::HashSet;
+use trace_text::{Binding, Call, Line, Name, Reference, Trace};
 
 /// A run of a trace, as far as it has come.
 #[derive(Drop)]

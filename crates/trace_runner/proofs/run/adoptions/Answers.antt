@@ -1,8 +1,8 @@
 use Rattle.std.proofs.Common.{◌≤◌, ℕ, List, not, arith, refl, filter, length, take}
 use Rattle.std.proofs.lemmas.List.{length-take-le}
 use Rattle.std.proofs.lemmas.List.Filters.{length-filter_both}
-use Rattle.trace_runner.specs.Causes.{is_adopt}
-use Rattle.trace_runner.specs.declared.text.line.Line.{Line}
+use Rattle.trace_text.specs.Causes.{is_adopt}
+use Rattle.trace_text.specs.declared.line.Line.{Line}
 use Rattle.trace_runner.proofs.run.adoptions.Goals as goal
 
 few : (lines : List Line) (index : ℕ) → index ≤ length lines → length (filter is_adopt (take index lines)) ≤ index

@@ -1,7 +1,7 @@
 use Rattle.std.proofs.Common.{◌≡◌, ◌∙◌, ap, arith, filter, length, Some, slice_get}
 use Rattle.std.specs.Prelude.{vec_len}
 use Rattle.std.proofs.lemmas.Option.{slice_get_read}
-use Rattle.trace_runner.specs.Causes.{is_adopt}
+use Rattle.trace_text.specs.Causes.{is_adopt}
 use Rattle.trace_runner.specs.Recalls.{news_at}
 use Rattle.trace_runner.proofs.Progress.{HasCome-CanLeave, HasCome-IsRun, HasCome-calls}
 use Rattle.trace_runner.proofs.run.run_lines.Goals as goal

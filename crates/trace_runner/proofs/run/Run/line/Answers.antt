@@ -1,7 +1,7 @@
 use Rattle.std.proofs.Common.{◌+◌, ◌∙◌, ap, filter, length}
 use Rattle.std.specs.List.{range_with_len}
 use Rattle.std.proofs.lemmas.Result.{on_ok_weaker}
-use Rattle.trace_runner.specs.Causes.{thread_of}
+use Rattle.trace_text.specs.Causes.{thread_of}
 use Rattle.trace_runner.specs.Recalls.{has}
 use Rattle.trace_runner.proofs.Making.{MakesLine-adopt, MakesLine-call, MakesLine-mark, MakesLine-silent}
 use Rattle.trace_runner.proofs.Shards.{IsOpen-others}

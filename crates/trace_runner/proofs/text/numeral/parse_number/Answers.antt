@@ -1,6 +1,0 @@
-use Rattle.std.proofs.Common.{rules}
-use Rattle.certificate.proofs.Digits.{AllDigits-from_test}
-use Rattle.trace_runner.proofs.text.numeral.parse_number.Goals as goal
-
-pub value_of-requires : goal.value_of-requires
-value_of-requires c = search (rules, AllDigits-from_test)

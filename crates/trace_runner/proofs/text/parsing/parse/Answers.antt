@@ -1,5 +1,0 @@
-use Rattle.trace_runner.proofs.Exclusion.{spelled_is_read}
-use Rattle.trace_runner.proofs.text.parsing.parse.Goals as goal
-
-pub returns-clause-read : goal.returns-clause-read
-returns-clause-read c = λ h lines spelled. spelled_is_read c.args.text.now h lines c.trace_of.result spelled c.trace_of.ensures.trace c.trace_of.ensures.fault

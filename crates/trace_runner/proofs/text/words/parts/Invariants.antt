@@ -1,6 +1,0 @@
-use Rattle.std.proofs.Common.{◌≡◌}
-use Rattle.trace_runner.proofs.text.words.parts.Given as goal
-
--- the parts so far are kept
-abbrev pub invariant-loop-part : goal.invariant-loop-part
-invariant-loop-part l = l.parts.items ≡ l.yielded

@@ -1,0 +1,196 @@
+-- Clipping a number changes no cause.
+use Rattle.std.proofs.Common.{◌≡◌, ℕ, ◌≤◌, ◌&&◌, not, nat_lt, nat_le, Bool, true, false, List, [], ◌∷◌, Option, Some, None, option_map, find, arith, refl, sym, ap, ap₂, ◌∙◌, inl, inr}
+use Rattle.std.specs.Option.{option_map_or}
+use Rattle.std.proofs.lemmas.Bool.Decides.{nat_tests}
+use Rattle.std.proofs.lemmas.Bool.{and_parts, cases_Bool}
+use Rattle.trace_text.proofs.Lines.{chosen}
+use Rattle.std.specs.Int.{IsInRange}
+use Rattle.trace_text.specs.Header.{IsWithinLimits}
+use Rattle.certificate.specs.Number.{clip}
+use Rattle.trace_text.specs.Reference.{clip_reference}
+use Rattle.trace_text.specs.Within.{clip_call, clip_line, order_cause}
+use Rattle.trace_text.specs.Earlier.{IsFew, Few}
+use Rattle.trace_text.specs.Causes.{bound_name, read_name, has_key, has_range, has_keys, binding_of, is_call_over, reads_unknown, holds}
+use Rattle.trace_text.specs.declared.header.Header.{Header}
+use Rattle.trace_text.specs.declared.name.Reference.{Reference}
+use Rattle.trace_text.specs.declared.line.Call.{Call}
+use Rattle.trace_text.specs.declared.line.Call.TheVariants.{Put, Fill, Get, Free, Sweep, End}
+use Rattle.trace_text.specs.declared.line.Line.{Line}
+use Rattle.trace_text.specs.declared.line.Line.TheVariants as line
+use Rattle.trace_text.specs.declared.line.Keys.{Keys}
+use Rattle.trace_text.specs.declared.line.Keys.TheVariants.{One, Many}
+use Rattle.trace_text.specs.declared.line.Binding.{Binding}
+use Rattle.trace_text.specs.declared.cause.Cause.{Cause}
+use Rattle.trace_text.specs.declared.cause.Cause.TheVariants as cause
+
+-- ---- numbers
+
+clip-thread : (shards t : ℕ) → IsInRange 1 64 shards → nat_le shards (clip t) ≡ nat_le shards t
+clip-thread shards t range = grind (arith, nat_tests, range.1)
+
+clip-near : (shards t : ℕ) → IsInRange 1 64 shards → nat_le shards t ≡ false → clip t ≡ t
+clip-near shards t range near = grind (arith, nat_tests, range.1)
+
+clip-index : (i n : ℕ) → n ≤ 262144 → nat_lt (clip i) n ≡ nat_lt i n
+clip-index i n few = grind (arith, nat_tests)
+
+clip-index_near : (i n : ℕ) → n ≤ 262144 → nat_lt (clip i) n ≡ true → clip i ≡ i
+clip-index_near i n few near = grind (arith, nat_tests)
+
+clip-range : (from to n : ℕ) → n ≤ 262144 → (nat_le (clip from) (clip to) && nat_le (clip to) n) ≡ (nat_le from to && nat_le to n)
+clip-range from to n few = grind (arith, nat_tests)
+
+clip-range_near : (from to n : ℕ) → n ≤ 262144 → nat_le (clip from) (clip to) ≡ true → nat_le (clip to) n ≡ true → (clip from ≡ from) × (clip to ≡ to)
+clip-range_near from to n few low high = (grind (arith, nat_tests), grind (arith, nat_tests))
+
+-- ---- calls
+
+has_key-clip : (i : Option ℕ) (keys : Keys) → IsFew keys → has_key (option_map clip i) keys ≡ has_key i keys
+has_key-clip None One few = refl
+has_key-clip None (Many n) few = refl
+has_key-clip (Some i) One few = refl
+has_key-clip (Some i) (Many n) few = clip-index i n few
+
+has_range-clip : (from to : ℕ) (keys : Keys) → IsFew keys → has_range (clip from) (clip to) keys ≡ has_range from to keys
+has_range-clip from to One few = refl
+has_range-clip from to (Many n) few = clip-range from to n few
+
+has_keys-clip : (c : Call) (keys : Keys) → IsFew keys → has_keys (clip_call c) keys ≡ has_keys c keys
+has_keys-clip (Put name v) keys few = refl
+has_keys-clip (Fill name n v) keys few = refl
+has_keys-clip (Get key) keys few = has_key-clip key.index keys few
+has_keys-clip (Free key) keys few = has_key-clip key.index keys few
+has_keys-clip (Sweep name from to) keys few = has_range-clip from to keys few
+has_keys-clip End keys few = refl
+
+read_name-clip : (c : Call) → read_name (clip_call c) ≡ read_name c
+read_name-clip (Put name v) = refl
+read_name-clip (Fill name n v) = refl
+read_name-clip (Get key) = refl
+read_name-clip (Free key) = refl
+read_name-clip (Sweep name from to) = refl
+read_name-clip End = refl
+
+bound_name-clip : (c : Call) → bound_name (clip_call c) ≡ bound_name c
+bound_name-clip (Put name v) = refl
+bound_name-clip (Fill name n v) = refl
+bound_name-clip (Get key) = refl
+bound_name-clip (Free key) = refl
+bound_name-clip (Sweep name from to) = refl
+bound_name-clip End = refl
+
+over-clip : (c : Call) → is_call_over (clip_call c) ≡ is_call_over c
+over-clip (Put name v) = refl
+over-clip (Fill name n v) = refl
+over-clip (Get key) = refl
+over-clip (Free key) = refl
+over-clip (Sweep name from to) = refl
+over-clip End = refl
+
+-- ---- causes
+
+same_keys : (c : Call) (o : Option Binding) → ((b : Binding) → o ≡ Some b → IsFew b.keys) → option_map_or (λ b. has_keys (clip_call c) b.keys) o false ≡ option_map_or (λ b. has_keys c b.keys) o false
+same_keys c None few = refl
+same_keys c (Some b) few = has_keys-clip c b.keys (few b refl)
+
+same_unknown : (before : List Line) (c : Call) (o : Option (List ℕ)) → Few before → option_map_or (λ name. not (option_map_or (λ b. has_keys (clip_call c) b.keys) (binding_of name before) false)) o false ≡ option_map_or (λ name. not (option_map_or (λ b. has_keys c b.keys) (binding_of name before) false)) o false
+same_unknown before c None few = refl
+same_unknown before c (Some name) few = ap not (same_keys c (binding_of name before) (few name))
+
+holds-clip : (h : Header) (before : List Line) (t : ℕ) (c : Call) → Few before → (k : Cause) → holds h before (line.Call t (clip_call c)) k ≡ holds h before (line.Call t c) k
+holds-clip h before t c few cause.Header = refl
+holds-clip h before t c few cause.Form = refl
+holds-clip h before t c few cause.Limit = over-clip c
+holds-clip h before t c few cause.Thread = refl
+holds-clip h before t c few cause.Ended = refl
+holds-clip h before t c few cause.Adopt = refl
+holds-clip h before t c few cause.Bound = rw (bound_name-clip c) refl
+holds-clip h before t c few cause.Unknown = rw (read_name-clip c) (same_unknown before c (read_name c) few)
+holds-clip h before t c few cause.Early = rw (read_name-clip c) refl
+
+find_same : (p q : Cause → Bool) → ((k : Cause) → p k ≡ q k) → (ks : List Cause) → find p ks ≡ find q ks
+find_same p q same [] = refl
+find_same p q same (k ∷ ks) = rw (same k, find_same p q same ks) refl
+
+-- what is wrong with a line that was clipped is what is wrong with the line
+pub order_cause-clip : (h : Header) (before : List Line) (w : Line) → IsWithinLimits h → Few before → order_cause h before (clip_line w) ≡ order_cause h before w
+order_cause-clip h before line.Silent within few = refl
+order_cause-clip h before line.Mark within few = refl
+order_cause-clip h before (line.Adopt s) within few = elim (cases_Bool (nat_le h.shards s)) [
+  | inl far ↦ rw (clip-thread h.shards s within.shards, far) refl
+  | inr near ↦ rw (clip-near h.shards s within.shards near) refl
+]
+order_cause-clip h before (line.Call t c) within few = elim (cases_Bool (nat_le h.shards t)) [
+  | inl far ↦ rw (clip-thread h.shards t within.shards, far) refl
+  | inr near ↦ rw (clip-near h.shards t within.shards near) (find_same (holds h before (line.Call t (clip_call c))) (holds h before (line.Call t c)) (holds-clip h before t c few) (cause.Thread ∷ cause.Ended ∷ cause.Adopt ∷ cause.Bound ∷ cause.Unknown ∷ cause.Early ∷ []))
+]
+
+-- ---- a line that is not refused was not clipped
+
+-- where no test of the list holds, neither the first does nor one of the others
+pub none_found : (p : Cause → Bool) (k : Cause) (ks : List Cause) → find p (k ∷ ks) ≡ None → (p k ≡ false) × (find p ks ≡ None)
+none_found p k ks none = elim (chosen (p k) (Some k) (find p ks) None none) [
+  | inl found ↦ cc found.1
+  | inr other ↦ (other.0, other.1)
+]
+
+-- no cause holds of the line
+pub record AllFine (h : Header) (before : List Line) (w : Line) : Type 0 where
+  pub thread : holds h before w cause.Thread ≡ false
+  pub ended : holds h before w cause.Ended ≡ false
+  pub bound : holds h before w cause.Bound ≡ false
+  pub known : holds h before w cause.Unknown ≡ false
+
+pub all_fine : (h : Header) (before : List Line) (w : Line) → order_cause h before w ≡ None → AllFine h before w
+all_fine h before w none =
+    let p = holds h before w in
+    let thread = none_found p cause.Thread (cause.Ended ∷ cause.Adopt ∷ cause.Bound ∷ cause.Unknown ∷ cause.Early ∷ []) none in
+    let ended = none_found p cause.Ended (cause.Adopt ∷ cause.Bound ∷ cause.Unknown ∷ cause.Early ∷ []) thread.1 in
+    let adopt = none_found p cause.Adopt (cause.Bound ∷ cause.Unknown ∷ cause.Early ∷ []) ended.1 in
+    let bound = none_found p cause.Bound (cause.Unknown ∷ cause.Early ∷ []) adopt.1 in
+    let unknown = none_found p cause.Unknown (cause.Early ∷ []) bound.1 in
+    record { thread = thread.0; ended = ended.0; bound = bound.0; known = unknown.0 }
+
+key_near : (i : Option ℕ) (keys : Keys) → IsFew keys → has_key (option_map clip i) keys ≡ true → option_map clip i ≡ i
+key_near None keys few has = refl
+key_near (Some i) One few has = cc
+key_near (Some i) (Many n) few has = ap Some (clip-index_near i n few has)
+
+key_known : (i : Option ℕ) (o : Option Binding) → ((b : Binding) → o ≡ Some b → IsFew b.keys) → not (option_map_or (λ b. has_key (option_map clip i) b.keys) o false) ≡ false → option_map clip i ≡ i
+key_known i None few known = cc
+key_known i (Some b) few known = elim (cases_Bool (has_key (option_map clip i) b.keys)) [
+  | inl has ↦ key_near i b.keys (few b refl) has
+  | inr other ↦ let bad : true ≡ false = rw other at known in cc
+]
+
+range_near : (from to : ℕ) (keys : Keys) → IsFew keys → has_range (clip from) (clip to) keys ≡ true → (clip from ≡ from) × (clip to ≡ to)
+range_near from to One few has = cc
+range_near from to (Many n) few has = let parts = and_parts (nat_le (clip from) (clip to)) (nat_le (clip to) n) has in clip-range_near from to n few parts.0 parts.1
+
+range_known : (from to : ℕ) (o : Option Binding) → ((b : Binding) → o ≡ Some b → IsFew b.keys) → not (option_map_or (λ b. has_range (clip from) (clip to) b.keys) o false) ≡ false → (clip from ≡ from) × (clip to ≡ to)
+range_known from to None few known = cc
+range_known from to (Some b) few known = elim (cases_Bool (has_range (clip from) (clip to) b.keys)) [
+  | inl has ↦ range_near from to b.keys (few b refl) has
+  | inr other ↦ let bad : true ≡ false = rw other at known in cc
+]
+
+same_reference : (key : Reference) → option_map clip key.index ≡ key.index → clip_reference key ≡ key
+same_reference key e = ap (λ i. record { name = key.name; index = i }) e
+
+call_known : (before : List Line) (c : Call) → Few before → reads_unknown before (clip_call c) ≡ false → clip_call c ≡ c
+call_known before (Put name v) few known = refl
+call_known before (Fill name n v) few known = refl
+call_known before (Get key) few known = ap Get (same_reference key (key_known key.index (binding_of key.name before) (few key.name) known))
+call_known before (Free key) few known = ap Free (same_reference key (key_known key.index (binding_of key.name before) (few key.name) known))
+call_known before End few known = refl
+call_known before (Sweep name from to) few known = let near = range_known from to (binding_of name before) (few name) known in ap₂ (λ a b. Sweep name a b) near.0 near.1
+
+pub clip_line-fine : (h : Header) (before : List Line) (w : Line) → IsWithinLimits h → Few before → order_cause h before (clip_line w) ≡ None → clip_line w ≡ w
+clip_line-fine h before line.Silent within few fine = refl
+clip_line-fine h before line.Mark within few fine = refl
+clip_line-fine h before (line.Adopt s) within few fine =
+    let thread = (all_fine h before (line.Adopt (clip s)) fine).thread in
+    ap (λ x. line.Adopt x) (clip-near h.shards s within.shards (sym (clip-thread h.shards s within.shards) ∙ thread))
+clip_line-fine h before (line.Call t c) within few fine =
+    let all = all_fine h before (line.Call (clip t) (clip_call c)) fine in
+    ap₂ (λ x y. line.Call x y) (clip-near h.shards t within.shards (sym (clip-thread h.shards t within.shards) ∙ all.thread)) (call_known before c few all.known)

@@ -1,0 +1,50 @@
+-- What is kept of the lines, one line more.
+use Rattle.std.proofs.Common.{◌≡◌, ℕ, ◌+◌, ◌≤◌, ◌||◌, false, List, [], ◌∷◌, ◌++◌, length, None, arith, refl, sym, ap, ap₂, ◌∙◌}
+use Rattle.std.specs.Option.{option_or}
+use Rattle.std.proofs.lemmas.List.{reverse-append}
+use Rattle.std.proofs.lemmas.List.Folds.{list_any-append}
+use Rattle.std.specs.List.{list_any}
+use Rattle.std.proofs.Math.Bool.{or_comm, or-false}
+use Rattle.trace_text.proofs.Bindings.{binding_of-push, either_first, few-push, fresh}
+use Rattle.trace_text.specs.Earlier.{Knows, NotesEnd, NotesNames, awaits_after}
+use Rattle.trace_text.specs.Causes.{awaits_mark, binding_at, binding_of, ends, has_ended, is_call, is_call_over, marks, marks_at}
+use Rattle.trace_text.specs.Within.{order_cause}
+use Rattle.trace_text.specs.declared.header.Header.{Header}
+use Rattle.trace_text.specs.declared.earlier.Earlier.{Earlier}
+use Rattle.trace_text.specs.declared.line.Line.{Line}
+use Rattle.trace_text.specs.declared.line.Line.TheVariants as line
+
+marks-push : (ls : List Line) (l : Line) → marks (ls ++ l ∷ []) ≡ marks ls + marks_at l
+marks-push [] l = omega arith
+marks-push (m ∷ ms) l = omega (arith, marks-push ms l)
+
+pub marks-length : (ls : List Line) → marks ls ≤ length ls
+marks-length [] = omega arith
+marks-length (line.Silent ∷ ms) = omega (arith, marks-length ms)
+marks-length (line.Call t c ∷ ms) = omega (arith, marks-length ms)
+marks-length (line.Adopt s ∷ ms) = omega (arith, marks-length ms)
+marks-length (line.Mark ∷ ms) = omega (arith, marks-length ms)
+
+pub has_ended-push : (t : ℕ) (ls : List Line) (l : Line) → has_ended (ls ++ l ∷ []) t ≡ (ends t l || has_ended ls t)
+has_ended-push t ls l = list_any-append (ends t) ls (l ∷ []) ∙ or_comm (list_any (ends t) ls) (list_any (ends t) (l ∷ [])) ∙ ap (λ b. b || list_any (ends t) ls) (or-false (ends t l))
+
+awaits_mark-push : (ls : List Line) (l : Line) → awaits_mark (ls ++ l ∷ []) ≡ awaits_after (awaits_mark ls) l
+awaits_mark-push ls line.Silent = rw (reverse-append ls (line.Silent ∷ [])) refl
+awaits_mark-push ls (line.Call t c) = rw (reverse-append ls (line.Call t c ∷ [])) refl
+awaits_mark-push ls (line.Adopt s) = rw (reverse-append ls (line.Adopt s ∷ [])) refl
+awaits_mark-push ls line.Mark = rw (reverse-append ls (line.Mark ∷ [])) refl
+
+-- one line more is known, where it is not refused
+pub Knows-push : (h : Header) (ls : List Line) (l : Line) (old new : Earlier) → Knows ls old → order_cause h ls l ≡ None → is_call is_call_over l ≡ false
+    → NotesNames old new (length ls) l → NotesEnd old new l → new.section ≡ old.section + marks_at l → new.awaits_mark ≡ awaits_after old.awaits_mark l
+    → Knows (ls ++ l ∷ []) new
+Knows-push h ls l old new knows fine within names ended section awaits = record {
+  names = λ name. names name
+      ∙ ap₂ (λ s o. option_or (binding_at (length ls) s name l) o) knows.section (knows.names name)
+      ∙ either_first (binding_of name ls) (binding_at (length ls) (marks ls) name l) (λ b e. fresh h ls (length ls) (marks ls) name l b fine e)
+      ∙ sym (binding_of-push name ls l);
+  ended = λ t. ended t ∙ ap (λ b. ends t l || b) (knows.ended t) ∙ sym (has_ended-push t ls l);
+  section = section ∙ ap (λ n. n + marks_at l) knows.section ∙ sym (marks-push ls l);
+  awaits = awaits ∙ ap (λ b. awaits_after b l) knows.awaits ∙ sym (awaits_mark-push ls l);
+  few = few-push ls l knows.few within;
+}

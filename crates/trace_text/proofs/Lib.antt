@@ -1,0 +1,9 @@
+pub mod Digits
+pub mod Ends
+pub mod Forms
+pub mod Lines
+pub mod Clips
+pub mod Bindings
+pub mod Knowing
+pub mod Texts
+pub mod Exclusion

@@ -1,0 +1,256 @@
+-- The form of a line, as a function and as a relation.
+use Rattle.std.proofs.Common.{◌≡◌, ℕ, ◌<◌, ◌≤◌, ◌==◌, ◌&&◌, ◌||◌, not, nat_lt, ◌⊎◌, Bool, true, false, cond, List, [], ◌∷◌, length, Option, Some, None, option_map, codes, slice_index, arith, rules, refl, sym, ap, inl, inr, subst}
+use Rattle.std.specs.List.{slice_split, onto_first, list_all}
+use Rattle.std.specs.Char.{is_ascii_digit}
+use Rattle.std.specs.Str.Parse.{digits_value}
+use Rattle.std.proofs.lemmas.Bool.Decides.{nat_tests}
+use Rattle.certificate.proofs.Digits.{is_digit-range}
+use Rattle.std.specs.Option.{option_and_then}
+use Rattle.std.specs.Str.{bytes_eq}
+use Rattle.std.proofs.lemmas.Option.{cond_some, option_and_then_some}
+use Rattle.std.proofs.lemmas.Slice.Eq.{bytes_eq-Decides}
+use Rattle.std.proofs.lemmas.Bool.{and_parts, cases_Bool}
+use Rattle.trace_text.specs.declared.name.Reference.{Reference}
+use Rattle.trace_text.specs.declared.line.Call.{Call}
+use Rattle.trace_text.specs.declared.line.Call.TheVariants.{Put, Fill, Get, Free, Sweep, End}
+use Rattle.trace_text.specs.declared.line.Line.{Line}
+use Rattle.trace_text.specs.declared.line.Line.TheVariants as line
+use Rattle.certificate.specs.Number.{number_in, is_numeral}
+use Rattle.trace_text.specs.Name.{is_name}
+use Rattle.trace_text.specs.Reference.{reference_in}
+use Rattle.trace_text.specs.Words.{words_of}
+use Rattle.trace_text.specs.Form.{Word, Verb, Number, Named, Refers, IsWord, AreWords, SaysLine, HasForm, words_of_call, bare_call, key_call, with_name, value_call, with_two, counted_call, thread_line, one_word, two_words, form_of_words, form_of}
+
+-- which way a test went
+pub chosen : {X : Type 0} (b : Bool) (x y z : X) → cond b x y ≡ z → ((b ≡ true) × (x ≡ z)) ⊎ ((b ≡ false) × (y ≡ z))
+chosen true x y z e = inl (refl, e)
+chosen false x y z e = inr (refl, e)
+
+pub same_bytes : (xs ys : List ℕ) → bytes_eq xs ys ≡ true → xs ≡ ys
+same_bytes xs ys e = search (rules, bytes_eq-Decides)
+
+mapped : {A B : Type 0} (f : A → B) (o : Option A) (b : B) → option_map f o ≡ Some b → (a : A) × (o ≡ Some a) × (f a ≡ b)
+mapped f None b e = cc
+mapped f (Some a) b e = (a, refl, cc)
+
+-- the words say the call
+abbrev SaysCall : List (List ℕ) → Call → Type 0
+SaysCall words call = AreWords words (words_of_call call)
+
+-- ---- what is read has that form
+
+bare_found : (verb : List ℕ) (w : Call) → bare_call verb ≡ Some w → SaysCall (verb ∷ []) w
+bare_found verb w e = elim (chosen (bytes_eq verb (codes "end")) _ _ (Some w) e) [
+  | inl p ↦ let is : End ≡ w = cc p.1 in subst (SaysCall (verb ∷ [])) is (same_bytes verb (codes "end") p.0, tt)
+  | inr p ↦ cc
+]
+
+-- a call on a key, by its verb
+one_key : (call : Reference → Call) (verb key text : List ℕ) (w : Call) → ((k : Reference) → words_of_call (call k) ≡ Verb text ∷ Refers k ∷ []) → verb ≡ text → option_map call (reference_in key) ≡ Some w → SaysCall (verb ∷ key ∷ []) w
+one_key call verb key text w says is e = let parts = mapped call (reference_in key) w e in
+    subst (SaysCall (verb ∷ key ∷ [])) parts.2 (subst (AreWords (verb ∷ key ∷ [])) (sym (says parts.0)) (is, (parts.1, tt)))
+
+key_found : (verb key : List ℕ) (w : Call) → key_call verb key ≡ Some w → SaysCall (verb ∷ key ∷ []) w
+key_found verb key w e = elim (chosen (bytes_eq verb (codes "get")) _ _ (Some w) e) [
+  | inl p ↦ one_key Get verb key (codes "get") w (λ k. refl) (same_bytes verb (codes "get") p.0) p.1
+  | inr p ↦ elim (chosen (bytes_eq verb (codes "free")) _ _ (Some w) p.1) [
+    | inl q ↦ one_key Free verb key (codes "free") w (λ k. refl) (same_bytes verb (codes "free") q.0) q.1
+    | inr q ↦ cc
+  ]
+]
+
+value_found : (verb name value : List ℕ) (w : Call) → value_call verb name value ≡ Some w → SaysCall (verb ∷ name ∷ value ∷ []) w
+value_found verb name value w e = elim (chosen (bytes_eq verb (codes "put")) _ _ (Some w) e) [
+  | inl p ↦ option_and_then_some (λ v. with_name (λ n. Put n v) name) (number_in value) w p.1
+      (λ v is then. let parts = cond_some (is_name name) (Put name v) w then in
+      subst (SaysCall (verb ∷ name ∷ value ∷ [])) parts.1 (same_bytes verb (codes "put") p.0, ((refl, parts.0), (is, tt))))
+  | inr p ↦ cc
+]
+
+-- a call with a name and two numbers, by its verb
+two_found : (call : List ℕ → ℕ → ℕ → Call) (verb name first second text : List ℕ) (w : Call) → ((n : List ℕ) (a b : ℕ) → words_of_call (call n a b) ≡ Verb text ∷ Named n ∷ Number a ∷ Number b ∷ []) → verb ≡ text → with_two call name first second ≡ Some w → SaysCall (verb ∷ name ∷ first ∷ second ∷ []) w
+two_found call verb name first second text w says is e =
+    option_and_then_some (λ a. option_and_then (λ b. with_name (λ n. call n a b) name) (number_in second)) (number_in first) w e
+    (λ a first_is then. option_and_then_some (λ b. with_name (λ n. call n a b) name) (number_in second) w then
+    (λ b second_is last. let parts = cond_some (is_name name) (call name a b) w last in
+    subst (SaysCall (verb ∷ name ∷ first ∷ second ∷ [])) parts.1 (subst (AreWords (verb ∷ name ∷ first ∷ second ∷ [])) (sym (says name a b)) (is, ((refl, parts.0), (first_is, (second_is, tt)))))))
+
+counted_found : (verb name first second : List ℕ) (w : Call) → counted_call verb name first second ≡ Some w → SaysCall (verb ∷ name ∷ first ∷ second ∷ []) w
+counted_found verb name first second w e = elim (chosen (bytes_eq verb (codes "fill")) _ _ (Some w) e) [
+  | inl p ↦ two_found (λ n a b. Fill n a b) verb name first second (codes "fill") w (λ n a b. refl) (same_bytes verb (codes "fill") p.0) p.1
+  | inr p ↦ elim (chosen (bytes_eq verb (codes "sweep")) _ _ (Some w) p.1) [
+    | inl q ↦ two_found (λ n a b. Sweep n a b) verb name first second (codes "sweep") w (λ n a b. refl) (same_bytes verb (codes "sweep") q.0) q.1
+    | inr q ↦ cc
+  ]
+]
+
+thread_found : (thread : List ℕ) (call : Option Call) (more : List (List ℕ)) (w : Line) → thread_line thread call ≡ Some w → ((c : Call) → call ≡ Some c → SaysCall more c) → SaysLine w (thread ∷ more)
+thread_found thread call more w e found = option_and_then_some (λ t. option_map (λ c. line.Call t c) call) (number_in thread) w e
+    (λ t is then. let parts = mapped (λ c. line.Call t c) call w then in
+    let P : Line → Type 0 = λ v. SaysLine v (thread ∷ more) in
+    subst P parts.2 (is, found parts.0 parts.1))
+
+one_found : (word : List ℕ) (w : Line) → one_word word ≡ Some w → SaysLine w (word ∷ [])
+one_found word w e = elim (chosen (bytes_eq word (codes "mark")) _ _ (Some w) e) [
+  | inl p ↦ let is : line.Mark ≡ w = cc p.1 in let P : Line → Type 0 = λ v. SaysLine v (word ∷ []) in subst P is (same_bytes word (codes "mark") p.0, tt)
+  | inr p ↦ cc
+]
+
+two_words_found : (first second : List ℕ) (w : Line) → two_words first second ≡ Some w → SaysLine w (first ∷ second ∷ [])
+two_words_found first second w e = elim (chosen (bytes_eq first (codes "adopt")) _ _ (Some w) e) [
+  | inl p ↦ let parts = mapped (λ s. line.Adopt s) (number_in second) w p.1 in
+      let P : Line → Type 0 = λ v. SaysLine v (first ∷ second ∷ []) in subst P parts.2 (same_bytes first (codes "adopt") p.0, (parts.1, tt))
+  | inr p ↦ thread_found first (bare_call second) (second ∷ []) w p.1 (bare_found second)
+]
+
+words_found : (words : List (List ℕ)) (w : Line) → form_of_words words ≡ Some w → SaysLine w words
+words_found [] w e = cc
+words_found (a ∷ []) w e = one_found a w e
+words_found (a ∷ b ∷ []) w e = two_words_found a b w e
+words_found (a ∷ b ∷ c ∷ []) w e = thread_found a (key_call b c) (b ∷ c ∷ []) w e (key_found b c)
+words_found (a ∷ b ∷ c ∷ d ∷ []) w e = thread_found a (value_call b c d) (b ∷ c ∷ d ∷ []) w e (value_found b c d)
+words_found (a ∷ b ∷ c ∷ d ∷ f ∷ []) w e = thread_found a (counted_call b c d f) (b ∷ c ∷ d ∷ f ∷ []) w e (counted_found b c d f)
+words_found (a ∷ b ∷ c ∷ d ∷ f ∷ g ∷ more) w e = cc
+
+says_form : (bytes : List ℕ) (w : Line) → SaysLine w (words_of bytes) → HasForm w bytes
+says_form bytes line.Silent says = absurd says
+says_form bytes (line.Call t c) says = says
+says_form bytes (line.Adopt s) says = says
+says_form bytes line.Mark says = says
+
+silent_found : (bytes : List ℕ) (w : Line) → (bytes ≡ []) ⊎ ((remark : List ℕ) × (bytes ≡ 35 ∷ remark)) → Some line.Silent ≡ Some w → HasForm w bytes
+silent_found bytes w is e = let same : line.Silent ≡ w = cc in let P : Line → Type 0 = λ v. HasForm v bytes in subst P same is
+
+-- what is read has that form
+pub form_found : (bytes : List ℕ) (w : Line) → form_of bytes ≡ Some w → HasForm w bytes
+form_found [] w e = silent_found [] w (inl refl) e
+form_found (b ∷ bs) w e = elim (chosen (b == 35) _ _ (Some w) e) [
+  | inl p ↦ silent_found (b ∷ bs) w (inr (bs, ap (λ c. c ∷ bs) (search (rules, p.0)))) p.1
+  | inr p ↦ says_form (b ∷ bs) w (words_found (words_of (b ∷ bs)) w p.1)
+]
+
+-- ---- what has a form is read
+
+-- the words, by their number
+four : (words : List (List ℕ)) (p q r s : Word) → AreWords words (p ∷ q ∷ r ∷ s ∷ []) → (a : List ℕ) × (b : List ℕ) × (c : List ℕ) × (d : List ℕ) × (words ≡ a ∷ b ∷ c ∷ d ∷ []) × IsWord a p × IsWord b q × IsWord c r × IsWord d s
+four [] p q r s says = absurd says
+four (a ∷ []) p q r s says = absurd says.1
+four (a ∷ b ∷ []) p q r s says = absurd says.1.1
+four (a ∷ b ∷ c ∷ []) p q r s says = absurd says.1.1.1
+four (a ∷ b ∷ c ∷ d ∷ []) p q r s says = (a, b, c, d, refl, says.0, says.1.0, says.1.1.0, says.1.1.1.0)
+four (a ∷ b ∷ c ∷ d ∷ e ∷ more) p q r s says = absurd says.1.1.1.1
+
+-- one word says it, and others the rest
+one_more : (words : List (List ℕ)) (p : Word) (ps : List Word) → AreWords words (p ∷ ps) → (a : List ℕ) × (more : List (List ℕ)) × (words ≡ a ∷ more) × IsWord a p × AreWords more ps
+one_more [] p ps says = absurd says
+one_more (a ∷ more) p ps says = (a, more, refl, says.0, says.1)
+
+three : (words : List (List ℕ)) (p q r : Word) → AreWords words (p ∷ q ∷ r ∷ []) → (a : List ℕ) × (b : List ℕ) × (c : List ℕ) × (words ≡ a ∷ b ∷ c ∷ []) × IsWord a p × IsWord b q × IsWord c r
+three [] p q r says = absurd says
+three (a ∷ []) p q r says = absurd says.1
+three (a ∷ b ∷ []) p q r says = absurd says.1.1
+three (a ∷ b ∷ c ∷ []) p q r says = (a, b, c, refl, says.0, says.1.0, says.1.1.0)
+three (a ∷ b ∷ c ∷ d ∷ more) p q r says = absurd says.1.1.1
+
+two : (words : List (List ℕ)) (p q : Word) → AreWords words (p ∷ q ∷ []) → (a : List ℕ) × (b : List ℕ) × (words ≡ a ∷ b ∷ []) × IsWord a p × IsWord b q
+two [] p q says = absurd says
+two (a ∷ []) p q says = absurd says.1
+two (a ∷ b ∷ []) p q says = (a, b, refl, says.0, says.1.0)
+two (a ∷ b ∷ c ∷ more) p q says = absurd says.1.1
+
+one : (words : List (List ℕ)) (p : Word) → AreWords words (p ∷ []) → (a : List ℕ) × (words ≡ a ∷ []) × IsWord a p
+one [] p says = absurd says
+one (a ∷ []) p says = (a, refl, says.0)
+one (a ∷ b ∷ more) p says = absurd says.1
+
+-- a number begins with a digit
+first_of_number : (word : List ℕ) (n : ℕ) → number_in word ≡ Some n → (0 < length word) × (48 ≤ slice_index word 0) × (slice_index word 0 < 58)
+first_of_number [] n e = cc
+first_of_number (c ∷ cs) n e =
+    let numeral = cond_some (is_numeral (c ∷ cs)) (digits_value 10 (c ∷ cs)) n e in
+    let parts = and_parts (nat_lt 0 (length (c ∷ cs))) ((length (c ∷ cs) == 1 || not (slice_index (c ∷ cs) 0 == 48)) && list_all is_ascii_digit (c ∷ cs)) numeral.0 in
+    let digits = and_parts (length (c ∷ cs) == 1 || not (slice_index (c ∷ cs) 0 == 48)) (list_all is_ascii_digit (c ∷ cs)) parts.1 in
+    let first = and_parts (is_ascii_digit c) (list_all is_ascii_digit cs) digits.1 in
+    let range = is_digit-range c first.0 in
+    (omega arith, range.0, omega (arith, range.1))
+
+-- so it is no `adopt`
+not_adopt : (word : List ℕ) (n : ℕ) → number_in word ≡ Some n → bytes_eq word (codes "adopt") ≡ false
+not_adopt word n is = elim (cases_Bool (bytes_eq word (codes "adopt"))) [
+  | inl same ↦ let first = first_of_number word n is in
+      let large : slice_index word 0 ≡ 97 = rw (same_bytes word (codes "adopt") same) refl in
+      absurd (omega (arith, first.2, large))
+  | inr other ↦ other
+]
+
+thread_again : (thread : List ℕ) (t : ℕ) (call : Option Call) (c : Call) → number_in thread ≡ Some t → call ≡ Some c → thread_line thread call ≡ Some (line.Call t c)
+thread_again thread t call c is said = rw (is, said) refl
+
+named_again : (name bytes : List ℕ) (call : List ℕ → Call) → (bytes ≡ name) × (is_name name ≡ true) → with_name call bytes ≡ Some (call name)
+named_again name bytes call is = rw (is.0, is.1) refl
+
+value_again : (name value : List ℕ) (v : ℕ) (bytes : List ℕ) → (bytes ≡ name) × (is_name name ≡ true) → number_in value ≡ Some v → value_call (codes "put") bytes value ≡ Some (Put name v)
+value_again name value v bytes named is = rw is (named_again name bytes (λ n. Put n v) named)
+
+two_again : (call : List ℕ → ℕ → ℕ → Call) (name bytes first second : List ℕ) (a b : ℕ) → (bytes ≡ name) × (is_name name ≡ true) → number_in first ≡ Some a → number_in second ≡ Some b → with_two call bytes first second ≡ Some (call name a b)
+two_again call name bytes first second a b named fst snd = rw (fst, snd) (named_again name bytes (λ n. call n a b) named)
+
+-- a line whose words say a thread's call is read as that
+call_again : (words : List (List ℕ)) (t : ℕ) (c : Call) → SaysLine (line.Call t c) words → form_of_words words ≡ Some (line.Call t c)
+call_again words t (Put name v) says = let w = one_more words (Number t) _ says in let u = three w.1 _ _ _ w.4 in
+    rw (w.2, u.3, u.4) (thread_again w.0 t _ _ w.3 (value_again name u.2 v u.1 u.5 u.6))
+call_again words t (Fill name n v) says = let w = one_more words (Number t) _ says in let u = four w.1 _ _ _ _ w.4 in
+    rw (w.2, u.4, u.5) (thread_again w.0 t _ _ w.3 (two_again (λ m a b. Fill m a b) name u.1 u.2 u.3 n v u.6 u.7 u.8))
+call_again words t (Sweep name from to) says = let w = one_more words (Number t) _ says in let u = four w.1 _ _ _ _ w.4 in
+    rw (w.2, u.4, u.5) (thread_again w.0 t _ _ w.3 (two_again (λ m a b. Sweep m a b) name u.1 u.2 u.3 from to u.6 u.7 u.8))
+call_again words t (Get key) says = let w = one_more words (Number t) _ says in let u = two w.1 _ _ w.4 in
+    rw (w.2, u.2, u.3) (thread_again w.0 t _ _ w.3 (rw u.4 refl))
+call_again words t (Free key) says = let w = one_more words (Number t) _ says in let u = two w.1 _ _ w.4 in
+    rw (w.2, u.2, u.3) (thread_again w.0 t _ _ w.3 (rw u.4 refl))
+call_again words t End says = let w = one_more words (Number t) _ says in let u = one w.1 _ w.4 in
+    rw (w.2, u.1, u.2, not_adopt w.0 t w.3) (thread_again w.0 t _ _ w.3 refl)
+
+adopt_again : (words : List (List ℕ)) (a b : List ℕ) (s : ℕ) → words ≡ a ∷ b ∷ [] → a ≡ codes "adopt" → number_in b ≡ Some s → form_of_words words ≡ Some (line.Adopt s)
+adopt_again words a b s split is number = rw (split, is, number) refl
+
+mark_again : (words : List (List ℕ)) (a : List ℕ) → words ≡ a ∷ [] → a ≡ codes "mark" → form_of_words words ≡ Some line.Mark
+mark_again words a split is = rw (split, is) refl
+
+-- the first byte of a line of words is no `#`
+words_again : (words : List (List ℕ)) (w : Line) → SaysLine w words → (form_of_words words ≡ Some w) × (first : List ℕ) × (more : List (List ℕ)) × (words ≡ first ∷ more) × (0 < length first) × (35 < slice_index first 0)
+words_again words line.Silent says = absurd says
+words_again words (line.Adopt s) says = let u = two words _ _ says in
+    (adopt_again words u.0 u.1 s u.2 u.3 u.4, u.0, u.1 ∷ [], u.2, rw u.3 (omega arith), rw u.3 (omega arith))
+words_again words line.Mark says = let u = one words _ says in
+    (mark_again words u.0 u.1 u.2, u.0, [], u.1, rw u.2 (omega arith), rw u.2 (omega arith))
+words_again words (line.Call t c) says = let w = one_more words (Number t) _ says in let first = first_of_number w.0 t w.3 in
+    (call_again words t c says, w.0, w.1, w.2, first.0, omega (arith, first.1))
+
+first_word : (b : ℕ) (parts : List (List ℕ)) (word : List ℕ) (words : List (List ℕ)) → onto_first b parts ≡ word ∷ words → slice_index word 0 ≡ b
+first_word b [] word words e = let is : b ∷ [] ≡ word = cc in rw (← is) refl
+first_word b (part ∷ parts) word words e = let is : b ∷ part ≡ word = cc in rw (← is) refl
+
+above_remark : (b : ℕ) → 35 < b → (b == 35) ≡ false
+above_remark b h = grind (arith, nat_tests)
+
+-- so a line of such words is no remark
+no_remark : (b : ℕ) (bs word : List ℕ) (words : List (List ℕ)) → words_of (b ∷ bs) ≡ word ∷ words → 0 < length word → 35 < slice_index word 0 → (b == 35) ≡ false
+no_remark b bs word words e some above =
+    elim (chosen (b == 32) ([] ∷ slice_split (λ c. c == 32) bs) (onto_first b (slice_split (λ c. c == 32) bs)) (word ∷ words) e) [
+      | inl p ↦ let empty : [] ≡ word = cc p.1 in let none = rw (← empty) at some in absurd (omega (arith, none))
+      | inr p ↦ above_remark b (omega (arith, above, first_word b (slice_split (λ c. c == 32) bs) word words p.1))
+    ]
+
+bytes_again : (bytes : List ℕ) (w : Line) → SaysLine w (words_of bytes) → form_of bytes ≡ Some w
+bytes_again [] w says = let again = words_again (words_of []) w says in
+    let empty : [] ≡ again.1 = let e : [] ∷ [] ≡ again.1 ∷ again.2 = again.3 in cc in let none = rw (← empty) at again.4 in absurd (omega (arith, none))
+bytes_again (b ∷ bs) w says = let again = words_again (words_of (b ∷ bs)) w says in
+    rw (no_remark b bs again.1 again.2 again.3 again.4 again.5) again.0
+
+-- what has a form is read as that line
+pub form_again : (w : Line) (bytes : List ℕ) → HasForm w bytes → form_of bytes ≡ Some w
+form_again line.Silent bytes (inl e) = rw e refl
+form_again line.Silent bytes (inr (remark, e)) = rw e refl
+form_again (line.Call t c) bytes says = bytes_again bytes (line.Call t c) says
+form_again (line.Adopt s) bytes says = bytes_again bytes (line.Adopt s) says
+form_again line.Mark bytes says = bytes_again bytes line.Mark says

@@ -1,0 +1,117 @@
+-- The lines of a text, one after another.
+use Rattle.std.proofs.Common.{◌≡◌, ℕ, ◌+◌, ◌<◌, ◌⊎◌, true, false, List, [], ◌∷◌, ◌++◌, length, take, drop, get_or, map, Bor, Option, Some, None, Ok, Err, zero, suc, arith, refl, sym, ap, ◌∙◌, inl, inr, subst, append_assoc, append-nil}
+use Rattle.std.proofs.lemmas.List.{take_more, map-append, length-map, length-take-le}
+use Rattle.std.proofs.Math.Seq.{split_at}
+use Rattle.std.specs.List.{slice_get}
+use Rattle.trace_text.specs.declared.line.Line.{Line}
+use Rattle.trace_text.specs.declared.header.Header.{Header}
+use Rattle.trace_text.specs.declared.cause.Cause.{Cause}
+use Rattle.trace_text.specs.declared.cause.Cause.TheVariants as cause
+use Rattle.trace_text.specs.Form.{form_of, HasForm}
+use Rattle.trace_text.specs.Within.{clip_line, order_cause, within}
+use Rattle.trace_text.specs.Header.{IsWithinLimits}
+use Rattle.trace_text.specs.Earlier.{Few}
+use Rattle.trace_text.specs.Causes.{awaits_mark, is_call, is_call_over, HasCause, IsNextLine, IsSound, Reads, first_cause, IsFirstFault}
+use Rattle.trace_text.proofs.Lines.{chosen, form_found, form_again}
+use Rattle.trace_text.proofs.Clips.{order_cause-clip, clip_line-fine}
+
+-- one line more
+Reads-push : (h : Header) (before : List Line) (texts : List (List ℕ)) (lines : List Line) (bytes : List ℕ) (l : Line) → Reads h before texts lines → IsNextLine h (before ++ lines) bytes l → Reads h before (texts ++ bytes ∷ []) (lines ++ l ∷ [])
+Reads-push h before [] [] bytes l all next = ((next.0, rw append-nil at next.1), tt)
+Reads-push h before (b ∷ bs) (m ∷ ms) bytes l (first, rest) next = (first, Reads-push h (before ++ m ∷ []) bs ms bytes l rest (rw append_assoc next))
+Reads-push h before [] (m ∷ ms) bytes l all next = absurd all
+Reads-push h before (b ∷ bs) [] bytes l all next = absurd all
+
+first_cause-order : (h : Header) (before : List Line) (w : Line) → is_call is_call_over w ≡ false → first_cause h before w ≡ order_cause h before w
+first_cause-order h before w under = rw under refl
+
+-- what is kept of a line that has a form
+within_ok : (form : Option Line) (l : Line) → within form ≡ Ok l → (w : Line) × (form ≡ Some w) × (is_call is_call_over w ≡ false) × (clip_line w ≡ l)
+within_ok None l e = cc
+within_ok (Some w) l e = elim (chosen (is_call is_call_over w) (Err cause.Limit) (Ok (clip_line w)) (Ok l) e) [
+  | inl p ↦ cc p.1
+  | inr p ↦ (w, refl, p.0, cc p.1)
+]
+
+within_err : (form : Option Line) (c : Cause) → within form ≡ Err c → ((form ≡ None) × (c ≡ cause.Form)) ⊎ ((w : Line) × (form ≡ Some w) × (is_call is_call_over w ≡ true) × (c ≡ cause.Limit))
+within_err None c e = inl (refl, cc)
+within_err (Some w) c e = elim (chosen (is_call is_call_over w) (Err cause.Limit) (Ok (clip_line w)) (Err c) e) [
+  | inl p ↦ inr (w, refl, p.0, cc p.1)
+  | inr p ↦ cc p.1
+]
+
+-- a line that is read and not refused is a line of the trace, and no number of it is over
+pub fine_line : (h : Header) (before : List Line) (bytes : List ℕ) (l : Line) → IsWithinLimits h → Few before → within (form_of bytes) ≡ Ok l → order_cause h before l ≡ None → IsNextLine h before bytes l
+fine_line h before bytes l within few read fine =
+    let w = within_ok (form_of bytes) l read in
+    let whole = clip_line-fine h before w.0 within few (rw w.3 fine) in
+    let same : w.0 ≡ l = sym whole ∙ w.3 in
+    let P : Line → Type 0 = λ v. HasForm v bytes × (first_cause h before v ≡ None) in
+    subst P same (form_found bytes w.0 w.1, first_cause-order h before w.0 w.2 ∙ sym (order_cause-clip h before w.0 within few) ∙ ap (λ v. order_cause h before v) w.3 ∙ fine)
+
+-- a line that is read and refused is at fault
+pub refused_line : (h : Header) (before : List Line) (bytes : List ℕ) (l : Line) (c : Cause) → IsWithinLimits h → Few before → within (form_of bytes) ≡ Ok l → order_cause h before l ≡ Some c → HasCause h before bytes c
+refused_line h before bytes l c within few read fault =
+    let w = within_ok (form_of bytes) l read in
+    inr (w.0, form_found bytes w.0 w.1, first_cause-order h before w.0 w.2 ∙ sym (order_cause-clip h before w.0 within few) ∙ ap (λ v. order_cause h before v) w.3 ∙ fault)
+
+-- a line that is not read is at fault
+pub unread_line : (h : Header) (before : List Line) (bytes : List ℕ) (c : Cause) → within (form_of bytes) ≡ Err c → HasCause h before bytes c
+unread_line h before bytes c read = elim (within_err (form_of bytes) c read) [
+  | inl p ↦ inl (p.1, λ w form. let some = form_again w bytes form in cc)
+  | inr p ↦ inr (p.0, form_found bytes p.0 p.1, rw (p.2, p.3) refl)
+]
+
+-- a line of which no cause holds has its numbers within their ranges
+pub first_cause-none : (h : Header) (before : List Line) (l : Line) → first_cause h before l ≡ None → (is_call is_call_over l ≡ false) × (order_cause h before l ≡ None)
+first_cause-none h before l fine = elim (chosen (is_call is_call_over l) (Some cause.Limit) (order_cause h before l) None fine) [
+  | inl p ↦ cc p.1
+  | inr p ↦ (p.0, p.1)
+]
+
+-- the first line at fault, at a place in the list
+pub first_fault_at : (h : Header) (texts : List (Bor (List ℕ))) (before : List Line) (d : Bor (List ℕ)) (i n : ℕ) (c : Cause) → i < length texts → n ≡ i + 6 → Reads h [] (map (λ t. t.now) (take i texts)) before → HasCause h before (get_or texts i d).now c → IsFirstFault h (map (λ t. t.now) texts) n c
+first_fault_at h texts before d i n c there place fine fault = record {
+  above = map (λ t. t.now) (take i texts);
+  rest = (get_or texts i d).now ∷ map (λ t. t.now) (drop (suc i) texts);
+  split = ap (map (λ (t : Bor (List ℕ)). t.now)) (split_at texts i d there) ∙ map-append (λ (t : Bor (List ℕ)). t.now) (take i texts) (get_or texts i d ∷ drop (suc i) texts);
+  place = omega (arith, length-map (take i texts) (λ (t : Bor (List ℕ)). t.now), length-take-le i texts (omega arith));
+  lines = before;
+  fine = fine;
+  fault = fault;
+}
+
+-- as many lines are read as there are texts
+pub Reads-length : (h : Header) (before : List Line) (texts : List (List ℕ)) (lines : List Line) → Reads h before texts lines → length lines ≡ length texts
+Reads-length h before [] [] all = refl
+Reads-length h before (b ∷ bs) (m ∷ ms) all = omega (arith, Reads-length h (before ++ m ∷ []) bs ms all.1)
+Reads-length h before [] (m ∷ ms) all = absurd all
+Reads-length h before (b ∷ bs) [] all = absurd all
+
+-- the end of the text at fault
+pub end_fault : (h : Header) (texts : List (List ℕ)) (lines : List Line) (n : ℕ) → Reads h [] texts lines → awaits_mark lines ≡ true → n ≡ length texts + 6 → IsFirstFault h texts n cause.Adopt
+end_fault h texts lines n fine awaits place = record {
+  above = texts;
+  rest = [];
+  split = sym (append-nil texts);
+  place = place;
+  lines = lines;
+  fine = fine;
+  fault = (refl, awaits);
+}
+
+-- one line more is read
+pub Reads-more : (h : Header) (texts : List (Bor (List ℕ))) (lines : List Line) (d : Bor (List ℕ)) (l : Line) (i : ℕ) → i < length texts → Reads h [] (map (λ t. t.now) (take i texts)) lines → IsNextLine h lines (get_or texts i d).now l → Reads h [] (map (λ t. t.now) (take (i + 1) texts)) (lines ++ l ∷ [])
+Reads-more h texts lines d l i there fine next =
+    rw (take_more texts i d there, map-append) (Reads-push h [] (map (λ t. t.now) (take i texts)) lines (get_or texts i d).now l fine next)
+
+-- no cause holds of a line that was read after those lines and the ones above it
+Reads-fine : (h : Header) (before : List Line) (texts : List (List ℕ)) (lines : List Line) (place : ℕ) (l : Line) → Reads h before texts lines → slice_get lines place ≡ Some l → first_cause h (before ++ take place lines) l ≡ None
+Reads-fine h before [] [] place l all at = cc
+Reads-fine h before [] (m ∷ ms) place l all at = absurd all
+Reads-fine h before (b ∷ bs) [] place l all at = absurd all
+Reads-fine h before (b ∷ bs) (m ∷ ms) zero l all at = let is : m ≡ l = cc at in rw append-nil (subst (λ (x : Line). first_cause h before x ≡ None) is all.0.1)
+Reads-fine h before (b ∷ bs) (m ∷ ms) (suc place) l all at = rw append_assoc at (Reads-fine h (before ++ m ∷ []) bs ms place l all.1 at)
+
+pub IsSound-Reads : (h : Header) (texts : List (List ℕ)) (lines : List Line) → Reads h [] texts lines → IsSound h lines
+IsSound-Reads h texts lines all = λ place l at. Reads-fine h [] texts lines place l all at

@@ -1,0 +1,220 @@
+-- What is wrong with a line, from the header and the lines before it.
+use Rattle.std.specs.Prelude.{◌≡◌, ◌+◌, ◌-◌, ◌^◌, ◌==◌, ◌&&◌, ◌||◌, ◌⊎◌, ℕ, Bool, true, false, not, nat_le, nat_lt, List, [], ◌∷◌, ◌++◌, length, take, reverse, slice_get, Option, Some, None, is_some, find, codes, if◌then◌else◌}
+use Rattle.std.specs.List.{list_any}
+use Rattle.std.specs.Option.{option_map_or, option_or}
+use Rattle.std.specs.Str.{bytes_eq}
+use Rattle.trace_text.specs.Form.{HasForm}
+use Rattle.trace_text.specs.declared.header.Header.{Header}
+use Rattle.trace_text.specs.declared.line.Call.{Call}
+use Rattle.trace_text.specs.declared.line.Call.TheVariants.{Put, Fill, Get, Free, Sweep, End}
+use Rattle.trace_text.specs.declared.line.Line.{Line}
+use Rattle.trace_text.specs.declared.line.Line.TheVariants as line
+use Rattle.trace_text.specs.declared.line.Keys.{Keys}
+use Rattle.trace_text.specs.declared.line.Keys.TheVariants.{One, Many}
+use Rattle.trace_text.specs.declared.line.Binding.{Binding}
+use Rattle.trace_text.specs.declared.cause.Cause.{Cause}
+use Rattle.trace_text.specs.declared.cause.Cause.TheVariants as cause
+use Rattle.trace_text.specs.declared.cause.Cause.TheVariants.{Form, Limit, Thread, Ended, Adopt, Bound, Unknown, Early}
+
+-- ---- what a line says of threads and names
+
+-- the thread that calls, or the one whose shard adopts
+abbrev pub thread_of : Line → Option ℕ
+thread_of (line.Call thread call) = Some thread
+thread_of (line.Adopt shard) = Some shard
+thread_of _ = None
+
+-- the name that the call binds
+abbrev pub bound_name : Call → Option (List ℕ)
+bound_name (Put name value) = Some name
+bound_name (Fill name count value) = Some name
+bound_name _ = None
+
+-- the name whose keys the call reads or frees
+abbrev pub read_name : Call → Option (List ℕ)
+read_name (Get key) = Some key.name
+read_name (Free key) = Some key.name
+read_name (Sweep name from to) = Some name
+read_name _ = None
+
+-- a plain name needs a put, and an index a fill of more keys
+abbrev pub has_key : Option ℕ → Keys → Bool
+has_key None One = true
+has_key (Some index) (Many count) = nat_lt index count
+has_key _ _ = false
+
+-- a sweep needs a fill, and lies within it
+abbrev pub has_range : ℕ → ℕ → Keys → Bool
+has_range from to One = false
+has_range from to (Many count) = nat_le from to && nat_le to count
+
+-- the keys that the call reads or frees are among these
+abbrev pub has_keys : Call → Keys → Bool
+has_keys (Get key) keys = has_key key.index keys
+has_keys (Free key) keys = has_key key.index keys
+has_keys (Sweep name from to) keys = has_range from to keys
+has_keys _ keys = true
+
+-- ---- what the lines before it say
+
+-- a mark is one
+abbrev pub marks_at : Line → ℕ
+marks_at line.Mark = 1
+marks_at _ = 0
+
+-- how many marks stand among the lines: the number of the section that follows them
+abbrev pub marks : List Line → ℕ
+marks [] = 0
+marks (line ∷ lines) = marks_at line + marks lines
+
+-- what a thread's call on the line at that place and in that section binds the name to
+abbrev pub call_binding : (place section : ℕ) → List ℕ → ℕ → Call → Option Binding
+call_binding place section name thread (Put bound value) = if bytes_eq bound name then Some (record { keys = One; thread = thread; section = section; line = place }) else None
+call_binding place section name thread (Fill bound count value) = if bytes_eq bound name then Some (record { keys = Many count; thread = thread; section = section; line = place }) else None
+call_binding place section name thread _ = None
+
+-- what the line at that place and in that section binds the name to
+abbrev pub binding_at : (place section : ℕ) → List ℕ → Line → Option Binding
+binding_at place section name (line.Call thread call) = call_binding place section name thread call
+binding_at place section name _ = None
+
+-- what the first line that binds the name binds it to, in lines of which the first stands at that place and in that section
+abbrev pub binding_from : (place section : ℕ) → List ℕ → List Line → Option Binding
+binding_from place section name [] = None
+binding_from place section name (line ∷ lines) = option_or (binding_at place section name line) (binding_from (place + 1) (section + marks_at line) name lines)
+
+-- what the lines below the header bind the name to
+abbrev pub binding_of : List ℕ → List Line → Option Binding
+binding_of name lines = binding_from 0 0 name lines
+
+-- the thread's call ends the thread that is asked for
+abbrev pub call_ends : (asked thread : ℕ) → Call → Bool
+call_ends asked thread End = thread == asked
+call_ends asked thread _ = false
+
+-- the line ends the thread that is asked for
+abbrev pub ends : (asked : ℕ) → Line → Bool
+ends asked (line.Call thread call) = call_ends asked thread call
+ends asked _ = false
+
+-- one of those lines ends the thread
+abbrev pub has_ended : List Line → ℕ → Bool
+has_ended before thread = list_any (ends thread) before
+
+-- the line is neither empty nor a remark
+abbrev pub speaks : Line → Bool
+speaks line.Silent = false
+speaks _ = true
+
+-- the line is an adoption
+abbrev pub is_adopt : Line → Bool
+is_adopt (line.Adopt shard) = true
+is_adopt _ = false
+
+-- the last of those lines that is neither empty nor a remark is an adoption, which waits for its mark
+abbrev pub awaits_mark : List Line → Bool
+awaits_mark lines = option_map_or is_adopt (find speaks (reverse lines)) false
+
+-- the line may follow an adoption
+abbrev pub may_follow_adopt : Line → Bool
+may_follow_adopt (line.Call thread call) = false
+may_follow_adopt _ = true
+
+-- ---- what is wrong with a line
+
+-- a value, a count or the last value of a fill is outside its range
+abbrev pub is_call_over : Call → Bool
+is_call_over (Put name value) = nat_le (2 ^ 128) value
+is_call_over (Fill name count value) = not (nat_le 1 count && nat_le count 262144) || nat_le (2 ^ 128) (value + count - 1)
+is_call_over _ = false
+
+-- the call binds a name that those lines bind
+abbrev pub binds_again : List Line → Call → Bool
+binds_again before call = option_map_or (λ name. is_some (binding_of name before)) (bound_name call) false
+
+-- the call reads or frees keys of a name that those lines do not bind to such keys
+abbrev pub reads_unknown : List Line → Call → Bool
+reads_unknown before call = option_map_or (λ name. not (option_map_or (λ b. has_keys call b.keys) (binding_of name before) false)) (read_name call) false
+
+-- the binding is another thread's, with no mark behind it
+abbrev pub is_early : (section thread : ℕ) → Binding → Bool
+is_early section thread b = b.section == section && not (b.thread == thread)
+
+-- the thread's call reads or frees keys of a name that another thread binds in the same section
+abbrev pub reads_early : List Line → ℕ → Call → Bool
+reads_early before thread call = option_map_or (λ name. option_map_or (is_early (marks before) thread) (binding_of name before) false) (read_name call) false
+
+-- the line is a call that passes the test
+abbrev pub is_call : (Call → Bool) → Line → Bool
+is_call test (line.Call thread call) = test call
+is_call test _ = false
+
+-- the line is a thread's call, and the two pass the test
+abbrev pub is_call_of : (ℕ → Call → Bool) → Line → Bool
+is_call_of test (line.Call thread call) = test thread call
+is_call_of test _ = false
+
+-- the line is of a thread that passes the test, or of its shard
+abbrev pub is_of : (ℕ → Bool) → Line → Bool
+is_of test line = option_map_or test (thread_of line) false
+
+-- whether the cause holds of a line that has a form
+abbrev pub holds : Header → List Line → Line → Cause → Bool
+holds h before line Limit = is_call is_call_over line
+holds h before line Thread = is_of (nat_le h.shards) line
+holds h before line Ended = is_of (has_ended before) line
+holds h before line Adopt = awaits_mark before && not (may_follow_adopt line)
+holds h before line Bound = is_call (binds_again before) line
+holds h before line Unknown = is_call (reads_unknown before) line
+holds h before line Early = is_call_of (reads_early before) line
+holds h before line _ = false
+
+-- the first cause that holds of a line that has a form
+abbrev pub first_cause : Header → List Line → Line → Option Cause
+first_cause h before line = find (holds h before line) (Limit ∷ Thread ∷ Ended ∷ Adopt ∷ Bound ∷ Unknown ∷ Early ∷ [])
+
+-- no cause holds of a line, after those above it
+abbrev pub IsSound : Header → List Line → Type 0
+IsSound h lines = (place : ℕ) (line : Line) → slice_get lines place ≡ Some line → first_cause h (take place lines) line ≡ None
+
+-- after those lines the bytes are at fault: they have no form, or this cause is the first that holds of them
+abbrev pub HasCause : Header → List Line → List ℕ → Cause → Type 0
+HasCause h before bytes c = ((c ≡ Form) × ((line : Line) → HasForm line bytes → ⊥)) ⊎ ((line : Line) × HasForm line bytes × (first_cause h before line ≡ Some c))
+
+-- after those lines the bytes have the form of this line, and no cause holds of it
+abbrev pub IsNextLine : Header → List Line → List ℕ → Line → Type 0
+IsNextLine h before bytes line = HasForm line bytes × (first_cause h before line ≡ None)
+
+-- after those lines the texts are these lines, and none is at fault
+abbrev pub Reads : Header → List Line → List (List ℕ) → List Line → Type 0
+Reads h before [] [] = Unit {0}
+Reads h before (bytes ∷ texts) (line ∷ lines) = IsNextLine h before bytes line × Reads h (before ++ line ∷ []) texts lines
+Reads h before [] (line ∷ lines) = ⊥
+Reads h before (bytes ∷ texts) [] = ⊥
+
+-- after those lines the first of the texts is at fault by this cause; or the end, where no text is left and an adoption waits for its mark
+abbrev pub BeginsAtFault : Header → List Line → List (List ℕ) → Cause → Type 0
+BeginsAtFault h before [] c = (c ≡ Adopt) × (awaits_mark before ≡ true)
+BeginsAtFault h before (bytes ∷ texts) c = HasCause h before bytes c
+
+-- of the texts below a header, the one of this line number, or their end, is at fault by this cause, and none above it is
+pub record IsFirstFault (h : Header) (texts : List (List ℕ)) (number : ℕ) (c : Cause) : Type 0 where
+  pub above : List (List ℕ)
+  pub rest : List (List ℕ)
+  pub split : texts ≡ above ++ rest
+  pub place : number ≡ length above + 6
+  pub lines : List Line
+  pub fine : Reads h [] above lines
+  pub fault : BeginsAtFault h lines rest c
+
+-- the word that a refusal says
+abbrev pub word_of : Cause → List ℕ
+word_of cause.Header = codes "header"
+word_of Form = codes "form"
+word_of Limit = codes "limit"
+word_of Thread = codes "thread"
+word_of Ended = codes "ended"
+word_of Adopt = codes "adopt"
+word_of Bound = codes "bound"
+word_of Unknown = codes "unknown"
+word_of Early = codes "early"

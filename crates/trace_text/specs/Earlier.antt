@@ -1,0 +1,53 @@
+-- What is kept of the lines before a line.
+use Rattle.std.specs.Prelude.{◌≡◌, ◌≤◌, ◌||◌, ℕ, Bool, List, Option, Some, nat_eq, if◌then◌else◌}
+use Rattle.std.specs.HashMap as hash
+use Rattle.std.specs.HashSet as bag
+use Rattle.std.specs.Option.{option_or}
+use Rattle.std.specs.Cmp.Lexicographic.{pointwise}
+use Rattle.trace_text.specs.Causes.{awaits_mark, binding_at, binding_of, ends, has_ended, is_adopt, marks, speaks}
+use Rattle.trace_text.specs.declared.line.Line.{Line}
+use Rattle.trace_text.specs.declared.line.Keys.{Keys}
+use Rattle.trace_text.specs.declared.line.Keys.TheVariants.{One, Many}
+use Rattle.trace_text.specs.declared.line.Binding.{Binding}
+use Rattle.trace_text.specs.declared.earlier.Earlier.{Earlier}
+
+-- what the table has for the name
+abbrev pub bound_in : Earlier → List ℕ → Option Binding
+bound_in e name = hash.get (λ s t. pointwise nat_eq s t) e.names name
+
+-- the set has the thread
+abbrev pub ended_in : Earlier → ℕ → Bool
+ended_in e thread = bag.contains nat_eq e.ended thread
+
+-- how many keys these are
+abbrev pub key_count : Keys → ℕ
+key_count One = 1
+key_count (Many count) = count
+
+-- no more keys than a fill may have
+abbrev pub IsFew : Keys → Type 0
+IsFew keys = key_count keys ≤ 262144
+
+-- no name is bound to more keys than a fill may have
+abbrev pub Few : List Line → Type 0
+Few lines = (name : List ℕ) (b : Binding) → binding_of name lines ≡ Some b → IsFew b.keys
+
+-- it has what those lines bind, which threads they end, how many marks they have, and whether one must follow
+pub record Knows (lines : List Line) (e : Earlier) : Type 0 where
+  pub names : (name : List ℕ) → bound_in e name ≡ binding_of name lines
+  pub ended : (thread : ℕ) → ended_in e thread ≡ has_ended lines thread
+  pub section : e.section ≡ marks lines
+  pub awaits : e.awaits_mark ≡ awaits_mark lines
+  pub few : Few lines
+
+-- the new table has what the line at that place binds, and beside it what the old one had
+abbrev pub NotesNames : (old new : Earlier) (place : ℕ) → Line → Type 0
+NotesNames old new place line = (name : List ℕ) → bound_in new name ≡ option_or (binding_at place old.section name line) (bound_in old name)
+
+-- the new set has the thread that the line ends, and beside it those of the old one
+abbrev pub NotesEnd : (old new : Earlier) → Line → Type 0
+NotesEnd old new line = (thread : ℕ) → ended_in new thread ≡ (ends thread line || ended_in old thread)
+
+-- a line that is neither empty nor a remark decides whether a mark must follow
+abbrev pub awaits_after : (old : Bool) → Line → Bool
+awaits_after old line = if speaks line then is_adopt line else old

@@ -1,0 +1,115 @@
+-- The forms of a line below the header: first as the words that each form has, then as a function of a line's words.
+use Rattle.std.specs.Prelude.{◌≡◌, ◌==◌, ◌⊎◌, ℕ, true, List, [], ◌∷◌, ◌++◌, Option, Some, None, option_map, option_and_then, codes, if◌then◌else◌}
+use Rattle.std.specs.Str.{bytes_eq}
+use Rattle.certificate.specs.Number.{number_in}
+use Rattle.trace_text.specs.Name.{is_name}
+use Rattle.trace_text.specs.Reference.{reference_in}
+use Rattle.trace_text.specs.Words.{words_of}
+use Rattle.trace_text.specs.declared.name.Reference.{Reference}
+use Rattle.trace_text.specs.declared.line.Call.{Call}
+use Rattle.trace_text.specs.declared.line.Call.TheVariants.{Put, Fill, Get, Free, Sweep, End}
+use Rattle.trace_text.specs.declared.line.Line.{Line}
+use Rattle.trace_text.specs.declared.line.Line.TheVariants as line
+
+-- what a word of a line says: a fixed verb, a number, a name or a reference
+pub data Word : Type 0 where
+  Verb : List ℕ → Word
+  Number : ℕ → Word
+  Named : List ℕ → Word
+  Refers : Reference → Word
+
+-- the words of each call, behind its thread's number
+abbrev pub words_of_call : Call → List Word
+words_of_call (Put name value) = Verb (codes "put") ∷ Named name ∷ Number value ∷ []
+words_of_call (Fill name count value) = Verb (codes "fill") ∷ Named name ∷ Number count ∷ Number value ∷ []
+words_of_call (Get key) = Verb (codes "get") ∷ Refers key ∷ []
+words_of_call (Free key) = Verb (codes "free") ∷ Refers key ∷ []
+words_of_call (Sweep name from to) = Verb (codes "sweep") ∷ Named name ∷ Number from ∷ Number to ∷ []
+words_of_call End = Verb (codes "end") ∷ []
+
+-- the bytes are a word that says this
+abbrev pub IsWord : List ℕ → Word → Type 0
+IsWord bytes (Verb verb) = bytes ≡ verb
+IsWord bytes (Number n) = number_in bytes ≡ Some n
+IsWord bytes (Named name) = (bytes ≡ name) × (is_name name ≡ true)
+IsWord bytes (Refers key) = reference_in bytes ≡ Some key
+
+-- as many words as are said, and each says its own
+abbrev pub AreWords : List (List ℕ) → List Word → Type 0
+AreWords [] [] = Unit {0}
+AreWords (bytes ∷ more) (word ∷ words) = IsWord bytes word × AreWords more words
+AreWords _ _ = ⊥
+
+-- the words say this line, which is no empty line and no remark
+abbrev pub SaysLine : Line → List (List ℕ) → Type 0
+SaysLine line.Silent words = ⊥
+SaysLine (line.Call thread call) words = AreWords words (Number thread ∷ words_of_call call)
+SaysLine (line.Adopt shard) words = AreWords words (Verb (codes "adopt") ∷ Number shard ∷ [])
+SaysLine line.Mark words = AreWords words (Verb (codes "mark") ∷ [])
+
+-- the bytes have the form of this line, whose numbers may be of any size: nothing, a `#` and any bytes, or the words of a thread's call, of an adoption or of a mark
+abbrev pub HasForm : Line → List ℕ → Type 0
+HasForm line.Silent bytes = (bytes ≡ []) ⊎ ((remark : List ℕ) × (bytes ≡ codes "#" ++ remark))
+HasForm line bytes = SaysLine line (words_of bytes)
+
+-- ---- the same as a function of the words
+
+-- a call of this name, where the bytes are a name
+abbrev pub with_name : (List ℕ → Call) → List ℕ → Option Call
+with_name call name = if is_name name then Some (call name) else None
+
+-- a call with no more words than its verb
+abbrev pub bare_call : List ℕ → Option Call
+bare_call verb = if bytes_eq verb (codes "end") then Some End else None
+
+-- a call on a key
+abbrev pub key_call : List ℕ → List ℕ → Option Call
+key_call verb key =
+    if bytes_eq verb (codes "get") then option_map Get (reference_in key)
+    else (if bytes_eq verb (codes "free") then option_map Free (reference_in key) else None)
+
+-- a call with a name and a value
+abbrev pub value_call : List ℕ → List ℕ → List ℕ → Option Call
+value_call verb name value = if bytes_eq verb (codes "put") then option_and_then (λ v. with_name (λ n. Put n v) name) (number_in value) else None
+
+-- a call of this name and these two numbers
+abbrev pub with_two : (List ℕ → ℕ → ℕ → Call) → List ℕ → List ℕ → List ℕ → Option Call
+with_two call name first second = option_and_then (λ a. option_and_then (λ b. with_name (λ n. call n a b) name) (number_in second)) (number_in first)
+
+-- a call with a name and two numbers
+abbrev pub counted_call : List ℕ → List ℕ → List ℕ → List ℕ → Option Call
+counted_call verb name first second =
+    if bytes_eq verb (codes "fill") then with_two (λ n a b. Fill n a b) name first second
+    else (if bytes_eq verb (codes "sweep") then with_two (λ n a b. Sweep n a b) name first second else None)
+
+-- the line of a thread's number and its call
+abbrev pub thread_line : List ℕ → Option Call → Option Line
+thread_line thread call = option_and_then (λ t. option_map (λ c. line.Call t c) call) (number_in thread)
+
+-- the line of one word
+abbrev pub one_word : List ℕ → Option Line
+one_word word = if bytes_eq word (codes "mark") then Some line.Mark else None
+
+-- the line of a shard that adopts
+abbrev pub adopt_line : List ℕ → Option Line
+adopt_line shard = option_map (λ s. line.Adopt s) (number_in shard)
+
+-- the line of two words
+abbrev pub two_words : List ℕ → List ℕ → Option Line
+two_words first second =
+    if bytes_eq first (codes "adopt") then adopt_line second
+    else thread_line first (bare_call second)
+
+-- the line of these words
+abbrev pub form_of_words : List (List ℕ) → Option Line
+form_of_words (word ∷ []) = one_word word
+form_of_words (first ∷ second ∷ []) = two_words first second
+form_of_words (thread ∷ verb ∷ key ∷ []) = thread_line thread (key_call verb key)
+form_of_words (thread ∷ verb ∷ name ∷ value ∷ []) = thread_line thread (value_call verb name value)
+form_of_words (thread ∷ verb ∷ name ∷ first ∷ second ∷ []) = thread_line thread (counted_call verb name first second)
+form_of_words _ = None
+
+-- the line that the bytes have the form of; a `#` is 35
+abbrev pub form_of : List ℕ → Option Line
+form_of [] = Some line.Silent
+form_of (b ∷ bs) = if b == 35 then Some line.Silent else form_of_words (words_of (b ∷ bs))

@@ -1,0 +1,21 @@
+-- What is kept of a number.
+use Rattle.std.specs.Prelude.{◌≡◌, ◌≤◌, ◌^◌, ℕ, Option, Some, None, option_map}
+use Rattle.certificate.specs.Number.{clip}
+use Rattle.trace_text.specs.declared.numeral.Number.{Number}
+use Rattle.trace_text.specs.declared.numeral.Number.TheVariants.{Fits, Large}
+
+-- a number that does not fit is kept as the greatest that does
+abbrev pub clipped_number : Option ℕ → Option ℕ
+clipped_number n = option_map clip n
+
+-- what is kept of a number
+abbrev pub HasValue : Number → ℕ → Type 0
+HasValue (Fits n) m = n ≡ m
+HasValue Large m = 2 ^ 128 ≤ m
+
+-- what is kept says this number, or neither is a number
+abbrev pub Says : Option Number → Option ℕ → Type 0
+Says None None = Unit {0}
+Says (Some number) (Some n) = HasValue number n
+Says None (Some n) = ⊥
+Says (Some number) None = ⊥

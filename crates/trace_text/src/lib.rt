@@ -1,0 +1,51 @@
+//! The grammar of traces, and its parser.
+//!
+//! A trace is lines of bytes, each ended by one line feed, which the last line may lack. Lines are
+//! counted from 1. Words are parted by one space, and no space stands before the first word or
+//! after the last. A number is decimal digits with no sign and no leading zero. Lines 1 to 5 are
+//! the header, and every further line is empty, a remark, a call of a thread, an adoption or a mark:
+//!
+//! ```text
+//! mesh 1                  0 put a 7            puts 7, and binds `a` to its key
+//! shards 2                0 fill b 3 5         puts 5, 6, 7, and binds `b.0`, `b.1`, `b.2`
+//! pages 4                 0 get b.1            reads the value of a key
+//! ring 4                  0 free a             frees a key
+//! gens 9                  0 sweep b 0 2        frees `b.0` and `b.1`
+//! # bytes of any kind     0 end                ends the thread
+//!                         adopt 1              at the mark below, shard 1 adopts
+//!                         mark                 the barrier between two sections
+//! ```
+//!
+//! A name is 1 to 16 of `a` to `z` and `0` to `9`, and begins with a letter. It is bound once, by a
+//! put or a fill, and stands for its keys from the next line on: alone where a put binds it, and
+//! with a full stop and an index below the count where a fill does. A sweep lies within its fill.
+//! Other threads may use the name only behind the next mark, since threads meet at marks alone.
+//!
+//! There are 1 to 64 shards, each with one thread of its number, from 0 on. A thread that has ended
+//! calls no more, and its shard doesn't adopt. Behind an adoption stand adoptions and then a mark,
+//! with nothing between them but empty lines and remarks.
+//!
+//! A shard has 1 to 1,024 pages, a ring 1 to 1,024 places, and a slot 1 to 4,294,967,295
+//! generations. A fill has 1 to 262,144 keys. Each value, the last one of a fill too, is below 2^128.
+//!
+//! `parse` gives the trace that a text spells, or the first line at fault and, of the causes that
+//! hold of it, the first in the order of `Cause`.
+#![tactic(auto)]
+
+mod cause;
+mod earlier;
+mod header;
+mod line;
+mod name;
+mod numeral;
+mod parsing;
+mod reading;
+mod trace;
+mod words;
+
+pub use cause::{Cause, ParseError};
+pub use header::Header;
+pub use line::{Binding, Call, Keys, Line};
+pub use name::{Name, Reference};
+pub use parsing::parse;
+pub use trace::Trace;

@@ -1,0 +1,111 @@
+//! Lines of a trace.
+
+use super::name::{Name, Reference};
+
+/// A call that a thread makes.
+#[derive(Debug, Drop, PartialEq, Eq)]
+pub enum Call {
+    /// Puts a value, and binds the name to its key.
+    Put { name: Name, value: u128 },
+    /// Puts `count` values in order, from `value` up, and binds the name to their keys.
+    Fill { name: Name, count: u32, value: u128 },
+    /// Reads the value of a key.
+    Get { key: Reference },
+    /// Frees a key.
+    Free { key: Reference },
+    /// Frees the keys of the name from `from` up to, and without, `to`.
+    Sweep { name: Name, from: u32, to: u32 },
+    /// Ends the thread. Its shard is abandoned at the next barrier.
+    End,
+}
+
+/// A line below the header.
+#[derive(Debug, Drop, PartialEq, Eq)]
+pub enum Line {
+    /// An empty line or a remark.
+    Silent,
+    /// A call of the thread of that number, counted from 0.
+    Call { thread: u32, call: Call },
+    /// At the mark that follows, the shard of that number adopts.
+    Adopt { shard: u32 },
+    /// The barrier: all calls above it are made before any below it.
+    Mark,
+}
+
+/// The keys that a name is bound to.
+#[derive(Clone, Copy, Debug, PartialEq, Eq)]
+pub enum Keys {
+    /// One, by a put. The name alone refers to it.
+    One,
+    /// So many, by a fill. The name and an index below this number refer to one of them.
+    Many(u32),
+}
+
+/// What a name is bound to.
+#[derive(Clone, Copy, Debug, PartialEq, Eq)]
+pub struct Binding {
+    /// The keys that it stands for.
+    pub keys: Keys,
+    /// The thread whose line binds it.
+    pub thread: u32,
+    /// How many marks stand above that line.
+    pub section: usize,
+    /// The place of the line that binds it among the lines below the header, from 0.
+    pub line: usize,
+}
+
+impl Reference {
+    ghost use Rattle.std.specs.Prelude.{◌≡◌};
+    ghost use Rattle.trace_text.specs.Causes.{has_key};
+
+    /// Whether it refers to one of those keys.
+    pub fn is_among(&self, keys: Keys) -> bool
+        ensures { result ≡ has_key self.now.index keys }
+    {
+        match (keys, self.index) {
+            (Keys::One, None) => true,
+            (Keys::Many(count), Some(index)) => index < count,
+            _ => false,
+        }
+    }
+}
+
+impl Call {
+    ghost use Rattle.std.specs.Prelude.{◌≡◌, IfSome, option_map};
+    ghost use Rattle.trace_text.specs.Causes.{bound_name, has_keys, read_name};
+
+    /// The name that the call binds.
+    pub fn bound_name(&self) -> Option<&Name>
+        ensures { option_map (λ name. name.now) result ≡ bound_name self.now }
+    {
+        match self {
+            Call::Put { name, .. } | Call::Fill { name, .. } => Some(name),
+            _ => None,
+        }
+    }
+
+    /// The name whose keys the call reads or frees.
+    pub fn read_name(&self) -> Option<&Name>
+        ensures { option_map (λ name. name.now) result ≡ read_name self.now }
+    {
+        match self {
+            Call::Get { key } | Call::Free { key } => Some(&key.name),
+            Call::Sweep { name, .. } => Some(name),
+            _ => None,
+        }
+    }
+
+    /// Whether the keys that the call reads or frees are among those.
+    pub fn has_keys(&self, keys: Keys) -> bool
+        ensures { result ≡ has_keys self.now keys }
+    {
+        match self {
+            Call::Get { key } | Call::Free { key } => key.is_among(keys),
+            Call::Sweep { from, to, .. } => match keys {
+                Keys::One => false,
+                Keys::Many(count) => from <= to && *to <= count,
+            },
+            _ => true,
+        }
+    }
+}

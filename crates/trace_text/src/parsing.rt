@@ -1,0 +1,111 @@
+//! Reads a trace.
+
+ghost use Rattle.std.specs.Prelude.{◌≡◌, [], List, drop, IfOk, IfErr};
+ghost use Rattle.trace_text.specs.declared.header.Header.{Header};
+ghost use Rattle.trace_text.specs.declared.line.Line.{Line};
+ghost use Rattle.trace_text.specs.Causes.{HasCause, IsNextLine, Reads};
+ghost use Rattle.trace_text.specs.Header.{IsWithinLimits};
+ghost use Rattle.trace_text.specs.Earlier.{Knows};
+ghost use Rattle.certificate.specs.Words.{contents_of};
+ghost use Rattle.trace_text.specs.Trace.{FailsAt, IsFault, IsReadAs, IsTrace, Spells};
+
+use super::cause::{Cause, ParseError};
+use super::earlier::Earlier;
+use super::header::{Header, read_header};
+use super::line::Line;
+use super::reading::read_line;
+use super::trace::Trace;
+use super::words::lines;
+use std::alloc::Global;
+
+/// How many lines the header has.
+const HEADER_LINES: usize = 5;
+
+/// Reads the line that follows those.
+fn next_line(header: &Header, earlier: &Earlier, text: &[u8]) -> Result<Line, Cause>
+    requires { IsWithinLimits header.now }
+    ensures ok { (before : List Line) → Knows before earlier.now → IfOk result (IsNextLine header.now before text.now) }
+    ensures err { (before : List Line) → Knows before earlier.now → IfErr result (HasCause header.now before text.now) }
+{
+    let line = read_line(text)?;
+    match earlier.cause_of(header, &line) {
+        None => Ok(line),
+        Some(cause) => Err(cause),
+    }
+}
+
+/// Reads the lines below the header, with what is kept of them.
+fn body(alloc: Global, header: &Header, texts: &[&[u8]]) -> Result<(Vec<Line>, Earlier), ParseError>
+    requires { IsWithinLimits header.now }
+    ensures known { IfOk result (λ body. Knows body.0.items body.1) }
+    ensures ok { IfOk result (λ body. Reads header.now [] (contents_of texts.now) body.0.items) }
+    ensures err { IfErr result (FailsAt header.now (contents_of texts.now)) }
+{
+    let mut lines = Vec::with_capacity(alloc, texts.len())?;
+    let mut earlier = Earlier::new(alloc);
+    for text in texts {
+        let line = match next_line(header, &earlier, text) {
+            Ok(line) => line,
+            Err(cause) => return Err(ParseError::BadTrace {
+                line: lines.len() + HEADER_LINES + 1,
+                cause,
+            }),
+        };
+        earlier.note(lines.len(), &line)?;
+        lines.push(line)?;
+    }
+    Ok((lines, earlier))
+}
+
+/// The lines below the header.
+fn below_header<'a, 'b>(lines: &'b [&'a [u8]]) -> &'b [&'a [u8]]
+    ensures { result.now ≡ drop 5 lines.now }
+{
+    if lines.len() < HEADER_LINES {
+        &[]
+    } else {
+        &lines[HEADER_LINES..]
+    }
+}
+
+/// Reads a trace, so that what is read or refused can be asked whether the text spells it.
+fn trace_of(alloc: Global, text: &[u8]) -> Result<Trace, ParseError>
+    ensures trace { IfOk result (IsTrace text.now) }
+    ensures fault { IfErr result (IsFault text.now) }
+{
+    let texts = lines(alloc, text)?;
+    let header = read_header(texts.as_slice())?;
+    let (lines, earlier) = body(alloc, &header, below_header(texts.as_slice()))?;
+    if earlier.awaits_mark() {
+        return Err(ParseError::BadTrace {
+            line: lines.len() + HEADER_LINES + 1,
+            cause: Cause::Adopt,
+        });
+    }
+    Ok(Trace {
+        header,
+        lines,
+        earlier,
+    })
+}
+
+/// Reads a trace.
+///
+/// # Errors
+///
+/// `BadTrace` where the text is no trace, with the first line at fault, counted from 1, and its
+/// first cause; the end of the text has the number of a line that would follow. `OutOfMemory` where
+/// memory runs out.
+pub fn parse(alloc: Global, text: &[u8]) -> Result<Trace, ParseError>
+    // What is read is a trace that the text spells.
+    ensures trace { IfOk result (IsTrace text.now) }
+
+    // A text that spells a trace is read as that one, unless memory runs out.
+    ensures read { (header : Header) (lines : List Line)
+        → Spells text.now header lines → IsReadAs result header lines }
+
+    // A refusal names the first line at fault and its first cause.
+    ensures fault { IfErr result (IsFault text.now) }
+{
+    trace_of(alloc, text)
+}

@@ -1,0 +1,160 @@
+//! Reads lines.
+
+ghost use Rattle.std.specs.Prelude.{◌≡◌, Option};
+ghost use Rattle.trace_text.specs.Form.{adopt_line, bare_call, counted_call, form_of, form_of_words, key_call, one_word, thread_line, two_words, value_call, with_two};
+ghost use Rattle.certificate.specs.Words.{contents_of};
+ghost use Rattle.trace_text.specs.Within.{within, within_call};
+ghost use Rattle.trace_text.specs.declared.line.Call.{Call};
+ghost use Rattle.trace_text.specs.declared.line.Call.TheVariants.{Fill, Put, Sweep};
+
+use super::cause::Cause;
+use super::line::{Call, Line};
+use super::name::{Name, Reference};
+use super::numeral::{Number, clipped_number, parse_number};
+use super::words::words;
+
+/// The greatest count of a fill.
+const MOST_KEYS: u128 = 262_144;
+
+/// A call with no more words than its verb.
+fn bare_call(verb: &[u8]) -> Result<Call, Cause>
+    ensures { result ≡ within_call (bare_call verb.now) }
+{
+    match verb {
+        b"end" => Ok(Call::End),
+        _ => Err(Cause::Form),
+    }
+}
+
+/// A call on a key.
+fn key_call(verb: &[u8], key: &[u8]) -> Result<Call, Cause>
+    ensures { result ≡ within_call (key_call verb.now key.now) }
+{
+    let key = Reference::new(key).ok_or(Cause::Form)?;
+    match verb {
+        b"get" => Ok(Call::Get { key }),
+        b"free" => Ok(Call::Free { key }),
+        _ => Err(Cause::Form),
+    }
+}
+
+/// A call with a name and a value.
+fn value_call(verb: &[u8], name: &[u8], value: &[u8]) -> Result<Call, Cause>
+    ensures { result ≡ within_call (value_call verb.now name.now value.now) }
+{
+    if verb != b"put".as_slice() {
+        return Err(Cause::Form);
+    }
+    let name = Name::new(name).ok_or(Cause::Form)?;
+    match parse_number(value) {
+        None => Err(Cause::Form),
+        Some(Number::Large) => Err(Cause::Limit),
+        Some(Number::Fits(value)) => Ok(Call::Put { name, value }),
+    }
+}
+
+/// A fill, whose count and last value are within their ranges.
+fn fill_call(name: &[u8], count: &[u8], value: &[u8]) -> Result<Call, Cause>
+    ensures { result ≡ within_call (with_two (λ n a b. Fill n a b) name.now count.now value.now) }
+{
+    let name = Name::new(name).ok_or(Cause::Form)?;
+    let count = parse_number(count).ok_or(Cause::Form)?;
+    let value = parse_number(value).ok_or(Cause::Form)?;
+    let (Number::Fits(count), Number::Fits(value)) = (count, value) else {
+        return Err(Cause::Limit);
+    };
+    if count == 0 || count > MOST_KEYS || value.checked_add(count - 1).is_none() {
+        return Err(Cause::Limit);
+    }
+    let count = count as u32;
+    Ok(Call::Fill { name, count, value })
+}
+
+/// A sweep. A bound that does not fit is kept as the greatest that does, since no name has such a
+/// key.
+fn sweep_call(name: &[u8], from: &[u8], to: &[u8]) -> Result<Call, Cause>
+    ensures { result ≡ within_call (with_two (λ n a b. Sweep n a b) name.now from.now to.now) }
+{
+    let name = Name::new(name).ok_or(Cause::Form)?;
+    let from = clipped_number(from).ok_or(Cause::Form)?;
+    let to = clipped_number(to).ok_or(Cause::Form)?;
+    Ok(Call::Sweep { name, from, to })
+}
+
+/// A call with a name and two numbers.
+fn counted_call(verb: &[u8], name: &[u8], first: &[u8], second: &[u8]) -> Result<Call, Cause>
+    ensures { result ≡ within_call (counted_call verb.now name.now first.now second.now) }
+{
+    match verb {
+        b"fill" => fill_call(name, first, second),
+        b"sweep" => sweep_call(name, first, second),
+        _ => Err(Cause::Form),
+    }
+}
+
+/// A thread's call. A number that does not fit is kept as the greatest that does, since no trace
+/// has such a thread.
+fn thread_line(thread: &[u8], call: Result<Call, Cause>) -> Result<Line, Cause>
+    ensures { (form : Option Call) → call ≡ within_call form → result ≡ within (thread_line thread.now form) }
+{
+    let thread = clipped_number(thread).ok_or(Cause::Form)?;
+    let call = call?;
+    Ok(Line::Call { thread, call })
+}
+
+/// A line of one word.
+fn one_word(word: &[u8]) -> Result<Line, Cause>
+    ensures { result ≡ within (one_word word.now) }
+{
+    match word {
+        b"mark" => Ok(Line::Mark),
+        _ => Err(Cause::Form),
+    }
+}
+
+/// The line of a shard that adopts. A number that does not fit is kept as a thread's is.
+fn adopt_line(shard: &[u8]) -> Result<Line, Cause>
+    ensures { result ≡ within (adopt_line shard.now) }
+{
+    let shard = clipped_number(shard).ok_or(Cause::Form)?;
+    Ok(Line::Adopt { shard })
+}
+
+/// A line of two words.
+fn two_words(first: &[u8], second: &[u8]) -> Result<Line, Cause>
+    ensures { result ≡ within (two_words first.now second.now) }
+{
+    match first {
+        b"adopt" => adopt_line(second),
+        _ => thread_line(first, bare_call(second)),
+    }
+}
+
+/// A line of these words.
+fn line_of_words(words: &[&[u8]]) -> Result<Line, Cause>
+    ensures { result ≡ within (form_of_words (contents_of words.now)) }
+{
+    match words {
+        [word] => one_word(word),
+        [first, second] => two_words(first, second),
+        [thread, verb, key] => thread_line(thread, key_call(verb, key)),
+        [thread, verb, name, value] => thread_line(thread, value_call(verb, name, value)),
+        [thread, verb, name, first, second] => {
+            thread_line(thread, counted_call(verb, name, first, second))
+        }
+        _ => Err(Cause::Form),
+    }
+}
+
+/// What a line below the header says.
+pub fn read_line(line: &[u8]) -> Result<Line, Cause>
+    ensures { result ≡ within (form_of line.now) }
+{
+    match line {
+        [] | [b'#', ..] => Ok(Line::Silent),
+        _ => match words(line) {
+            None => Err(Cause::Form),
+            Some(words) => line_of_words(words.as_slice()),
+        },
+    }
+}
