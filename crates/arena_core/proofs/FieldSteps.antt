@@ -1,5 +1,5 @@
 -- The steps of a core, said of its fields.
-use Rattle.std.proofs.Common.{◌≡◌, ◌≢◌, ℕ, true, false, cond, None, Some, slice_get, ap, ◌∙◌, is_some, length, set, subst, sym}
+use Rattle.std.proofs.Common.{◌≡◌, ◌≢◌, ℕ, true, false, cond, None, Some, ap, ◌∙◌, is_some, length, set, subst, sym}
 use Rattle.std.specs.Prelude.{Err, Result, ◌↔◌}
 use Rattle.std.proofs.lemmas.Bool.{false_from_ne_true}
 use Rattle.std.proofs.option.Match.{None-if_not_some}
@@ -8,7 +8,6 @@ use Rattle.span.specs.declared.key.Key.{Key}
 use Rattle.span.specs.Log.{Value as Word}
 use Rattle.span.specs.PlainMap.{PlainMap, with_put, without}
 use Rattle.shard.specs.Calls.{Frees, IsSpent, Puts, was_freed}
-use Rattle.shard.specs.Group.{GroupState}
 use Rattle.shard.specs.Shown.{shown as shown_by}
 use Rattle.shard.specs.Sound.{IsSound as IsSoundShard}
 use Rattle.shard.specs.State.{ShardState}
@@ -84,7 +83,7 @@ IsStep-free_fields c number key before after answer kept read has frees found pl
     subst (IsSoundStep (state_of c) (Free key) (reply.Freed (was_freed answer))) (sym (state_of-with_shard_at c number after))
     (IsSoundStep-Frees (state_of c) key number before after answer kept (shard-read c number before read) has frees found plain sound)
 
-pub IsStep-end_fields : (c : Inside) (number : ℕ) (before after : ShardState) (pool : PoolState) (guesses : Guesses) → IsSound (state_of c) → IsRead c number before → ((index : ℕ) (group : GroupState) → slice_get before.groups index ≡ Some group → group.closed ≡ false) → Receives c.pool before pool after → IsSoundShard after → IsSoundPool pool
+pub IsStep-end_fields : (c : Inside) (number : ℕ) (before after : ShardState) (pool : PoolState) (guesses : Guesses) → IsSound (state_of c) → IsRead c number before → (HasClosed before.groups → ⊥) → Receives c.pool before pool after → IsSoundShard after → IsSoundPool pool
     → IsSoundStep (state_of c) (End number) reply.ShardEnded (state_of (with_both_at c number after pool guesses))
 IsStep-end_fields c number before after pool guesses kept read unclosed receives sound sound_pool =
     subst (IsSoundStep (state_of c) (End number) reply.ShardEnded) (sym (state_of-with_both_at c number after pool guesses))

@@ -31,25 +31,25 @@ use Rattle.arena_core.proofs.Groups.{IsMove-Adopts, IsMove-Receives}
 use Rattle.arena_core.proofs.Logged.{shown-same}
 use Rattle.arena_core.proofs.Steps.{IsStep}
 
-pub IsStep-Receives : (old : CoreState) (number : ℕ) (before after : ShardState) (pool : PoolState) → HasSoundGroups old → slice_get old.shards number ≡ Some before → Receives old.pool before pool after → IsSoundShard after → IsSoundPool pool
+pub IsStep-Receives : (old : CoreState) (number : ℕ) (before after : ShardState) (pool : PoolState) → HasSoundGroups old → slice_get old.shards number ≡ Some before → (HasClosed before.groups → ⊥) → Receives old.pool before pool after → IsSoundShard after → IsSoundPool pool
     → IsStep old (End number) reply.ShardEnded (with_pool (with_shard old number after) pool)
-IsStep-Receives old number before after pool sound here receives sound_after sound_pool =
+IsStep-Receives old number before after pool sound here unclosed receives sound_after sound_pool =
     let move = IsMove-Receives before after old.pool pool receives in
     let sound_new = HasSoundGroups-moved old sound number before after pool here move sound_after sound_pool in
     record {
       kept = sound_new;
-      exact = record { before = before; after = after; pool = pool; here = here; receives = receives; rest = refl };
+      exact = record { before = before; after = after; pool = pool; here = here; unclosed = unclosed; receives = receives; rest = refl };
       plain = shown-same old (with_pool (with_shard old number after) pool) sound sound_new (sum_all-moved old sound number before after pool here move);
     }
 
-pub IsStep-Adopts : (old : CoreState) (number : ℕ) (head : SpanId) (before after : ShardState) (pool : PoolState) → HasSoundGroups old → slice_get old.shards number ≡ Some before → before.ended ≡ false → Adopts old.pool before head pool after → IsSoundShard after → IsSoundPool pool
+pub IsStep-Adopts : (old : CoreState) (number : ℕ) (head : SpanId) (before after : ShardState) (pool : PoolState) → HasSoundGroups old → old.plan ≡ None → slice_get old.shards number ≡ Some before → before.ended ≡ false → Adopts old.pool before head pool after → IsSoundShard after → IsSoundPool pool
     → IsStep old (Adopt number) (reply.Adopted head) (with_pool (with_shard old number after) pool)
-IsStep-Adopts old number head before after pool sound here running adopts sound_after sound_pool =
+IsStep-Adopts old number head before after pool sound no_plan here running adopts sound_after sound_pool =
     let move = IsMove-Adopts before after old.pool pool head running adopts in
     let sound_new = HasSoundGroups-moved old sound number before after pool here move sound_after sound_pool in
     record {
       kept = sound_new;
-      exact = record { before = before; after = after; pool = pool; here = here; adopts = adopts; rest = refl };
+      exact = record { before = before; after = after; pool = pool; here = here; running = running; no_plan = no_plan; adopts = adopts; rest = refl };
       plain = shown-same old (with_pool (with_shard old number after) pool) sound sound_new (sum_all-moved old sound number before after pool here move);
     }
 

@@ -25,7 +25,7 @@ use Rattle.arena_core.specs.Plan.{AreClosedAsPlanned, IsOwned, IsUnderWay, Keeps
 use Rattle.arena_core.specs.Plain.{ErasedStep}
 use Rattle.arena_core.specs.Sound.{IsSound}
 use Rattle.arena_core.specs.State.{CoreState, OpenPlan, has_span, opened_by, opened_of, shown, with_pool, with_shard}
-use Rattle.arena_core.specs.Step.{CoreStep}
+use Rattle.arena_core.specs.Step.{CoreStep, HasClosed}
 use Rattle.arena_core.specs.declared.event.Event.{Event}
 use Rattle.arena_core.specs.declared.event.Event.TheVariants.{Put, Free, End, Adopt}
 use Rattle.arena_core.specs.declared.reply.Reply.{Reply}
@@ -33,7 +33,7 @@ use Rattle.arena_core.specs.declared.reply.Reply.TheVariants as reply
 use Rattle.arena_core.proofs.Changes.{opened-somewhere}
 use Rattle.arena_core.proofs.Lists.{each-set}
 use Rattle.arena_core.proofs.PlanKept.{IsFewer-freed, IsUnderWay-kept, KeepsAllClosed, KeepsAllClosed-same, KeepsAllClosed-set, KeepsClosed-Frees, KeepsClosed-Puts, KeepsPooled, KeepsPooled-Frees, KeepsPooled-Receives, KeepsPooled-same, has_plan-Frees, has_plan-Receives, plans_onto-pair}
-use Rattle.arena_core.proofs.Moves.{IsStep-Adopts, IsStep-Receives}
+use Rattle.arena_core.proofs.Moves.{IsStep-Adopts, IsStep-Receives, unclosed}
 use Rattle.arena_core.proofs.Spans.{times-parts, times_in-found, times_in-le, times_pooled}
 use Rattle.arena_core.proofs.Steps.{IsStep, IsStep-Frees, IsStep-FreesPooled, IsStep-Puts, IsStep-dead, has_span-here, with_pool-same, with_shard-same}
 
@@ -218,13 +218,13 @@ IsSoundStep-FreesPooled old key pool answer sound some frees found plain sound_p
     by_answer (freed.No at) (index, place, group, span, there, dead, at_is, is) = same is
     by_answer freed.NotHere (elsewhere, is) = same is
 
-pub IsSoundStep-Receives : (old : CoreState) (number : ℕ) (before after : ShardState) (pool : PoolState) → IsSound old → slice_get old.shards number ≡ Some before → ((index : ℕ) (group : GroupState) → slice_get before.groups index ≡ Some group → group.closed ≡ false)
+pub IsSoundStep-Receives : (old : CoreState) (number : ℕ) (before after : ShardState) (pool : PoolState) → IsSound old → slice_get old.shards number ≡ Some before → (HasClosed before.groups → ⊥)
     → Receives old.pool before pool after → IsSoundShard after → IsSoundPool pool
     → IsSoundStep old (End number) reply.ShardEnded (with_pool (with_shard old number after) pool)
-IsSoundStep-Receives old number before after pool sound here unclosed receives sound_after sound_pool =
-    with_plan_kept old (End number) reply.ShardEnded (with_pool (with_shard old number after) pool) (IsStep-Receives old number before after pool sound.groups here receives sound_after sound_pool) (KeepsPlan-Receives old sound number before after pool here unclosed receives)
+IsSoundStep-Receives old number before after pool sound here none_closed receives sound_after sound_pool =
+    with_plan_kept old (End number) reply.ShardEnded (with_pool (with_shard old number after) pool) (IsStep-Receives old number before after pool sound.groups here none_closed receives sound_after sound_pool) (KeepsPlan-Receives old sound number before after pool here (unclosed before.groups none_closed) receives)
 
 pub IsSoundStep-Adopts : (old : CoreState) (number : ℕ) (head : SpanId) (before after : ShardState) (pool : PoolState) → IsSound old → old.plan ≡ None → slice_get old.shards number ≡ Some before → before.ended ≡ false → Adopts old.pool before head pool after → IsSoundShard after → IsSoundPool pool
     → IsSoundStep old (Adopt number) (reply.Adopted head) (with_pool (with_shard old number after) pool)
 IsSoundStep-Adopts old number head before after pool sound no_plan here running adopts sound_after sound_pool =
-    with_plan_kept old (Adopt number) (reply.Adopted head) (with_pool (with_shard old number after) pool) (IsStep-Adopts old number head before after pool sound.groups here running adopts sound_after sound_pool) (KeepsPlan-Adopts old sound no_plan number head before after pool here adopts)
+    with_plan_kept old (Adopt number) (reply.Adopted head) (with_pool (with_shard old number after) pool) (IsStep-Adopts old number head before after pool sound.groups no_plan here running adopts sound_after sound_pool) (KeepsPlan-Adopts old sound no_plan number head before after pool here adopts)

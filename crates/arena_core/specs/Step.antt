@@ -105,21 +105,24 @@ pub record FreesInPool (old : CoreState) (key : Key) (new : CoreState) : Type 0 
   pub frees : FreesPooled old.pool key (Yes at) after
   pub rest : new ≡ with_pool old after
 
--- the shard of this number ends, its groups are the pool's, and all other shards are as they were
+-- the shard of this number, which has no closed group, ends, its groups are the pool's, and all other shards are as they were
 pub record Ends (old : CoreState) (number : ℕ) (new : CoreState) : Type 0 where
   pub before : ShardState
   pub after : ShardState
   pub pool : PoolState
   pub here : slice_get old.shards number ≡ Some before
+  pub unclosed : HasClosed before.groups → ⊥
   pub receives : Receives old.pool before pool after
   pub rest : new ≡ with_pool (with_shard old number after) pool
 
--- the pool's group of lowest head that has a page goes to the shard of this number, and all other shards are as they were
+-- while no plan is open, the pool's group of lowest head that has a page goes to the shard of this number, which has not ended, and all other shards are as they were
 pub record AdoptsInShard (old : CoreState) (number : ℕ) (head : SpanId) (new : CoreState) : Type 0 where
   pub before : ShardState
   pub after : ShardState
   pub pool : PoolState
   pub here : slice_get old.shards number ≡ Some before
+  pub running : before.ended ≡ false
+  pub no_plan : old.plan ≡ None
   pub adopts : Adopts old.pool before head pool after
   pub rest : new ≡ with_pool (with_shard old number after) pool
 

@@ -5,7 +5,7 @@ use Rattle.arena_core.specs.Kept.{state_of}
 use Rattle.arena_core.specs.Step.{CoreStep}
 use Rattle.arena_core.proofs.FieldSteps.{CoreStep-end_refused_fields, IsStep-end_fields}
 use Rattle.arena_core.proofs.Fields.{shard-read, with_both_at}
-use Rattle.arena_core.proofs.Moves.{running-received, unclosed}
+use Rattle.arena_core.proofs.Moves.{running-received}
 use Rattle.arena_core.proofs.PlanSteps.{IsSoundStep}
 use Rattle.arena_core.proofs.Steps.{not_in_pool}
 use Rattle.arena_core.proofs.machine.Core.end.Goals as goal
@@ -30,7 +30,7 @@ ended c =
     subst (λ old. IsSoundStep old (End c.args.number) ShardEnded (state_of (with_both_at c.self.inside c.args.number c.receive.new.shard c.receive.new.self c.self.inside.guesses))) c.self.view_is
     (IsStep-end_fields c.self.inside c.args.number c.in-Some.shard.now c.receive.new.shard c.receive.new.self c.self.inside.guesses c.self.invariant
     (record { within = c.in-Some.ensures.variant.0 refl; value = c.in-Some.ensures.value })
-    (unclosed c.in-Some.shard.now.groups (λ closed. let never = c.in-Ok.ensures.plan_open.1 (running-received c.in-Ok.ensures.ok, not_in_pool (state_of c.self.inside) c.self.invariant.groups c.args.number c.in-Some.shard.now (read_shard c), closed) in cc))
+    (λ closed. let never = c.in-Ok.ensures.plan_open.1 (running-received c.in-Ok.ensures.ok, not_in_pool (state_of c.self.inside) c.self.invariant.groups c.args.number c.in-Some.shard.now (read_shard c), closed) in cc)
     c.in-Ok.ensures.ok c.receive.ensures.sound_shard c.receive.ensures.sound)
 
 pub invariant_of-self-2 : goal.invariant_of-self-2
