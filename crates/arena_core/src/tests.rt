@@ -1,3 +1,4 @@
+//! Cores that answer tables of events. Where a growth is refused, what was refused is asked again.
 use crate::error::CoreError;
 use crate::event::Event;
 use crate::machine::Core;
@@ -6,7 +7,6 @@ use crate::totals::Totals;
 use fold::Step;
 use span::{Key, SpanId};
 use std::alloc::Global;
-use std::test::Fail;
 
 mod marks;
 
@@ -14,22 +14,20 @@ fn key(shard: u32, serial: u32, slot: u8, generation: u32) -> Option<Key> {
     Key::new(SpanId::new(shard, serial)?, slot, generation)
 }
 
-// A core, asked for again where a growth was refused.
-fn new_core(
-    alloc: Global,
-    shards: u32,
-    pages: usize,
-    ring: usize,
-    gens: u32,
-) -> Result<Core, CoreError> {
-    match Core::new(alloc, shards, pages, ring, gens) {
-        Err(CoreError::OutOfMemory) => Core::new(alloc, shards, pages, ring, gens),
-        made => made,
+fn put(shard: u32, value: u128) -> Event {
+    Event::Put { shard, value }
+}
+
+// A core of so many shards and pages, asked for again where a growth was refused.
+fn new_core(alloc: Global, shards: u32, pages: usize) -> Option<Core> {
+    match Core::new(alloc, shards, pages, 8, 9) {
+        Err(CoreError::OutOfMemory) => Core::new(alloc, shards, pages, 8, 9).ok(),
+        made => made.ok(),
     }
 }
 
 // What a reply says; of a plan, how many pairs it has.
-#[derive(Clone, Copy, PartialEq, Eq, Debug)]
+#[derive(Clone, Copy, PartialEq, Eq)]
 enum Told {
     Issued(Key),
     Found(Option<u128>),
@@ -83,6 +81,21 @@ fn are_answered(core: &mut Core, table: &[(Event, Told)]) -> bool {
     true
 }
 
+// The totals of a core of so many shards and pages, where it has answered as wanted.
+fn totals_after(
+    alloc: Global,
+    shards: u32,
+    pages: usize,
+    table: &[(Event, Told)],
+) -> Option<Totals> {
+    let mut core = new_core(alloc, shards, pages)?;
+    if are_answered(&mut core, table) {
+        Some(core.totals())
+    } else {
+        None
+    }
+}
+
 // Whether these are the replies.
 fn are_told(replies: &[Reply], wanted: &[Told]) -> bool {
     for (reply, wanted) in replies.iter().zip(wanted.iter()) {
@@ -104,19 +117,16 @@ fn is_run(core: &mut Core, events: &[Event], replies: &mut Vec<Reply>) -> bool {
     core.totals() == before && replies.len() == count && core.run(events, replies).is_ok()
 }
 
-#[test]
-fn a_freed_key_finds_nothing(rt: HostRuntime) -> Result<(), Fail> {
-    let first = key(0, 0, 0, 1).ok_or("key")?;
-    let second = key(0, 0, 0, 2).ok_or("key")?;
-    let put = |value| Event::Put { shard: 0, value };
-    let mut core = new_core(rt.alloc(), 1, 4, 8, 9)?;
-    let mut replies = Vec::new(rt.alloc());
-    let opening = [(put(5), Told::Issued(first))];
+// Whether the core runs these events in two parts, after a first put.
+fn are_run(core: &mut Core, replies: &mut Vec<Reply>) -> Option<bool> {
+    let (first, second) = (key(0, 0, 0, 1)?, key(0, 0, 0, 2)?);
+    let opening = [(put(0, 5), Told::Issued(first))];
     let events = [Event::Get { key: first }, Event::Free { key: first }];
-    let later = [Event::Get { key: first }, put(6), Event::Get { key: first }];
-    let is_run = are_answered(&mut core, opening.as_slice())
-        && is_run(&mut core, &events, &mut replies)
-        && is_run(&mut core, &later, &mut replies);
+    let later = [
+        Event::Get { key: first },
+        put(0, 6),
+        Event::Get { key: first },
+    ];
     let wanted = [
         Told::Found(Some(5)),
         Told::Freed(true),
@@ -124,67 +134,40 @@ fn a_freed_key_finds_nothing(rt: HostRuntime) -> Result<(), Fail> {
         Told::Issued(second),
         Told::Found(None),
     ];
-    assert!(rt; is_run && are_told(replies.as_slice(), wanted.as_slice()));
-    assert_eq!(rt; core.totals(), Totals { pages: 1, live: 1 });
-    Ok(())
+    let is_run = are_answered(core, opening.as_slice())
+        && is_run(core, &events, replies)
+        && is_run(core, &later, replies);
+    Some(is_run && are_told(replies.as_slice(), wanted.as_slice()))
+}
+
+fn totals_after_run(alloc: Global) -> Option<Totals> {
+    let mut core = new_core(alloc, 1, 4)?;
+    let mut replies = Vec::new(alloc);
+    if are_run(&mut core, &mut replies) == Some(true) {
+        Some(core.totals())
+    } else {
+        None
+    }
 }
 
 #[test]
-fn a_worn_slot_is_left(rt: HostRuntime) -> Result<(), Fail> {
-    let first = key(0, 0, 0, 1).ok_or("key")?;
-    let second = key(0, 0, 0, 2).ok_or("key")?;
-    let next = key(0, 0, 1, 1).ok_or("key")?;
-    let mut core = new_core(rt.alloc(), 2, 4, 8, 2)?;
-    let table = [
-        (Event::Put { shard: 0, value: 1 }, Told::Issued(first)),
-        (Event::Free { key: first }, Told::Freed(true)),
-        (Event::Put { shard: 0, value: 2 }, Told::Issued(second)),
-        (Event::Free { key: second }, Told::Freed(true)),
-        (Event::Put { shard: 0, value: 3 }, Told::Issued(next)),
-    ];
-    assert!(rt; are_answered(&mut core, table.as_slice()));
-    assert_eq!(rt; core.totals(), Totals { pages: 1, live: 1 });
-    Ok(())
+fn a_freed_key_finds_nothing(rt: HostRuntime) {
+    assert_eq!(rt;
+        totals_after_run(rt.alloc()),
+        Some(Totals { pages: 1, live: 1 })
+    );
 }
 
-#[test]
-fn shards_are_apart(rt: HostRuntime) -> Result<(), Fail> {
-    let here = key(0, 0, 0, 1).ok_or("key")?;
-    let there = key(1, 0, 0, 1).ok_or("key")?;
-    let nowhere = key(2, 0, 0, 1).ok_or("key")?;
-    let mut core = new_core(rt.alloc(), 2, 4, 8, 9)?;
+fn totals_after_moves(alloc: Global) -> Option<Totals> {
+    let (first, second) = (key(0, 0, 0, 1)?, key(0, 0, 1, 1)?);
+    let head = first.span();
     let table = [
-        (Event::Put { shard: 0, value: 1 }, Told::Issued(here)),
-        (Event::Put { shard: 1, value: 2 }, Told::Issued(there)),
-        (
-            Event::Put { shard: 2, value: 3 },
-            Told::Refused(Refusal::Config),
-        ),
-        (Event::Get { key: there }, Told::Found(Some(2))),
-        (Event::Free { key: here }, Told::Freed(true)),
-        (Event::Free { key: here }, Told::Freed(false)),
-        (Event::Get { key: there }, Told::Found(Some(2))),
-        (Event::Get { key: nowhere }, Told::Found(None)),
-        (Event::Free { key: nowhere }, Told::Freed(false)),
-    ];
-    assert!(rt; are_answered(&mut core, table.as_slice()));
-    assert_eq!(rt; core.totals(), Totals { pages: 2, live: 1 });
-    Ok(())
-}
-
-#[test]
-fn a_group_moves_whole(rt: HostRuntime) -> Result<(), Fail> {
-    let head = SpanId::new(0, 0).ok_or("id")?;
-    let first = key(0, 0, 0, 1).ok_or("key")?;
-    let second = key(0, 0, 1, 1).ok_or("key")?;
-    let mut core = new_core(rt.alloc(), 3, 4, 8, 9)?;
-    let table = [
-        (Event::Put { shard: 0, value: 5 }, Told::Issued(first)),
+        (put(0, 5), Told::Issued(first)),
         (Event::End { shard: 0 }, Told::ShardEnded),
         (Event::Get { key: first }, Told::Found(Some(5))),
         (Event::Adopt { shard: 1 }, Told::Adopted(head)),
         (Event::Get { key: first }, Told::Found(Some(5))),
-        (Event::Put { shard: 1, value: 6 }, Told::Issued(second)),
+        (put(1, 6), Told::Issued(second)),
         (Event::Free { key: first }, Told::Freed(true)),
         (Event::End { shard: 1 }, Told::ShardEnded),
         (Event::Adopt { shard: 2 }, Told::Adopted(head)),
@@ -192,71 +175,57 @@ fn a_group_moves_whole(rt: HostRuntime) -> Result<(), Fail> {
         (Event::Get { key: first }, Told::Found(None)),
         (Event::Free { key: first }, Told::Freed(false)),
     ];
-    assert!(rt; are_answered(&mut core, table.as_slice()));
-    assert_eq!(rt; core.totals(), Totals { pages: 1, live: 1 });
-    Ok(())
+    totals_after(alloc, 3, 4, table.as_slice())
 }
 
 #[test]
-fn an_ended_shard_takes_nothing(rt: HostRuntime) -> Result<(), Fail> {
-    let first = key(0, 0, 0, 1).ok_or("key")?;
-    let ended = Told::Refused(Refusal::Ended);
-    let mut core = new_core(rt.alloc(), 3, 4, 8, 9)?;
-    let table = [
-        (Event::Put { shard: 0, value: 5 }, Told::Issued(first)),
-        (Event::End { shard: 0 }, Told::ShardEnded),
-        (Event::Put { shard: 0, value: 6 }, ended),
-        (Event::End { shard: 0 }, ended),
-        (Event::Adopt { shard: 0 }, ended),
-        (Event::Free { key: first }, Told::Freed(true)),
-        (Event::Get { key: first }, Told::Found(None)),
-    ];
-    assert!(rt; are_answered(&mut core, table.as_slice()));
-    assert_eq!(rt; core.totals(), Totals { pages: 0, live: 0 });
-    Ok(())
+fn a_group_moves_whole(rt: HostRuntime) {
+    assert_eq!(rt;
+        totals_after_moves(rt.alloc()),
+        Some(Totals { pages: 1, live: 1 })
+    );
 }
 
-#[test]
-fn an_adoption_needs_a_page_on_each_side(rt: HostRuntime) -> Result<(), Fail> {
-    let here = key(0, 0, 0, 1).ok_or("key")?;
-    let there = key(1, 0, 0, 1).ok_or("key")?;
-    let refused = |cause| Told::Refused(cause);
-    let mut core = new_core(rt.alloc(), 3, 1, 8, 9)?;
+fn totals_after_refusals(alloc: Global) -> Option<Totals> {
+    let (here, there, nowhere) = (key(0, 0, 0, 1)?, key(1, 0, 0, 1)?, key(3, 0, 0, 1)?);
     let table = [
-        (Event::Adopt { shard: 1 }, refused(Refusal::NothingToAdopt)),
-        (Event::Adopt { shard: 3 }, refused(Refusal::NothingToAdopt)),
-        (Event::End { shard: 3 }, refused(Refusal::Config)),
-        (Event::Put { shard: 0, value: 5 }, Told::Issued(here)),
-        (Event::Put { shard: 1, value: 6 }, Told::Issued(there)),
-        (Event::Adopt { shard: 1 }, refused(Refusal::PagesSpent)),
+        (
+            Event::Adopt { shard: 1 },
+            Told::Refused(Refusal::NothingToAdopt),
+        ),
+        (
+            Event::Adopt { shard: 3 },
+            Told::Refused(Refusal::NothingToAdopt),
+        ),
+        (Event::End { shard: 3 }, Told::Refused(Refusal::Config)),
+        (put(3, 5), Told::Refused(Refusal::Config)),
+        (put(0, 5), Told::Issued(here)),
+        (put(1, 6), Told::Issued(there)),
+        (
+            Event::Adopt { shard: 1 },
+            Told::Refused(Refusal::PagesSpent),
+        ),
         (Event::End { shard: 0 }, Told::ShardEnded),
-        (Event::Adopt { shard: 3 }, refused(Refusal::Config)),
-        (Event::Adopt { shard: 1 }, refused(Refusal::PagesSpent)),
+        (Event::Adopt { shard: 3 }, Told::Refused(Refusal::Config)),
+        (
+            Event::Adopt { shard: 1 },
+            Told::Refused(Refusal::PagesSpent),
+        ),
+        (put(0, 6), Told::Refused(Refusal::Ended)),
+        (Event::End { shard: 0 }, Told::Refused(Refusal::Ended)),
+        (Event::Adopt { shard: 0 }, Told::Refused(Refusal::Ended)),
+        (Event::Get { key: nowhere }, Told::Found(None)),
+        (Event::Free { key: nowhere }, Told::Freed(false)),
         (Event::Get { key: here }, Told::Found(Some(5))),
+        (Event::Free { key: here }, Told::Freed(true)),
     ];
-    assert!(rt; are_answered(&mut core, table.as_slice()));
-    assert_eq!(rt; core.totals(), Totals { pages: 2, live: 2 });
-    Ok(())
+    totals_after(alloc, 3, 1, table.as_slice())
 }
 
 #[test]
-fn numbers_out_of_range_make_no_core(rt: HostRuntime) {
-    let table = [
-        (0, 1, 1, 1),
-        (65, 1, 1, 1),
-        (1, 0, 1, 1),
-        (1, 1025, 1, 1),
-        (1, 1, 0, 1),
-        (1, 1, 1025, 1),
-        (1, 1, 1, 0),
-    ];
-    for (shards, pages, ring, gens) in table {
-        let made = Core::new(rt.alloc(), shards, pages, ring, gens);
-        let refused = matches!(made, Err(CoreError::Config));
-        assert!(rt; refused, "at {shards} {pages} {ring} {gens}");
-    }
-    for (shards, pages, ring, gens) in [(1, 1, 1, 1), (64, 1024, 1024, u32::MAX)] {
-        let made = new_core(rt.alloc(), shards, pages, ring, gens);
-        assert!(rt; made.is_ok(), "at {shards} {pages} {ring} {gens}");
-    }
+fn each_cause_is_told(rt: HostRuntime) {
+    assert_eq!(rt;
+        totals_after_refusals(rt.alloc()),
+        Some(Totals { pages: 1, live: 1 })
+    );
 }

@@ -1,5 +1,5 @@
 // Marks, steps and closes of the core.
-use super::{Told, answer, are_answered, key, new_core, tell};
+use super::{Told, answer, are_answered, key, new_core, put, tell};
 use crate::event::Event;
 use crate::machine::Core;
 use crate::reply::Refusal;
@@ -7,56 +7,10 @@ use crate::totals::Totals;
 use fold::Step;
 use span::{Key, SpanId};
 use std::alloc::Global;
-use std::test::Fail;
 
-// Keys of shard 0, of shard 1, and of shard 1 after its first group is closed.
-#[derive(Clone, Copy)]
-struct Keys {
-    freed: Key,
-    folded: Key,
-    kept: Key,
-    later: Key,
-}
-
-impl Keys {
-    fn abandoned(&self) -> SpanId {
-        self.freed.span()
-    }
-
-    fn owned(&self) -> SpanId {
-        self.kept.span()
-    }
-}
-
-fn named_keys() -> Option<Keys> {
-    Some(Keys {
-        freed: key(0, 0, 0, 1)?,
-        folded: key(0, 0, 1, 1)?,
-        kept: key(1, 0, 0, 1)?,
-        later: key(1, 1, 0, 1)?,
-    })
-}
-
-// A core whose pool has a group that may be folded onto the first group of shard 1. Each shard past that one has given
-// it a group.
-fn unmarked(alloc: Global, keys: &Keys, shards: u32) -> Result<Core, Fail> {
-    let mut core = new_core(alloc, shards, 8, 8, 9)?;
-    let put = |shard, value| Event::Put { shard, value };
-    let opening = [(put(1, 7), Told::Issued(keys.kept))];
-    let mut is_made = are_answered(&mut core, opening.as_slice());
-    for number in 2..shards {
-        is_made = is_made && is_given(&mut core, number);
-    }
-    let table = [
-        (put(0, 10), Told::Issued(keys.freed)),
-        (put(0, 11), Told::Issued(keys.folded)),
-        (Event::Free { key: keys.freed }, Told::Freed(true)),
-        (Event::End { shard: 0 }, Told::ShardEnded),
-    ];
-    if !is_made || !are_answered(&mut core, table.as_slice()) {
-        return Err("an answer that was not wanted".into());
-    }
-    Ok(core)
+// Keys of shard 0, of which the first is freed, and of shard 1.
+fn keys() -> Option<[Key; 3]> {
+    Some([key(0, 0, 0, 1)?, key(0, 0, 1, 1)?, key(1, 0, 0, 1)?])
 }
 
 // Whether the shard of this number ends with one group, and shard 1 adopts it.
@@ -64,24 +18,42 @@ fn is_given(core: &mut Core, number: u32) -> bool {
     let Some(made) = key(number, 0, 0, 1) else {
         return false;
     };
-    let put = Event::Put {
-        shard: number,
-        value: 3,
-    };
     let table = [
-        (put, Told::Issued(made)),
+        (put(number, 3), Told::Issued(made)),
         (Event::End { shard: number }, Told::ShardEnded),
         (Event::Adopt { shard: 1 }, Told::Adopted(made.span())),
     ];
     are_answered(core, table.as_slice())
 }
 
+// Whether the pool gets a group that may be folded onto the first group of shard 1, to which each shard past that one
+// gives a group.
+fn is_made(core: &mut Core, keys: [Key; 3], shards: u32) -> bool {
+    let [freed, folded, kept] = keys;
+    if answer(core, put(1, 7)) != Some(Told::Issued(kept)) {
+        return false;
+    }
+    for number in 2..shards {
+        if !is_given(core, number) {
+            return false;
+        }
+    }
+    let table = [
+        (put(0, 10), Told::Issued(freed)),
+        (put(0, 11), Told::Issued(folded)),
+        (Event::Free { key: freed }, Told::Freed(true)),
+        (Event::End { shard: 0 }, Told::ShardEnded),
+    ];
+    are_answered(core, table.as_slice())
+}
+
 // What the keys find, before the fold and after it.
-fn looks(keys: &Keys) -> [(Event, Told); 3] {
+fn looks(keys: [Key; 3]) -> [(Event, Told); 3] {
+    let [freed, folded, kept] = keys;
     [
-        (Event::Get { key: keys.freed }, Told::Found(None)),
-        (Event::Get { key: keys.folded }, Told::Found(Some(11))),
-        (Event::Get { key: keys.kept }, Told::Found(Some(7))),
+        (Event::Get { key: freed }, Told::Found(None)),
+        (Event::Get { key: folded }, Told::Found(Some(11))),
+        (Event::Get { key: kept }, Told::Found(Some(7))),
     ]
 }
 
@@ -100,11 +72,16 @@ fn is_marked(core: &mut Core, looks: &[(Event, Told)], pairs: usize) -> bool {
     core.totals() == before && are_answered(core, looks) && are_answered(core, opens.as_slice())
 }
 
-// Whether a step comes to this with the one pair. Where a growth was refused, the plan stays open, the pair stays next
-// and nothing is lost, and the step is asked again.
-fn is_stepped(core: &mut Core, keys: &Keys, step: Step) -> bool {
+fn is_made_and_marked(core: &mut Core, keys: [Key; 3], shards: u32) -> bool {
+    is_made(core, keys, shards) && is_marked(core, looks(keys).as_slice(), 1)
+}
+
+// Whether a step folds the one pair. Where a growth was refused, the plan stays open, the pair stays next and nothing is
+// lost, and the step is asked again.
+fn is_stepped(core: &mut Core, keys: [Key; 3]) -> bool {
+    let [freed, _, kept] = keys;
     let before = core.totals();
-    let wanted = Told::Stepped(keys.abandoned(), keys.owned(), step);
+    let wanted = Told::Stepped(freed.span(), kept.span(), Step::Folded);
     let first = tell(&core.step(Event::Step));
     if first != Told::Refused(Refusal::OutOfMemory) {
         return first == wanted;
@@ -119,85 +96,89 @@ fn is_stepped(core: &mut Core, keys: &Keys, step: Step) -> bool {
         && are_answered(core, goes_on.as_slice())
 }
 
-// The core after its mark.
-fn marked(alloc: Global, keys: &Keys, shards: u32) -> Result<Core, Fail> {
-    let mut core = unmarked(alloc, keys, shards)?;
-    if !is_marked(&mut core, looks(keys).as_slice(), 1) {
-        return Err("a mark that was not wanted".into());
-    }
-    Ok(core)
-}
-
-// The core after the fold of its one pair.
-fn folded(alloc: Global, keys: &Keys, shards: u32) -> Result<Core, Fail> {
-    let mut core = marked(alloc, keys, shards)?;
-    if !is_stepped(&mut core, keys, Step::Folded) {
-        return Err("a step that was not wanted".into());
-    }
-    Ok(core)
-}
-
-#[test]
-fn an_open_plan_refuses(rt: HostRuntime) -> Result<(), Fail> {
-    let keys = named_keys().ok_or("keys")?;
+// Whether an open plan refuses what it must.
+fn is_refused(core: &mut Core) -> bool {
     let refused = Told::Refused(Refusal::PlanOpen);
-    let mut core = marked(rt.alloc(), &keys, 2)?;
     let table = [
         (Event::Mark, refused),
         (Event::Adopt { shard: 1 }, refused),
-        (Event::Adopt { shard: 2 }, refused),
+        (Event::Adopt { shard: 70 }, refused),
         (Event::End { shard: 1 }, refused),
     ];
-    assert!(rt; are_answered(&mut core, table.as_slice()));
-    Ok(())
+    are_answered(core, table.as_slice())
 }
 
-#[test]
-fn a_plan_ends_with_its_close(rt: HostRuntime) -> Result<(), Fail> {
-    let keys = named_keys().ok_or("keys")?;
-    let mut core = folded(rt.alloc(), &keys, 2)?;
+// Whether a put still passes the closed group by, and the plan ends with its close.
+fn is_closed(core: &mut Core, later: Key) -> bool {
     let table = [
         (Event::End { shard: 1 }, Told::Refused(Refusal::PlanOpen)),
+        (put(1, 8), Told::Issued(later)),
+        (Event::Get { key: later }, Told::Found(Some(8))),
         (Event::Step, Told::NoPairLeft),
         (Event::Close, Told::Closed),
         (Event::Step, Told::NoPlan),
         (Event::Close, Told::NoPlan),
         (Event::End { shard: 1 }, Told::ShardEnded),
     ];
-    assert!(rt; are_answered(&mut core, table.as_slice()));
-    Ok(())
+    are_answered(core, table.as_slice())
 }
 
-#[test]
-fn a_closed_group_takes_no_put(rt: HostRuntime) -> Result<(), Fail> {
-    let keys = named_keys().ok_or("keys")?;
-    let mut core = marked(rt.alloc(), &keys, 2)?;
-    let put = Event::Put { shard: 1, value: 8 };
-    let table = [
-        (put, Told::Issued(keys.later)),
-        (Event::Get { key: keys.later }, Told::Found(Some(8))),
-    ];
-    assert!(rt; are_answered(&mut core, table.as_slice()));
-    Ok(())
+// The totals before a fold and after it.
+fn totals_of_fold(core: &mut Core, shards: u32, later: Key) -> Option<[Totals; 2]> {
+    let keys = keys()?;
+    let is_open = is_made_and_marked(core, keys, shards) && is_refused(core);
+    let before = core.totals();
+    let is_folded = is_open && is_stepped(core, keys) && are_answered(core, looks(keys).as_slice());
+    let after = core.totals();
+    if is_folded && is_closed(core, later) {
+        Some([before, after])
+    } else {
+        None
+    }
 }
 
-#[test]
-fn a_folded_key_is_found(rt: HostRuntime) -> Result<(), Fail> {
-    let keys = named_keys().ok_or("keys")?;
-    let mut core = folded(rt.alloc(), &keys, 2)?;
-    assert!(rt; are_answered(&mut core, looks(&keys).as_slice()));
-    Ok(())
+fn one_fold(alloc: Global, shards: u32, later: (u32, u32, u8)) -> Option<[Totals; 2]> {
+    let later = key(later.0, later.1, later.2, 1)?;
+    let mut core = new_core(alloc, shards, 8)?;
+    totals_of_fold(&mut core, shards, later)
 }
 
 // The maps of shard 1 are full at three groups, and its lists at four.
 #[test]
-fn a_full_list_grows_for_a_fold(rt: HostRuntime) -> Result<(), Fail> {
-    let keys = named_keys().ok_or("keys")?;
-    for shards in [4, 5] {
-        let mut core = folded(rt.alloc(), &keys, shards)?;
-        assert!(rt; are_answered(&mut core, looks(&keys).as_slice()));
+fn a_fold_saves_a_page(rt: HostRuntime) {
+    for (shards, pages, later) in [(2, 2, (1, 1, 0)), (4, 4, (2, 0, 1)), (5, 5, (2, 0, 1))] {
+        let saved = [
+            Totals { pages, live: pages },
+            Totals {
+                pages: pages - 1,
+                live: pages,
+            },
+        ];
+        assert_eq!(rt; one_fold(rt.alloc(), shards, later), Some(saved));
     }
-    Ok(())
+}
+
+fn is_passed(core: &mut Core) -> Option<bool> {
+    let keys = keys()?;
+    let [freed, folded, kept] = keys;
+    let emptied = Told::Stepped(freed.span(), kept.span(), Step::Emptied);
+    let table = [
+        (Event::Free { key: folded }, Told::Freed(true)),
+        (Event::Step, emptied),
+        (Event::Step, Told::NoPairLeft),
+        (Event::Get { key: kept }, Told::Found(Some(7))),
+    ];
+    Some(is_made_and_marked(core, keys, 2) && are_answered(core, table.as_slice()))
+}
+
+fn emptied_group(alloc: Global) -> Option<bool> {
+    let mut core = new_core(alloc, 2, 8)?;
+    is_passed(&mut core)
+}
+
+#[test]
+fn an_emptied_group_is_passed(rt: HostRuntime) {
+    assert_eq!(rt; emptied_group(rt.alloc()), Some(true));
 }
 
 // Whether the shard puts a key at each of the first slots.
@@ -206,67 +187,69 @@ fn are_put(core: &mut Core, shard: u32, slots: u8) -> bool {
         let Some(made) = key(shard, 0, slot, 1) else {
             return false;
         };
-        if answer(core, Event::Put { shard, value: 5 }) != Some(Told::Issued(made)) {
+        if answer(core, put(shard, 5)) != Some(Told::Issued(made)) {
             return false;
         }
     }
     true
 }
 
-// The first of the pool's groups may be folded onto either of the others, the second onto the first of them alone.
-#[test]
-fn a_mark_plans_two_folds(rt: HostRuntime) -> Result<(), Fail> {
-    let freed = key(0, 0, 0, 1).ok_or("key")?;
-    let first = key(0, 0, 2, 1).ok_or("key")?;
-    let second = key(1, 0, 1, 1).ok_or("key")?;
-    let onto = key(2, 0, 0, 1).ok_or("key")?;
-    let other = key(3, 0, 1, 1).ok_or("key")?;
-    let mut core = new_core(rt.alloc(), 4, 4, 8, 9)?;
-    let free = |key| (Event::Free { key }, Told::Freed(true));
-    let find = |key| (Event::Get { key }, Told::Found(Some(5)));
+// Whether the first of the pool's groups may be folded onto either of the others, and the second onto the first of them
+// alone.
+fn are_left(core: &mut Core) -> Option<bool> {
     let table = [
-        free(freed),
-        free(key(0, 0, 1, 1).ok_or("key")?),
-        free(key(1, 0, 0, 1).ok_or("key")?),
+        (
+            Event::Free {
+                key: key(0, 0, 0, 1)?,
+            },
+            Told::Freed(true),
+        ),
+        (
+            Event::Free {
+                key: key(0, 0, 1, 1)?,
+            },
+            Told::Freed(true),
+        ),
+        (
+            Event::Free {
+                key: key(1, 0, 0, 1)?,
+            },
+            Told::Freed(true),
+        ),
         (Event::End { shard: 0 }, Told::ShardEnded),
         (Event::End { shard: 1 }, Told::ShardEnded),
     ];
-    let looks = [find(first), find(second), find(onto), find(other)];
-    let stepped = |a: Key, b: Key| (Event::Step, Told::Stepped(a.span(), b.span(), Step::Folded));
+    let are_put = are_put(core, 0, 3)
+        && are_put(core, 1, 2)
+        && are_put(core, 2, 1)
+        && are_put(core, 3, 2);
+    Some(are_put && are_answered(core, table.as_slice()))
+}
+
+fn found(key: Key) -> (Event, Told) {
+    (Event::Get { key }, Told::Found(Some(5)))
+}
+
+fn stepped(abandoned: Key, owned: Key) -> (Event, Told) {
+    let folded = Told::Stepped(abandoned.span(), owned.span(), Step::Folded);
+    (Event::Step, folded)
+}
+
+fn are_folded(core: &mut Core) -> Option<bool> {
+    let (first, second) = (key(0, 0, 2, 1)?, key(1, 0, 1, 1)?);
+    let (onto, other) = (key(2, 0, 0, 1)?, key(3, 0, 1, 1)?);
+    let looks = [found(first), found(second), found(onto), found(other)];
     let steps = [stepped(first, other), stepped(second, onto)];
-    let is_made = are_put(&mut core, 0, 3)
-        && are_put(&mut core, 1, 2)
-        && are_put(&mut core, 2, 1)
-        && are_put(&mut core, 3, 2)
-        && are_answered(&mut core, table.as_slice());
-    assert!(rt; is_made && is_marked(&mut core, looks.as_slice(), 2));
-    let is_folded = are_answered(&mut core, steps.as_slice());
-    assert!(rt; is_folded && are_answered(&mut core, looks.as_slice()));
-    Ok(())
+    let are_folded = is_marked(core, looks.as_slice(), 2) && are_answered(core, steps.as_slice());
+    Some(are_folded && are_answered(core, looks.as_slice()))
+}
+
+fn two_folds(alloc: Global) -> Option<bool> {
+    let mut core = new_core(alloc, 4, 4)?;
+    Some(are_left(&mut core)? && are_folded(&mut core)?)
 }
 
 #[test]
-fn a_fold_saves_a_page(rt: HostRuntime) -> Result<(), Fail> {
-    let keys = named_keys().ok_or("keys")?;
-    let mut core = marked(rt.alloc(), &keys, 2)?;
-    let before = core.totals();
-    let is_folded = is_stepped(&mut core, &keys, Step::Folded);
-    let saved = is_folded && before == Totals { pages: 2, live: 2 };
-    assert!(rt; saved && core.totals() == Totals { pages: 1, live: 2 });
-    Ok(())
-}
-
-#[test]
-fn an_emptied_group_is_passed(rt: HostRuntime) -> Result<(), Fail> {
-    let keys = named_keys().ok_or("keys")?;
-    let mut core = marked(rt.alloc(), &keys, 2)?;
-    let emptied = Told::Stepped(keys.abandoned(), keys.owned(), Step::Emptied);
-    let table = [
-        (Event::Free { key: keys.folded }, Told::Freed(true)),
-        (Event::Step, emptied),
-        (Event::Step, Told::NoPairLeft),
-        (Event::Get { key: keys.kept }, Told::Found(Some(7))),
-    ];
-    assert!(rt; are_answered(&mut core, table.as_slice()));
-    Ok(())
+fn a_mark_plans_two_folds(rt: HostRuntime) {
+    assert_eq!(rt; two_folds(rt.alloc()), Some(true));
 }
