@@ -171,39 +171,67 @@ impl Span {
 #[cfg(test)]
 mod tests {
     use super::*;
-    use std::process::Abort;
-    use std::test::Fail;
 
-    // Puts. Where memory was refused, the span is as before, and takes the put the second time.
-    fn put(rt: &impl Abort, span: &mut Span, slot: u8, value: u128) -> Result<Key, AllocError> {
-        let (live, worn) = (span.live().count(), span.worn().count());
-        let changes = span.log().len();
-        assert!(rt; !span.live().contains(slot) && !span.worn().contains(slot));
-        if let Ok(key) = span.put_at(slot, value) {
-            return Ok(key);
+    // The span 3.17, whose slots are given the generations 1 and 2.
+    fn span(alloc: Global) -> Span {
+        let Some(id) = SpanId::new(3, 17) else {
+            unreachable!();
+        };
+        Span::new(alloc, id, 2)
+    }
+
+    // The slot and the generation of the key that a put gives.
+    fn put_once(span: &mut Span, slot: u8, value: u128) -> Option<(u8, u32)> {
+        if span.live().contains(slot) || span.worn().contains(slot) {
+            return None;
         }
-        assert_eq!(rt; (span.live().count(), span.worn().count()), (live, worn));
-        assert_eq!(rt; span.log().len(), changes);
-        span.put_at(slot, value)
+        let key = span.put_at(slot, value).ok()?;
+        Some((key.slot(), key.generation()))
+    }
+
+    // Its live slots, its worn slots and its changes.
+    fn counts(span: &Span) -> (u32, u32, usize) {
+        (span.live().count(), span.worn().count(), span.log().len())
+    }
+
+    // Puts. Where memory was refused, and the span is as before, it puts the second time.
+    fn put(span: &mut Span, slot: u8, value: u128) -> Option<(u8, u32)> {
+        let before = counts(span);
+        let made = put_once(span, slot, value);
+        if made.is_none() && counts(span) == before {
+            put_once(span, slot, value)
+        } else {
+            made
+        }
+    }
+
+    // Whether the key of the slot and generation is found, and whether a free of it finds it.
+    fn frees(span: &mut Span, slot: u8, generation: u32) -> Option<(bool, bool)> {
+        let key = Key::new(span.id(), slot, generation)?;
+        Some((span.find(&key), span.free(&key)))
     }
 
     #[test]
-    fn gives_each_generation_once(rt: HostRuntime) -> Result<(), Fail> {
-        let Some(id) = SpanId::new(3, 17) else {
-            return Ok(());
-        };
-        let mut span = Span::new(rt.alloc(), id, 2);
-        let first = put(&rt, &mut span, 255, 7)?;
-        assert!(rt; span.find(&first) && span.live().contains(255) && !span.worn().contains(255));
-        assert!(rt; span.free(&first) && !span.find(&first) && !span.free(&first));
-        let second = put(&rt, &mut span, 255, 8)?;
-        assert_eq!(rt; (second.slot(), second.generation()), (255, 2));
-        assert!(rt; span.find(&second) && !span.find(&first) && span.worn().contains(255));
-        for slot in 0..9 {
-            put(&rt, &mut span, slot, 9)?;
-        }
-        assert_eq!(rt; (span.live().count(), span.log().len()), (10, 12));
-        assert_eq!(rt; (span.id(), span.gens()), (id, 2));
-        Ok(())
+    fn gives_each_generation_once(rt: HostRuntime) {
+        let mut span = span(rt.alloc());
+        let first = (
+            put(&mut span, 255, 7),
+            frees(&mut span, 255, 1),
+            counts(&span),
+        );
+        let second = (
+            put(&mut span, 255, 8),
+            frees(&mut span, 255, 1),
+            counts(&span),
+        );
+        assert_eq!(rt;
+            (first, second, put(&mut span, 9, 9), counts(&span)),
+            (
+                (Some((255, 1)), Some((true, true)), (0, 0, 2)),
+                (Some((255, 2)), Some((false, false)), (1, 1, 3)),
+                Some((9, 1)),
+                (2, 1, 4),
+            )
+        );
     }
 }

@@ -1,61 +1,57 @@
 //! Ends and adoptions at work, and what a refused growth leaves of pool and shard.
 //!
-//! A call of pool or shard stands in a helper of its own that promises nothing, so that the proof of
-//! a test carries none of its clauses.
+//! Each call stands in a helper that promises nothing and owns neither pool nor shard, and the answers are compared at
+//! once: a test carries no clauses then, and has one exit. A call that was refused memory is made again where pool and
+//! shard are as before.
+ghost use Rattle.std.specs.Prelude.{◌<◌};
+
 use super::*;
 use crate::error::{AdoptError, ReceiveError};
 use shard::{PutError, Shard};
-use std::process::Abort;
-use std::test::Fail;
 
-fn pool(alloc: Global) -> Pool {
-    Pool::new(alloc)
+// The first span that a shard of this number opens.
+fn id(shard: u32) -> SpanId
+    requires { shard < 64 }
+{
+    let Some(id) = SpanId::new(shard, 0) else {
+        unreachable!();
+    };
+    id
+}
+
+// The first key that it gives out.
+fn key(shard: u32) -> Key
+    requires { shard < 64 }
+{
+    let Some(key) = Key::new(id(shard), 0, 1) else {
+        unreachable!();
+    };
+    key
+}
+
+fn put_once(shard: &mut Shard, value: u128) -> bool {
+    shard.put(value) != Err(PutError::OutOfMemory)
 }
 
 // A shard of at most two pages.
-fn shard(alloc: Global, number: u32) -> Result<Shard, Fail> {
-    Ok(Shard::new(alloc, number, 2, 9)?)
+fn shard(alloc: Global, number: u32) -> Shard
+    requires { number < 64 }
+{
+    match Shard::new(alloc, number, 2, 9) {
+        Ok(shard) => shard,
+        Err(_) => unreachable!(),
+    }
 }
 
-fn put_once(shard: &mut Shard, value: u128) -> Result<(Key, usize), PutError> {
-    shard.put(value)
-}
-
-// Puts, a second time where memory was refused.
-fn put(shard: &mut Shard, value: u128) -> Result<Key, PutError> {
-    let (key, _) = match put_once(shard, value) {
-        Err(PutError::OutOfMemory) => put_once(shard, value)?,
-        made => made?,
-    };
-    Ok(key)
-}
-
-// A shard of this number with one key, which has the value.
-fn shard_with(alloc: Global, number: u32, value: u128) -> Result<(Shard, Key), Fail> {
-    let mut shard = shard(alloc, number)?;
-    let key = put(&mut shard, value)?;
-    Ok((shard, key))
-}
-
-fn receive(pool: &mut Pool, shard: &mut Shard) -> Result<(), ReceiveError> {
-    pool.receive(shard)
-}
-
-fn adopt(pool: &mut Pool, shard: &mut Shard) -> Result<SpanId, AdoptError> {
-    pool.adopt(shard)
-}
-
-fn reserve_for(pool: &mut Pool, spans: usize) -> Result<(), AllocError> {
-    pool.reserve_for(None, spans)
-}
-
-fn free(pool: &mut Pool, key: &Key) -> Freed {
-    pool.free(key)
-}
-
-// What pool and shard have under the key.
-fn found(pool: &Pool, shard: &Shard, key: &Key) -> (Found, Found) {
-    (pool.get(key), shard.get(key))
+// The same, with the value under its first key.
+fn shard_with(alloc: Global, number: u32, value: u128) -> Shard
+    requires { number < 64 }
+{
+    let mut shard = shard(alloc, number);
+    if !put_once(&mut shard, value) {
+        put_once(&mut shard, value);
+    }
+    shard
 }
 
 // The pages and live keys of pool and shard.
@@ -63,169 +59,145 @@ fn counts(pool: &Pool, shard: &Shard) -> (usize, usize, usize, usize) {
     (pool.pages(), pool.live(), shard.pages(), shard.live())
 }
 
-type Groups = Vec<(SpanId, Bits256)>;
-
-fn groups_once(pool: &Pool, shard: &Shard) -> Result<(Groups, Groups), AllocError> {
-    Ok((pool.groups()?, shard.groups()?))
+// What pool and shard have under the key.
+fn found(pool: &Pool, shard: &Shard, key: &Key) -> (Found, Found) {
+    (pool.get(key), shard.get(key))
 }
 
-// The groups of pool and shard, asked for again where memory was refused.
-fn groups(pool: &Pool, shard: &Shard) -> Result<(Groups, Groups), AllocError> {
-    match groups_once(pool, shard) {
-        Err(_) => groups_once(pool, shard),
-        groups => groups,
-    }
+type Sight = ((usize, usize, usize, usize), bool, (Found, Found));
+
+fn look_at(pool: &Pool, shard: &Shard, key: &Key) -> Sight {
+    (counts(pool, shard), shard.ended(), found(pool, shard, key))
 }
 
-// What there is to see of pool, shard and two keys.
-#[derive(PartialEq, Drop)]
-struct Sight {
-    counts: (usize, usize, usize, usize),
-    ended: bool,
-    pooled: Groups,
-    owned: Groups,
-    first: (Found, Found),
-    second: (Found, Found),
+fn receive(pool: &mut Pool, shard: &mut Shard) -> Result<(), ReceiveError> {
+    pool.receive(shard)
 }
 
-fn look_at(pool: &Pool, shard: &Shard, keys: &[Key; 2]) -> Result<Sight, AllocError> {
-    let (pooled, owned) = groups(pool, shard)?;
-    Ok(Sight {
-        counts: counts(pool, shard),
-        ended: shard.ended(),
-        pooled,
-        owned,
-        first: found(pool, shard, &keys[0]),
-        second: found(pool, shard, &keys[1]),
-    })
-}
-
-// Whether pool, shard and keys are still as they were seen.
-fn is_as(pool: &Pool, shard: &Shard, keys: &[Key; 2], before: &Sight) -> bool {
-    match look_at(pool, shard, keys) {
-        Ok(now) => now == *before,
-        Err(_) => false,
-    }
-}
-
-// The end of a shard. Where memory was refused, nothing has changed, and the answer is that of the second call.
-fn end(
-    rt: &impl Abort,
-    pool: &mut Pool,
-    shard: &mut Shard,
-    keys: &[Key; 2],
-) -> Result<(), ReceiveError> {
-    let before = look_at(pool, shard, keys)?;
+fn end(pool: &mut Pool, shard: &mut Shard, key: &Key) -> Result<(), ReceiveError> {
+    let before = look_at(pool, shard, key);
     let answer = receive(pool, shard);
-    if answer != Err(ReceiveError::OutOfMemory) {
-        return answer;
-    }
-    assert!(rt; is_as(pool, shard, keys, &before));
-    receive(pool, shard)
-}
-
-// An adoption, with the same care.
-fn take_over(
-    rt: &impl Abort,
-    pool: &mut Pool,
-    shard: &mut Shard,
-    keys: &[Key; 2],
-) -> Result<SpanId, AdoptError> {
-    let before = look_at(pool, shard, keys)?;
-    let answer = adopt(pool, shard);
-    if answer != Err(AdoptError::OutOfMemory) {
-        return answer;
-    }
-    assert!(rt; is_as(pool, shard, keys, &before));
-    adopt(pool, shard)
-}
-
-// A reservation, with the same care. It changes nothing that is seen.
-fn make_room(
-    rt: &impl Abort,
-    pool: &mut Pool,
-    shard: &Shard,
-    keys: &[Key; 2],
-) -> Result<(), AllocError> {
-    let before = look_at(pool, shard, keys)?;
-    let refused = reserve_for(pool, 40).is_err();
-    assert!(rt; is_as(pool, shard, keys, &before));
-    if refused {
-        reserve_for(pool, 40)
+    if answer == Err(ReceiveError::OutOfMemory) && look_at(pool, shard, key) == before {
+        receive(pool, shard)
     } else {
-        Ok(())
+        answer
     }
 }
 
-#[test]
-fn refuses_a_span_that_is_here(rt: HostRuntime) -> Result<(), Fail> {
-    let mut pool = pool(rt.alloc());
-    let (mut first, key) = shard_with(rt.alloc(), 0, 7)?;
-    let (mut second, other) = shard_with(rt.alloc(), 0, 8)?;
-    let keys = [key, other];
-    assert_eq!(rt; end(&rt, &mut pool, &mut first, &keys), Ok(()));
-    assert_eq!(rt;
-        end(&rt, &mut pool, &mut second, &keys),
-        Err(ReceiveError::Doubled)
-    );
-    assert_eq!(rt;
-        end(&rt, &mut pool, &mut first, &keys),
-        Err(ReceiveError::Ended)
-    );
-    Ok(())
+fn adopt(pool: &mut Pool, shard: &mut Shard) -> Result<SpanId, AdoptError> {
+    pool.adopt(shard)
+}
+
+fn take_over(pool: &mut Pool, shard: &mut Shard, key: &Key) -> Result<SpanId, AdoptError> {
+    let before = look_at(pool, shard, key);
+    let answer = adopt(pool, shard);
+    if answer == Err(AdoptError::OutOfMemory) && look_at(pool, shard, key) == before {
+        adopt(pool, shard)
+    } else {
+        answer
+    }
+}
+
+fn reserve(pool: &mut Pool) -> bool {
+    pool.reserve_for(None, 40).is_ok()
+}
+
+fn reserves(pool: &mut Pool, shard: &Shard, key: &Key) -> bool {
+    let before = look_at(pool, shard, key);
+    reserve(pool) || look_at(pool, shard, key) == before && reserve(pool)
+}
+
+fn free(pool: &mut Pool, key: &Key) -> Freed {
+    pool.free(key)
+}
+
+// The head of the pool's group at the index, and how many slots are live there. The list is asked for again where
+// memory was refused.
+fn listed(pool: &Pool, index: usize) -> Option<(SpanId, u32)> {
+    let groups = match pool.groups() {
+        Ok(groups) => groups,
+        Err(_) => pool.groups().ok()?,
+    };
+    let (head, slots) = groups.get(index)?;
+    Some((*head, slots.count()))
 }
 
 #[test]
-fn adopts_no_span_of_its_own(rt: HostRuntime) -> Result<(), Fail> {
-    let mut pool = pool(rt.alloc());
-    let (mut first, key) = shard_with(rt.alloc(), 0, 7)?;
-    let mut third = shard(rt.alloc(), 0)?;
-    let keys = [key, key];
-    assert_eq!(rt; end(&rt, &mut pool, &mut first, &keys), Ok(()));
-    assert_eq!(rt;
-        take_over(&rt, &mut pool, &mut third, &keys),
-        Err(AdoptError::Doubled)
+fn refuses_a_span_that_is_here(rt: HostRuntime) {
+    let key = key(0);
+    let mut pool = Pool::new(rt.alloc());
+    let mut first = shard_with(rt.alloc(), 0, 7);
+    let mut second = shard_with(rt.alloc(), 0, 8);
+    let answers = (
+        end(&mut pool, &mut first, &key),
+        reserves(&mut pool, &first, &key),
+        end(&mut pool, &mut second, &key),
+        end(&mut pool, &mut first, &key),
+        take_over(&mut pool, &mut second, &key),
     );
-    Ok(())
-}
-
-#[test]
-fn keeps_a_key_until_it_is_freed(rt: HostRuntime) -> Result<(), Fail> {
-    let mut pool = pool(rt.alloc());
-    let (mut ending, key) = shard_with(rt.alloc(), 1, 5)?;
-    let (mut next, other) = shard_with(rt.alloc(), 2, 6)?;
-    let keys = [key, other];
-    assert_eq!(rt; end(&rt, &mut pool, &mut ending, &keys), Ok(()));
-    assert_eq!(rt; found(&pool, &next, &key).0, Found::Value(5, 1));
-    assert_eq!(rt; take_over(&rt, &mut pool, &mut next, &keys), Ok(key.span()));
-    assert_eq!(rt; found(&pool, &next, &key).1, Found::Value(5, 1));
-    assert_eq!(rt; end(&rt, &mut pool, &mut next, &keys), Ok(()));
-    assert_eq!(rt; counts(&pool, &next), (2, 2, 0, 0));
-    Ok(())
-}
-
-#[test]
-fn gives_up_the_page_of_an_emptied_group(rt: HostRuntime) -> Result<(), Fail> {
-    let mut pool = pool(rt.alloc());
-    let (mut ending, key) = shard_with(rt.alloc(), 1, 5)?;
-    let mut next = shard(rt.alloc(), 2)?;
-    let keys = [key, key];
-    assert_eq!(rt; end(&rt, &mut pool, &mut ending, &keys), Ok(()));
-    assert_eq!(rt; free(&mut pool, &key), Freed::Yes(1));
-    assert_eq!(rt; counts(&pool, &next), (0, 0, 0, 0));
     assert_eq!(rt;
-        take_over(&rt, &mut pool, &mut next, &keys),
-        Err(AdoptError::NothingToAdopt)
+        answers,
+        (
+            Ok(()),
+            true,
+            Err(ReceiveError::Doubled),
+            Err(ReceiveError::Ended),
+            Err(AdoptError::Doubled),
+        )
     );
-    Ok(())
 }
 
 #[test]
-fn reserves_room(rt: HostRuntime) -> Result<(), Fail> {
-    let mut pool = pool(rt.alloc());
-    let (mut ending, key) = shard_with(rt.alloc(), 1, 5)?;
-    let keys = [key, key];
-    assert_eq!(rt; end(&rt, &mut pool, &mut ending, &keys), Ok(()));
-    assert_eq!(rt; make_room(&rt, &mut pool, &ending, &keys), Ok(()));
-    Ok(())
+fn keeps_a_key_until_it_is_freed(rt: HostRuntime) {
+    let (key, other) = (key(1), key(2));
+    let mut pool = Pool::new(rt.alloc());
+    let mut ending = shard_with(rt.alloc(), 1, 5);
+    let mut next = shard_with(rt.alloc(), 2, 6);
+    let ended = (end(&mut pool, &mut ending, &key), found(&pool, &next, &key));
+    let adopted = (
+        take_over(&mut pool, &mut next, &key),
+        found(&pool, &next, &key),
+    );
+    let both = (
+        end(&mut pool, &mut next, &key),
+        counts(&pool, &next),
+        listed(&pool, 0),
+        listed(&pool, 1),
+    );
+    assert_eq!(rt;
+        (ended, adopted, both),
+        (
+            (Ok(()), (Found::Value(5, 1), Found::NotHere)),
+            (Ok(key.span()), (Found::NotHere, Found::Value(5, 1))),
+            (
+                Ok(()),
+                (2, 2, 0, 0),
+                Some((key.span(), 1)),
+                Some((other.span(), 1))
+            ),
+        )
+    );
+}
+
+#[test]
+fn gives_up_the_page_of_an_emptied_group(rt: HostRuntime) {
+    let key = key(1);
+    let mut pool = Pool::new(rt.alloc());
+    let mut ending = shard_with(rt.alloc(), 1, 5);
+    let mut next = shard(rt.alloc(), 2);
+    let answers = (
+        end(&mut pool, &mut ending, &key),
+        free(&mut pool, &key),
+        look_at(&pool, &next, &key),
+        take_over(&mut pool, &mut next, &key),
+    );
+    assert_eq!(rt;
+        answers,
+        (
+            Ok(()),
+            Freed::Yes(1),
+            ((0, 0, 0, 0), false, (Found::Gone(2), Found::NotHere)),
+            Err(AdoptError::NothingToAdopt),
+        )
+    );
 }
