@@ -25,6 +25,6 @@ install_peers() {
 # around it, which looks at the sources first.
 build() {
     mkdir -p "$here/out/traces" "$here/out/check"
-    "$top/meshrun" run --help >/dev/null
+    "$top/meshrun" --prove >&2
     (cd "$here" && cargo build --quiet --release)
 }

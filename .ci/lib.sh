@@ -1,0 +1,37 @@
+# What `meshrun` and `check` share. Nothing here is meant to be called alone.
+# shellcheck shell=bash
+
+top=$(cd "$(dirname "${BASH_SOURCE[0]}")/.." && pwd)
+program="$top/crates/meshrun/out/meshrun"
+built_from="$program.sources"
+
+# The kit's command.
+find_rt() {
+    if command -v rt; then return; fi
+    local kit
+    for kit in "${KIT:-}" /opt/rattle "$HOME/rattle"; do
+        if [ -n "$kit" ] && [ -x "$kit/bin/rt" ]; then
+            echo "$kit/bin/rt"
+            return
+        fi
+    done
+    echo "meshrun: the Rattle kit's rt is not on the PATH; set KIT to the kit's folder" >&2
+    return 1
+}
+
+# A sum of the program and of all that it is built from, by name and content: a file that is copied, checked out or removed
+# changes it, whatever its date.
+sum_of_build() {
+    (cd "$top" && find crates.txt crates \( -name out -o -name must-fail \) -prune -o -type f -print0 |
+        LC_ALL=C sort -z | xargs -0 sha256sum "${program#"$top/"}" | sha256sum)
+}
+
+# Whether there is a program, and it was proved and built from the sources as they stand.
+is_current() {
+    [ -x "$program" ] && [ -f "$built_from" ] && [ "$(sum_of_build)" = "$(cat "$built_from")" ]
+}
+
+# To be called behind a proof and a build.
+keep_sum() {
+    sum_of_build >"$built_from"
+}
