@@ -5,11 +5,13 @@ use Rattle.std.proofs.lemmas.List.{append-nil, append_assoc, get_or_append_left,
 use Rattle.bitmap.specs.Slots.{SlotSet}
 use Rattle.span.specs.declared.id.SpanId.{SpanId}
 use Rattle.span.specs.Ids.{rank}
+use Rattle.mesh_graph.specs.declared.entry.Entry.{Entry}
 use Rattle.mesh_graph.specs.Groups.{IsAscending}
 use Rattle.certificate.specs.declared.text.cause.Cause.{Cause}
 use Rattle.certificate.specs.declared.text.cause.ReadError.{ReadError}
 use Rattle.certificate.specs.declared.text.cause.ReadError.TheVariants.{BadCertificate, OutOfMemory}
-use Rattle.certificate.specs.Grammar.{◌>>=◌, Follows, Id, Outline, Reads, at_line, body_in, count_in, end_in, entry_in, fixed_in, id_in, id_parts, item_in, items_in, line_in, list_in, pair_in}
+use Rattle.certificate.specs.Grammar.{◌>>=◌, Follows, Id, Outline, Reads, at_line, body_in, count_in, end_in, entry_in, entry_parts, fixed_in, id_in, id_parts, item_in, items_in, line_in, list_in, pair_in, pair_parts}
+use Rattle.certificate.specs.Words.{lines_of}
 
 -- a refusal that the grammar has, too
 pub Reads-err : {X Y : Type 0} (f : X → Y) (e : ReadError) (said : Result Y ReadError) → said ≡ Err e → Reads f (Err e) said
@@ -155,3 +157,34 @@ body_in-lists parts abandoned owned folds short second third fourth fifth a o f 
     let rest : ℕ → ℕ → Result Outline ReadError = λ p q. at_line p (line_in (fixed_in (codes "end")) parts p) >>= (λ ended. at_line q (end_in parts q) >>= (λ done. Ok (record { abandoned = abandoned; owned = owned; folds = folds; short = short }))) in
     let all : body_in parts ≡ rest (5 + length abandoned + length owned + length folds + length short) (6 + length abandoned + length owned + length folds + length short) = rw (a, o', f', s') refl in
     all ∙ (λ i. rest (sym five i) (six i))
+
+-- a list of the text was read from the place on, and then another text and place are left: the same text, and the place past the list
+pub record IsPast {X Y : Type 0} (title : List ℕ) (parse : List ℕ → Result X Cause) (id_of : X → Id) (view : Y → X) (text : List ℕ) (at : ℕ) (ys : List Y) (text_now : List ℕ) (at_now : ℕ) : Type 0 where
+  pub read : list_in title parse id_of (lines_of text) at ≡ Ok (map view ys)
+  pub text_is : text_now ≡ text
+  pub place : at_now ≡ at + 1 + length ys
+
+-- the body of a certificate, where its lists are read one after another
+pub body_in-read : {text text1 text2 text3 text4 : List ℕ} {at at1 at2 at3 at4 : ℕ} (abandoned owned : List Entry) (folds : List (SpanId × SpanId)) (short : List SpanId) → at ≡ 1
+    → IsPast (codes "abandoned") entry_in (λ x. x.0) entry_parts text at abandoned text1 at1 → IsPast (codes "owned") entry_in (λ x. x.0) entry_parts text1 at1 owned text2 at2
+    → IsPast (codes "folds") pair_in (λ p. p.0) pair_parts text2 at2 folds text3 at3 → IsPast (codes "short") id_in (λ id. id) id_parts text3 at3 short text4 at4
+    → body_in (lines_of text) ≡ (at_line at4 (line_in (fixed_in (codes "end")) (lines_of text4) at4) >>= (λ ended. at_line (at4 + 1) (end_in (lines_of text4) (at4 + 1)) >>= (λ done. Ok (record { abandoned = map entry_parts abandoned; owned = map entry_parts owned; folds = map pair_parts folds; short = map id_parts short }))))
+body_in-read {text} {text1} {text2} {text3} {text4} {at} {at1} {at2} {at3} {at4} abandoned owned folds short first a o f s =
+    let a_long = length-map abandoned entry_parts in
+    let o_long = length-map owned entry_parts in
+    let f_long = length-map folds pair_parts in
+    let s_long = length-map short id_parts in
+    let same2 : text2 ≡ text = o.text_is ∙ a.text_is in
+    let same3 : text3 ≡ text = f.text_is ∙ same2 in
+    let same4 : text4 ≡ text = s.text_is ∙ same3 in
+    let second : at1 ≡ 2 + length (map entry_parts abandoned) = omega (arith, a.place) in
+    let third : at2 ≡ 3 + length (map entry_parts abandoned) + length (map entry_parts owned) = omega (arith, o.place) in
+    let fourth : at3 ≡ 4 + length (map entry_parts abandoned) + length (map entry_parts owned) + length (map pair_parts folds) = omega (arith, f.place) in
+    let fifth : at4 ≡ 5 + length (map entry_parts abandoned) + length (map entry_parts owned) + length (map pair_parts folds) + length (map id_parts short) = omega (arith, s.place) in
+    body_in-lists (lines_of text) (map entry_parts abandoned) (map entry_parts owned) (map pair_parts folds) (map id_parts short) at1 at2 at3 at4
+    (ap (list_in (codes "abandoned") entry_in (λ x. x.0) (lines_of text)) (sym first) ∙ a.read)
+    ((λ i. list_in (codes "owned") entry_in (λ x. x.0) (lines_of (sym a.text_is i)) at1) ∙ o.read)
+    ((λ i. list_in (codes "folds") pair_in (λ p. p.0) (lines_of (sym same2 i)) at2) ∙ f.read)
+    ((λ i. list_in (codes "short") id_in (λ id. id) (lines_of (sym same3 i)) at3) ∙ s.read)
+    second third fourth fifth
+    ∙ (λ i. at_line at4 (line_in (fixed_in (codes "end")) (lines_of (sym same4 i)) at4) >>= (λ ended. at_line (at4 + 1) (end_in (lines_of (sym same4 i)) (at4 + 1)) >>= (λ done. Ok (record { abandoned = map entry_parts abandoned; owned = map entry_parts owned; folds = map pair_parts folds; short = map id_parts short }))))

@@ -2,6 +2,7 @@ pub mod Digits
 pub mod Duality
 pub mod IdSets
 pub mod Items
+pub mod LinesLeft
 pub mod Members
 pub mod PartnersFilter
 pub mod ReadAgain

@@ -237,7 +237,8 @@ module _ {X : Type 0} (parse : List ℕ → Result X Cause) (spelled : X → Lis
       ∙ (λ k. title_body title (sym rest.1 k) ∷ drop (at + 1) parts)
       ∙ ap (λ ys. title_body title (length xs) ∷ ys) (rest.0 ∙ (λ k. map spelled xs ++ drop (at + 1 + sym rest.1 k) parts))
 
-end_in-ok : (parts : List (List ℕ)) (at : ℕ) (done : Unit {0}) → at_line at (end_in parts at) ≡ Ok done → drop at parts ≡ [] ∷ []
+-- the end is one empty line
+pub end_in-ok : (parts : List (List ℕ)) (at : ℕ) (done : Unit {0}) → at_line at (end_in parts at) ≡ Ok done → drop at parts ≡ [] ∷ []
 end_in-ok parts at done h =
     let p = if-ok (nat_eq (length parts) (at + 1) && nat_eq (length (get_or parts at [])) 0) tt done Tail (at_line-ok at (end_in parts at) done h) in
     let both = and_parts (nat_eq (length parts) (at + 1)) (nat_eq (length (get_or parts at [])) 0) p.0 in

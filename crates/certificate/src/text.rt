@@ -2,6 +2,7 @@
 
 mod cause;
 mod items;
+mod lines;
 mod numeral;
 mod parts;
 mod reading;

@@ -1,26 +1,15 @@
 // The lists of a certificate: a title with a count, and a line for each item.
 ghost use Rattle.std.specs.Prelude.{◌≡◌, ◌+◌, ◌<◌, ◌≤◌, codes, length, map, option_map, IfOk};
 ghost use Rattle.mesh_graph.specs.Groups.{IsAscending, ids};
-ghost use Rattle.certificate.specs.Grammar.{Follows, Reads, at_line, count_in, entry_in, entry_parts, id_in, id_parts, item_in, line_in, list_in, order_of, pair_in, pair_parts, shown, whole_line};
-ghost use Rattle.certificate.specs.Words.{contents_of};
+ghost use Rattle.certificate.specs.Grammar.{Follows, Reads, at_line, count_in, entry_in, entry_parts, id_in, id_parts, item_in, line_in, list_in, order_of, pair_in, pair_parts, shown};
+ghost use Rattle.certificate.specs.Words.{lines_of};
 
 use super::cause::{Cause, ReadError};
+use super::lines::Lines;
 use super::words::{parse_count, parse_entry, parse_id, parse_pair};
 use mesh_graph::Entry;
 use span::SpanId;
 use std::alloc::Global;
-
-/// The line at the place, counted from 0, where a line feed ends it.
-pub(super) fn whole_line<'a>(lines: &[&'a [u8]], at: usize) -> Result<&'a [u8], Cause>
-    ensures line { shown (λ line. line.now) result ≡ whole_line (contents_of lines.now) at }
-    ensures within { IfOk result (λ _. at + 1 < length lines.now) }
-{
-    if at < lines.len() && at + 1 < lines.len() {
-        Ok(lines[at])
-    } else {
-        Err(Cause::Cut)
-    }
-}
 
 /// Whether the id stands after the last one of its list.
 fn in_order(last: Option<SpanId>, id: SpanId) -> Result<(), Cause>
@@ -38,49 +27,57 @@ fn in_order(last: Option<SpanId>, id: SpanId) -> Result<(), Cause>
 }
 
 /// How many items a list has.
-fn read_count(lines: &[&[u8]], at: usize, title: &[u8]) -> Result<usize, ReadError>
-    requires { at ≤ 32768 }
-    ensures read { result ≡ at_line at (line_in (count_in title.now) (contents_of lines.now) at) }
+fn read_count(lines: &mut Lines, title: &[u8]) -> Result<usize, ReadError>
+    requires { lines.old.at ≤ 32768 }
+    ensures read { result ≡ at_line lines.old.at (line_in (count_in title.now) (lines_of lines.old.text.now) lines.old.at) }
     ensures at_most { IfOk result (λ count. count ≤ 4096) }
+    ensures text { IfOk result (λ _. lines.new.text.now ≡ lines.old.text.now) }
+    ensures passed { IfOk result (λ _. lines.new.at ≡ lines.old.at + 1) }
 {
-    match parse_count_at(lines, at, title) {
+    let line = lines.next_number();
+    match count_at(lines, title) {
         Ok(count) => Ok(count),
-        Err(cause) => Err(ReadError::BadCertificate {
-            line: at + 1,
-            cause,
-        }),
+        Err(cause) => Err(ReadError::BadCertificate { line, cause }),
     }
 }
 
-fn parse_count_at(lines: &[&[u8]], at: usize, title: &[u8]) -> Result<usize, Cause>
-    ensures { result ≡ line_in (count_in title.now) (contents_of lines.now) at }
+fn count_at(lines: &mut Lines, title: &[u8]) -> Result<usize, Cause>
+    ensures line { result ≡ line_in (count_in title.now) (lines_of lines.old.text.now) lines.old.at }
+    ensures text { IfOk result (λ _. lines.new.text.now ≡ lines.old.text.now) }
+    ensures passed { IfOk result (λ _. lines.new.at ≡ lines.old.at + 1) }
 {
-    parse_count(title, whole_line(lines, at)?)
+    parse_count(title, lines.next_line()?)
 }
 
-fn entry_at(lines: &[&[u8]], at: usize, last: Option<SpanId>) -> Result<Entry, Cause>
-    ensures line { shown entry_parts result ≡ line_in (item_in entry_in (λ x. x.0) (option_map id_parts last)) (contents_of lines.now) at }
+fn entry_at(lines: &mut Lines, last: Option<SpanId>) -> Result<Entry, Cause>
+    ensures line { shown entry_parts result ≡ line_in (item_in entry_in (λ x. x.0) (option_map id_parts last)) (lines_of lines.old.text.now) lines.old.at }
     ensures after { IfOk result (λ entry. Follows last entry.id) }
+    ensures text { IfOk result (λ _. lines.new.text.now ≡ lines.old.text.now) }
+    ensures passed { IfOk result (λ _. lines.new.at ≡ lines.old.at + 1) }
 {
-    let entry = parse_entry(whole_line(lines, at)?)?;
+    let entry = parse_entry(lines.next_line()?)?;
     in_order(last, entry.id)?;
     Ok(entry)
 }
 
-fn pair_at(lines: &[&[u8]], at: usize, last: Option<SpanId>) -> Result<(SpanId, SpanId), Cause>
-    ensures line { shown pair_parts result ≡ line_in (item_in pair_in (λ p. p.0) (option_map id_parts last)) (contents_of lines.now) at }
+fn pair_at(lines: &mut Lines, last: Option<SpanId>) -> Result<(SpanId, SpanId), Cause>
+    ensures line { shown pair_parts result ≡ line_in (item_in pair_in (λ p. p.0) (option_map id_parts last)) (lines_of lines.old.text.now) lines.old.at }
     ensures after { IfOk result (λ pair. Follows last pair.0) }
+    ensures text { IfOk result (λ _. lines.new.text.now ≡ lines.old.text.now) }
+    ensures passed { IfOk result (λ _. lines.new.at ≡ lines.old.at + 1) }
 {
-    let pair = parse_pair(whole_line(lines, at)?)?;
+    let pair = parse_pair(lines.next_line()?)?;
     in_order(last, pair.0)?;
     Ok(pair)
 }
 
-fn id_at(lines: &[&[u8]], at: usize, last: Option<SpanId>) -> Result<SpanId, Cause>
-    ensures line { shown id_parts result ≡ line_in (item_in id_in (λ id. id) (option_map id_parts last)) (contents_of lines.now) at }
+fn id_at(lines: &mut Lines, last: Option<SpanId>) -> Result<SpanId, Cause>
+    ensures line { shown id_parts result ≡ line_in (item_in id_in (λ id. id) (option_map id_parts last)) (lines_of lines.old.text.now) lines.old.at }
     ensures after { IfOk result (λ id. Follows last id) }
+    ensures text { IfOk result (λ _. lines.new.text.now ≡ lines.old.text.now) }
+    ensures passed { IfOk result (λ _. lines.new.at ≡ lines.old.at + 1) }
 {
-    let id = parse_id(whole_line(lines, at)?)?;
+    let id = parse_id(lines.next_line()?)?;
     in_order(last, id)?;
     Ok(id)
 }
@@ -88,25 +85,24 @@ fn id_at(lines: &[&[u8]], at: usize, last: Option<SpanId>) -> Result<SpanId, Cau
 /// The groups of a side.
 pub(super) fn read_entries(
     alloc: Global,
-    lines: &[&[u8]],
-    at: usize,
+    lines: &mut Lines,
     title: &[u8],
 ) -> Result<Vec<Entry>, ReadError>
-    requires { at ≤ 32768 }
-    ensures read { Reads (λ entries. map entry_parts entries.items) result (list_in title.now entry_in (λ x. x.0) (contents_of lines.now) at) }
+    requires { lines.old.at ≤ 16384 }
+    ensures read { Reads (λ entries. map entry_parts entries.items) result (list_in title.now entry_in (λ x. x.0) (lines_of lines.old.text.now) lines.old.at) }
     ensures at_most { IfOk result (λ entries. length entries.items ≤ 4096) }
     ensures ascending { IfOk result (λ entries. IsAscending (ids entries.items)) }
+    ensures text { IfOk result (λ _. lines.new.text.now ≡ lines.old.text.now) }
+    ensures passed { IfOk result (λ entries. lines.new.at ≡ lines.old.at + 1 + length entries.items) }
 {
-    let count = read_count(lines, at, title)?;
+    let count = read_count(lines, title)?;
     let mut entries = Vec::new(alloc);
     let mut last = None;
-    for k in 0..count {
-        let entry = match entry_at(lines, at + 1 + k, last) {
+    for _k in 0..count {
+        let line = lines.next_number();
+        let entry = match entry_at(lines, last) {
             Ok(entry) => entry,
-            Err(cause) => return Err(ReadError::BadCertificate {
-                line: at + 2 + k,
-                cause,
-            }),
+            Err(cause) => return Err(ReadError::BadCertificate { line, cause }),
         };
         last = Some(entry.id);
         entries.push(entry)?;
@@ -117,24 +113,23 @@ pub(super) fn read_entries(
 /// The folds.
 pub(super) fn read_folds(
     alloc: Global,
-    lines: &[&[u8]],
-    at: usize,
+    lines: &mut Lines,
 ) -> Result<Vec<(SpanId, SpanId)>, ReadError>
-    requires { at ≤ 32768 }
-    ensures read { Reads (λ pairs. map pair_parts pairs.items) result (list_in (codes "folds") pair_in (λ p. p.0) (contents_of lines.now) at) }
+    requires { lines.old.at ≤ 16384 }
+    ensures read { Reads (λ pairs. map pair_parts pairs.items) result (list_in (codes "folds") pair_in (λ p. p.0) (lines_of lines.old.text.now) lines.old.at) }
     ensures at_most { IfOk result (λ pairs. length pairs.items ≤ 4096) }
     ensures ascending { IfOk result (λ pairs. IsAscending (map (λ p. p.0) pairs.items)) }
+    ensures text { IfOk result (λ _. lines.new.text.now ≡ lines.old.text.now) }
+    ensures passed { IfOk result (λ pairs. lines.new.at ≡ lines.old.at + 1 + length pairs.items) }
 {
-    let count = read_count(lines, at, b"folds")?;
+    let count = read_count(lines, b"folds")?;
     let mut pairs = Vec::new(alloc);
     let mut last = None;
-    for k in 0..count {
-        let pair = match pair_at(lines, at + 1 + k, last) {
+    for _k in 0..count {
+        let line = lines.next_number();
+        let pair = match pair_at(lines, last) {
             Ok(pair) => pair,
-            Err(cause) => return Err(ReadError::BadCertificate {
-                line: at + 2 + k,
-                cause,
-            }),
+            Err(cause) => return Err(ReadError::BadCertificate { line, cause }),
         };
         last = Some(pair.0);
         pairs.push(pair)?;
@@ -143,26 +138,22 @@ pub(super) fn read_folds(
 }
 
 /// The short set.
-pub(super) fn read_short(
-    alloc: Global,
-    lines: &[&[u8]],
-    at: usize,
-) -> Result<Vec<SpanId>, ReadError>
-    requires { at ≤ 32768 }
-    ensures read { Reads (λ short. map id_parts short.items) result (list_in (codes "short") id_in (λ id. id) (contents_of lines.now) at) }
+pub(super) fn read_short(alloc: Global, lines: &mut Lines) -> Result<Vec<SpanId>, ReadError>
+    requires { lines.old.at ≤ 16384 }
+    ensures read { Reads (λ short. map id_parts short.items) result (list_in (codes "short") id_in (λ id. id) (lines_of lines.old.text.now) lines.old.at) }
     ensures at_most { IfOk result (λ short. length short.items ≤ 4096) }
     ensures ascending { IfOk result (λ short. IsAscending short.items) }
+    ensures text { IfOk result (λ _. lines.new.text.now ≡ lines.old.text.now) }
+    ensures passed { IfOk result (λ short. lines.new.at ≡ lines.old.at + 1 + length short.items) }
 {
-    let count = read_count(lines, at, b"short")?;
+    let count = read_count(lines, b"short")?;
     let mut short = Vec::new(alloc);
     let mut last = None;
-    for k in 0..count {
-        let id = match id_at(lines, at + 1 + k, last) {
+    for _k in 0..count {
+        let line = lines.next_number();
+        let id = match id_at(lines, last) {
             Ok(id) => id,
-            Err(cause) => return Err(ReadError::BadCertificate {
-                line: at + 2 + k,
-                cause,
-            }),
+            Err(cause) => return Err(ReadError::BadCertificate { line, cause }),
         };
         last = Some(id);
         short.push(id)?;

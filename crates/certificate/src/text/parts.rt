@@ -1,9 +1,8 @@
 // The parts of a line.
-ghost use Rattle.std.specs.Prelude.{◌≡◌, ◌<◌, length, IfNone, IfOk, IfSome};
+ghost use Rattle.std.specs.Prelude.{◌≡◌, ◌<◌, length, IfNone, IfSome};
 ghost use Rattle.certificate.specs.Words.{contents_of, parts_of};
 
 use arrayvec::ArrayVec;
-use std::alloc::{AllocError, Global};
 
 /// No line has more words, and no id more parts.
 const MOST_PARTS: usize = 2;
@@ -21,11 +20,4 @@ pub(super) fn parts(separator: u8, bytes: &[u8]) -> Option<ArrayVec<&[u8], MOST_
         parts.push(part);
     }
     Some(parts)
-}
-
-/// What is between the line feeds of a text.
-pub(super) fn lines(alloc: Global, text: &[u8]) -> Result<Vec<&[u8]>, AllocError>
-    ensures { IfOk result (λ lines. contents_of lines.items ≡ parts_of 10 text.now) }
-{
-    text.split(|byte| *byte == b'\n').collect(alloc)
 }

@@ -1,12 +1,12 @@
 // Reads certificates.
-ghost use Rattle.std.specs.Prelude.{◌≡◌, ◌+◌, ◌<◌, ◌≤◌, length, IfOk};
+ghost use Rattle.std.specs.Prelude.{◌≡◌, ◌+◌, ◌≤◌, IfOk};
 ghost use Rattle.certificate.specs.Grammar.{Reads, at_line, body_in, certificate_in, end_in, fixed_in, line_in, outline_of};
 ghost use Rattle.certificate.specs.Text.{IsWritable, certificate_text};
-ghost use Rattle.certificate.specs.Words.{contents_of};
+ghost use Rattle.certificate.specs.Words.{lines_of};
 
 use super::cause::{Cause, ReadError};
-use super::items::{read_entries, read_folds, read_short, whole_line};
-use super::parts::lines;
+use super::items::{read_entries, read_folds, read_short};
+use super::lines::Lines;
 use super::words::parse_fixed;
 use crate::certificate::Certificate;
 use crate::plan::{Plan, Short};
@@ -34,26 +34,23 @@ fn read_text(alloc: Global, text: &[u8]) -> Result<Certificate, ReadError>
     ensures read { Reads outline_of result (certificate_in text.now) }
     ensures writable { IfOk result IsWritable }
 {
-    let lines = lines(alloc, text)?;
-    read_fixed(&lines, 0, b"meshcert 1")?;
-    read_body(alloc, &lines)
+    let mut lines = Lines::new(text);
+    read_fixed(&mut lines, b"meshcert 1")?;
+    read_body(alloc, &mut lines)
 }
 
 /// The lists and the last line, below the first line.
-fn read_body(alloc: Global, lines: &[&[u8]]) -> Result<Certificate, ReadError>
-    ensures read { Reads outline_of result (body_in (contents_of lines.now)) }
+fn read_body(alloc: Global, lines: &mut Lines) -> Result<Certificate, ReadError>
+    requires { lines.old.at ≡ 1 }
+    ensures read { Reads outline_of result (body_in (lines_of lines.old.text.now)) }
     ensures writable { IfOk result IsWritable }
 {
-    let abandoned = read_entries(alloc, lines, 1, b"abandoned")?;
-    let at = 2 + abandoned.len();
-    let owned = read_entries(alloc, lines, at, b"owned")?;
-    let at = at + 1 + owned.len();
-    let folds = read_folds(alloc, lines, at)?;
-    let at = at + 1 + folds.len();
-    let short = read_short(alloc, lines, at)?;
-    let at = at + 1 + short.len();
-    read_fixed(lines, at, b"end")?;
-    read_nothing(lines, at + 1)?;
+    let abandoned = read_entries(alloc, lines, b"abandoned")?;
+    let owned = read_entries(alloc, lines, b"owned")?;
+    let folds = read_folds(alloc, lines)?;
+    let short = read_short(alloc, lines)?;
+    read_fixed(lines, b"end")?;
+    read_nothing(lines)?;
     Ok(Certificate {
         snapshot: Snapshot::from_ascending(abandoned, owned),
         plan: Plan::new(folds),
@@ -62,38 +59,37 @@ fn read_body(alloc: Global, lines: &[&[u8]]) -> Result<Certificate, ReadError>
 }
 
 /// A line that is just these bytes.
-fn read_fixed(lines: &[&[u8]], at: usize, bytes: &[u8]) -> Result<(), ReadError>
-    requires { at ≤ 32768 }
-    ensures read { result ≡ at_line at (line_in (fixed_in bytes.now) (contents_of lines.now) at) }
-    ensures within { IfOk result (λ _. at + 1 < length lines.now) }
+fn read_fixed(lines: &mut Lines, bytes: &[u8]) -> Result<(), ReadError>
+    requires { lines.old.at ≤ 32768 }
+    ensures read { result ≡ at_line lines.old.at (line_in (fixed_in bytes.now) (lines_of lines.old.text.now) lines.old.at) }
+    ensures text { IfOk result (λ _. lines.new.text.now ≡ lines.old.text.now) }
+    ensures passed { IfOk result (λ _. lines.new.at ≡ lines.old.at + 1) }
 {
-    match fixed_at(lines, at, bytes) {
+    let line = lines.next_number();
+    match fixed_at(lines, bytes) {
         Ok(()) => Ok(()),
-        Err(cause) => Err(ReadError::BadCertificate {
-            line: at + 1,
-            cause,
-        }),
+        Err(cause) => Err(ReadError::BadCertificate { line, cause }),
     }
 }
 
-fn fixed_at(lines: &[&[u8]], at: usize, bytes: &[u8]) -> Result<(), Cause>
-    ensures line { result ≡ line_in (fixed_in bytes.now) (contents_of lines.now) at }
-    ensures within { IfOk result (λ _. at + 1 < length lines.now) }
+fn fixed_at(lines: &mut Lines, bytes: &[u8]) -> Result<(), Cause>
+    ensures line { result ≡ line_in (fixed_in bytes.now) (lines_of lines.old.text.now) lines.old.at }
+    ensures text { IfOk result (λ _. lines.new.text.now ≡ lines.old.text.now) }
+    ensures passed { IfOk result (λ _. lines.new.at ≡ lines.old.at + 1) }
 {
-    parse_fixed(bytes, whole_line(lines, at)?)
+    parse_fixed(bytes, lines.next_line()?)
 }
 
 /// Nothing but the end of the last line.
-fn read_nothing(lines: &[&[u8]], at: usize) -> Result<(), ReadError>
-    requires in_lines { at < length lines.now }
-    requires in_range { at ≤ 32768 }
-    ensures { result ≡ at_line at (end_in (contents_of lines.now) at) }
+fn read_nothing(lines: &Lines) -> Result<(), ReadError>
+    requires { lines.now.at ≤ 32768 }
+    ensures { result ≡ at_line lines.now.at (end_in (lines_of lines.now.text.now) lines.now.at) }
 {
-    if lines.len() == at + 1 && lines[at].is_empty() {
+    if lines.has_ended() {
         Ok(())
     } else {
         Err(ReadError::BadCertificate {
-            line: at + 1,
+            line: lines.next_number(),
             cause: Cause::Tail,
         })
     }

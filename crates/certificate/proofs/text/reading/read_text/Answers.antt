@@ -1,17 +1,18 @@
-use Rattle.std.proofs.Common.{sym, subst}
+use Rattle.std.proofs.Common.{◌∙◌, sym, subst}
 use Rattle.std.proofs.lemmas.Result.{err_from_is_err_and}
 use Rattle.certificate.specs.declared.certificate.Certificate.{Certificate}
-use Rattle.certificate.specs.Grammar.{Reads, certificate_in, outline_of}
+use Rattle.certificate.specs.Grammar.{Reads, body_in, certificate_in, outline_of}
+use Rattle.certificate.specs.Words.{lines_of}
 use Rattle.certificate.proofs.Items.{Reads-err, then-err, then-ok}
 use Rattle.certificate.proofs.text.reading.read_text.Goals as goal
 
 pub returns-in_err-read_fixed-clause-read : goal.returns-in_err-read_fixed-clause-read
 unfolding certificate_in
 returns-in_err-read_fixed-clause-read c =
-    let p = err_from_is_err_and c.from_residual-in_err-read_fixed.result c.from_residual-in_err-read_fixed.ensures.1 in
-    rw (p.1, p.2) (Reads-err {X = Certificate} outline_of _ _ (then-err _ _ _ (rw (c.deref.ensures.value, c.in_ok-lines.ensures) at c.in_err-read_fixed.ensures.read)))
+    let p = err_from_is_err_and c.from_residual.result c.from_residual.ensures.1 in
+    rw (p.1, p.2) (Reads-err {X = Certificate} outline_of _ _ (then-err _ _ _ (rw (c.new-lines.ensures.text, c.new-lines.ensures.start) at c.in_err-read_fixed.ensures.read)))
 
 pub returns-clause-read : goal.returns-clause-read
 unfolding certificate_in
 returns-clause-read c =
-    subst (Reads outline_of c.read_body.result) (sym (then-ok _ _ _ (rw (c.deref.ensures.value, c.in_ok-lines.ensures) at c.in_ok-read_fixed.ensures.read))) (rw (c.deref-2.ensures.value, c.in_ok-lines.ensures) at c.read_body.ensures.read)
+    subst (Reads outline_of c.read_body.result) (sym (then-ok _ _ _ (rw (c.new-lines.ensures.text, c.new-lines.ensures.start) at c.in_ok-read_fixed.ensures.read))) (subst (λ t. Reads outline_of c.read_body.result (body_in (lines_of t))) (c.in_ok-read_fixed.ensures.text ∙ c.new-lines.ensures.text) c.read_body.ensures.read)

@@ -1,0 +1,100 @@
+-- A text that is read line by line: what is left of it, by its bytes and by its lines.
+use Rattle.std.proofs.Common.{ℕ, ◌+◌, ◌-◌, ◌<◌, ◌≤◌, ◌≡◌, ◌==◌, ◌&&◌, cond, Bool, true, false, List, [], ◌∷◌, length, get_or, take, drop, ◌≢◌, inl, inr, Some, None, Result, Ok, Err, refl, sym, ◌∙◌, ap, arith, zero, suc, nat_eq, lt-ltb, le-ltb, eq-eqb}
+use Rattle.std.specs.List.{join_with_byte, position_or_len}
+use Rattle.std.specs.Prelude.{position}
+use Rattle.std.proofs.lemmas.Bool.{cases_eq, cases_lt, ne_eqb}
+use Rattle.std.proofs.lemmas.List.{drop_more, length-drop, nil_from_length}
+use Rattle.std.proofs.lemmas.List.Splits.{join_with_byte-slice_split, length-slice_split, slice_split_first, slice_split_none}
+use Rattle.std.proofs.lemmas.List.Sums.{fails_before_first}
+use Rattle.certificate.specs.declared.text.cause.Cause.{Cause}
+use Rattle.certificate.specs.declared.text.cause.Cause.TheVariants.{Cut, Tail}
+use Rattle.certificate.specs.Grammar.{at_line, end_in, whole_line}
+use Rattle.certificate.specs.Words.{lines_of}
+use Rattle.certificate.proofs.Spelling.{end_in-ok}
+
+-- the byte is a line feed
+abbrev pub is_feed : ℕ → Bool
+is_feed b = b == 10
+
+position-some : (xs : List ℕ) (end : ℕ) → position is_feed xs ≡ Some end → (end < length xs) × (position_or_len is_feed xs ≡ end)
+position-some xs end h = elim (cases_lt (position_or_len is_feed xs) (length xs)) [
+  | inl low ↦ let said = rw (lt-ltb (position_or_len is_feed xs) (length xs) low) at h in let same : position_or_len is_feed xs ≡ end = cc in (omega arith, same)
+  | inr past ↦ let said = rw (le-ltb (position_or_len is_feed xs) (length xs) past) at h in cc
+]
+
+position-none : (xs : List ℕ) → position is_feed xs ≡ None → length xs ≤ position_or_len is_feed xs
+position-none xs h = elim (cases_lt (position_or_len is_feed xs) (length xs)) [
+  | inl low ↦ let said = rw (lt-ltb (position_or_len is_feed xs) (length xs) low) at h in cc
+  | inr past ↦ past
+]
+
+lines_of-no_feed : (xs : List ℕ) → length xs ≤ position_or_len is_feed xs → lines_of xs ≡ xs ∷ []
+lines_of-no_feed xs none = slice_split_none is_feed xs (λ k d l. fails_before_first is_feed xs k d (omega arith))
+
+lines_of-feed : (xs : List ℕ) (end : ℕ) → position is_feed xs ≡ Some end → lines_of xs ≡ take end xs ∷ lines_of (drop (end + 1) xs)
+lines_of-feed xs end h =
+    let p = position-some xs end h in
+    slice_split_first is_feed xs 0 (omega (arith, p.0, p.1)) ∙ ap (λ e. take e xs ∷ lines_of (drop (e + 1) xs)) p.1
+
+drop-nil : (n : ℕ) → ◌≡◌ {A = List ℕ} (drop n []) []
+drop-nil zero = refl
+drop-nil (suc n) = refl
+
+drop-drop : (n m : ℕ) (xs : List ℕ) → drop n (drop m xs) ≡ drop (m + n) xs
+drop-drop n zero xs = let same : n ≡ 0 + n = omega arith in ap (λ k. drop k xs) same
+drop-drop n (suc m) [] = drop-nil n ∙ sym (drop-nil (suc m + n))
+drop-drop n (suc m) (x ∷ xs) = let same : suc (m + n) ≡ suc m + n = omega arith in drop-drop n m xs ∙ ap (λ k. drop k (x ∷ xs)) same
+
+-- the first line of those that are left
+get_or-left : (parts : List (List ℕ)) (at : ℕ) (line : List ℕ) (rest : List (List ℕ)) → drop at parts ≡ line ∷ rest → (length parts ≡ at + 1 + length rest) × (get_or parts at [] ≡ line) × (drop (at + 1) parts ≡ rest)
+get_or-left parts at line rest left =
+    let long : length parts - at ≡ suc (length rest) = sym (length-drop at parts) ∙ ap length left in
+    let both : get_or parts at [] ∷ drop (at + 1) parts ≡ line ∷ rest = sym (drop_more parts at [] (omega arith)) ∙ left in
+    (omega arith, cc, cc)
+
+-- what is said where the rest is tested
+abbrev ended_if : Bool → Result (Unit {0}) Cause
+ended_if b = cond b (Ok tt) (Err Tail)
+
+module _ (text : List ℕ) (start at : ℕ) (left : drop at (lines_of text) ≡ lines_of (drop start text)) where
+  -- where no line feed is left, no whole line is
+  pub whole_line-cut : position is_feed (drop start text) ≡ None → whole_line (lines_of text) at ≡ Err Cut
+  whole_line-cut none =
+      let p = get_or-left (lines_of text) at (drop start text) [] (left ∙ lines_of-no_feed (drop start text) (position-none (drop start text) none)) in
+      rw (le-ltb (at + 1) (length (lines_of text)) (omega (arith, p.0))) refl
+
+  module _ (end : ℕ) (feed : position is_feed (drop start text) ≡ Some end) where
+    next_left : drop at (lines_of text) ≡ take end (drop start text) ∷ lines_of (drop (end + 1) (drop start text))
+    next_left = left ∙ lines_of-feed (drop start text) end feed
+
+    pub whole_line-next : whole_line (lines_of text) at ≡ Ok (take end (drop start text))
+    whole_line-next =
+        let p = get_or-left (lines_of text) at (take end (drop start text)) (lines_of (drop (end + 1) (drop start text))) next_left in
+        let some = length-slice_split is_feed (drop (end + 1) (drop start text)) in
+        rw (lt-ltb (at + 1) (length (lines_of text)) (omega (arith, p.0, some))) (ap Ok p.1)
+
+    pub within-next : start ≤ length text → start + (end + 1) ≤ length text
+    within-next within = let p = position-some (drop start text) end feed in omega (arith, p.0, length-drop start text)
+
+    pub left-next : drop (at + 1) (lines_of text) ≡ lines_of (drop (start + (end + 1)) text)
+    left-next =
+        let p = get_or-left (lines_of text) at (take end (drop start text)) (lines_of (drop (end + 1) (drop start text))) next_left in
+        p.2 ∙ ap lines_of (drop-drop (end + 1) start text)
+
+  more_left : start ≤ length text → start ≢ length text → (b : Bool) → (nat_eq (length (lines_of text)) (at + 1) && nat_eq (length (get_or (lines_of text) at [])) 0) ≡ b → ended_if b ≡ Err Tail
+  more_left within more true ended =
+      let said : at_line at (end_in (lines_of text) at) ≡ Ok tt = rw ended refl in
+      let lines : lines_of (drop start text) ≡ [] ∷ [] = sym left ∙ end_in-ok (lines_of text) at tt said in
+      let none : drop start text ≡ [] = sym (join_with_byte-slice_split 10 (drop start text)) ∙ ap (join_with_byte 10) lines in
+      absurd (more (omega (arith, ap length none, length-drop start text)))
+  more_left within more false ended = refl
+
+  -- nothing follows where the last byte was read
+  pub end_in-left : start ≤ length text → end_in (lines_of text) at ≡ ended_if (nat_eq start (length text))
+  end_in-left within = elim (cases_eq start (length text)) [
+    | inl all ↦
+        let none : drop start text ≡ [] = nil_from_length (drop start text) (omega (arith, length-drop start text)) in
+        let p = get_or-left (lines_of text) at [] [] (left ∙ ap lines_of none) in
+        rw (eq-eqb (length (lines_of text)) (at + 1) (omega (arith, p.0)), eq-eqb (length (get_or (lines_of text) at [])) 0 (ap length p.1), eq-eqb start (length text) all) refl
+    | inr some ↦ rw (ne_eqb start (length text) some) (more_left within some (nat_eq (length (lines_of text)) (at + 1) && nat_eq (length (get_or (lines_of text) at [])) 0) refl)
+  ]
