@@ -19,7 +19,7 @@ use crate::rooms::Rooms;
 use crate::spans::Spans;
 use bitmap::Bits256;
 use page_table::Table;
-use span::{Key, Span, SpanId};
+use span::{Kept, Key, Log, Span, SpanId};
 use std::alloc::{AllocError, Global};
 use std::marker::Model;
 
@@ -57,23 +57,23 @@ pub enum Freed {
 ///
 /// It keeps that it is sound, and that a group whose index is not in `rooms` has no usable slot.
 #[derive(Drop)]
-pub struct Shard {
+pub struct Shard<L: Log = Kept> {
     alloc: Global,
     number: u32,
     page_limit: usize,
     gens: u32,
     opened: u32,
     ended: bool,
-    groups: Vec<Group>,
+    groups: Vec<Group<L>>,
     rooms: Rooms,
     hints: Hints,
     table: Table,
     onto: Option<SpanId>,
     // An empty list with room for the guests of the group `onto` and those for which room is reserved.
-    guest_room: Vec<Span>,
+    guest_room: Vec<Span<L>>,
 }
 
-impl Model for Shard {
+impl<L: Log> Model for Shard<L> {
     ghost use Rattle.shard.specs.State.{ShardState};
     ghost use Rattle.std.specs.Coded.{codes};
     ghost use Rattle.page_table.specs.State.{table_code};
@@ -89,10 +89,26 @@ impl Model for Shard {
     ghost invariant = { IsKept };
 }
 
-impl Shard {
+impl Shard<Kept> {
     /// A shard with no page, which may have so many pages, and gives a slot the generations 1 to `gens`. It
     /// is refused exactly where the number is not below 64, the pages are not 1 to 1,024, or `gens` is 0.
     pub fn new(alloc: Global, number: u32, page_limit: usize, gens: u32) -> Result<Shard, Config>
+        ensures in_range { IsOk result ↔ ((number < 64) × (1 ≤ page_limit) × (page_limit ≤ 1024) × (1 ≤ gens)) }
+        ensures empty { IfOk result (λ shard. shard ≡ record { number = number; page_limit = page_limit; gens = gens; opened = 0; ended = false; groups = []; table = no_pages; onto = None }) }
+        ensures sound { IfOk result IsSound }
+    {
+        Shard::with_log(alloc, number, page_limit, gens)
+    }
+}
+
+impl<L: Log> Shard<L> {
+    /// A shard with no page, whose logs are kept or counted as its type says: as [`Shard::new`], and refused as that is.
+    pub fn with_log(
+        alloc: Global,
+        number: u32,
+        page_limit: usize,
+        gens: u32,
+    ) -> Result<Shard<L>, Config>
         ensures in_range { IsOk result ↔ ((number < 64) × (1 ≤ page_limit) × (page_limit ≤ 1024) × (1 ≤ gens)) }
         ensures empty { IfOk result (λ shard. shard ≡ record { number = number; page_limit = page_limit; gens = gens; opened = 0; ended = false; groups = []; table = no_pages; onto = None }) }
         ensures sound { IfOk result IsSound }
@@ -180,7 +196,7 @@ impl Shard {
         };
         let group = &self.groups[index];
         let span = group.span_at(place);
-        let at = span.log().len();
+        let at = span.changes();
         if span.find(key) {
             Found::Value(self.table.value_at(group.page(), key.slot()), at)
         } else {
@@ -199,7 +215,7 @@ impl Shard {
             return Freed::NotHere;
         };
         let span = self.groups[index].span_at(place);
-        let at = span.log().len();
+        let at = span.changes();
         if !span.find(key) {
             return Freed::No(at);
         }
@@ -245,7 +261,7 @@ impl Shard {
         ensures err { OnErr result (self.new ≡ self.old) }
     {
         let group = &mut self.groups[index];
-        let at = group.span_at(0).log().len();
+        let at = group.span_at(0).changes();
         let key = group.put(slot, value)?;
         self.table.set_at(group.page(), slot, value);
         Ok((key, at))
@@ -265,7 +281,7 @@ impl Shard {
         let Some(id) = SpanId::new(self.number, self.opened) else {
             unreachable!();
         };
-        let mut head = Span::new(self.alloc, id, self.gens);
+        let mut head = Span::with_log(self.alloc, id, self.gens);
         let key = head.put_at(0, value)?;
         self.groups.reserve(1)?;
         let page = self.table.open(id)?;
@@ -335,7 +351,7 @@ impl Shard {
 }
 
 // Where the group of the head stands among the groups.
-fn head_index(groups: &[Group], head: SpanId) -> Option<usize>
+fn head_index<L: Log>(groups: &[Group<L>], head: SpanId) -> Option<usize>
     requires { Ascend groups.now }
     ensures head { MatchOption result (HasNoHead groups.now head) (λ index. (group : GroupState) × IsHeadOf groups.now head index group) }
     ensures within { IfSome result (λ index. index < length groups.now) }
@@ -352,7 +368,7 @@ fn head_index(groups: &[Group], head: SpanId) -> Option<usize>
 }
 
 // Where the span of the id stands among the groups: the walk that decides where no guess was right.
-fn search(groups: &[Group], id: SpanId) -> Option<(usize, usize)>
+fn search<L: Log>(groups: &[Group<L>], id: SpanId) -> Option<(usize, usize)>
     ensures { MatchOption result (IsElsewhere groups.now id) (λ at. (group : GroupState) × (span : SpanState) × IsHere groups.now id at.0 at.1 group span) }
 {
     for index in 0..groups.len() {
@@ -364,7 +380,7 @@ fn search(groups: &[Group], id: SpanId) -> Option<(usize, usize)>
 }
 
 // Inserts where there is room, which needs no memory.
-fn insert_reserved(groups: &mut Vec<Group>, index: usize, group: Group)
+fn insert_reserved<L: Log>(groups: &mut Vec<Group<L>>, index: usize, group: Group<L>)
     requires within { index ≤ vec_len groups.old }
     requires room { vec_len groups.old < vec_capacity groups.old }
     ensures items { groups.new.items ≡ insert groups.old.items index group }
@@ -378,7 +394,7 @@ fn insert_reserved(groups: &mut Vec<Group>, index: usize, group: Group)
 }
 
 // How many heads are lower than the id, by halving.
-fn lower_heads(groups: &[Group], id: SpanId) -> usize
+fn lower_heads<L: Log>(groups: &[Group<L>], id: SpanId) -> usize
     requires { Ascend groups.now }
     ensures within { result ≤ length groups.now }
     ensures lower { (other : ℕ) (group : GroupState) → other < result → slice_get groups.now other ≡ Some group → rank group.head.id < rank id }
@@ -398,7 +414,7 @@ fn lower_heads(groups: &[Group], id: SpanId) -> usize
 }
 
 // The first open group that has a usable slot, and the lowest such slot. Groups that have none leave the set.
-fn first_room(groups: &[Group], rooms: &mut Rooms) -> Option<(usize, u8)>
+fn first_room<L: Log>(groups: &[Group<L>], rooms: &mut Rooms) -> Option<(usize, u8)>
     requires rooms { HasRooms groups.now rooms.old }
     requires many { length groups.now ≤ 1024 }
     ensures room { MatchOption result (IsFull groups.now) (λ at. (group : GroupState) × IsFirstRoom groups.now at.0 group at.1) }

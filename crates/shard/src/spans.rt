@@ -9,7 +9,7 @@ ghost use Rattle.shard.specs.Group.{all_spans, taken, union_of, IsSpanAt, HasNoS
 ghost use Rattle.shard.specs.State.{live_count};
 
 use bitmap::Bits256;
-use span::{Key, Span, SpanId};
+use span::{Kept, Key, Log, Span, SpanId};
 use std::alloc::{AllocError, Global};
 use std::marker::Model;
 use std::mem::swap;
@@ -17,13 +17,13 @@ use std::mem::swap;
 /// A head and its guests, which are on one page: no slot is live in two of them (the idea is that of
 /// Mesh). The slots that are live in one of them are kept beside them.
 #[derive(Drop)]
-pub struct Spans {
-    head: Span,
-    guests: Vec<Span>,
+pub struct Spans<L: Log = Kept> {
+    head: Span<L>,
+    guests: Vec<Span<L>>,
     occupied: Bits256,
 }
 
-impl Model for Spans {
+impl<L: Log> Model for Spans<L> {
     ghost use Rattle.shard.specs.Group.{SpansState};
 
     ghost Value = { SpansState };
@@ -31,13 +31,14 @@ impl Model for Spans {
     ghost view = { λ s. record { head = s.head; guests = s.guests.items } };
 
     ghost use Rattle.shard.specs.SpansKept.{IsKept};
+    ghost use Rattle.std.specs.Prelude.{◌∷◌};
 
-    ghost invariant = { IsKept };
+    ghost invariant = { λ s. IsKept (s.head ∷ s.guests.items) s.occupied };
 }
 
-impl Spans {
+impl<L: Log> Spans<L> {
     /// A head with no guest. Takes no memory.
-    pub fn of(alloc: Global, head: Span) -> Spans
+    pub fn of(alloc: Global, head: Span<L>) -> Spans<L>
         ensures { result ≡ record { head = head; guests = [] } }
     {
         let occupied = head.live();
@@ -67,7 +68,7 @@ impl Spans {
     /// # Errors
     ///
     /// `AllocError` where the list of guests could not grow. The spans are then as they were.
-    pub fn push(&mut self, guest: Span) -> Result<(), AllocError>
+    pub fn push(&mut self, guest: Span<L>) -> Result<(), AllocError>
         requires { AreDisjoint (live_slots guest.log) (union_of (all_spans self.old)) }
         ensures ok { OnOk result (self.new ≡ record self.old { guests = self.old.guests ++ guest ∷ [] }) }
         ensures err { OnErr result (self.new ≡ self.old) }
@@ -80,7 +81,7 @@ impl Spans {
 
     /// Takes the other spans in as its last guests, in a list with room for all its guests. The list that they
     /// stood in before is given for it, with none. No slot is live on both sides. It takes no memory.
-    pub fn take_guests(&mut self, spans: Spans, room: &mut Vec<Span>)
+    pub fn take_guests(&mut self, spans: Spans<L>, room: &mut Vec<Span<L>>)
         requires apart { AreDisjoint (union_of (all_spans self.old)) (union_of (all_spans spans)) }
         requires none { room.old.items ≡ [] }
         requires room { length self.old.guests + length (all_spans spans) ≤ vec_capacity room.old }
@@ -120,7 +121,7 @@ impl Spans {
     }
 
     /// The span at the place, 0 being the head.
-    pub fn span_at(&self, place: usize) -> &Span
+    pub fn span_at(&self, place: usize) -> &Span<L>
         requires { place < length (all_spans self.now) }
         ensures { slice_get (all_spans self.now) place ≡ Some result.now }
     {
@@ -196,7 +197,7 @@ impl Spans {
 }
 
 // The place of the span of this id.
-fn position(spans: &[Span], id: SpanId) -> Option<usize>
+fn position<L: Log>(spans: &[Span<L>], id: SpanId) -> Option<usize>
     ensures place { MatchOption result (HasNoSpan spans.now id) (IsSpanAt spans.now id) }
     ensures within { IfSome result (λ place. place < length spans.now) }
 {
@@ -210,7 +211,12 @@ fn position(spans: &[Span], id: SpanId) -> Option<usize>
 
 // Moves the head and the others behind the guests, all of them into the list with room for them. The lists change
 // places, so that the one with room has none afterwards.
-fn append_all(guests: &mut Vec<Span>, room: &mut Vec<Span>, head: Span, mut others: Vec<Span>)
+fn append_all<L: Log>(
+    guests: &mut Vec<Span<L>>,
+    room: &mut Vec<Span<L>>,
+    head: Span<L>,
+    mut others: Vec<Span<L>>,
+)
     requires none { room.old.items ≡ [] }
     requires room { length guests.old.items + (1 + length others.items) ≤ vec_capacity room.old }
     ensures guests { guests.new.items ≡ guests.old.items ++ head ∷ others.items }
@@ -223,7 +229,7 @@ fn append_all(guests: &mut Vec<Span>, room: &mut Vec<Span>, head: Span, mut othe
 }
 
 // Moves the spans of a list behind those of another that has room for them, which needs no memory.
-fn append_reserved(spans: &mut Vec<Span>, more: &mut Vec<Span>)
+fn append_reserved<L: Log>(spans: &mut Vec<Span<L>>, more: &mut Vec<Span<L>>)
     requires { vec_len spans.old + vec_len more.old ≤ vec_capacity spans.old }
     ensures items { spans.new.items ≡ spans.old.items ++ more.old.items }
     ensures none { more.new.items ≡ [] }

@@ -1,10 +1,10 @@
 -- What a span keeps beside its log, and the log's room.
-use Rattle.std.specs.Prelude.{◌≡◌, ℕ, ◌+◌, ◌<◌, ◌≤◌, List, slice_index, vec_len, vec_capacity}
+use Rattle.std.specs.Prelude.{◌≡◌, ℕ, ◌+◌, ◌*◌, ◌^◌, ◌<◌, ◌≤◌, List, Vec, length, slice_index, vec_len}
 use Rattle.std.specs.FinSet as set
+use Rattle.std.specs.declared.alloc.Global.{Global}
 use Rattle.bitmap.specs.Slots.{SlotSet}
 use Rattle.span.specs.declared.change.Change.{Change}
-use Rattle.span.specs.declared.span.Span.TheInside.{Inside}
-use Rattle.span.specs.Log.{IsLegal, puts_of, live_slots, worn_slots}
+use Rattle.span.specs.Log.{IsLegal, puts_of, all_puts, live_slots, worn_slots}
 
 -- the log is legal, and the sets and the last generations are those of the log, a missing generation being 0
 pub record Follows (gens : ℕ) (log : List Change) (live worn : SlotSet) (generations : List ℕ) : Type 0 where
@@ -13,9 +13,11 @@ pub record Follows (gens : ℕ) (log : List Change) (live worn : SlotSet) (gener
   pub worn_is : worn ≡ worn_slots gens log
   pub generation_is : (slot : ℕ) → slot < 256 → slice_index generations slot ≡ puts_of slot log
 
--- beside this, at most one generation a slot is kept, and the log has room for a free of each live slot
-pub record IsKept (s : Inside) : Type 0 where
-  pub some_generation : 1 ≤ s.gens
-  pub follows : Follows s.gens s.log.items s.live s.worn s.generations.items
-  pub at_most_all : vec_len s.generations ≤ 256
-  pub room : vec_len s.log + set.len s.live ≤ vec_capacity s.log
+-- beside this, at most one generation a slot is kept, each put that is not live was freed once, and the log has room for a free of each live slot
+pub record IsKept (gens : ℕ) (live worn : SlotSet) (generations : Vec ℕ Global) (log : List Change) (room : ℕ) : Type 0 where
+  pub some_generation : 1 ≤ gens
+  pub gens_fit : gens < 2 ^ 32
+  pub follows : Follows gens log live worn generations.items
+  pub at_most_all : vec_len generations ≤ 256
+  pub freed_once : length log + set.len live ≡ 2 * all_puts log
+  pub room_for_frees : set.len live ≤ room

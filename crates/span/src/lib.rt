@@ -21,17 +21,25 @@
 //! generation comes next and what a key finds are functions of the log (`specs/Log.antt`); the log
 //! is legal, and each change stands at its end. So whoever has the log can tell what each key held
 //! at each time, and check what a [`Receipt`] says of a call.
+//!
+//! A log that is [`Kept`] takes 32 bytes a change for as long as its span lives. A span that works for
+//! ever and whose log nobody reads is a `Span<Counted>`: it keeps the number of changes alone, so a put
+//! and its free leave memory as it was. Its contracts are the same, since they speak of the log as a
+//! list that proofs alone carry along; only `log` is missing.
 #![tactic(auto)]
 
 mod change;
 mod generations;
+mod history;
 mod id;
 mod key;
+mod log;
 mod receipt;
 mod span;
 
 pub use change::Change;
 pub use id::SpanId;
 pub use key::Key;
+pub use log::{Counted, Kept, Log};
 pub use receipt::{Call, Receipt, Reply};
 pub use span::Span;

@@ -1,6 +1,6 @@
 // One span: which of its slots are live, the generations that they were given, and the log of all
-// that was done.
-ghost use Rattle.std.specs.Prelude.{◌≡◌, ◌+◌, ◌≤◌, ◌↔◌, IsTrue, OnOk, OnErr, IfOk, [], ◌∷◌, ◌++◌, true, false};
+// that was done, which is kept or only counted.
+ghost use Rattle.std.specs.Prelude.{◌≡◌, ◌+◌, ◌≤◌, ◌↔◌, IsTrue, OnOk, OnErr, IfOk, [], ◌∷◌, ◌++◌, length, true, false};
 ghost use Rattle.std.specs.Bool.{OnTrue, OnFalse};
 ghost use Rattle.std.specs.FinSet as set;
 
@@ -8,6 +8,7 @@ use crate::change::Change;
 use crate::generations::{generation_of, give_next, reserve_all};
 use crate::id::SpanId;
 use crate::key::Key;
+use crate::log::{Kept, Log};
 use bitmap::Bits256;
 use std::alloc::{AllocError, Global};
 use std::marker::Model;
@@ -16,34 +17,35 @@ use std::marker::Model;
 ///
 /// A span is moved whenever a list of spans grows, so the generations stand outside of the struct,
 /// and come with the first put. The log has room for the free of each live slot at all times, so a
-/// free takes no memory.
+/// free takes no memory. A log that is only [`Counted`](crate::Counted) takes none at all.
 #[derive(Drop)]
-pub struct Span {
+pub struct Span<L: Log = Kept> {
     id: SpanId,
     gens: u32,
     live: Bits256,
     worn: Bits256,
     generations: Vec<u32>,
-    log: Vec<Change>,
+    log: L,
 }
 
-impl Model for Span {
+impl<L: Log> Model for Span<L> {
     ghost use Rattle.span.specs.State.{SpanState};
 
     ghost Value = { SpanState };
 
-    ghost view = { λ s. record { id = s.id; gens = s.gens; log = s.log.items } };
+    ghost view = { λ s. record { id = s.id; gens = s.gens; log = L.changes s.log } };
 
     ghost use Rattle.span.specs.Kept.{IsKept};
 
-    ghost invariant = { IsKept };
+    ghost invariant = { λ s. IsKept s.gens s.live s.worn s.generations (L.changes s.log) (L.room s.log) };
 }
 
-impl Span {
+impl<L: Log> Span<L> {
     ghost use Rattle.span.specs.Log.{IsLegal, live_slots, worn_slots, puts_of, Holds, was_issued};
 
-    /// A span to which nothing was done yet. A slot is put at most `gens` times. Takes no memory.
-    pub fn new(alloc: Global, id: SpanId, gens: u32) -> Self
+    /// A span to which nothing was done yet, whose log is kept or counted as its type says: as [`Span::new`]. Takes
+    /// no memory.
+    pub fn with_log(alloc: Global, id: SpanId, gens: u32) -> Self
         requires { 1 ≤ gens }
         ensures { result ≡ record { id = id; gens = gens; log = [] } }
     {
@@ -53,12 +55,12 @@ impl Span {
             live: Bits256::empty(),
             worn: Bits256::empty(),
             generations: Vec::new(alloc),
-            log: Vec::new(alloc),
+            log: L::new(alloc),
         }
     }
 
     /// Puts a value at a slot that is neither live nor worn, and answers its key, which was never
-    /// given out before. It grows the log for this put and for the frees of all live slots, and, at
+    /// given out before. It grows a log that is kept for this put and for the frees of all live slots, and, at
     /// the first put, the list of generations. `Err` comes where memory runs out, and then the span
     /// is as before.
     pub fn put_at(&mut self, slot: u8, value: u128) -> Result<Key, AllocError>
@@ -159,7 +161,26 @@ impl Span {
         self.gens
     }
 
-    /// All changes, in order, of which none is ever dropped.
+    /// How many changes were done: the length of the log, whether it is kept or not.
+    pub fn changes(&self) -> usize
+        ensures { result ≡ length self.now.log }
+    {
+        self.log.len()
+    }
+}
+
+impl Span<Kept> {
+    ghost use Rattle.span.specs.Log.{IsLegal};
+
+    /// A span to which nothing was done yet. A slot is put at most `gens` times. Takes no memory.
+    pub fn new(alloc: Global, id: SpanId, gens: u32) -> Self
+        requires { 1 ≤ gens }
+        ensures { result ≡ record { id = id; gens = gens; log = [] } }
+    {
+        Span::with_log(alloc, id, gens)
+    }
+
+    /// All changes, in order, of which none is ever dropped. A log that is only counted has no such list.
     pub fn log(&self) -> &[Change]
         ensures changes { result.now ≡ self.now.log }
         ensures legal { IsLegal self.now.gens self.now.log }
@@ -171,17 +192,18 @@ impl Span {
 #[cfg(test)]
 mod tests {
     use super::*;
+    use crate::log::Counted;
 
-    // The span 3.17, whose slots are given the generations 1 and 2.
-    fn span(alloc: Global) -> Span {
+    // The id of a span, 3.17.
+    fn id() -> SpanId {
         let Some(id) = SpanId::new(3, 17) else {
             unreachable!();
         };
-        Span::new(alloc, id, 2)
+        id
     }
 
     // The slot and the generation of the key that a put gives.
-    fn put_once(span: &mut Span, slot: u8, value: u128) -> Option<(u8, u32)> {
+    fn put_once<L: Log>(span: &mut Span<L>, slot: u8, value: u128) -> Option<(u8, u32)> {
         if span.live().contains(slot) || span.worn().contains(slot) {
             return None;
         }
@@ -190,12 +212,12 @@ mod tests {
     }
 
     // Its live slots, its worn slots and its changes.
-    fn counts(span: &Span) -> (u32, u32, usize) {
-        (span.live().count(), span.worn().count(), span.log().len())
+    fn counts<L: Log>(span: &Span<L>) -> (u32, u32, usize) {
+        (span.live().count(), span.worn().count(), span.changes())
     }
 
     // Puts. Where memory was refused, and the span is as before, it puts the second time.
-    fn put(span: &mut Span, slot: u8, value: u128) -> Option<(u8, u32)> {
+    fn put<L: Log>(span: &mut Span<L>, slot: u8, value: u128) -> Option<(u8, u32)> {
         let before = counts(span);
         let made = put_once(span, slot, value);
         if made.is_none() && counts(span) == before {
@@ -206,14 +228,14 @@ mod tests {
     }
 
     // Whether the key of the slot and generation is found, and whether a free of it finds it.
-    fn frees(span: &mut Span, slot: u8, generation: u32) -> Option<(bool, bool)> {
+    fn frees<L: Log>(span: &mut Span<L>, slot: u8, generation: u32) -> Option<(bool, bool)> {
         let key = Key::new(span.id(), slot, generation)?;
         Some((span.find(&key), span.free(&key)))
     }
 
     #[test]
     fn gives_each_generation_once(rt: HostRuntime) {
-        let mut span = span(rt.alloc());
+        let mut span = Span::new(rt.alloc(), id(), 2);
         let first = (
             put(&mut span, 255, 7),
             frees(&mut span, 255, 1),
@@ -225,12 +247,27 @@ mod tests {
             counts(&span),
         );
         assert_eq!(rt;
-            (first, second, put(&mut span, 9, 9), counts(&span)),
+            (first, second, put(&mut span, 9, 9), span.log().len()),
             (
                 (Some((255, 1)), Some((true, true)), (0, 0, 2)),
                 (Some((255, 2)), Some((false, false)), (1, 1, 3)),
                 Some((9, 1)),
-                (2, 1, 4),
+                4,
+            )
+        );
+    }
+
+    #[test]
+    fn needs_no_log(rt: HostRuntime) {
+        let mut span: Span<Counted> = Span::with_log(rt.alloc(), id(), 2);
+        let first = (put(&mut span, 255, 7), frees(&mut span, 255, 1));
+        let second = (put(&mut span, 255, 8), frees(&mut span, 255, 1));
+        assert_eq!(rt;
+            (first, second, counts(&span)),
+            (
+                (Some((255, 1)), Some((true, true))),
+                (Some((255, 2)), Some((false, false))),
+                (1, 1, 3),
             )
         );
     }

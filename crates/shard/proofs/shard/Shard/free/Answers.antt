@@ -1,4 +1,4 @@
-use Rattle.std.proofs.Common.{◌≡◌, ◌∙◌, Some, length, ap, sym, subst, refl, slice_get}
+use Rattle.std.proofs.Common.{◌≡◌, ◌∙◌, Some, ap, sym, subst, refl, slice_get}
 use Rattle.std.specs.Prelude.{vec_capacity}
 use Rattle.std.proofs.lemmas.Bool.{OnTrue_at, true≢false}
 use Rattle.std.proofs.lemmas.Option.{slice_get_within}
@@ -15,13 +15,13 @@ use Rattle.shard.proofs.ShownLogs.{IsSound-Frees, shown-Frees, was_freed-Frees}
 use Rattle.shard.proofs.shard.Shard.free.Goals as goal
 
 pub returns-in_default-clause-step : goal.returns-in_default-clause-step
-returns-in_default-clause-step c = (subst (IsElsewhere c.args.self.now.groups) c.span.ensures c.in_default.ensures.place, refl)
+returns-in_default-clause-step g c = (subst (IsElsewhere c.args.self.now.groups) c.span.ensures c.in_default.ensures.place, refl)
 
 pub returns-in_default-clause-found : goal.returns-in_default-clause-found
-returns-in_default-clause-found c = was_freed-Frees c.args.self.now c.args.self.now c.args.key.now NotHere c.find.ensures.sound (subst (IsElsewhere c.args.self.now.groups) c.span.ensures c.in_default.ensures.place, refl)
+returns-in_default-clause-found g c = was_freed-Frees c.args.self.now c.args.self.now c.args.key.now NotHere c.find.ensures.sound (subst (IsElsewhere c.args.self.now.groups) c.span.ensures c.in_default.ensures.place, refl)
 
 pub returns-then-not-find-clause-step : goal.returns-then-not-find-clause-step
-returns-then-not-find-clause-step c =
+returns-then-not-find-clause-step g c =
     let found = found_in c.args.self.now.groups c.self.inside.groups.items _ c.args.key.now.span c.in-Some.index c.in-Some.place (ap (λ (s : ShardState). s.groups) (sym c.self.view_is)) c.span.ensures c.in-Some.ensures.place in
     let here = here_read _ _ _ _ found.0 found.1 found.2 c.index.result.now c.index.ensures c.span_at-span.result.now c.span_at-span.ensures in (
       c.in-Some.index,
@@ -30,61 +30,61 @@ returns-then-not-find-clause-step c =
       c.span_at-span.result.now,
       subst (λ (s : ShardState). IsHere s.groups c.args.key.now.span c.in-Some.index c.in-Some.place c.index.result.now c.span_at-span.result.now) c.self.view_is here,
       (λ holds. true≢false (sym (c.if-not-find.ensures.1 (sym here.id_is, holds)))),
-      ap length c.log-at.ensures.changes,
+      c.changes-at.ensures,
       refl,
     )
 
 pub returns-then-not-find-clause-found : goal.returns-then-not-find-clause-found
-returns-then-not-find-clause-found c = was_freed-Frees c.args.self.now c.args.self.now c.args.key.now (No (length c.log-at.result.now)) c.find.ensures.sound (returns-then-not-find-clause-step c)
+returns-then-not-find-clause-found g c = was_freed-Frees c.args.self.now c.args.self.now c.args.key.now (No c.changes-at.result) c.find.ensures.sound (returns-then-not-find-clause-step g c)
 
-here_now : (c : goal.After-insert) → IsHere c.self.inside.groups.items c.args.key.now.span c.in-Some.index c.in-Some.place c.index_mut.result.now c.span_at-span.result.now
-here_now c =
+here_now : (g : _) (c : goal.After-insert g) → IsHere c.self.inside.groups.items c.args.key.now.span c.in-Some.index c.in-Some.place c.index_mut.result.now c.span_at-span.result.now
+here_now g c =
     let found = found_in c.args.self.now.groups c.self.inside.groups.items _ c.args.key.now.span c.in-Some.index c.in-Some.place (ap (λ (s : ShardState). s.groups) (sym c.self.view_is)) c.span.ensures c.in-Some.ensures.place in
     let same : c.index.result.now ≡ c.index_mut.result.now = same_some (sym (read_is _ _ _ _ found.0 found.1 found.2 c.index.result.now c.index.ensures) ∙ read_is _ _ _ _ found.0 found.1 found.2 c.index_mut.result.now c.index_mut.ensures.value) in
     here_read _ _ _ _ found.0 found.1 found.2 c.index_mut.result.now c.index_mut.ensures.value c.span_at-span.result.now
     (subst (λ (g : GroupState). slice_get (spans_of g) c.in-Some.place ≡ Some c.span_at-span.result.now) same c.span_at-span.ensures)
 
-freed_now : (c : goal.After-insert) → c.free.new.self ≡ with_span c.index_mut.result.now c.in-Some.place (with_free c.span_at-span.result.now c.args.key.now)
-freed_now c =
-    let here = here_now c in
+freed_now : (g : _) (c : goal.After-insert g) → c.free.new.self ≡ with_span c.index_mut.result.now c.in-Some.place (with_free c.span_at-span.result.now c.args.key.now)
+freed_now g c =
+    let here = here_now g c in
     OnTrue_at
     ((c.free.ensures.found c.span_at-span.result.now here.span_is).1 (sym here.id_is, (c.if-not-find.ensures.0 refl).1))
     (c.free.ensures.freed c.span_at-span.result.now here.span_is)
 
 pub invariant_of-self : goal.invariant_of-self
-invariant_of-self c =
-    let here = here_now c in
+invariant_of-self g c =
+    let here = here_now g c in
     let group = c.index_mut.result.now in
     let span = c.span_at-span.result.now in
     record {
       number_fits = c.self.invariant.number_fits;
       pages_fit = c.self.invariant.pages_fit;
       gens_fit = c.self.invariant.gens_fit;
-      sound = rw (freed_now c) (IsSound-free_here (state_of c.self.inside) c.self.invariant.sound c.in-Some.index c.in-Some.place group span c.args.key.now (here.group_is, here.span_is) (c.if-not-find.ensures.0 refl).1);
+      sound = rw (freed_now g c) (IsSound-free_here (state_of c.self.inside) c.self.invariant.sound c.in-Some.index c.in-Some.place group span c.args.key.now (here.group_is, here.span_is) (c.if-not-find.ensures.0 refl).1);
       rooms = rw c.insert.ensures (HasRooms-free c.self.inside.groups.items c.self.inside.rooms c.self.invariant.rooms c.in-Some.index c.free.new.self (slice_get_within c.self.inside.groups.items c.in-Some.index group here.group_is));
       room_for_groups = c.self.invariant.room_for_groups;
       no_guests = c.self.invariant.no_guests;
-      room_for_guests = rw (freed_now c)
+      room_for_guests = rw (freed_now g c)
           (HasGuestRoom-span c.self.inside.groups.items c.self.inside.onto c.self.inside.table.span_room (vec_capacity c.self.inside.guest_room) c.self.invariant.room_for_guests c.in-Some.index c.in-Some.place group span (with_free span c.args.key.now) here.group_is here.span_is refl);
     }
 
 pub returns-clause-step : goal.returns-clause-step
-returns-clause-step c = (
+returns-clause-step g c = (
   c.in-Some.index,
   c.in-Some.place,
   c.index_mut.result.now,
   c.span_at-span.result.now,
-  subst (λ (s : ShardState). IsHere s.groups c.args.key.now.span c.in-Some.index c.in-Some.place c.index_mut.result.now c.span_at-span.result.now) c.self.view_is (here_now c),
+  subst (λ (s : ShardState). IsHere s.groups c.args.key.now.span c.in-Some.index c.in-Some.place c.index_mut.result.now c.span_at-span.result.now) c.self.view_is (here_now g c),
   (c.if-not-find.ensures.0 refl).1,
-  ap length c.log-at.ensures.changes,
-  rw (← c.self.view_is, freed_now c) refl,
+  c.changes-at.ensures,
+  rw (← c.self.view_is, freed_now g c) refl,
 )
 
 pub returns-clause-found : goal.returns-clause-found
-returns-clause-found c = was_freed-Frees c.args.self.now _ c.args.key.now (Yes (length c.log-at.result.now)) c.find.ensures.sound (returns-clause-step c)
+returns-clause-found g c = was_freed-Frees c.args.self.now _ c.args.key.now (Yes c.changes-at.result) c.find.ensures.sound (returns-clause-step g c)
 
 pub returns-clause-plain : goal.returns-clause-plain
-returns-clause-plain c = shown-Frees c.args.self.now _ c.args.key.now (Yes (length c.log-at.result.now)) c.find.ensures.sound (returns-clause-step c)
+returns-clause-plain g c = shown-Frees c.args.self.now _ c.args.key.now (Yes c.changes-at.result) c.find.ensures.sound (returns-clause-step g c)
 
 pub returns-clause-sound : goal.returns-clause-sound
-returns-clause-sound c = IsSound-Frees c.args.self.now _ c.args.key.now (Yes (length c.log-at.result.now)) c.find.ensures.sound (returns-clause-step c)
+returns-clause-sound g c = IsSound-Frees c.args.self.now _ c.args.key.now (Yes c.changes-at.result) c.find.ensures.sound (returns-clause-step g c)

@@ -1,4 +1,4 @@
-use Rattle.std.proofs.Common.{◌∙◌, ap, length, refl, subst, sym}
+use Rattle.std.proofs.Common.{◌∙◌, ap, refl, subst, sym}
 use Rattle.std.proofs.lemmas.Bool.{true≢false}
 use Rattle.shard.specs.State.{ShardState, IsElsewhere, IsHere, word_at}
 use Rattle.shard.specs.declared.shard.Found.TheVariants.{Gone, NotHere, Value}
@@ -7,18 +7,18 @@ use Rattle.shard.proofs.ShownLogs.{value_found-Gets}
 use Rattle.shard.proofs.shard.Shard.get.Goals as goal
 
 pub returns-in_default-clause-found : goal.returns-in_default-clause-found
-returns-in_default-clause-found c = subst (IsElsewhere c.args.self.now.groups) c.span.ensures c.in_default.ensures.place
+returns-in_default-clause-found g c = subst (IsElsewhere c.args.self.now.groups) c.span.ensures c.in_default.ensures.place
 
 pub returns-in_default-clause-plain : goal.returns-in_default-clause-plain
-returns-in_default-clause-plain c = value_found-Gets c.args.self.now c.find.ensures.sound c.args.key.now NotHere (subst (IsElsewhere c.args.self.now.groups) c.span.ensures c.in_default.ensures.place)
+returns-in_default-clause-plain g c = value_found-Gets c.args.self.now c.find.ensures.sound c.args.key.now NotHere (subst (IsElsewhere c.args.self.now.groups) c.span.ensures c.in_default.ensures.place)
 
 pub value_at-requires : goal.value_at-requires
-value_at-requires c =
+value_at-requires g c =
     let found = found_in c.args.self.now.groups c.self.inside.groups.items _ c.args.key.now.span c.in-Some.index c.in-Some.place (ap (λ (s : ShardState). s.groups) (sym c.self.view_is)) c.span.ensures c.in-Some.ensures.place in
     rw c.page.ensures (c.self.invariant.sound.groups c.in-Some.index c.index-group.result.now (read_is _ _ _ _ found.0 found.1 found.2 c.index-group.result.now c.index-group.ensures)).has_page
 
 pub returns-then-find-clause-found : goal.returns-then-find-clause-found
-returns-then-find-clause-found c =
+returns-then-find-clause-found g c =
     let found = found_in c.args.self.now.groups c.self.inside.groups.items _ c.args.key.now.span c.in-Some.index c.in-Some.place (ap (λ (s : ShardState). s.groups) (sym c.self.view_is)) c.span.ensures c.in-Some.ensures.place in
     let here = here_read _ _ _ _ found.0 found.1 found.2 c.index-group.result.now c.index-group.ensures c.span_at-span.result.now c.span_at-span.ensures in (
       c.in-Some.index,
@@ -28,14 +28,14 @@ returns-then-find-clause-found c =
       subst (λ (s : ShardState). IsHere s.groups c.args.key.now.span c.in-Some.index c.in-Some.place c.index-group.result.now c.span_at-span.result.now) c.self.view_is here,
       (c.if-find.ensures.0 refl).1,
       c.value_at.ensures ∙ rw (c.page.ensures, c.slot.ensures) (ap (λ (s : ShardState). word_at s.table c.index-group.result.now c.args.key.now.slot) c.self.view_is),
-      ap length c.log-at.ensures.changes,
+      c.changes-at.ensures,
     )
 
 pub returns-then-find-clause-plain : goal.returns-then-find-clause-plain
-returns-then-find-clause-plain c = value_found-Gets c.args.self.now c.find.ensures.sound c.args.key.now (Value c.value_at.result (length c.log-at.result.now)) (returns-then-find-clause-found c)
+returns-then-find-clause-plain g c = value_found-Gets c.args.self.now c.find.ensures.sound c.args.key.now (Value c.value_at.result c.changes-at.result) (returns-then-find-clause-found g c)
 
 pub returns-else-find-clause-found : goal.returns-else-find-clause-found
-returns-else-find-clause-found c =
+returns-else-find-clause-found g c =
     let found = found_in c.args.self.now.groups c.self.inside.groups.items _ c.args.key.now.span c.in-Some.index c.in-Some.place (ap (λ (s : ShardState). s.groups) (sym c.self.view_is)) c.span.ensures c.in-Some.ensures.place in
     let here = here_read _ _ _ _ found.0 found.1 found.2 c.index-group.result.now c.index-group.ensures c.span_at-span.result.now c.span_at-span.ensures in (
       c.in-Some.index,
@@ -44,8 +44,8 @@ returns-else-find-clause-found c =
       c.span_at-span.result.now,
       subst (λ (s : ShardState). IsHere s.groups c.args.key.now.span c.in-Some.index c.in-Some.place c.index-group.result.now c.span_at-span.result.now) c.self.view_is here,
       (λ holds. true≢false (sym (c.if-find.ensures.1 (sym here.id_is, holds)))),
-      ap length c.log-at.ensures.changes,
+      c.changes-at.ensures,
     )
 
 pub returns-else-find-clause-plain : goal.returns-else-find-clause-plain
-returns-else-find-clause-plain c = value_found-Gets c.args.self.now c.find.ensures.sound c.args.key.now (Gone (length c.log-at.result.now)) (returns-else-find-clause-found c)
+returns-else-find-clause-plain g c = value_found-Gets c.args.self.now c.find.ensures.sound c.args.key.now (Gone c.changes-at.result) (returns-else-find-clause-found g c)

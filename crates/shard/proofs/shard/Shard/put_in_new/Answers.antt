@@ -21,82 +21,82 @@ use Rattle.shard.proofs.Tables.{HasPage-with_open_same}
 use Rattle.shard.proofs.shard.Shard.put_in_new.Goals as goal
 
 pub put_at-requires-clause-not_live : goal.put_at-requires-clause-not_live
-put_at-requires-clause-not_live c = ap (λ (s : SpanState). set.contains (live_slots s.log) 0) c.new-head.ensures ∙ contains-live_slots-empty 0
+put_at-requires-clause-not_live g c = ap (λ (s : SpanState). set.contains (live_slots s.log) 0) c.with_log-head.ensures ∙ contains-live_slots-empty 0
 
 pub put_at-requires-clause-not_worn : goal.put_at-requires-clause-not_worn
-put_at-requires-clause-not_worn c = ap (λ (s : SpanState). set.contains (worn_slots s.gens s.log) 0) c.new-head.ensures ∙ contains-worn_slots-empty c.self.inside.gens 0 c.self.invariant.gens_fit
+put_at-requires-clause-not_worn g c = ap (λ (s : SpanState). set.contains (worn_slots s.gens s.log) 0) c.with_log-head.ensures ∙ contains-worn_slots-empty c.self.inside.gens 0 c.self.invariant.gens_fit
 
 pub set_at-requires : goal.set_at-requires
-set_at-requires c = subst (λ (t : TableState). HasPage t c.in_ok-page.page) (sym c.in_ok-page.ensures.ok) (HasPage-with_open_same c.self.inside.table c.in-Some.id c.in_ok-page.page)
+set_at-requires g c = subst (λ (t : TableState). HasPage t c.in_ok-page.page) (sym c.in_ok-page.ensures.ok) (HasPage-with_open_same c.self.inside.table c.in-Some.id c.in_ok-page.page)
 
-head_now : (c : goal.After-self-3-1) → c.put_at.new.self ≡ with_put (record { id = c.in-Some.id; gens = c.self.inside.gens; log = [] }) 0 c.args.value
-head_now c = c.in_ok-key.ensures.ok ∙ ap (λ (s : SpanState). with_put s 0 c.args.value) c.new-head.ensures
+head_now : (g : _) (c : goal.After-self-3-1 g) → c.put_at.new.self ≡ with_put (record { id = c.in-Some.id; gens = c.self.inside.gens; log = [] }) 0 c.args.value
+head_now g c = c.in_ok-key.ensures.ok ∙ ap (λ (s : SpanState). with_put s 0 c.args.value) c.with_log-head.ensures
 
-abbrev made : goal.After-self-3-1 → GroupState
-made c = new_group c.in-Some.id c.self.inside.gens c.in_ok-page.page c.args.value
+abbrev made : (g : _) → goal.After-self-3-1 g → GroupState
+made g c = new_group c.in-Some.id c.self.inside.gens c.in_ok-page.page c.args.value
 
-group_now : (c : goal.After-self-3-1) → c.of-2.result ≡ made c
-group_now c = c.of-2.ensures ∙ rw c.of.ensures (ap (λ (head : SpanState). group_of (record { head = head; guests = [] }) c.in_ok-page.page false) (head_now c))
+group_now : (g : _) (c : goal.After-self-3-1 g) → c.of-2.result ≡ made g c
+group_now g c = c.of-2.ensures ∙ rw c.of.ensures (ap (λ (head : SpanState). group_of (record { head = head; guests = [] }) c.in_ok-page.page false) (head_now g c))
 
-list_is : (c : goal.After-self-3-1) → c.as_slice.result.now ≡ c.self.inside.groups.items
-list_is c = c.as_slice.ensures.value ∙ c.in_ok-reserve.ensures.items
+list_is : (g : _) (c : goal.After-self-3-1 g) → c.as_slice.result.now ≡ c.self.inside.groups.items
+list_is g c = c.as_slice.ensures.value ∙ c.in_ok-reserve.ensures.items
 
-groups_now : (c : goal.After-self-3-1) → c.insert_reserved.new.groups.items ≡ insert c.self.inside.groups.items c.lower_heads-index.result (made c)
-groups_now c = c.insert_reserved.ensures.items ∙ rw (c.in_ok-reserve.ensures.items, group_now c) refl
+groups_now : (g : _) (c : goal.After-self-3-1 g) → c.insert_reserved.new.groups.items ≡ insert c.self.inside.groups.items c.lower_heads-index.result (made g c)
+groups_now g c = c.insert_reserved.ensures.items ∙ rw (c.in_ok-reserve.ensures.items, group_now g c) refl
 
-table_now : (c : goal.After-self-3-1) → c.set_at.new.self ≡ with_word (with_open c.self.inside.table c.in-Some.id c.in_ok-page.page) c.in_ok-page.page 0 c.args.value
-table_now c = c.set_at.ensures ∙ rw c.in_ok-page.ensures.ok refl
+table_now : (g : _) (c : goal.After-self-3-1 g) → c.set_at.new.self ≡ with_word (with_open c.self.inside.table c.in-Some.id c.in_ok-page.page) c.in_ok-page.page 0 c.args.value
+table_now g c = c.set_at.ensures ∙ rw c.in_ok-page.ensures.ok refl
 
-lower_now : (c : goal.After-self-3-1) → IsLower head_id c.self.inside.groups.items (rank c.in-Some.id) c.lower_heads-index.result
-lower_now c =
-    subst (λ (groups : List GroupState). IsLower head_id groups (rank c.in-Some.id) c.lower_heads-index.result) (list_is c)
+lower_now : (g : _) (c : goal.After-self-3-1 g) → IsLower head_id c.self.inside.groups.items (rank c.in-Some.id) c.lower_heads-index.result
+lower_now g c =
+    subst (λ (groups : List GroupState). IsLower head_id groups (rank c.in-Some.id) c.lower_heads-index.result) (list_is g c)
     (record { within = c.lower_heads-index.ensures.within; lower = c.lower_heads-index.ensures.lower; others = c.lower_heads-index.ensures.others })
 
-place_now : (c : goal.After-self-3-1) → IsPlaceFor c.self.inside.groups.items c.in-Some.id c.lower_heads-index.result
-place_now c =
-    IsPlaceFor-lower c.self.inside.groups.items c.in-Some.id c.lower_heads-index.result (lower_now c)
+place_now : (g : _) (c : goal.After-self-3-1 g) → IsPlaceFor c.self.inside.groups.items c.in-Some.id c.lower_heads-index.result
+place_now g c =
+    IsPlaceFor-lower c.self.inside.groups.items c.in-Some.id c.lower_heads-index.result (lower_now g c)
     (no_head_next (state_of c.self.inside) c.self.invariant.sound c.in-Some.id c.in-Some.ensures.parts.0 c.in-Some.ensures.parts.1)
 
 pub invariant_of-self-2 : goal.invariant_of-self-2
-invariant_of-self-2 c = record {
+invariant_of-self-2 g c = record {
   number_fits = c.self.invariant.number_fits;
   pages_fit = c.self.invariant.pages_fit;
   gens_fit = c.self.invariant.gens_fit;
-  sound = rw (groups_now c, table_now c)
-      (IsSound-put_in_new (state_of c.self.inside) c.self.invariant.sound c.in-Some.id c.in_ok-page.page c.lower_heads-index.result c.args.value c.in-Some.ensures.parts.0 c.in-Some.ensures.parts.1 c.in_ok-page.ensures.new_page (place_now c)
+  sound = rw (groups_now g c, table_now g c)
+      (IsSound-put_in_new (state_of c.self.inside) c.self.invariant.sound c.in-Some.id c.in_ok-page.page c.lower_heads-index.result c.args.value c.in-Some.ensures.parts.0 c.in-Some.ensures.parts.1 c.in_ok-page.ensures.new_page (place_now g c)
       (ap (λ (s : ShardState). s.ended) c.self.view_is ∙ c.requires.running)
       (subst (λ (s : ShardState). length s.groups < s.page_limit) (sym c.self.view_is) c.requires.pages)
       (subst (λ (s : ShardState). s.opened < 1024) (sym c.self.view_is) c.requires.opened));
-  rooms = rw (groups_now c, c.insert.ensures, c.empty-self-inside.ensures) (HasRooms-only c.self.inside.groups.items c.lower_heads-index.result (made c) (place_now c).within (subst (λ (s : ShardState). IsFull s.groups) (sym c.self.view_is) c.requires.full));
-  room_for_groups = omega (arith, c.self.invariant.room_for_groups, c.insert_reserved.ensures.len, c.insert_reserved.ensures.capacity, c.in_ok-reserve.ensures.len, c.in_ok-reserve.ensures.ok, c.in_ok-reserve.ensures.capacity, ap (λ (t : TableState). t.page_room) (table_now c));
+  rooms = rw (groups_now g c, c.insert.ensures, c.empty-self-inside.ensures) (HasRooms-only c.self.inside.groups.items c.lower_heads-index.result (made g c) (place_now g c).within (subst (λ (s : ShardState). IsFull s.groups) (sym c.self.view_is) c.requires.full));
+  room_for_groups = omega (arith, c.self.invariant.room_for_groups, c.insert_reserved.ensures.len, c.insert_reserved.ensures.capacity, c.in_ok-reserve.ensures.len, c.in_ok-reserve.ensures.ok, c.in_ok-reserve.ensures.capacity, ap (λ (t : TableState). t.page_room) (table_now g c));
   no_guests = c.self.invariant.no_guests;
   room_for_guests = HasGuestRoom-none _ _ _;
 }
 
 pub returns-clause-ok : goal.returns-clause-ok
-returns-clause-ok c =
-    let span : c.in_ok-key.key.span ≡ c.in-Some.id = c.in_ok-key.ensures.key.0 ∙ ap (λ (s : SpanState). s.id) c.new-head.ensures in
+returns-clause-ok g c =
+    let span : c.in_ok-key.key.span ≡ c.in-Some.id = c.in_ok-key.ensures.key.0 ∙ ap (λ (s : SpanState). s.id) c.with_log-head.ensures in
     let now = c.self.view_is in (
       ap (λ (i : SpanId). i.shard) span ∙ c.in-Some.ensures.parts.0 ∙ ap (λ (s : ShardState). s.number) now,
       ap (λ (i : SpanId). i.serial) span ∙ c.in-Some.ensures.parts.1 ∙ ap (λ (s : ShardState). s.opened) now,
       c.in_ok-key.ensures.key.1,
-      c.in_ok-key.ensures.key.2 ∙ ap (λ (s : SpanState). puts_of 0 s.log + 1) c.new-head.ensures ∙ ap (λ n. n + 1) (puts_of-empty 0),
+      c.in_ok-key.ensures.key.2 ∙ ap (λ (s : SpanState). puts_of 0 s.log + 1) c.with_log-head.ensures ∙ ap (λ n. n + 1) (puts_of-empty 0),
       refl,
       (
         c.in_ok-page.page,
         c.lower_heads-index.result,
         ap (λ (s : ShardState). map.get s.table.pages c.in_ok-page.page) (sym now) ∙ c.in_ok-page.ensures.new_page,
-        subst (λ (s : ShardState). IsPlaceFor s.groups c.in_ok-key.key.span c.lower_heads-index.result) now (rw span (place_now c)),
-        rw (← now, span, groups_now c, table_now c) refl,
+        subst (λ (s : ShardState). IsPlaceFor s.groups c.in_ok-key.key.span c.lower_heads-index.result) now (rw span (place_now g c)),
+        rw (← now, span, groups_now g c, table_now g c) refl,
       ),
     )
 
 pub lower_heads-index-requires : goal.lower_heads-index-requires
-lower_heads-index-requires c = rw (c.as_slice.ensures.value, c.in_ok-reserve.ensures.items) c.self.invariant.sound.ascending
+lower_heads-index-requires g c = rw (c.as_slice.ensures.value, c.in_ok-reserve.ensures.items) c.self.invariant.sound.ascending
 
 -- where the list of groups could not grow, all is as it was
 pub invariant_of-self : goal.invariant_of-self
-invariant_of-self c = record {
+invariant_of-self g c = record {
   number_fits = c.self.invariant.number_fits;
   pages_fit = c.self.invariant.pages_fit;
   gens_fit = c.self.invariant.gens_fit;
@@ -105,4 +105,16 @@ invariant_of-self c = record {
   room_for_groups = omega (arith, c.self.invariant.room_for_groups, c.reserve.ensures.len, c.reserve.ensures.capacity);
   no_guests = c.self.invariant.no_guests;
   room_for_guests = rw c.reserve.ensures.items c.self.invariant.room_for_guests;
+}
+
+pub invariant_of-self-in_err-page : goal.invariant_of-self-in_err-page
+invariant_of-self-in_err-page g c = record {
+  number_fits = c.self.invariant.number_fits;
+  pages_fit = c.self.invariant.pages_fit;
+  gens_fit = c.self.invariant.gens_fit;
+  sound = rw (c.in_ok-reserve.ensures.items, c.in_err-page.ensures.err) c.self.invariant.sound;
+  rooms = rw c.in_ok-reserve.ensures.items c.self.invariant.rooms;
+  room_for_groups = omega (arith, c.self.invariant.room_for_groups, c.in_ok-reserve.ensures.len, c.in_ok-reserve.ensures.capacity, ap (λ (t : TableState). t.page_room) c.in_err-page.ensures.err);
+  no_guests = c.self.invariant.no_guests;
+  room_for_guests = rw (c.in_ok-reserve.ensures.items, c.in_err-page.ensures.err) c.self.invariant.room_for_guests;
 }

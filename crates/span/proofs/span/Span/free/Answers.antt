@@ -1,41 +1,56 @@
-use Rattle.std.proofs.Common.{ℕ, ◌≡◌, ◌+◌, ◌≤◌, ◌<◌, true, arith, sym, subst, refl, vec_len, vec_capacity}
+use Rattle.std.proofs.Common.{ℕ, ◌≡◌, ◌+◌, ◌≤◌, ◌<◌, true, arith, sym, subst, refl, List, Vec, length, length-append, ◌*◌, ◌++◌, ◌∷◌, []}
 use Rattle.std.specs.FinSet as set
-use Rattle.span.specs.Log.{Holds}
+use Rattle.span.specs.Log.{Holds, all_puts}
 use Rattle.span.specs.State.{SpanState}
 use Rattle.span.specs.Kept.{IsKept}
-use Rattle.span.specs.declared.span.Span.TheInside.{Inside}
+use Rattle.std.specs.declared.alloc.Global.{Global}
+use Rattle.bitmap.specs.Slots.{SlotSet}
+use Rattle.span.specs.declared.change.Change.{Change}
+use Rattle.span.specs.declared.change.Change.TheVariants.{Free}
+use Rattle.span.proofs.Counting.{all_puts-free, all_puts-le}
 use Rattle.span.proofs.Keeping.{Holds-kept, Follows-free, len-remove_member, some_member}
 use Rattle.span.proofs.span.Span.free.Goals as goal
 
 -- what the room kept for a live key's free comes to
-module _ (s : Inside) (kept : IsKept s) (slot generation : ℕ) (within : slot < 256) (holds : Holds s.log.items slot generation) where
-  member : set.contains s.live slot ≡ true
-  member = (Holds-kept s.gens s.log.items s.live s.worn s.generations.items kept.follows slot within generation holds).0
+module _ {gens : ℕ} {live worn : SlotSet} {generations : Vec ℕ Global} {log : List Change} {room : ℕ} (kept : IsKept gens live worn generations log room) (slot generation : ℕ) (within : slot < 256) (holds : Holds log slot generation) where
+  member : set.contains live slot ≡ true
+  member = (Holds-kept gens log live worn generations.items kept.follows slot within generation holds).0
 
-  room_for_free : vec_len s.log < vec_capacity s.log
-  room_for_free = omega (arith, kept.room, some_member s.live slot member)
+  room_for_free : 0 < room
+  room_for_free = omega (arith, kept.room_for_frees, some_member live slot member)
 
-  room_after_free : vec_len s.log + 1 + set.len (set.remove s.live slot) ≤ vec_capacity s.log
-  room_after_free = omega (arith, kept.room, some_member s.live slot member, len-remove_member s.live slot member)
+  room_after_free : set.len (set.remove live slot) + 1 ≤ room
+  room_after_free = omega (arith, kept.room_for_frees, some_member live slot member, len-remove_member live slot member)
 
-pub push_reserved-requires : goal.push_reserved-requires
-push_reserved-requires c =
+  count_after_free : length (log ++ Free slot generation ∷ []) + set.len (set.remove live slot) ≡ 2 * all_puts (log ++ Free slot generation ∷ [])
+  count_after_free =
+      omega (arith, kept.freed_once, all_puts-free log slot generation, length-append log (Free slot generation ∷ []), some_member live slot member, len-remove_member live slot member)
+
+pub push_reserved-requires-clause-in_range : goal.push_reserved-requires-clause-in_range
+push_reserved-requires-clause-in_range g c =
+    omega (arith, c.self.invariant.freed_once, c.self.invariant.gens_fit, all_puts-le _ _ c.self.invariant.follows.legal)
+
+pub push_reserved-requires-clause-room : goal.push_reserved-requires-clause-room
+push_reserved-requires-clause-room g c =
     let holds = subst (λ (s : SpanState). Holds s.log c.args.key.now.slot c.args.key.now.generation) (sym c.self.view_is) (c.if-not-find.ensures.0 refl).1 in
-    room_for_free c.self.inside c.self.invariant c.args.key.now.slot c.args.key.now.generation (rw (← c.slot-slot.ensures) c.slot-slot.type_inv) holds
+    room_for_free c.self.invariant c.args.key.now.slot c.args.key.now.generation (rw (← c.slot-slot.ensures) c.slot-slot.type_inv) holds
 
 pub invariant_of-self : goal.invariant_of-self
-invariant_of-self c =
+invariant_of-self g c =
     let holds = subst (λ (s : SpanState). Holds s.log c.args.key.now.slot c.args.key.now.generation) (sym c.self.view_is) (c.if-not-find.ensures.0 refl).1 in
     let small : c.args.key.now.slot < 256 = rw (← c.slot-slot.ensures) c.slot-slot.type_inv in
     let inside = c.self.inside in
     record {
       some_generation = c.self.invariant.some_generation;
-      follows = rw (c.push_reserved.ensures.items, c.remove.ensures, c.slot-slot.ensures, c.generation.ensures.value)
-          (Follows-free inside.gens inside.log.items inside.live inside.worn inside.generations.items c.self.invariant.follows c.args.key.now.slot small c.args.key.now.generation holds);
+      follows = rw (c.push_reserved.ensures.changes, c.remove.ensures, c.slot-slot.ensures, c.generation.ensures.value)
+          (Follows-free inside.gens (g.L.Log.changes inside.log) inside.live inside.worn inside.generations.items c.self.invariant.follows c.args.key.now.slot small c.args.key.now.generation holds);
       at_most_all = c.self.invariant.at_most_all;
-      room = rw (c.remove.ensures, c.slot-slot.ensures)
-          (omega (arith, c.push_reserved.ensures.len, c.push_reserved.ensures.capacity, room_after_free inside c.self.invariant c.args.key.now.slot c.args.key.now.generation small holds));
+      gens_fit = c.self.invariant.gens_fit;
+      freed_once = rw (c.push_reserved.ensures.changes, c.remove.ensures, c.slot-slot.ensures, c.generation.ensures.value)
+          (count_after_free c.self.invariant c.args.key.now.slot c.args.key.now.generation small holds);
+      room_for_frees = rw (c.remove.ensures, c.slot-slot.ensures)
+          (omega (arith, c.push_reserved.ensures.room, room_after_free c.self.invariant c.args.key.now.slot c.args.key.now.generation small holds));
     }
 
 pub returns-clause-legal : goal.returns-clause-legal
-returns-clause-legal c = (invariant_of-self c).follows.legal
+returns-clause-legal g c = (invariant_of-self g c).follows.legal

@@ -3,10 +3,10 @@ use Rattle.page_table.specs.State.{TableState}
 use Rattle.shard.proofs.GuestRoom.{HasGuestRoom-none}
 use Rattle.shard.proofs.RoomBits.{HasRooms-empty}
 use Rattle.shard.proofs.Start.{IsSound-new}
-use Rattle.shard.proofs.shard.Shard.new.Goals as goal
+use Rattle.shard.proofs.shard.Shard.with_log.Goals as goal
 
 pub invariant_of-result : goal.invariant_of-result
-invariant_of-result c = record {
+invariant_of-result g c = record {
   number_fits = omega arith;
   pages_fit = omega arith;
   gens_fit = omega arith;
@@ -18,4 +18,4 @@ invariant_of-result c = record {
 }
 
 pub returns-clause-sound : goal.returns-clause-sound
-returns-clause-sound c = rw (c.new.ensures.items, c.new-3.ensures) (IsSound-new c.args.number c.args.page_limit c.args.gens (omega arith))
+returns-clause-sound g c = rw (c.new.ensures.items, c.new-3.ensures) (IsSound-new c.args.number c.args.page_limit c.args.gens (omega arith))
