@@ -16,7 +16,7 @@ use crate::search::{find_at, lower_heads, search};
 use bitmap::Bits256;
 use page_table::Table;
 use shard::{Found, Freed, Hints};
-use span::{Key, SpanId};
+use span::{Kept, Key, Log, SpanId};
 use std::alloc::{AllocError, Global};
 use std::marker::Model;
 
@@ -30,9 +30,9 @@ mod tests;
 /// It keeps the reserved room as numbers of its own, since a group that comes without a page uses room
 /// for one up too.
 #[derive(Drop)]
-pub struct Pool {
+pub struct Pool<L: Log = Kept> {
     alloc: Global,
-    groups: Vec<Pooled>,
+    groups: Vec<Pooled<L>>,
     hints: Hints,
     table: Table,
     page_room: usize,
@@ -40,7 +40,7 @@ pub struct Pool {
     has_plan: bool,
 }
 
-impl Model for Pool {
+impl<L: Log> Model for Pool<L> {
     ghost use Rattle.abandoned.specs.State.{PoolState};
     ghost use Rattle.std.specs.Coded.{codes};
     ghost use Rattle.page_table.specs.State.{table_code};
@@ -56,9 +56,19 @@ impl Model for Pool {
     ghost invariant = { IsKept };
 }
 
-impl Pool {
+impl Pool<Kept> {
     /// A pool with no group. It takes no memory.
     pub fn new(alloc: Global) -> Pool
+        ensures empty { result ≡ record { groups = []; table = no_pages; has_plan = false } }
+        ensures sound { IsSound result }
+    {
+        Pool::with_log(alloc)
+    }
+}
+
+impl<L: Log> Pool<L> {
+    /// A pool with no group, whose logs are kept or counted as its type says: as [`Pool::new`]. It takes no memory.
+    pub fn with_log(alloc: Global) -> Pool<L>
         ensures empty { result ≡ record { groups = []; table = no_pages; has_plan = false } }
         ensures sound { IsSound result }
     {
@@ -152,7 +162,7 @@ impl Pool {
         };
         let group = &self.groups[index];
         let span = group.span_at(place);
-        let at = span.log().len();
+        let at = span.changes();
         if !span.find(key) {
             return Found::Gone(at);
         }
@@ -173,7 +183,7 @@ impl Pool {
             return Freed::NotHere;
         };
         let group = &mut self.groups[index];
-        let at = group.span_at(place).log().len();
+        let at = group.span_at(place).changes();
         if !group.free(place, key, &mut self.table) {
             return Freed::No(at);
         }

@@ -13,17 +13,17 @@ ghost use Rattle.abandoned.specs.State.{group_of, spans_of, with_span};
 use bitmap::Bits256;
 use page_table::{Page, Table};
 use shard::{Brief, Spans};
-use span::{Key, Span, SpanId};
+use span::{Key, Log, Span, SpanId};
 use std::marker::Model;
 
 /// A head and its guests, and their page, which they have exactly while one of their slots is live.
 #[derive(Drop)]
-pub(crate) struct Pooled {
-    spans: Spans,
+pub(crate) struct Pooled<L: Log> {
+    spans: Spans<L>,
     page: Option<Page>,
 }
 
-impl Model for Pooled {
+impl<L: Log> Model for Pooled<L> {
     ghost use Rattle.abandoned.specs.State.{PooledState, group_of};
 
     ghost Value = { PooledState };
@@ -31,23 +31,23 @@ impl Model for Pooled {
     ghost view = { λ g. group_of g.spans g.page };
 }
 
-impl Pooled {
+impl<L: Log> Pooled<L> {
     /// The group of the spans, on the page, if there is one.
-    pub(crate) fn new(spans: Spans, page: Option<Page>) -> Pooled
+    pub(crate) fn new(spans: Spans<L>, page: Option<Page>) -> Pooled<L>
         ensures { result ≡ group_of spans page }
     {
         Pooled { spans, page }
     }
 
     /// The spans and the page.
-    pub(crate) fn into_parts(self) -> (Spans, Option<Page>)
+    pub(crate) fn into_parts(self) -> (Spans<L>, Option<Page>)
         ensures { self ≡ group_of result.0 result.1 }
     {
         (self.spans, self.page)
     }
 
     /// The head and its guests.
-    pub(crate) fn spans(&self) -> &Spans
+    pub(crate) fn spans(&self) -> &Spans<L>
         ensures { result.now ≡ record { head = self.now.head; guests = self.now.guests } }
     {
         &self.spans
@@ -116,7 +116,7 @@ impl Pooled {
     }
 
     /// The span at the place, 0 being the head.
-    pub(crate) fn span_at(&self, place: usize) -> &Span
+    pub(crate) fn span_at(&self, place: usize) -> &Span<L>
         requires { place < length (spans_of self.now) }
         ensures { slice_get (spans_of self.now) place ≡ Some result.now }
     {

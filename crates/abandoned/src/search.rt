@@ -6,10 +6,10 @@ ghost use Rattle.abandoned.specs.Calls.{HasNoPage, IsFirstPaged};
 ghost use Rattle.abandoned.specs.State.{Ascend, IsElsewhere, IsHere, PooledState};
 
 use crate::pooled::Pooled;
-use span::SpanId;
+use span::{Log, SpanId};
 
 /// How many heads are lower than the number of ranks, by halving.
-pub(crate) fn lower_heads(groups: &[Pooled], number: u32) -> usize
+pub(crate) fn lower_heads<L: Log>(groups: &[Pooled<L>], number: u32) -> usize
     requires { Ascend groups.now }
     ensures within { result ≤ length groups.now }
     ensures lower { (other : ℕ) (group : PooledState) → other < result → slice_get groups.now other ≡ Some group → rank group.head.id < number }
@@ -29,7 +29,11 @@ pub(crate) fn lower_heads(groups: &[Pooled], number: u32) -> usize
 }
 
 /// Where the span of the id stands, if it is in the group at the index.
-pub(crate) fn find_at(groups: &[Pooled], index: usize, id: SpanId) -> Option<(usize, usize)>
+pub(crate) fn find_at<L: Log>(
+    groups: &[Pooled<L>],
+    index: usize,
+    id: SpanId,
+) -> Option<(usize, usize)>
     ensures { IfSome result (λ at. (group : PooledState) × (span : SpanState) × IsHere groups.now id at.0 at.1 group span) }
 {
     if index >= groups.len() {
@@ -42,7 +46,7 @@ pub(crate) fn find_at(groups: &[Pooled], index: usize, id: SpanId) -> Option<(us
 }
 
 /// Where the span of the id stands among the groups: the walk that decides where no guess was right.
-pub(crate) fn search(groups: &[Pooled], id: SpanId) -> Option<(usize, usize)>
+pub(crate) fn search<L: Log>(groups: &[Pooled<L>], id: SpanId) -> Option<(usize, usize)>
     ensures { MatchOption result (IsElsewhere groups.now id) (λ at. (group : PooledState) × (span : SpanState) × IsHere groups.now id at.0 at.1 group span) }
 {
     for index in 0..groups.len() {
@@ -54,7 +58,7 @@ pub(crate) fn search(groups: &[Pooled], id: SpanId) -> Option<(usize, usize)>
 }
 
 /// The first group that has a page.
-pub(crate) fn first_paged(groups: &[Pooled]) -> Option<usize>
+pub(crate) fn first_paged<L: Log>(groups: &[Pooled<L>]) -> Option<usize>
     ensures first { MatchOption result (HasNoPage groups.now) (λ index. (group : PooledState) × IsFirstPaged groups.now index group) }
     ensures within { IfSome result (λ index. index < length groups.now) }
 {

@@ -10,7 +10,7 @@ ghost use Rattle.fold.specs.Folds.{Folds, IsStepFor, IsTaken, MayFold, Steps, Wo
 use crate::step::Step;
 use abandoned::Pool;
 use shard::Shard;
-use span::SpanId;
+use span::{Log, SpanId};
 use std::alloc::AllocError;
 
 /// Folds the pool's group of head `a` onto the shard's group of head `b`, where that can be, and tells what came of
@@ -26,9 +26,9 @@ use std::alloc::AllocError;
 ///
 /// `AllocError` where the groups could be folded and memory is refused. Pool and shard are then as they were; each
 /// growth stands before the first change.
-pub fn fold_one(
-    pool: &mut Pool,
-    shard: &mut Shard,
+pub fn fold_one<L: Log>(
+    pool: &mut Pool<L>,
+    shard: &mut Shard<L>,
     a: SpanId,
     b: SpanId,
 ) -> Result<Step, AllocError>
@@ -51,7 +51,7 @@ pub fn fold_one(
 }
 
 // What a fold of the two groups comes to, memory aside.
-fn step_for(pool: &Pool, shard: &Shard, a: SpanId, b: SpanId) -> Step
+fn step_for<L: Log>(pool: &Pool<L>, shard: &Shard<L>, a: SpanId, b: SpanId) -> Step
     ensures step { IsStepFor pool.now shard.now a b result }
     ensures sound { IsSound pool.now }
     ensures sound_shard { IsSoundShard shard.now }
@@ -82,7 +82,7 @@ fn step_for(pool: &Pool, shard: &Shard, a: SpanId, b: SpanId) -> Step
 
 // Whether a span of the pool's group of the head, which has so many spans, is in the shard already or bears its
 // number.
-fn would_double(pool: &Pool, shard: &Shard, head: SpanId, spans: usize) -> bool
+fn would_double<L: Log>(pool: &Pool<L>, shard: &Shard<L>, head: SpanId, spans: usize) -> bool
     requires group { (index : ℕ) × (group : PooledState) × IsHeadOf pool.now.groups head index group × (spans ≡ length (spans_of group)) }
     requires sound { IsSound pool.now }
     ensures { IsTrue result ↔ WouldDouble pool.now shard.now head }
@@ -99,7 +99,7 @@ fn would_double(pool: &Pool, shard: &Shard, head: SpanId, spans: usize) -> bool
 }
 
 // Whether the shard has a span of this id, or is the one that opens it.
-fn is_taken(shard: &Shard, id: SpanId) -> bool
+fn is_taken<L: Log>(shard: &Shard<L>, id: SpanId) -> bool
     ensures { IsTrue result ↔ IsTaken shard.now id }
 {
     if id.shard() == shard.number() {
@@ -109,7 +109,7 @@ fn is_taken(shard: &Shard, id: SpanId) -> bool
 }
 
 // Makes room in the shard, and then moves the group there.
-fn carry_out(pool: &mut Pool, shard: &mut Shard, a: SpanId, b: SpanId) -> Result<(), AllocError>
+fn carry_out<L: Log>(pool: &mut Pool<L>, shard: &mut Shard<L>, a: SpanId, b: SpanId) -> Result<(), AllocError>
     requires may { MayFold pool.old shard.old a b }
     requires sound { IsSound pool.old }
     requires sound_shard { IsSoundShard shard.old }

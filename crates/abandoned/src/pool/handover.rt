@@ -18,9 +18,9 @@ use super::Pool;
 use crate::error::{AdoptError, ReceiveError};
 use crate::search::first_paged;
 use shard::{Shard, Spans};
-use span::SpanId;
+use span::{Log, SpanId};
 
-impl Pool {
+impl<L: Log> Pool<L> {
     /// The end of a shard: all its groups come here whole, and those with no live slot give up their pages on the
     /// way. The shard has ended then, and has no group.
     ///
@@ -29,7 +29,7 @@ impl Pool {
     /// The first of these that holds, exactly: `Ended` where the shard has ended before; `Doubled` where one of its
     /// spans is here already; `PlanOpen` where one of its groups is closed. `OutOfMemory` where none holds and a
     /// growth was refused; each growth stands before the first change.
-    pub fn receive(&mut self, shard: &mut Shard) -> Result<(), ReceiveError>
+    pub fn receive(&mut self, shard: &mut Shard<L>) -> Result<(), ReceiveError>
         ensures ok { OnOk result (Receives self.old shard.old self.new shard.new) }
         ensures kept { OnOk result (shown self.new ≡ together (shown self.old) (shown_by_shard shard.old)) }
         ensures ended { (result ≡ Err ReceiveError.Ended) ↔ (shard.old.ended ≡ true) }
@@ -54,7 +54,7 @@ impl Pool {
     }
 
     // Makes room for all groups of the shard and takes them in.
-    fn receive_all(&mut self, shard: &mut Shard) -> Result<(), ReceiveError>
+    fn receive_all(&mut self, shard: &mut Shard<L>) -> Result<(), ReceiveError>
         requires running { shard.old.ended ≡ false }
         requires apart { IsInPool self.old shard.old → ⊥ }
         requires sound { IsSound self.old }
@@ -74,7 +74,7 @@ impl Pool {
     }
 
     // Takes in the groups of the shard, one after another, in reserved room.
-    fn take_all(&mut self, shard: &mut Shard)
+    fn take_all(&mut self, shard: &mut Shard<L>)
         requires sound { IsSound self.old }
         requires sound_shard { IsSoundShard shard.old }
         requires apart { AreApart self.old shard.old }
@@ -94,7 +94,7 @@ impl Pool {
     }
 
     // Whether it has a span of the shard.
-    fn has_one_of(&self, shard: &Shard) -> bool
+    fn has_one_of(&self, shard: &Shard<L>) -> bool
         ensures has { IsTrue result ↔ IsInPool self.now shard.now }
         ensures sound { IsSound self.now }
     {
@@ -108,7 +108,7 @@ impl Pool {
     }
 
     // Whether it has one of the spans.
-    fn has_any(&self, spans: &Spans) -> bool
+    fn has_any(&self, spans: &Spans<L>) -> bool
         ensures { IsTrue result ↔ HasAny self.now.groups (all_spans spans.now) }
     {
         for place in 0..spans.len() {
@@ -129,7 +129,7 @@ impl Pool {
     /// shard already or bears its number; `PlanOpen` where a plan of folds is open; `NothingToAdopt` where no group
     /// has a page. `OutOfMemory` where none
     /// holds and a growth was refused; each growth stands before the first change.
-    pub fn adopt(&mut self, shard: &mut Shard) -> Result<SpanId, AdoptError>
+    pub fn adopt(&mut self, shard: &mut Shard<L>) -> Result<SpanId, AdoptError>
         ensures ok { IfOk result (λ head. Adopts self.old shard.old head self.new shard.new) }
         ensures kept { OnOk result (together (shown self.new) (shown_by_shard shard.new) ≡ together (shown self.old) (shown_by_shard shard.old)) }
         ensures spent { (result ≡ Err AdoptError.PagesSpent) ↔ (shard.old.page_limit ≡ length shard.old.groups) }
@@ -183,7 +183,7 @@ impl Pool {
     }
 
     // Whether a span of the lowest group that has a page is in the shard already, or bears its number.
-    fn would_double(&self, shard: &Shard, index: usize) -> bool
+    fn would_double(&self, shard: &Shard<L>, index: usize) -> bool
         requires lowest { (group : PooledState) × IsLowestPaged self.now index group }
         requires within { index < length self.now.groups }
         ensures { IsTrue result ↔ IsDoubled self.now shard.now }
@@ -192,7 +192,7 @@ impl Pool {
     }
 
     // Makes room in the shard and moves the group at the index there.
-    fn move_to(&mut self, shard: &mut Shard, index: usize) -> Result<SpanId, AdoptError>
+    fn move_to(&mut self, shard: &mut Shard<L>, index: usize) -> Result<SpanId, AdoptError>
         requires lowest { (group : PooledState) × IsLowestPaged self.old index group }
         requires within { index < length self.old.groups }
         requires apart { IsDoubled self.old shard.old → ⊥ }
@@ -228,7 +228,7 @@ impl Pool {
 }
 
 // How many spans the shard has: no more than there are ids, since none stands twice.
-fn count_spans(shard: &Shard) -> usize
+fn count_spans<L: Log>(shard: &Shard<L>) -> usize
     requires { IsSoundShard shard.now }
     ensures { result ≡ length (spans_in_shard shard.now.groups) }
 {
@@ -240,7 +240,7 @@ fn count_spans(shard: &Shard) -> usize
 }
 
 // Whether one of the spans is in the shard already, or bears its number.
-fn is_doubled(shard: &Shard, spans: &Spans) -> bool
+fn is_doubled<L: Log>(shard: &Shard<L>, spans: &Spans<L>) -> bool
     ensures { IsTrue result ↔ HasDoubled shard.now (all_spans spans.now) }
 {
     for place in 0..spans.len() {

@@ -14,10 +14,10 @@ use crate::pooled::Pooled;
 use crate::search::lower_heads;
 use page_table::{Page, PageWords, Table};
 use shard::{Brief, Spans, Whole, map_all};
-use span::SpanId;
+use span::{Log, SpanId};
 use std::alloc::AllocError;
 
-impl Pool {
+impl<L: Log> Pool<L> {
     /// A look at the group of the head, if the pool has it.
     pub fn brief(&self, head: SpanId) -> Option<Brief>
         ensures brief { MatchOption result (HasNoHead self.now.groups head) (IsBriefHere self.now.groups head) }
@@ -46,7 +46,7 @@ impl Pool {
 
     /// The group of the head leaves, with its guests and its page, if it has one. `None` where the pool does not
     /// have it. It takes no memory.
-    pub fn lift(&mut self, head: SpanId) -> Option<Whole>
+    pub fn lift(&mut self, head: SpanId) -> Option<Whole<L>>
         ensures lifts { Lifts self.old head result self.new }
         ensures sound { IsSound self.new }
     {
@@ -91,7 +91,7 @@ impl Pool {
 
     /// Takes the group in, in reserved room, with its guests and its page, which it gives up where no slot is
     /// live. It takes no memory.
-    pub fn take_in(&mut self, whole: Whole)
+    pub fn take_in(&mut self, whole: Whole<L>)
         requires { MayTakeIn self.old whole }
         ensures takes { TakesIn self.old whole self.new }
         ensures sound { IsSound self.new }
@@ -120,7 +120,7 @@ fn take_page(table: &mut Table, page: Option<Page>) -> Option<PageWords>
 }
 
 // Gives the spans a page with the words, in reserved room, where one of their slots is live.
-fn house(table: &mut Table, spans: &Spans, words: Option<PageWords>) -> Option<Page>
+fn house<L: Log>(table: &mut Table, spans: &Spans<L>, words: Option<PageWords>) -> Option<Page>
     requires page { 0 < table.old.page_room }
     requires spans { length (all_spans spans.now) ≤ table.old.span_room }
     requires words { union_of (all_spans spans.now) ≢ set.empty → IsSome words }
@@ -140,7 +140,7 @@ fn house(table: &mut Table, spans: &Spans, words: Option<PageWords>) -> Option<P
 }
 
 // Inserts where there is room, which needs no memory.
-fn insert_reserved(groups: &mut Vec<Pooled>, index: usize, group: Pooled)
+fn insert_reserved<L: Log>(groups: &mut Vec<Pooled<L>>, index: usize, group: Pooled<L>)
     requires within { index ≤ vec_len groups.old }
     requires room { vec_len groups.old < vec_capacity groups.old }
     ensures items { groups.new.items ≡ insert groups.old.items index group }

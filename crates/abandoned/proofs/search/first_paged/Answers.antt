@@ -7,13 +7,13 @@ use Rattle.abandoned.specs.State.{PooledState}
 use Rattle.abandoned.proofs.search.first_paged.Goals as goal
 
 pub returns-then-is_paged-clause-first : goal.returns-then-is_paged-clause-first
-returns-then-is_paged-clause-first c = (
+returns-then-is_paged-clause-first g c = (
   c.index-groups-index.result,
   record { here = slice_get_read c.args.groups.now _ c.loop-index.index c.index-groups-index.result refl (omega arith) c.index-groups-index.is; paged = sym (c.if-is_paged.ensures {u = tt}); lower = c.loop-index.invariant },
 )
 
 pub loop-index-preserved : goal.loop-index-preserved
-loop-index-preserved c other group less there = elim (cases_eq other c.loop-index.index) [
+loop-index-preserved g c other group less there = elim (cases_eq other c.loop-index.index) [
   | inl same ↦
       let here = slice_get_read c.args.groups.now _ c.loop-index.index c.index-groups-index.result refl (omega arith) c.index-groups-index.is in
       subst (λ (g : PooledState). g.page ≡ None) (same_some (sym here ∙ ap (slice_get c.args.groups.now) (sym same) ∙ there)) (None-if_not_some _ (sym (c.if-is_paged.ensures {u = tt})))
@@ -21,4 +21,4 @@ loop-index-preserved c other group less there = elim (cases_eq other c.loop-inde
 ]
 
 pub returns-clause-first : goal.returns-clause-first
-returns-clause-first c index group there = c.loop-index.invariant index group (let low = slice_get_within c.args.groups.now index group there in omega arith) there
+returns-clause-first g c index group there = c.loop-index.invariant index group (let low = slice_get_within c.args.groups.now index group there in omega arith) there

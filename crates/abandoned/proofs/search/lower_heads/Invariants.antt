@@ -4,7 +4,7 @@ use Rattle.abandoned.proofs.Heads.{head_id}
 use Rattle.abandoned.proofs.search.lower_heads.Given as goal
 
 abbrev pub invariant-loop-low : goal.invariant-loop-low
-invariant-loop-low l = IsSearched head_id l.groups l.number l.low l.high
+invariant-loop-low g l = IsSearched head_id l.groups l.number l.low l.high
 
 abbrev pub decreases-loop-low : goal.decreases-loop-low
-decreases-loop-low l = l.high - l.low
+decreases-loop-low g l = l.high - l.low

@@ -4,4 +4,4 @@ use Rattle.abandoned.specs.State.{PooledState, spans_of}
 use Rattle.abandoned.proofs.search.search.Given as goal
 
 abbrev pub invariant-loop-index : goal.invariant-loop-index
-invariant-loop-index l = (other : ℕ) (group : PooledState) → other < l.index → slice_get l.groups other ≡ Some group → HasNoSpan (spans_of group) l.id
+invariant-loop-index g l = (other : ℕ) (group : PooledState) → other < l.index → slice_get l.groups other ≡ Some group → HasNoSpan (spans_of group) l.id

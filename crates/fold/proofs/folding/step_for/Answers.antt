@@ -4,20 +4,20 @@ use Rattle.fold.proofs.Judged.{AreDisjoint-same, IsClash-here, IsEmptied-here, M
 use Rattle.fold.proofs.folding.step_for.Goals as goal
 
 pub returns-then-not-from-clause-step : goal.returns-then-not-from-clause-step
-returns-then-not-from-clause-step c =
+returns-then-not-from-clause-step g c =
     let (index, group, from, its) = c.in-Some.ensures.brief in
     let (place, onto, to, others) = c.in-Some-brief.ensures in
     IsEmptied-here c.args.pool.now c.in-Some.ensures.sound c.args.shard.now c.ended.ensures.sound c.args.a c.args.b index place group onto from to (λ would. false≢true (c.if-would_double.ensures.1 would)) (sym its.paged_is ∙ c.if-not-from.true)
 
 pub returns-else-is_disjoint-clause-step : goal.returns-else-is_disjoint-clause-step
-returns-else-is_disjoint-clause-step c =
+returns-else-is_disjoint-clause-step g c =
     let (index, group, from, its) = c.in-Some.ensures.brief in
     let (place, onto, to, others) = c.in-Some-brief.ensures in
     IsClash-here c.args.pool.now c.in-Some.ensures.sound c.args.shard.now c.ended.ensures.sound c.args.a c.args.b index place group onto from to (λ would. false≢true (c.if-would_double.ensures.1 would)) (sym its.paged_is ∙ c.if-not-from.false)
     (λ apart. false≢true (c.if-is_disjoint.ensures.1 (AreDisjoint-same _ _ _ _ (sym others.occupied_is) (sym its.occupied_is) apart)))
 
 pub returns-then-is_disjoint-clause-step : goal.returns-then-is_disjoint-clause-step
-returns-then-is_disjoint-clause-step c =
+returns-then-is_disjoint-clause-step g c =
     let (index, group, from, its) = c.in-Some.ensures.brief in
     let (place, onto, to, others) = c.in-Some-brief.ensures in
     MayFold-here c.args.pool.now c.in-Some.ensures.sound c.args.shard.now c.ended.ensures.sound c.args.a c.args.b index place group onto from to (λ would. false≢true (c.if-would_double.ensures.1 would)) (sym its.paged_is ∙ c.if-not-from.false)

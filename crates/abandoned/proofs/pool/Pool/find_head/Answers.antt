@@ -10,7 +10,7 @@ use Rattle.abandoned.proofs.Heads.{head_id}
 use Rattle.abandoned.proofs.pool.Pool.find_head.Goals as goal
 
 pub returns-then-eq-clause-head : goal.returns-then-eq-clause-head
-returns-then-eq-clause-head c =
+returns-then-eq-clause-head g c =
     let within : c.lower_heads-index.result < length c.self.inside.groups.items = omega (arith, c.self.inside.groups.ok.0) in
     let here = slice_get_read c.self.inside.groups.items _ c.lower_heads-index.result c.index.result.now refl within c.index.ensures in (
       c.index.result.now,
@@ -19,7 +19,7 @@ returns-then-eq-clause-head c =
     )
 
 pub returns-else-eq-clause-head : goal.returns-else-eq-clause-head
-returns-else-eq-clause-head c =
+returns-else-eq-clause-head g c =
     let within : c.lower_heads-index.result < length c.self.inside.groups.items = omega (arith, c.self.inside.groups.ok.0) in
     let here = slice_get_read c.self.inside.groups.items _ c.lower_heads-index.result c.index.result.now refl within c.index.ensures in
     let lower : IsLower head_id c.self.inside.groups.items (rank c.args.head) c.lower_heads-index.result =

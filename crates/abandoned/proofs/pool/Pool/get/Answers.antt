@@ -1,4 +1,4 @@
-use Rattle.std.proofs.Common.{◌∙◌, ap, length, refl, subst, sym, arith}
+use Rattle.std.proofs.Common.{◌∙◌, ap, refl, subst, sym, arith}
 use Rattle.std.specs.Prelude.{slice_index}
 use Rattle.std.proofs.lemmas.Bool.{true≢false}
 use Rattle.page_table.specs.State.{words_of}
@@ -12,24 +12,24 @@ use Rattle.abandoned.proofs.ShownLogs.{value_found-Gets}
 use Rattle.abandoned.proofs.pool.Pool.get.Goals as goal
 
 pub returns-in_default-clause-found : goal.returns-in_default-clause-found
-returns-in_default-clause-found c = subst (IsElsewhere c.args.self.now.groups) c.span.ensures c.in_default.ensures.place
+returns-in_default-clause-found g c = subst (IsElsewhere c.args.self.now.groups) c.span.ensures c.in_default.ensures.place
 
 pub returns-in_default-clause-plain : goal.returns-in_default-clause-plain
-returns-in_default-clause-plain c = value_found-Gets c.args.self.now c.find.ensures.sound c.args.key.now NotHere (subst (IsElsewhere c.args.self.now.groups) c.span.ensures c.in_default.ensures.place)
+returns-in_default-clause-plain g c = value_found-Gets c.args.self.now c.find.ensures.sound c.args.key.now NotHere (subst (IsElsewhere c.args.self.now.groups) c.span.ensures c.in_default.ensures.place)
 
 pub index-group-requires : goal.index-group-requires
-index-group-requires c =
+index-group-requires g c =
     let found = found_in c.args.self.now.groups c.self.inside.groups.items _ c.args.key.now.span c.in-Some.index c.in-Some.place (ap (λ (s : PoolState). s.groups) (sym c.self.view_is)) c.span.ensures c.in-Some.ensures.place in
     let low = index_within _ _ _ _ found.0 found.1 found.2 in
     omega (arith, c.self.inside.groups.ok.0)
 
 pub span_at-span-requires : goal.span_at-span-requires
-span_at-span-requires c =
+span_at-span-requires g c =
     let found = found_in c.args.self.now.groups c.self.inside.groups.items _ c.args.key.now.span c.in-Some.index c.in-Some.place (ap (λ (s : PoolState). s.groups) (sym c.self.view_is)) c.span.ensures c.in-Some.ensures.place in
     place_within _ _ _ _ found.0 found.1 found.2 c.index-group.result.now c.index-group.ensures
 
 pub returns-then-not-find-clause-found : goal.returns-then-not-find-clause-found
-returns-then-not-find-clause-found c =
+returns-then-not-find-clause-found g c =
     let found = found_in c.args.self.now.groups c.self.inside.groups.items _ c.args.key.now.span c.in-Some.index c.in-Some.place (ap (λ (s : PoolState). s.groups) (sym c.self.view_is)) c.span.ensures c.in-Some.ensures.place in
     let here = here_read _ _ _ _ found.0 found.1 found.2 c.index-group.result.now c.index-group.ensures c.span_at-span.result.now c.span_at-span.ensures in (
       c.in-Some.index,
@@ -38,27 +38,27 @@ returns-then-not-find-clause-found c =
       c.span_at-span.result.now,
       subst (λ (s : PoolState). IsHere s.groups c.args.key.now.span c.in-Some.index c.in-Some.place c.index-group.result.now c.span_at-span.result.now) c.self.view_is here,
       (λ holds. true≢false (sym (c.if-not-find.ensures.1 (sym here.id_is, holds)))),
-      ap length c.log-at.ensures.changes,
+      c.changes-at.ensures,
     )
 
 pub returns-then-not-find-clause-plain : goal.returns-then-not-find-clause-plain
-returns-then-not-find-clause-plain c = value_found-Gets c.args.self.now c.find.ensures.sound c.args.key.now (Gone (length c.log-at.result.now)) (returns-then-not-find-clause-found c)
+returns-then-not-find-clause-plain g c = value_found-Gets c.args.self.now c.find.ensures.sound c.args.key.now (Gone c.changes-at.result) (returns-then-not-find-clause-found g c)
 
 pub unreachable-requires : goal.unreachable-requires
-unreachable-requires c =
+unreachable-requires g c =
     let found = found_in c.args.self.now.groups c.self.inside.groups.items _ c.args.key.now.span c.in-Some.index c.in-Some.place (ap (λ (s : PoolState). s.groups) (sym c.self.view_is)) c.span.ensures c.in-Some.ensures.place in
     let here = here_read _ _ _ _ found.0 found.1 found.2 c.index-group.result.now c.index-group.ensures c.span_at-span.result.now c.span_at-span.ensures in
     has_page_if_held (state_of c.self.inside) c.self.invariant.sound c.in-Some.index c.in-Some.place c.index-group.result.now c.span_at-span.result.now c.args.key.now.slot c.args.key.now.generation
     here.group_is here.span_is (c.if-not-find.ensures.0 refl).1 (sym c.page.ensures ∙ c.in_default-page.is)
 
 pub value_at-requires : goal.value_at-requires
-value_at-requires c =
+value_at-requires g c =
     let found = found_in c.args.self.now.groups c.self.inside.groups.items _ c.args.key.now.span c.in-Some.index c.in-Some.place (ap (λ (s : PoolState). s.groups) (sym c.self.view_is)) c.span.ensures c.in-Some.ensures.place in
     let here = here_read _ _ _ _ found.0 found.1 found.2 c.index-group.result.now c.index-group.ensures c.span_at-span.result.now c.span_at-span.ensures in
     (sound_paged (state_of c.self.inside) c.self.invariant.sound c.in-Some.index c.index-group.result.now here.group_is c.in-Some-page.page (sym c.page.ensures ∙ c.in-Some-page.is)).has_page
 
 pub returns-clause-found : goal.returns-clause-found
-returns-clause-found c =
+returns-clause-found g c =
     let found = found_in c.args.self.now.groups c.self.inside.groups.items _ c.args.key.now.span c.in-Some.index c.in-Some.place (ap (λ (s : PoolState). s.groups) (sym c.self.view_is)) c.span.ensures c.in-Some.ensures.place in
     let here = here_read _ _ _ _ found.0 found.1 found.2 c.index-group.result.now c.index-group.ensures c.span_at-span.result.now c.span_at-span.ensures in (
       c.in-Some.index,
@@ -71,8 +71,8 @@ returns-clause-found c =
       (c.if-not-find.ensures.0 refl).1,
       c.value_at.ensures ∙ ap (slice_index (words_of c.self.inside.table c.in-Some-page.page)) c.slot.ensures
           ∙ ap (λ (s : PoolState). slice_index (words_of s.table c.in-Some-page.page) c.args.key.now.slot) c.self.view_is,
-      ap length c.log-at.ensures.changes,
+      c.changes-at.ensures,
     )
 
 pub returns-clause-plain : goal.returns-clause-plain
-returns-clause-plain c = value_found-Gets c.args.self.now c.find.ensures.sound c.args.key.now (Value c.value_at.result (length c.log-at.result.now)) (returns-clause-found c)
+returns-clause-plain g c = value_found-Gets c.args.self.now c.find.ensures.sound c.args.key.now (Value c.value_at.result c.changes-at.result) (returns-clause-found g c)

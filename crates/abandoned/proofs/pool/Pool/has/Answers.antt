@@ -12,4 +12,4 @@ has_span groups id None elsewhere b is = ((λ t. let e : false ≡ true = sym is
 has_span groups id (Some at) found b is = ((λ t elsewhere. elsewhere at.0 found.0 found.2.group_is at.1 (found.1, found.2.span_is, found.2.id_is)), (λ here. is))
 
 pub returns : goal.returns
-returns c = has_span c.args.self.now.groups c.args.id c.find.result c.find.ensures.place c.is_some.result c.is_some.ensures
+returns g c = has_span c.args.self.now.groups c.args.id c.find.result c.find.ensures.place c.is_some.result c.is_some.ensures

@@ -5,4 +5,4 @@ use Rattle.abandoned.specs.State.{IsElsewhere}
 use Rattle.abandoned.proofs.pool.Pool.has_any.Given as goal
 
 abbrev pub invariant-loop-place : goal.invariant-loop-place
-invariant-loop-place l = (other : ℕ) (span : SpanState) → other < l.place → slice_get (all_spans l.spans) other ≡ Some span → (IsElsewhere l.self.groups span.id → ⊥) → ⊥
+invariant-loop-place g l = (other : ℕ) (span : SpanState) → other < l.place → slice_get (all_spans l.spans) other ≡ Some span → (IsElsewhere l.self.groups span.id → ⊥) → ⊥

@@ -4,4 +4,4 @@ use Rattle.abandoned.specs.Calls.{HasAny}
 use Rattle.abandoned.proofs.pool.Pool.has_one_of.Given as goal
 
 abbrev pub invariant-loop-index : goal.invariant-loop-index
-invariant-loop-index l = (other : ℕ) (group : GroupState) → other < l.index → slice_get l.shard.groups other ≡ Some group → HasAny l.self.groups (spans_of group) → ⊥
+invariant-loop-index g l = (other : ℕ) (group : GroupState) → other < l.index → slice_get l.shard.groups other ≡ Some group → HasAny l.self.groups (spans_of group) → ⊥

@@ -12,18 +12,18 @@ use Rattle.abandoned.proofs.Released.{page_there, same_rooms, with_rooms-without
 use Rattle.abandoned.proofs.pool.Pool.lift.Goals as goal
 
 pub take_page-words-requires : goal.take_page-words-requires
-take_page-words-requires c =
+take_page-words-requires g c =
     let head_here = head_read c.self.inside.groups.items c.args.self.now.groups (ap (λ (s : PoolState). s.groups) c.self.view_is) c.args.head c.in-Some.index c.in-Some.ensures.head c.remove-group.result c.remove-group.ensures.value in
     subst (λ (o : Option ℕ). IfSome o (HasPage c.self.inside.table)) (ap (λ (g : PooledState). g.page) c.into_parts-spans.ensures) (page_there (state_of c.self.inside) c.self.invariant.sound c.in-Some.index c.remove-group.result head_here.here)
 
 pub new-requires : goal.new-requires
-new-requires c =
+new-requires g c =
     let head_here = head_read c.self.inside.groups.items c.args.self.now.groups (ap (λ (s : PoolState). s.groups) c.self.view_is) c.args.head c.in-Some.index c.in-Some.ensures.head c.remove-group.result c.remove-group.ensures.value in
     subst IsSoundWhole (ap (whole_of c.self.inside.table) c.into_parts-spans.ensures ∙ ap (whole_with c.into_parts-spans.result.0) (sym c.take_page-words.ensures.words))
     (IsSoundWhole-whole_of (state_of c.self.inside) c.self.invariant.sound c.in-Some.index c.remove-group.result head_here.here)
 
 pub invariant_of-self : goal.invariant_of-self
-invariant_of-self c =
+invariant_of-self g c =
     let head_here = head_read c.self.inside.groups.items c.args.self.now.groups (ap (λ (s : PoolState). s.groups) c.self.view_is) c.args.head c.in-Some.index c.in-Some.ensures.head c.remove-group.result c.remove-group.ensures.value in
     let page_is : c.remove-group.result.page ≡ c.into_parts-spans.result.1 = ap (λ (g : PooledState). g.page) c.into_parts-spans.ensures in
     let table_is : c.take_page-words.new.table ≡ without_page_of c.self.inside.table c.remove-group.result.page = c.take_page-words.ensures.table ∙ ap (without_page_of c.self.inside.table) (sym page_is) in
@@ -42,7 +42,7 @@ invariant_of-self c =
     }
 
 pub returns-clause-lifts : goal.returns-clause-lifts
-returns-clause-lifts c =
+returns-clause-lifts g c =
     let head_here = head_read c.self.inside.groups.items c.args.self.now.groups (ap (λ (s : PoolState). s.groups) c.self.view_is) c.args.head c.in-Some.index c.in-Some.ensures.head c.remove-group.result c.remove-group.ensures.value in
     let page_is : c.remove-group.result.page ≡ c.into_parts-spans.result.1 = ap (λ (g : PooledState). g.page) c.into_parts-spans.ensures in
     let table_is : c.take_page-words.new.table ≡ without_page_of c.self.inside.table c.remove-group.result.page = c.take_page-words.ensures.table ∙ ap (without_page_of c.self.inside.table) (sym page_is) in (
@@ -59,4 +59,4 @@ returns-clause-lifts c =
     )
 
 pub returns-clause-sound : goal.returns-clause-sound
-returns-clause-sound c = (invariant_of-self c).sound
+returns-clause-sound g c = (invariant_of-self g c).sound

@@ -4,4 +4,4 @@ use Rattle.abandoned.specs.State.{spans_in}
 use Rattle.abandoned.proofs.pool.Pool.live.Given as goal
 
 abbrev pub invariant-loop-group : goal.invariant-loop-group
-invariant-loop-group l = (l.live ≡ live_count (spans_in (take l.group-index l.group-items))) × (l.live ≤ 256 * l.group-index) × (length l.group-items ≤ 65536)
+invariant-loop-group g l = (l.live ≡ live_count (spans_in (take l.group-index l.group-items))) × (l.live ≤ 256 * l.group-index) × (length l.group-items ≤ 65536)

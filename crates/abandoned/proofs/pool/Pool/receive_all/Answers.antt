@@ -9,11 +9,11 @@ use Rattle.abandoned.proofs.Together.{together-Receives}
 use Rattle.abandoned.proofs.pool.Pool.receive_all.Goals as goal
 
 pub take_all-requires-clause-apart : goal.take_all-requires-clause-apart
-take_all-requires-clause-apart c =
+take_all-requires-clause-apart g c =
     subst (λ (p : PoolState). AreApart p c.args.shard.now) (sym (c.in_ok-reserve.ensures {u = tt}).ok) (AreApart-receiving c.args.self.now c.args.shard.now c.requires.sound c.requires.sound_shard c.requires.apart)
 
 pub returns-clause-ok : goal.returns-clause-ok
-returns-clause-ok c = record {
+returns-clause-ok g c = record {
   page_room = c.pages.result;
   span_room = c.count_spans.result;
   running = c.requires.running;
@@ -22,7 +22,7 @@ returns-clause-ok c = record {
 }
 
 pub returns-clause-kept : goal.returns-clause-kept
-returns-clause-kept c =
+returns-clause-kept g c =
     together-Receives c.args.self.now c.take_all.new.self c.args.shard.now c.pages.result c.count_spans.result
     (IsSound-with_rooms c.args.self.now c.pages.result c.count_spans.result c.requires.sound) c.requires.sound c.requires.sound_shard (AreSound-groups c.args.shard.now c.requires.sound_shard)
     (AreApart-receiving c.args.self.now c.args.shard.now c.requires.sound c.requires.sound_shard c.requires.apart)

@@ -5,7 +5,7 @@ use Rattle.abandoned.proofs.TakenIn.{IsSound-with_rooms}
 use Rattle.abandoned.proofs.pool.Pool.reserve.Goals as goal
 
 pub invariant_of-self-2 : goal.invariant_of-self-2
-invariant_of-self-2 c = record {
+invariant_of-self-2 g c = record {
   sound = rw (c.in_ok-reserve.ensures.items, c.in_ok-reserve-3.ensures.ok) (IsSound-with_rooms (state_of c.self.inside) c.args.groups c.args.spans c.self.invariant.sound);
   room_for_pages = omega (arith, ap (λ (t : TableState). t.page_room) c.in_ok-reserve-3.ensures.ok);
   room_for_spans = omega (arith, ap (λ (t : TableState). t.span_room) c.in_ok-reserve-3.ensures.ok);
@@ -13,4 +13,4 @@ invariant_of-self-2 c = record {
 }
 
 pub returns-clause-sound : goal.returns-clause-sound
-returns-clause-sound c = (invariant_of-self-2 c).sound
+returns-clause-sound g c = (invariant_of-self-2 g c).sound

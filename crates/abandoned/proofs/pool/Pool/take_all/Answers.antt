@@ -6,20 +6,20 @@ use Rattle.abandoned.proofs.Moving.{IsMoving-next, MayTakeIn-moving, first_lifte
 use Rattle.abandoned.proofs.pool.Pool.take_all.Goals as goal
 
 pub unreachable-requires : goal.unreachable-requires
-unreachable-requires c =
+unreachable-requires g c =
     let at = there_at c.loop-shard.shard.groups 0 (omega arith) in
     let named = sym (c.head_id-head.ensures ∙ ap (λ (s : SpansState). s.head.id) (c.spans_at.ensures at.0 at.1)) in
     (c.in_default.ensures {u = tt}).lifts.0 0 at.0 (record { here = at.1; head_is = named })
 
 pub take_in-requires : goal.take_in-requires
-take_in-requires c =
+take_in-requires g c =
     let at = there_at c.loop-shard.shard.groups 0 (omega arith) in
     let named = sym (c.head_id-head.ensures ∙ ap (λ (s : SpansState). s.head.id) (c.spans_at.ensures at.0 at.1)) in
     let lifted = first_lifted c.loop-shard.shard c.lift.new.self c.in-Some.whole c.head_id-head.result at.0 c.loop-shard.invariant.sound_shard at.1 named (c.in-Some.ensures {u = tt}).lifts in
     MayTakeIn-moving c.args.self.now c.loop-shard.self c.loop-shard.self c.args.shard.now c.loop-shard.shard c.lift.new.self c.in-Some.whole c.loop-shard.invariant lifted c.lift.ensures.sound
 
 pub loop-shard-preserved : goal.loop-shard-preserved
-loop-shard-preserved c =
+loop-shard-preserved g c =
     let at = there_at c.loop-shard.shard.groups 0 (omega arith) in
     let named = sym (c.head_id-head.ensures ∙ ap (λ (s : SpansState). s.head.id) (c.spans_at.ensures at.0 at.1)) in
     let lifts = (c.in-Some.ensures {u = tt}).lifts in

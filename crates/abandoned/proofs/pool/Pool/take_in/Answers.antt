@@ -13,50 +13,53 @@ use Rattle.abandoned.proofs.Housed.{TakesIn-housed, rooms-housed}
 use Rattle.abandoned.proofs.TakenIn.{IsSound-TakesIn, words_if_live}
 use Rattle.abandoned.proofs.pool.Pool.take_in.Goals as goal
 
-abbrev moved : goal.After-self-2-1 → WholeState
-moved c = whole_with c.into_parts-spans.result.0 c.into_parts-spans.result.1
+abbrev moved : (g : _) → goal.After-self-2-1 g → WholeState
+moved g c = whole_with c.into_parts-spans.result.0 c.into_parts-spans.result.1
+
+pub lower_heads-index-requires : goal.lower_heads-index-requires
+lower_heads-index-requires g c = rw c.as_slice.ensures.value c.self.invariant.sound.ascending
 
 pub house-page-requires-clause-words : goal.house-page-requires-clause-words
-house-page-requires-clause-words c live = words_if_live (whole_with c.into_parts-spans.result.0 c.into_parts-spans.result.1) (subst IsSoundWhole c.into_parts-spans.ensures.parts c.into_parts-spans.ensures.sound) live
+house-page-requires-clause-words g c live = words_if_live (whole_with c.into_parts-spans.result.0 c.into_parts-spans.result.1) (subst IsSoundWhole c.into_parts-spans.ensures.parts c.into_parts-spans.ensures.sound) live
 
-may : (c : goal.After-self-2-1) → MayTakeIn (state_of c.self.inside) (moved c)
-may c = subst (λ (s : PoolState). MayTakeIn s (moved c)) (sym c.self.view_is) (subst (MayTakeIn c.args.self.now) c.into_parts-spans.ensures.parts c.requires)
+may : (g : _) (c : goal.After-self-2-1 g) → MayTakeIn (state_of c.self.inside) (moved g c)
+may g c = subst (λ (s : PoolState). MayTakeIn s (moved g c)) (sym c.self.view_is) (subst (MayTakeIn c.args.self.now) c.into_parts-spans.ensures.parts c.requires)
 
-lower_now : (c : goal.After-self-2-1) → IsLower head_id c.self.inside.groups.items (rank (moved c).head.id) c.lower_heads-index.result
-lower_now c =
+lower_now : (g : _) (c : goal.After-self-2-1 g) → IsLower head_id c.self.inside.groups.items (rank (moved g c).head.id) c.lower_heads-index.result
+lower_now g c =
     subst (λ (n : ℕ). IsLower head_id c.self.inside.groups.items n c.lower_heads-index.result) (c.rank.ensures.value ∙ ap (λ (i : SpanId). rank i) c.head_id.ensures)
     (subst (λ (groups : List PooledState). IsLower head_id groups c.rank.result c.lower_heads-index.result) c.as_slice.ensures.value
     (record { within = c.lower_heads-index.ensures.within; lower = c.lower_heads-index.ensures.lower; others = c.lower_heads-index.ensures.others }))
 
-place_now : (c : goal.After-self-2-1) → IsPlaceFor c.self.inside.groups.items (moved c).head.id c.lower_heads-index.result
-place_now c =
-    IsPlaceFor-lower c.self.inside.groups.items (moved c).head.id c.lower_heads-index.result (lower_now c) ((may c).elsewhere 0 (moved c).head refl)
+place_now : (g : _) (c : goal.After-self-2-1 g) → IsPlaceFor c.self.inside.groups.items (moved g c).head.id c.lower_heads-index.result
+place_now g c =
+    IsPlaceFor-lower c.self.inside.groups.items (moved g c).head.id c.lower_heads-index.result (lower_now g c) ((may g c).elsewhere 0 (moved g c).head refl)
 
-abbrev now : goal.After-self-2-1 → PoolState
-now c = record { groups = c.insert_reserved.new.groups.items; table = record c.house-page.new.table { page_room = c.self.inside.page_room - 1; span_room = c.self.inside.span_room - c.len-count.result }; has_plan = c.self.inside.has_plan }
+abbrev now : (g : _) → goal.After-self-2-1 g → PoolState
+now g c = record { groups = c.insert_reserved.new.groups.items; table = record c.house-page.new.table { page_room = c.self.inside.page_room - 1; span_room = c.self.inside.span_room - c.len-count.result }; has_plan = c.self.inside.has_plan }
 
-takes : (c : goal.After-self-2-1) → TakesIn (state_of c.self.inside) (moved c) (now c)
-takes c =
-    subst (TakesIn (state_of c.self.inside) (moved c))
+takes : (g : _) (c : goal.After-self-2-1 g) → TakesIn (state_of c.self.inside) (moved g c) (now g c)
+takes g c =
+    subst (TakesIn (state_of c.self.inside) (moved g c))
     (λ i. record {
       groups = (ap (insert c.self.inside.groups.items c.lower_heads-index.result) (sym c.new.ensures) ∙ sym c.insert_reserved.ensures.items) i;
       table = record c.house-page.new.table { page_room = c.self.inside.page_room - 1; span_room = c.self.inside.span_room - sym c.len-count.ensures i };
       has_plan = c.self.inside.has_plan;
     })
-    (TakesIn-housed c.self.inside.groups.items c.self.inside.table c.house-page.new.table c.self.inside.page_room c.self.inside.span_room c.self.inside.has_plan (moved c) c.house-page.result c.lower_heads-index.result c.house-page.ensures.emptied c.house-page.ensures.live (place_now c))
+    (TakesIn-housed c.self.inside.groups.items c.self.inside.table c.house-page.new.table c.self.inside.page_room c.self.inside.span_room c.self.inside.has_plan (moved g c) c.house-page.result c.lower_heads-index.result c.house-page.ensures.emptied c.house-page.ensures.live (place_now g c))
 
 pub invariant_of-self : goal.invariant_of-self
-invariant_of-self c =
-    let rooms = rooms-housed c.self.inside.groups.items c.self.inside.table c.house-page.new.table c.self.inside.page_room c.self.inside.span_room c.self.inside.has_plan (moved c) c.house-page.result c.lower_heads-index.result c.house-page.ensures.emptied c.house-page.ensures.live c.self.invariant.room_for_pages c.self.invariant.room_for_spans in
+invariant_of-self g c =
+    let rooms = rooms-housed c.self.inside.groups.items c.self.inside.table c.house-page.new.table c.self.inside.page_room c.self.inside.span_room c.self.inside.has_plan (moved g c) c.house-page.result c.lower_heads-index.result c.house-page.ensures.emptied c.house-page.ensures.live c.self.invariant.room_for_pages c.self.invariant.room_for_spans in
     record {
-      sound = IsSound-TakesIn (state_of c.self.inside) (now c) (moved c) c.self.invariant.sound (subst IsSoundWhole c.into_parts-spans.ensures.parts c.into_parts-spans.ensures.sound) (may c).elsewhere (takes c);
+      sound = IsSound-TakesIn (state_of c.self.inside) (now g c) (moved g c) c.self.invariant.sound (subst IsSoundWhole c.into_parts-spans.ensures.parts c.into_parts-spans.ensures.sound) (may g c).elsewhere (takes g c);
       room_for_pages = rooms.0;
       room_for_spans = rw c.len-count.ensures rooms.1;
-      room_for_groups = omega (arith, (may c).page_room, c.self.invariant.room_for_groups, c.insert_reserved.ensures.len, c.insert_reserved.ensures.capacity);
+      room_for_groups = omega (arith, (may g c).page_room, c.self.invariant.room_for_groups, c.insert_reserved.ensures.len, c.insert_reserved.ensures.capacity);
     }
 
 pub returns-clause-takes : goal.returns-clause-takes
-returns-clause-takes c = subst (λ (s : PoolState). TakesIn s c.args.whole (now c)) c.self.view_is (subst (λ w. TakesIn (state_of c.self.inside) w (now c)) (sym c.into_parts-spans.ensures.parts) (takes c))
+returns-clause-takes g c = subst (λ (s : PoolState). TakesIn s c.args.whole (now g c)) c.self.view_is (subst (λ w. TakesIn (state_of c.self.inside) w (now g c)) (sym c.into_parts-spans.ensures.parts) (takes g c))
 
 pub returns-clause-sound : goal.returns-clause-sound
-returns-clause-sound c = (invariant_of-self c).sound
+returns-clause-sound g c = (invariant_of-self g c).sound

@@ -1,9 +1,9 @@
 use Rattle.std.proofs.Common.{arith}
 use Rattle.abandoned.proofs.Started.{IsSound-new}
-use Rattle.abandoned.proofs.pool.Pool.new.Goals as goal
+use Rattle.abandoned.proofs.pool.Pool.with_log.Goals as goal
 
 pub invariant_of-result : goal.invariant_of-result
-invariant_of-result c = record {
+invariant_of-result g c = record {
   sound = rw (c.new.ensures.items, c.new-3.ensures) IsSound-new;
   room_for_pages = omega arith;
   room_for_spans = omega arith;
@@ -11,4 +11,4 @@ invariant_of-result c = record {
 }
 
 pub returns-clause-sound : goal.returns-clause-sound
-returns-clause-sound c = rw (c.new.ensures.items, c.new-3.ensures) IsSound-new
+returns-clause-sound g c = rw (c.new.ensures.items, c.new-3.ensures) IsSound-new

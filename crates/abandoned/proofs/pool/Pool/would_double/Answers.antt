@@ -10,7 +10,7 @@ use Rattle.abandoned.proofs.Adopted.{IsDoubled-lowest}
 use Rattle.abandoned.proofs.pool.Pool.would_double.Goals as goal
 
 pub returns : goal.returns
-returns c =
+returns g c =
     let group = c.requires.lowest.0 in
     let inside : IsLowestPaged (state_of c.self.inside) c.args.index group = subst (λ (s : PoolState). IsLowestPaged s c.args.index group) (sym c.self.view_is) c.requires.lowest.1 in
     let here = slice_get_read c.self.inside.groups.items _ c.args.index c.index.result.now refl (slice_get_within c.self.inside.groups.items c.args.index group inside.here) c.index.ensures in

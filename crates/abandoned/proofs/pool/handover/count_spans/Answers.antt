@@ -6,7 +6,7 @@ use Rattle.abandoned.proofs.SpanCounts.{spans_fit}
 use Rattle.abandoned.proofs.pool.handover.count_spans.Goals as goal
 
 pub overflow_add-spans : goal.overflow_add-spans
-overflow_add-spans c =
+overflow_add-spans g c =
     let at = there_at c.args.shard.now.groups c.loop-index.index (omega arith) in
     let more = length-more c.args.shard.now.groups c.loop-index.index at.0 at.1 in
     let same = c.len-spans.ensures ∙ ap (λ (s : SpansState). length (all_spans s)) (c.spans_at.ensures at.0 at.1) in
@@ -15,7 +15,7 @@ overflow_add-spans c =
     omega arith
 
 pub loop-index-preserved : goal.loop-index-preserved
-loop-index-preserved c =
+loop-index-preserved g c =
     let at = there_at c.args.shard.now.groups c.loop-index.index (omega arith) in
     let more = length-more c.args.shard.now.groups c.loop-index.index at.0 at.1 in
     let same = c.len-spans.ensures ∙ ap (λ (s : SpansState). length (all_spans s)) (c.spans_at.ensures at.0 at.1) in

@@ -8,16 +8,16 @@ use Rattle.abandoned.proofs.Searches.{below_next, not_there}
 use Rattle.abandoned.proofs.pool.handover.is_doubled.Goals as goal
 
 pub returns-then-shard-number : goal.returns-then-shard-number
-returns-then-shard-number c = ((λ t. (c.loop-place.place, c.span_at.result.now, c.span_at.ensures, inl (ap (λ (id : SpanId). id.shard) (sym c.id-id.ensures) ∙ sym c.shard.ensures.value ∙ c.if-shard-number.true ∙ c.number.ensures))), (λ found. refl))
+returns-then-shard-number g c = ((λ t. (c.loop-place.place, c.span_at.result.now, c.span_at.ensures, inl (ap (λ (id : SpanId). id.shard) (sym c.id-id.ensures) ∙ sym c.shard.ensures.value ∙ c.if-shard-number.true ∙ c.number.ensures))), (λ found. refl))
 
 pub returns-then-has : goal.returns-then-has
-returns-then-has c = (
+returns-then-has g c = (
   (λ t. (c.loop-place.place, c.span_at.result.now, c.span_at.ensures, inr (subst (λ (id : SpanId). IsElsewhere c.args.shard.now.groups id → ⊥) c.id-id.ensures (c.if-has.ensures.0 refl)))),
   (λ found. refl),
 )
 
 pub loop-place-preserved : goal.loop-place-preserved
-loop-place-preserved c =
+loop-place-preserved g c =
     below_next (λ (s : SpanState). (s.id.shard ≡ c.args.shard.now.number) ⊎ (IsElsewhere c.args.shard.now.groups s.id → ⊥)) (all_spans c.args.spans.now) c.loop-place.place c.span_at.result.now c.span_at.ensures
     (λ either. elim either [
       | inl own ↦ c.if-shard-number.false (c.shard.ensures.value ∙ ap (λ (id : SpanId). id.shard) c.id-id.ensures ∙ own ∙ sym c.number.ensures)
@@ -25,7 +25,7 @@ loop-place-preserved c =
     ]) c.loop-place.invariant
 
 pub returns : goal.returns
-returns c = (
+returns g c = (
   (λ t. absurd (false≢true t)),
   (λ found. absurd (not_there (λ (s : SpanState). (s.id.shard ≡ c.args.shard.now.number) ⊎ (IsElsewhere c.args.shard.now.groups s.id → ⊥)) (all_spans c.args.spans.now) c.loop-place.place (omega arith) c.loop-place.invariant found)),
 )

@@ -6,7 +6,7 @@ use Rattle.abandoned.specs.State.{PooledState, spans_of}
 use Rattle.abandoned.proofs.pooled.Pooled.free.Goals as goal
 
 pub returns-clause-found : goal.returns-clause-found
-returns-clause-found c =
+returns-clause-found g c =
     subst
     (λ (g : PooledState). (span : SpanState) → slice_get (spans_of g) c.args.place ≡ Some span → (IsTrue true ↔ ((c.args.key.now.span ≡ span.id) × Holds span.log c.args.key.now.slot c.args.key.now.generation)))
     c.self.view_is (c.if-not-free.ensures {u = tt}).found

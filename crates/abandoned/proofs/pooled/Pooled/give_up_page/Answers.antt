@@ -5,7 +5,7 @@ use Rattle.abandoned.proofs.Released.{not_empty}
 use Rattle.abandoned.proofs.pooled.Pooled.give_up_page.Goals as goal
 
 pub returns-then-is_some : goal.returns-then-is_some
-returns-then-is_some c = record {
+returns-then-is_some g c = record {
   emptied = λ none.
       absurd (not_empty c.occupied.result c.lowest.result c.lowest.ensures.lowest (sym (c.if-is_some.ensures {u = tt})) (c.occupied.ensures ∙ ap (λ (g : PooledState). union_of (spans_of g)) c.self.view_is ∙ none));
   live = λ live. (refl, refl);

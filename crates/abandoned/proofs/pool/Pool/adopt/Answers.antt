@@ -1,0 +1,19 @@
+use Rattle.std.proofs.Common.{◌≡◌, ℕ, None, subst}
+use Rattle.std.specs.Prelude.{Result, IsOkUnless, IsSome, Err}
+use Rattle.span.specs.declared.id.SpanId.{SpanId}
+use Rattle.abandoned.specs.declared.error.AdoptError.{AdoptError}
+use Rattle.abandoned.specs.declared.error.AdoptError.TheVariants.{NothingToAdopt, OutOfMemory}
+use Rattle.abandoned.proofs.pool.Pool.adopt.Goals as goal
+
+-- an answer that is no fault but want of memory does not say that there is nothing to adopt
+found_some : (answer : Result SpanId AdoptError) → IsOkUnless answer OutOfMemory → answer ≡ Err NothingToAdopt → ⊥
+found_some answer only nothing =
+    let same : NothingToAdopt ≡ OutOfMemory = subst (λ (r : Result SpanId AdoptError). IsOkUnless r OutOfMemory) nothing only in
+    cc
+
+pub returns-clause-nothing : goal.returns-clause-nothing
+returns-clause-nothing g c =
+    let lowest = c.in-Some.ensures.lowest in (
+      (λ nothing. absurd (found_some c.move_to.result c.move_to.ensures.only nothing)),
+      (λ causes. let paged : IsSome {T = ℕ} None = subst IsSome (causes.3 c.in-Some.index lowest.0 lowest.1.here) lowest.1.paged in absurd cc),
+    )
