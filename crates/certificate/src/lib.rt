@@ -3,8 +3,8 @@
 //! A [`Plan`] pairs abandoned groups with owned groups that they may be folded onto, no group twice.
 //! Beside it stands a [`Short`] set: abandoned groups that have so few partners between them that as
 //! many of them must be left out as the plan leaves out. [`check`] believes nothing: it tests the
-//! sets of a [`Snapshot`](mesh_graph::Snapshot) pair by pair, and it shares no code with whoever
-//! found the plan (as the certifying algorithms of LEDA do).
+//! sets of a [`Snapshot`](mesh_graph::Snapshot) pair by pair. With whoever found the plan it shares
+//! the test of two sets, and no graph and no rows (as the certifying algorithms of LEDA do).
 //!
 //! ```text
 //!   abandoned           owned                 plan: 0.0 onto 3.0

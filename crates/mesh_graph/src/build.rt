@@ -32,9 +32,9 @@ impl From<AllocError> for BuildError {
 }
 
 impl Graph {
-    /// The graph of a snapshot. In how many pieces its rows are built changes nothing. `TooMany`
-    /// comes exactly where a side has more than 4,096 groups, and `OutOfMemory` where the rows or the
-    /// copy of the snapshot could not grow.
+    /// The graph of a snapshot. The number of `pieces` that are to build its rows is not used yet.
+    /// `TooMany` comes exactly where a side has more than 4,096 groups, and `OutOfMemory` where the
+    /// rows or the copy of the snapshot could not grow.
     pub fn build(alloc: Global, snapshot: &Snapshot, pieces: usize) -> Result<Graph, BuildError>
         requires { 1 ≤ pieces }
         ensures graph { IfOk result (λ graph. graph ≡ snapshot.now) }
