@@ -41,18 +41,18 @@ use Rattle.arena_core.proofs.PlanSteps.{IsSoundStep, IsSoundStep-Adopts, IsSound
 use Rattle.arena_core.proofs.Steps.{CoreStep-refused, not_doubled, not_in_pool}
 
 -- a shard that is as it was leaves the fields as they were
-pub state_of-same : (c : Inside) (number : ℕ) (before after : ShardState) → IsRead c number before → after ≡ before → state_of (with_shard_at c number after) ≡ state_of c
+pub state_of-same : {L : Type 0} (c : Inside L) (number : ℕ) (before after : ShardState) → IsRead c number before → after ≡ before → state_of (with_shard_at c number after) ≡ state_of c
 state_of-same c number before after read same =
     let shards : set c.shards.items number after ≡ c.shards.items = ap (set c.shards.items number) same ∙ set-same c.shards.items number before (shard-read c number before read) in
     λ i. record { limits = record { shards = length (shards i); page_limit = c.page_limit; ring_capacity = c.ring_capacity; gens = c.gens }; shards = shards i; pool = c.pool; plan = c.plan }
 
 -- a shard and a pool that are as they were leave the fields as they were
-pub state_of-both_same : (c : Inside) (number : ℕ) (before after : ShardState) (pool : PoolState) (guesses : Guesses) → IsRead c number before → after ≡ before → pool ≡ c.pool → state_of (with_both_at c number after pool guesses) ≡ state_of c
+pub state_of-both_same : {L : Type 0} (c : Inside L) (number : ℕ) (before after : ShardState) (pool : PoolState) (guesses : Guesses) → IsRead c number before → after ≡ before → pool ≡ c.pool → state_of (with_both_at c number after pool guesses) ≡ state_of c
 state_of-both_same c number before after pool guesses read same pool_is =
     let shards : set c.shards.items number after ≡ c.shards.items = ap (set c.shards.items number) same ∙ set-same c.shards.items number before (shard-read c number before read) in
     λ i. record { limits = record { shards = length (shards i); page_limit = c.page_limit; ring_capacity = c.ring_capacity; gens = c.gens }; shards = shards i; pool = pool_is i; plan = c.plan }
 
-pub IsStep-put_fields : (c : Inside) (number : ℕ) (value : Word) (key : Key) (at : ℕ) (before after : ShardState) → IsSound (state_of c) → IsRead c number before → Puts before value key at after
+pub IsStep-put_fields : {L : Type 0} (c : Inside L) (number : ℕ) (value : Word) (key : Key) (at : ℕ) (before after : ShardState) → IsSound (state_of c) → IsRead c number before → Puts before value key at after
     → (shown_by before).is_issued key ≡ false → shown_by after ≡ with_put (shown_by before) key value → IsSoundShard after
     → IsSoundStep (state_of c) (Put number value) (reply.Issued key) (state_of (with_shard_at c number after))
 IsStep-put_fields c number value key at before after kept read puts fresh plain sound =
@@ -60,7 +60,7 @@ IsStep-put_fields c number value key at before after kept read puts fresh plain 
     (IsSoundStep-Puts (state_of c) number value key at before after kept (shard-read c number before read) puts fresh plain sound)
 
 -- a put that the shard refuses leaves the fields as they were
-pub CoreStep-refused_fields : (c : Inside) (number : ℕ) (value : Word) (error : PutError) (before after : ShardState) → IsRead c number before
+pub CoreStep-refused_fields : {L : Type 0} (c : Inside L) (number : ℕ) (value : Word) (error : PutError) (before after : ShardState) → IsRead c number before
     → (◌≡◌ {A = Result (Key × ℕ) PutError} (Err error) (Err put_error.PagesSpent) ↔ ((before.ended ≡ false) × IsSpent before)) → (◌≡◌ {A = Result (Key × ℕ) PutError} (Err error) (Err put_error.Ended) ↔ (before.ended ≡ true)) → after ≡ before
     → CoreStep (state_of c) (Put number value) (reply.Refused (refusal_of error)) (state_of (with_shard_at c number after))
 CoreStep-refused_fields c number value error before after read spent ended same =
@@ -76,21 +76,21 @@ PlainStep-refused old new number value put_error.OutOfMemory same = same
 PlainStep-refused old new number value put_error.PagesSpent same = same
 PlainStep-refused old new number value put_error.Ended same = same
 
-pub IsStep-free_fields : (c : Inside) (number : ℕ) (key : Key) (before after : ShardState) (answer : Freed) → IsSound (state_of c) → IsRead c number before → has_span key.span before ≡ true → Frees before key answer after
+pub IsStep-free_fields : {L : Type 0} (c : Inside L) (number : ℕ) (key : Key) (before after : ShardState) (answer : Freed) → IsSound (state_of c) → IsRead c number before → has_span key.span before ≡ true → Frees before key answer after
     → was_freed answer ≡ is_some ((shown_by before).value_of key) → shown_by after ≡ cond (was_freed answer) (without (shown_by before) key) (shown_by before) → IsSoundShard after
     → IsSoundStep (state_of c) (Free key) (reply.Freed (was_freed answer)) (state_of (with_shard_at c number after))
 IsStep-free_fields c number key before after answer kept read has frees found plain sound =
     subst (IsSoundStep (state_of c) (Free key) (reply.Freed (was_freed answer))) (sym (state_of-with_shard_at c number after))
     (IsSoundStep-Frees (state_of c) key number before after answer kept (shard-read c number before read) has frees found plain sound)
 
-pub IsStep-end_fields : (c : Inside) (number : ℕ) (before after : ShardState) (pool : PoolState) (guesses : Guesses) → IsSound (state_of c) → IsRead c number before → (HasClosed before.groups → ⊥) → Receives c.pool before pool after → IsSoundShard after → IsSoundPool pool
+pub IsStep-end_fields : {L : Type 0} (c : Inside L) (number : ℕ) (before after : ShardState) (pool : PoolState) (guesses : Guesses) → IsSound (state_of c) → IsRead c number before → (HasClosed before.groups → ⊥) → Receives c.pool before pool after → IsSoundShard after → IsSoundPool pool
     → IsSoundStep (state_of c) (End number) reply.ShardEnded (state_of (with_both_at c number after pool guesses))
 IsStep-end_fields c number before after pool guesses kept read unclosed receives sound sound_pool =
     subst (IsSoundStep (state_of c) (End number) reply.ShardEnded) (sym (state_of-with_both_at c number after pool guesses))
     (IsSoundStep-Receives (state_of c) number before after pool kept (shard-read c number before read) unclosed receives sound sound_pool)
 
 -- an end that the pool refuses leaves the fields as they were
-pub CoreStep-end_refused_fields : (c : Inside) (number : ℕ) (before after : ShardState) (pool : PoolState) (guesses : Guesses) (error : ReceiveError) (cause : Refusal) → IsSound (state_of c) → IsRead c number before → refusal_of_end error ≡ Some cause
+pub CoreStep-end_refused_fields : {L : Type 0} (c : Inside L) (number : ℕ) (before after : ShardState) (pool : PoolState) (guesses : Guesses) (error : ReceiveError) (cause : Refusal) → IsSound (state_of c) → IsRead c number before → refusal_of_end error ≡ Some cause
     → (◌≡◌ {A = Result (Unit {0}) ReceiveError} (Err error) (Err receive_error.Ended) ↔ (before.ended ≡ true))
     → (◌≡◌ {A = Result (Unit {0}) ReceiveError} (Err error) (Err receive_error.PlanOpen) ↔ ((before.ended ≡ false) × (IsInPool c.pool before → ⊥) × HasClosed before.groups))
     → after ≡ before → pool ≡ c.pool
@@ -100,18 +100,18 @@ CoreStep-end_refused_fields c number before after pool guesses error cause kept 
     (CoreStep-end_refused (state_of c) number before error cause (shard-read c number before read) gives (not_in_pool (state_of c) kept.groups number before (shard-read c number before read)) (kept.plan.closed number before (shard-read c number before read))
     (λ e. ended.0 (ap Err e), λ p. let e = ended.1 p in cc) (λ e. plan_open.0 (ap Err e), λ p. let e = plan_open.1 p in cc))
 
-pub IsStep-adopt_fields : (c : Inside) (number : ℕ) (head : SpanId) (before after : ShardState) (pool : PoolState) (guesses : Guesses) → IsSound (state_of c) → c.plan ≡ None → IsRead c number before → before.ended ≡ false → Adopts c.pool before head pool after → IsSoundShard after → IsSoundPool pool
+pub IsStep-adopt_fields : {L : Type 0} (c : Inside L) (number : ℕ) (head : SpanId) (before after : ShardState) (pool : PoolState) (guesses : Guesses) → IsSound (state_of c) → c.plan ≡ None → IsRead c number before → before.ended ≡ false → Adopts c.pool before head pool after → IsSoundShard after → IsSoundPool pool
     → IsSoundStep (state_of c) (Adopt number) (reply.Adopted head) (state_of (with_both_at c number after pool guesses))
 IsStep-adopt_fields c number head before after pool guesses kept no_plan read running adopts sound sound_pool =
     subst (IsSoundStep (state_of c) (Adopt number) (reply.Adopted head)) (sym (state_of-with_both_at c number after pool guesses))
     (IsSoundStep-Adopts (state_of c) number head before after pool kept no_plan (shard-read c number before read) running adopts sound sound_pool)
 
 -- where the pool does not know of a plan, none is open
-pub no_plan_if_adopted : (c : Inside) → IsSound (state_of c) → (c.pool.has_plan ≡ true → ⊥) → c.plan ≡ None
+pub no_plan_if_adopted : {L : Type 0} (c : Inside L) → IsSound (state_of c) → (c.pool.has_plan ≡ true → ⊥) → c.plan ≡ None
 no_plan_if_adopted c kept never = None-if_not_some c.plan (sym kept.plan.told ∙ false_from_ne_true c.pool.has_plan never)
 
 -- an adoption that the pool refuses leaves the fields as they were
-pub CoreStep-adopt_refused_fields : (c : Inside) (number : ℕ) (before after : ShardState) (pool : PoolState) (guesses : Guesses) (error : AdoptError) (cause : Refusal) → IsSound (state_of c) → IsRead c number before → refusal_of_adoption error ≡ Some cause
+pub CoreStep-adopt_refused_fields : {L : Type 0} (c : Inside L) (number : ℕ) (before after : ShardState) (pool : PoolState) (guesses : Guesses) (error : AdoptError) (cause : Refusal) → IsSound (state_of c) → IsRead c number before → refusal_of_adoption error ≡ Some cause
     → (◌≡◌ {A = Result SpanId AdoptError} (Err error) (Err adopt_error.PagesSpent) ↔ (before.page_limit ≡ length before.groups))
     → (◌≡◌ {A = Result SpanId AdoptError} (Err error) (Err adopt_error.Ended) ↔ ((before.page_limit ≢ length before.groups) × (before.ended ≡ true)))
     → (◌≡◌ {A = Result SpanId AdoptError} (Err error) (Err adopt_error.PlanOpen) ↔ ((before.page_limit ≢ length before.groups) × (before.ended ≡ false) × (IsDoubled c.pool before → ⊥) × (c.pool.has_plan ≡ true)))
@@ -128,7 +128,7 @@ CoreStep-adopt_refused_fields c number before after pool guesses error cause kep
     at_error other P comes = (λ e. comes.0 (ap Err e), λ p. let e = comes.1 p in cc)
 
 -- a free that the shard which was asked first decides
-pub IsStep-free_home : (c : Inside) (now : CoreState) (number : ℕ) (key : Key) (before after : ShardState) (answer : Freed) → state_of c ≡ now → IsSound (state_of c) → IsRead c number before → (answer ≡ freed.NotHere → ⊥) → Frees before key answer after
+pub IsStep-free_home : {L : Type 0} (c : Inside L) (now : CoreState) (number : ℕ) (key : Key) (before after : ShardState) (answer : Freed) → state_of c ≡ now → IsSound (state_of c) → IsRead c number before → (answer ≡ freed.NotHere → ⊥) → Frees before key answer after
     → was_freed answer ≡ is_some ((shown_by before).value_of key) → shown_by after ≡ cond (was_freed answer) (without (shown_by before) key) (shown_by before) → IsSoundShard after
     → IsSoundStep now (Free key) (reply.Freed (was_freed answer)) (state_of (with_shard_at c number after))
 IsStep-free_home c now number key before after answer now_is kept read here frees found plain sound =

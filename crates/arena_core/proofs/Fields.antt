@@ -15,14 +15,14 @@ use Rattle.arena_core.specs.Sound.{HasSoundGroups, IsSoundAt}
 use Rattle.arena_core.specs.State.{with_pool, with_shard}
 
 -- the fields with another shard at this number
-abbrev pub with_shard_at : Inside → ℕ → ShardState → Inside
+abbrev pub with_shard_at : {L : Type 0} → Inside L → ℕ → ShardState → Inside L
 with_shard_at c number after = record c { shards = with_item c.shards number after }
 
 -- the fields with another shard at this number, another pool and other guesses
-abbrev pub with_both_at : Inside → ℕ → ShardState → PoolState → Guesses → Inside
+abbrev pub with_both_at : {L : Type 0} → Inside L → ℕ → ShardState → PoolState → Guesses → Inside L
 with_both_at c number after pool guesses = record c { shards = with_item c.shards number after; pool = pool; guesses = guesses }
 
-pub state_of-with_shard_at : (c : Inside) (number : ℕ) (after : ShardState) → state_of (with_shard_at c number after) ≡ with_shard (state_of c) number after
+pub state_of-with_shard_at : {L : Type 0} (c : Inside L) (number : ℕ) (after : ShardState) → state_of (with_shard_at c number after) ≡ with_shard (state_of c) number after
 state_of-with_shard_at c number after = λ i. record {
   limits = record { shards = length-set c.shards.items number after i; page_limit = c.page_limit; ring_capacity = c.ring_capacity; gens = c.gens };
   shards = set c.shards.items number after;
@@ -30,7 +30,7 @@ state_of-with_shard_at c number after = λ i. record {
   plan = c.plan;
 }
 
-pub state_of-with_both_at : (c : Inside) (number : ℕ) (after : ShardState) (pool : PoolState) (guesses : Guesses) → state_of (with_both_at c number after pool guesses) ≡ with_pool (with_shard (state_of c) number after) pool
+pub state_of-with_both_at : {L : Type 0} (c : Inside L) (number : ℕ) (after : ShardState) (pool : PoolState) (guesses : Guesses) → state_of (with_both_at c number after pool guesses) ≡ with_pool (with_shard (state_of c) number after) pool
 state_of-with_both_at c number after pool guesses = λ i. record {
   limits = record { shards = length-set c.shards.items number after i; page_limit = c.page_limit; ring_capacity = c.ring_capacity; gens = c.gens };
   shards = set c.shards.items number after;
@@ -39,11 +39,11 @@ state_of-with_both_at c number after pool guesses = λ i. record {
 }
 
 -- the shard that was read at this number
-pub record IsRead (c : Inside) (number : ℕ) (shard : ShardState) : Type 0 where
+pub record IsRead {L : Type 0} (c : Inside L) (number : ℕ) (shard : ShardState) : Type 0 where
   pub within : number < vec_len c.shards
   pub value : shard ≡ get_or c.shards.items number shard
 
-pub shard-read : (c : Inside) (number : ℕ) (shard : ShardState) → IsRead c number shard → slice_get c.shards.items number ≡ Some shard
+pub shard-read : {L : Type 0} (c : Inside L) (number : ℕ) (shard : ShardState) → IsRead c number shard → slice_get c.shards.items number ≡ Some shard
 shard-read c number shard read = slice_get_read c.shards.items (vec_len c.shards) number shard c.shards.ok.0 read.within read.value
 
 -- the shard that a look-up gave, where there is one
@@ -51,7 +51,7 @@ pub shard-found : (shards : List ShardState) (number : ℕ) (shard : Bor ShardSt
 shard-found shards number shard (is, value, some, (within, holds), all) = slice_get_read shards (length shards) number shard.now refl within value
 
 -- a look-up that gave no shard
-pub no_read : (c : Inside) (number : ℕ) → (number < vec_len c.shards → false ≡ true) → length c.shards.items ≤ number
+pub no_read : {L : Type 0} (c : Inside L) (number : ℕ) → (number < vec_len c.shards → false ≡ true) → length c.shards.items ≤ number
 no_read c number none = by_order (cases_lt number (vec_len c.shards))
   where
     by_order : (number < vec_len c.shards) ⊎ (vec_len c.shards ≤ number) → length c.shards.items ≤ number
@@ -63,7 +63,7 @@ pub record IsFew (index : ℕ) (shard : ShardState) : Type 0 where
   pub shards : index < 64
   pub pages : length shard.groups ≤ 1024
 
-pub IsFew-fields : (c : Inside) (shards : List ShardState) (index : ℕ) (shard : ShardState) → HasSoundGroups (state_of c) → shards ≡ c.shards.items → index < length shards → shard ≡ get_or shards index shard → IsFew index shard
+pub IsFew-fields : {L : Type 0} (c : Inside L) (shards : List ShardState) (index : ℕ) (shard : ShardState) → HasSoundGroups (state_of c) → shards ≡ c.shards.items → index < length shards → shard ≡ get_or shards index shard → IsFew index shard
 IsFew-fields c shards index shard kept are within read =
     let here : slice_get c.shards.items index ≡ Some shard = ap (λ xs. slice_get xs index) (sym are) ∙ slice_get_read shards (length shards) index shard refl within read in
     let sound : IsSoundAt (state_of c).limits index shard = kept.shards index shard here in

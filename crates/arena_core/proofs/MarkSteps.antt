@@ -115,7 +115,7 @@ module _ (old : CoreState) (sound : IsSound old) where
 
 -- the fields
 
-pub state_of-mapped : (c now : Inside) (change : ShardState → ShardState) → now.page_limit ≡ c.page_limit → now.ring_capacity ≡ c.ring_capacity → now.gens ≡ c.gens → now.shards.items ≡ map change c.shards.items
+pub state_of-mapped : {L : Type 0} (c now : Inside L) (change : ShardState → ShardState) → now.page_limit ≡ c.page_limit → now.ring_capacity ≡ c.ring_capacity → now.gens ≡ c.gens → now.shards.items ≡ map change c.shards.items
     → state_of now ≡ record (state_of c) { shards = map change c.shards.items; pool = now.pool; plan = now.plan }
 state_of-mapped c now change pages ring gens items = λ i. record {
   limits = record { shards = (ap length items ∙ length-map c.shards.items change) i; page_limit = pages i; ring_capacity = ring i; gens = gens i };
@@ -165,10 +165,10 @@ module _ (core : CoreState) (sound : IsSound core) (plan : OpenPlan) (pair : Spa
       nowhere.shards there.number there.shard there.shard_is there.index (waits core sound plan pair next).owned there.head_of.here 0 ((waits core sound plan pair next).owned.head, refl, there.head_of.head_is)
 
 -- the fields after a step
-abbrev pub with_step_at : Inside → ℕ → ShardState → PoolState → Option OpenPlan → Guesses → Inside
+abbrev pub with_step_at : {L : Type 0} → Inside L → ℕ → ShardState → PoolState → Option OpenPlan → Guesses → Inside L
 with_step_at c number after pool plan guesses = record c { shards = with_item c.shards number after; pool = pool; plan = plan; guesses = guesses }
 
-state_of-with_step_at : (c : Inside) (number : ℕ) (after : ShardState) (pool : PoolState) (plan : Option OpenPlan) (guesses : Guesses) → state_of (with_step_at c number after pool plan guesses) ≡ with_plan (with_pool (with_shard (state_of c) number after) pool) plan
+state_of-with_step_at : {L : Type 0} (c : Inside L) (number : ℕ) (after : ShardState) (pool : PoolState) (plan : Option OpenPlan) (guesses : Guesses) → state_of (with_step_at c number after pool plan guesses) ≡ with_plan (with_pool (with_shard (state_of c) number after) pool) plan
 state_of-with_step_at c number after pool plan guesses = λ i. record {
   limits = record { shards = length-set c.shards.items number after i; page_limit = c.page_limit; ring_capacity = c.ring_capacity; gens = c.gens };
   shards = set c.shards.items number after;
@@ -176,7 +176,7 @@ state_of-with_step_at c number after pool plan guesses = λ i. record {
   plan = plan;
 }
 
-pub IsSoundStep-fold_fields : (c : Inside) (plan : OpenPlan) (pair : SpanId × SpanId) (number : ℕ) (before after : ShardState) (pool : PoolState) (current : Option OpenPlan) (guesses : Guesses) (step : Outcome) → IsSound (state_of c) → IsNext (state_of c) plan pair
+pub IsSoundStep-fold_fields : {L : Type 0} (c : Inside L) (plan : OpenPlan) (pair : SpanId × SpanId) (number : ℕ) (before after : ShardState) (pool : PoolState) (current : Option OpenPlan) (guesses : Guesses) (step : Outcome) → IsSound (state_of c) → IsNext (state_of c) plan pair
     → StandsAt (state_of c) pair.1 (owner.Shard number) → before ≡ get_or c.shards.items number before → Steps c.pool before pair.0 pair.1 step pool after → IsSoundShard after → IsSoundPool pool → current ≡ advanced c.plan
     → IsSoundStep (state_of c) Step (Stepped pair.0 pair.1 step) (state_of (with_step_at c number after pool current guesses))
 IsSoundStep-fold_fields c plan pair number before after pool current guesses step sound next there read steps sound_after sound_pool current_is =
@@ -186,7 +186,7 @@ IsSoundStep-fold_fields c plan pair number before after pool current guesses ste
     (IsSoundStep-Steps (state_of c) sound plan pair next number before named.0 named.1 step after pool steps sound_after sound_pool))
 
 -- a step that wants memory leaves the fields as they were
-pub state_of-refused : (c : Inside) (id : SpanId) (number : ℕ) (before after : ShardState) (pool : PoolState) → IsSound (state_of c) → StandsAt (state_of c) id (owner.Shard number) → before ≡ get_or c.shards.items number before → after ≡ before → pool ≡ c.pool
+pub state_of-refused : {L : Type 0} (c : Inside L) (id : SpanId) (number : ℕ) (before after : ShardState) (pool : PoolState) → IsSound (state_of c) → StandsAt (state_of c) id (owner.Shard number) → before ≡ get_or c.shards.items number before → after ≡ before → pool ≡ c.pool
     → state_of (with_step_at c number after pool c.plan c.guesses) ≡ state_of c
 state_of-refused c id number before after pool sound there read same pool_is =
     let named = shard-named (state_of c) id number before sound.groups there read in

@@ -4,11 +4,11 @@ ghost use Rattle.arena_core.specs.Closings.{AreOpen, closed_onto, reopened};
 ghost use Rattle.arena_core.specs.Plan.{AreClosedAsPlanned};
 
 use shard::Shard;
-use span::SpanId;
+use span::{Log, SpanId};
 
 /// Closes each owned group onto which a pair folds, in the shard that has it, so that it takes no put. It takes no
 /// memory.
-pub(crate) fn close_planned(shards: &mut [Shard], pairs: &[(SpanId, SpanId)])
+pub(crate) fn close_planned<L: Log>(shards: &mut [Shard<L>], pairs: &[(SpanId, SpanId)])
     requires { AreOpen shards.old }
     ensures { shards.new ≡ map (closed_onto pairs.now) shards.old }
 {
@@ -18,7 +18,7 @@ pub(crate) fn close_planned(shards: &mut [Shard], pairs: &[(SpanId, SpanId)])
 }
 
 /// Opens all groups of all shards, so that they take puts. It takes no memory.
-pub(crate) fn reopen_all(shards: &mut [Shard])
+pub(crate) fn reopen_all<L: Log>(shards: &mut [Shard<L>])
     ensures { shards.new ≡ map reopened shards.old }
 {
     for shard in shards.iter_mut() {
@@ -27,7 +27,7 @@ pub(crate) fn reopen_all(shards: &mut [Shard])
 }
 
 // Closes the groups onto which a pair folds and which stand in this shard.
-fn close_in(shard: &mut Shard, pairs: &[(SpanId, SpanId)])
+fn close_in<L: Log>(shard: &mut Shard<L>, pairs: &[(SpanId, SpanId)])
     requires { AreClosedAsPlanned None shard.old.groups }
     ensures { shard.new ≡ closed_onto pairs.now shard.old }
 {

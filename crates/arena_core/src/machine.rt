@@ -24,7 +24,7 @@ use crate::reply::{Refusal, Reply, adopt_refusal, end_refusal};
 use crate::totals::Totals;
 use abandoned::Pool;
 use shard::{Found, Freed, Shard};
-use span::{Key, SpanId};
+use span::{Kept, Key, Log, SpanId};
 use std::alloc::{AllocError, Global};
 use std::marker::Model;
 
@@ -36,18 +36,18 @@ mod marks;
 /// it until it ends: they then cost what that shard's own call costs. A span whose shard has ended is asked for where it
 /// was adopted last, then in the pool, and at last in every shard.
 #[derive(Drop)]
-pub struct Core {
+pub struct Core<L: Log = Kept> {
     alloc: Global,
     page_limit: usize,
     ring_capacity: usize,
     gens: u32,
-    shards: Vec<Shard>,
-    pool: Pool,
+    shards: Vec<Shard<L>>,
+    pool: Pool<L>,
     plan: CurrentPlan,
     guesses: Guesses,
 }
 
-impl Model for Core {
+impl<L: Log> Model for Core<L> {
     ghost use Rattle.std.specs.Coded.{codes};
     ghost use Rattle.page_table.specs.State.{table_code};
     ghost use Rattle.arena_core.specs.State.{CoreState};
@@ -71,7 +71,7 @@ enum Owner {
     Pool,
 }
 
-impl Core {
+impl Core<Kept> {
     /// A core of `shards` new shards, numbered from 0 on, and an empty pool. A shard may have `page_limit` pages of
     /// 256 slots, a ring holds `ring_capacity` entries, and a slot is given the generations from 1
     /// to `gens`.
@@ -94,6 +94,27 @@ impl Core {
         ensures empty { IfOk result (λ core. shown core ≡ empty_map) }
         ensures sound { IfOk result IsSound }
     {
+        Core::with_log(alloc, shards, page_limit, ring_capacity, gens)
+    }
+}
+
+impl<L: Log> Core<L> {
+    /// A core of new shards, whose logs are kept or counted as its type says: as [`Core::new`], and refused as that is.
+    pub fn with_log(
+        alloc: Global,
+        shards: u32,
+        page_limit: usize,
+        ring_capacity: usize,
+        gens: u32,
+    ) -> Result<Core<L>, CoreError>
+        ensures config { IsErrOf result CoreError.Config
+            ↔ (AreWithin (limits_of shards page_limit ring_capacity gens) → ⊥) }
+        ensures memory { IsErrOf result CoreError.OutOfMemory
+            → AreWithin (limits_of shards page_limit ring_capacity gens) }
+        ensures ok { IfOk result (λ core. core ≡ new_core (limits_of shards page_limit ring_capacity gens)) }
+        ensures empty { IfOk result (λ core. shown core ≡ empty_map) }
+        ensures sound { IfOk result IsSound }
+    {
         if !are_within(shards, page_limit, ring_capacity, gens) {
             return Err(CoreError::Config);
         }
@@ -106,7 +127,7 @@ impl Core {
             ring_capacity,
             gens,
             shards,
-            pool: Pool::new(alloc),
+            pool: Pool::with_log(alloc),
             plan,
             guesses,
         })
@@ -349,7 +370,7 @@ impl Core {
 }
 
 // Guesses that the shard of this number has the spans of the group of this head.
-fn guess(guesses: &mut Guesses, number: u8, shard: &Shard, head: SpanId) {
+fn guess<L: Log>(guesses: &mut Guesses, number: u8, shard: &Shard<L>, head: SpanId) {
     if let Some(brief) = shard.brief(head) {
         for place in 0..brief.spans {
             if let Some(id) = shard.span_at(head, place) {
@@ -380,7 +401,7 @@ fn was_done(freed: Freed) -> bool
 }
 
 // Whether there is a shard of this number, and it has the span.
-fn has_at(shards: &[Shard], number: usize, id: SpanId) -> bool
+fn has_at<L: Log>(shards: &[Shard<L>], number: usize, id: SpanId) -> bool
     ensures { IsTrue result ↔ ((shard : ShardState) × (slice_get shards.now number ≡ Some shard) × (IsElsewhere shard.groups id → ⊥)) }
 {
     match shards.get(number) {
@@ -390,7 +411,7 @@ fn has_at(shards: &[Shard], number: usize, id: SpanId) -> bool
 }
 
 // The number of the first shard that has the span.
-fn position(shards: &[Shard], id: SpanId) -> Option<usize>
+fn position<L: Log>(shards: &[Shard<L>], id: SpanId) -> Option<usize>
     ensures { MatchOption result
         ((number : ℕ) (shard : ShardState) → slice_get shards.now number ≡ Some shard → IsElsewhere shard.groups id)
         (λ number. (shard : ShardState) × (slice_get shards.now number ≡ Some shard) × (IsElsewhere shard.groups id → ⊥)) }
@@ -414,12 +435,12 @@ fn are_within(shards: u32, page_limit: usize, ring_capacity: usize, gens: u32) -
 }
 
 // So many new shards, by their numbers.
-fn new_shards(
+fn new_shards<L: Log>(
     alloc: Global,
     count: u32,
     page_limit: usize,
     gens: u32,
-) -> Result<Vec<Shard>, AllocError>
+) -> Result<Vec<Shard<L>>, AllocError>
     requires count { count ≤ 64 }
     requires pages { (1 ≤ page_limit) × (page_limit ≤ 1024) }
     requires gens { 1 ≤ gens }
@@ -430,7 +451,7 @@ fn new_shards(
 {
     let mut shards = Vec::with_capacity(alloc, count as usize)?;
     for number in 0..count {
-        let Ok(shard) = Shard::new(alloc, number, page_limit, gens) else {
+        let Ok(shard) = Shard::with_log(alloc, number, page_limit, gens) else {
             unreachable!();
         };
         shards.push_reserved(shard);

@@ -10,22 +10,22 @@ use bitmap::Bits256;
 use certificate::Certificate;
 use mesh_graph::{BuildError, Entry, Graph, MOST_GROUPS, Snapshot};
 use shard::Shard;
-use span::SpanId;
+use span::{Log, SpanId};
 use std::alloc::{AllocError, Global};
 
 /// Whether a side has more than 4,096 groups: the pool, of groups that have a page, or all shards together. It takes no
 /// memory.
-pub(crate) fn has_too_many(pool: &Pool, shards: &[Shard]) -> bool
+pub(crate) fn has_too_many<L: Log>(pool: &Pool<L>, shards: &[Shard<L>]) -> bool
     ensures { IsTrue result ↔ AreTooMany pool.now shards.now }
 {
     pool.pages() > MOST_GROUPS || owned_pages(shards) > MOST_GROUPS
 }
 
 /// A plan with the most pairs, with what it is of and what shows it.
-pub(crate) fn largest_plan(
+pub(crate) fn largest_plan<L: Log>(
     alloc: Global,
-    pool: &Pool,
-    shards: &[Shard],
+    pool: &Pool<L>,
+    shards: &[Shard<L>],
 ) -> Result<Certificate, AllocError>
     requires distinct { AreDistinct pool.now shards.now }
     requires few { AreTooMany pool.now shards.now → ⊥ }
@@ -43,10 +43,10 @@ pub(crate) fn largest_plan(
 }
 
 /// Every group of the pool that has a page, and every group of every shard.
-pub(crate) fn snapshot_of(
+pub(crate) fn snapshot_of<L: Log>(
     alloc: Global,
-    pool: &Pool,
-    shards: &[Shard],
+    pool: &Pool<L>,
+    shards: &[Shard<L>],
 ) -> Result<Snapshot, AllocError>
     requires { AreDistinct pool.now shards.now }
     ensures { IfOk result (IsSeen pool.now shards.now) }
@@ -74,7 +74,10 @@ fn graph_of(alloc: Global, snapshot: &Snapshot, pieces: usize) -> Result<Graph, 
 }
 
 /// The groups of the pool that have a page, each with its occupied set.
-pub(crate) fn list_abandoned(alloc: Global, pool: &Pool) -> Result<Vec<Entry>, AllocError>
+pub(crate) fn list_abandoned<L: Log>(
+    alloc: Global,
+    pool: &Pool<L>,
+) -> Result<Vec<Entry>, AllocError>
     ensures { IfOk result (λ entries. entries.items ≡ abandoned_entries pool.now) }
 {
     let groups = pool.groups()?;
@@ -84,7 +87,10 @@ pub(crate) fn list_abandoned(alloc: Global, pool: &Pool) -> Result<Vec<Entry>, A
 }
 
 /// The groups of all shards, each with its occupied set.
-pub(crate) fn list_owned(alloc: Global, shards: &[Shard]) -> Result<Vec<Entry>, AllocError>
+pub(crate) fn list_owned<L: Log>(
+    alloc: Global,
+    shards: &[Shard<L>],
+) -> Result<Vec<Entry>, AllocError>
     ensures { IfOk result (λ entries. entries.items ≡ owned_entries shards.now) }
 {
     let mut entries = Vec::new(alloc);
@@ -95,7 +101,7 @@ pub(crate) fn list_owned(alloc: Global, shards: &[Shard]) -> Result<Vec<Entry>, 
 }
 
 // Appends the groups of the shard.
-fn push_groups(entries: &mut Vec<Entry>, shard: &Shard) -> Result<(), AllocError>
+fn push_groups<L: Log>(entries: &mut Vec<Entry>, shard: &Shard<L>) -> Result<(), AllocError>
     ensures { IfOk result (λ _. entries.new.items ≡ entries.old.items ++ map (λ group. entry_of (summary group)) shard.now.groups) }
 {
     let groups = shard.groups()?;
@@ -116,7 +122,7 @@ fn push_entries(entries: &mut Vec<Entry>, groups: &[(SpanId, Bits256)]) -> Resul
 }
 
 // How many groups the shards have, or the greatest number where there are more.
-fn owned_pages(shards: &[Shard]) -> usize
+fn owned_pages<L: Log>(shards: &[Shard<L>]) -> usize
     ensures { result ≡ min (sum_by (λ shard. length shard.groups) shards.now) (2 ^ 64 - 1) }
 {
     let mut pages: usize = 0;

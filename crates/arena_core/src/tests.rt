@@ -5,7 +5,7 @@ use crate::machine::Core;
 use crate::reply::{Refusal, Reply};
 use crate::totals::Totals;
 use fold::Step;
-use span::{Key, SpanId};
+use span::{Counted, Key, Log, SpanId};
 use std::alloc::Global;
 
 mod marks;
@@ -59,7 +59,7 @@ fn tell(reply: &Reply) -> Told {
 }
 
 // What the core answers. Where a growth was refused, the totals are as they were, and the event is asked again.
-fn answer(core: &mut Core, event: Event) -> Option<Told> {
+fn answer<L: Log>(core: &mut Core<L>, event: Event) -> Option<Told> {
     let before = core.totals();
     let first = tell(&core.step(event));
     if first != Told::Refused(Refusal::OutOfMemory) {
@@ -69,6 +69,17 @@ fn answer(core: &mut Core, event: Event) -> Option<Told> {
         return None;
     }
     Some(tell(&core.step(event)))
+}
+
+// Whether both cores answer each event, and alike, and have the same totals in the end.
+fn answer_alike(kept: &mut Core, counted: &mut Core<Counted>, events: &[Event]) -> bool {
+    for event in events {
+        let wanted = answer(kept, *event);
+        if wanted.is_none() || answer(counted, *event) != wanted {
+            return false;
+        }
+    }
+    kept.totals() == counted.totals()
 }
 
 // Whether each event is answered as wanted, one after another.
@@ -228,4 +239,48 @@ fn each_cause_is_told(rt: HostRuntime) {
         totals_after_refusals(rt.alloc()),
         Some(Totals { pages: 1, live: 1 })
     );
+}
+
+// A core of three shards whose logs are only counted, asked for again where a growth was refused.
+fn new_counted_core(alloc: Global) -> Option<Core<Counted>> {
+    match Core::with_log(alloc, 3, 4, 8, 9) {
+        Err(CoreError::OutOfMemory) => Core::with_log(alloc, 3, 4, 8, 9).ok(),
+        made => made.ok(),
+    }
+}
+
+// Whether a core with logs and one that only counts answer alike: calls on live and stale keys, an end, a fold, an
+// adoption, and what is refused.
+fn is_alike_with_no_log(alloc: Global) -> Option<bool> {
+    let (freed, folded, later) = (key(0, 0, 0, 1)?, key(0, 0, 1, 1)?, key(0, 0, 0, 2)?);
+    let events = [
+        put(0, 10),
+        put(0, 11),
+        put(1, 12),
+        put(2, 13),
+        Event::Free { key: freed },
+        Event::Free { key: freed },
+        Event::Get { key: freed },
+        Event::End { shard: 0 },
+        put(0, 14),
+        Event::Mark,
+        Event::Adopt { shard: 1 },
+        Event::Step,
+        Event::Step,
+        Event::Close,
+        Event::Get { key: folded },
+        Event::End { shard: 2 },
+        Event::Adopt { shard: 1 },
+        Event::Free { key: folded },
+        Event::Get { key: later },
+        put(1, 15),
+    ];
+    let mut kept = new_core(alloc, 3, 4)?;
+    let mut counted = new_counted_core(alloc)?;
+    Some(answer_alike(&mut kept, &mut counted, events.as_slice()))
+}
+
+#[test]
+fn a_core_that_only_counts_answers_alike(rt: HostRuntime) {
+    assert_eq!(rt; is_alike_with_no_log(rt.alloc()), Some(true));
 }

@@ -16,10 +16,10 @@ use crate::marking::{has_too_many, largest_plan};
 use crate::reply::{Refusal, Reply};
 use certificate::Certificate;
 use fold::{Step, fold_one};
-use span::SpanId;
+use span::{Log, SpanId};
 use std::alloc::AllocError;
 
-impl Core {
+impl<L: Log> Core<L> {
     // Makes a plan of as many folds as can be of what stands now, opens it, and closes the groups that it folds onto.
     // The plan is made before anything changes.
     pub(super) fn mark(&mut self) -> Result<Certificate, Refusal>

@@ -8,10 +8,10 @@ use Rattle.arena_core.proofs.Closings.{closed_onto-more, closed_onto-none}
 use Rattle.arena_core.proofs.closing.close_in.Goals as goal
 
 pub loop-pair-init : goal.loop-pair-init
-loop-pair-init c = closed_onto-none c.args.shard.now c.requires
+loop-pair-init g c = closed_onto-none c.args.shard.now c.requires
 
 pub loop-pair-preserved : goal.loop-pair-preserved
-loop-pair-preserved c =
+loop-pair-preserved g c =
     let done = take c.loop-pair.pair-index c.args.pairs.now in
     closed_onto-more c.args.shard.now done c.pair-item.result c.close.result c.close.new.self c.close.ensures.sound.ascending
     (subst (λ (shard : ShardState). Closes shard c.pair-item.result.1 c.close.result c.close.new.self) c.loop-pair.invariant c.close.ensures.closes)

@@ -7,7 +7,7 @@ use Rattle.arena_core.specs.State.{new_shard}
 use Rattle.arena_core.proofs.machine.new_shards.Goals as goal
 
 pub loop-number-preserved : goal.loop-number-preserved
-loop-number-preserved c =
+loop-number-preserved g c =
     let next : 0 + c.loop-number.number ≡ c.loop-number.number = omega arith in
     record {
       items = c.push_reserved.ensures.items ∙ ap (λ shards. shards ++ c.in-Ok.shard ∷ []) c.loop-number.invariant.items

@@ -6,13 +6,13 @@ use Rattle.arena_core.proofs.Owner.{elsewhere}
 use Rattle.arena_core.proofs.machine.position.Goals as goal
 
 pub loop-number-init : goal.loop-number-init
-loop-number-init c = λ number shard here below. absurd (omega arith)
+loop-number-init g c = λ number shard here below. absurd (omega arith)
 
 pub returns-then-has : goal.returns-then-has
-returns-then-has c = (c.index-shards-number.result, slice_get_read c.args.shards.now (length c.args.shards.now) c.loop-number.number c.index-shards-number.result refl c.loop-number-test.true c.index-shards-number.is, c.if-has.ensures.0 refl)
+returns-then-has g c = (c.index-shards-number.result, slice_get_read c.args.shards.now (length c.args.shards.now) c.loop-number.number c.index-shards-number.result refl c.loop-number-test.true c.index-shards-number.is, c.if-has.ensures.0 refl)
 
 pub loop-number-preserved : goal.loop-number-preserved
-loop-number-preserved c = λ number shard here below. by_order number shard here (cases_lt number c.loop-number.number) below
+loop-number-preserved g c = λ number shard here below. by_order number shard here (cases_lt number c.loop-number.number) below
   where
     this : slice_get c.args.shards.now c.loop-number.number ≡ Some c.index-shards-number.result
     this = slice_get_read c.args.shards.now (length c.args.shards.now) c.loop-number.number c.index-shards-number.result refl c.loop-number-test.true c.index-shards-number.is
@@ -29,4 +29,4 @@ loop-number-preserved c = λ number shard here below. by_order number shard here
         subst (λ (s : ShardState). IsElsewhere s.groups c.args.id) shard_is away
 
 pub returns : goal.returns
-returns c = λ number shard here. c.loop-number.invariant number shard here (omega (arith, slice_get_within c.args.shards.now number shard here))
+returns g c = λ number shard here. c.loop-number.invariant number shard here (omega (arith, slice_get_within c.args.shards.now number shard here))

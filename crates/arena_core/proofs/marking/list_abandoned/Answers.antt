@@ -5,7 +5,7 @@ use Rattle.arena_core.proofs.Marks.{entries-summaries}
 use Rattle.arena_core.proofs.marking.list_abandoned.Goals as goal
 
 pub returns : goal.returns
-returns c =
+returns g c =
     c.in_ok-push_entries.ensures
     ∙ ap (λ entries. entries ++ map entry_of c.deref.result.now) c.new-entries.ensures.items
     ∙ ap (map entry_of) (c.deref.ensures.value ∙ c.in_ok-groups.ensures.items)

@@ -7,6 +7,6 @@ use Rattle.arena_core.proofs.Marks.{entries-summaries}
 use Rattle.arena_core.proofs.marking.push_groups.Goals as goal
 
 pub returns : goal.returns
-returns c =
+returns g c =
     subst (λ (more : List Entry). IfOk c.push_entries.result (λ _. c.push_entries.new.entries.items ≡ c.args.entries.now.items ++ more))
     (ap (map entry_of) (c.deref.ensures.value ∙ c.in_ok-groups.ensures.items) ∙ entries-summaries summary c.args.shard.now.groups) c.push_entries.ensures

@@ -12,49 +12,49 @@ use Rattle.arena_core.proofs.Steps.{not_doubled}
 use Rattle.arena_core.proofs.machine.Core.adopt.Goals as goal
 
 pub adopt_refusal-requires : goal.adopt_refusal-requires
-adopt_refusal-requires c = λ e.
+adopt_refusal-requires g c = λ e.
     let facts = c.in-Err.ensures.doubled.0 (ap Err e) in
     not_doubled (state_of c.self.inside) c.self.invariant.groups c.args.number c.in-Some.shard.now
     (shard-read c.self.inside c.args.number c.in-Some.shard.now (record { within = c.in-Some.ensures.variant.0 refl; value = c.in-Some.ensures.value }))
     facts.1 facts.2
 
 pub returns-in-Err-clause-exact : goal.returns-in-Err-clause-exact
-returns-in-Err-clause-exact c =
+returns-in-Err-clause-exact g c =
     subst (λ old. CoreStep old (Adopt c.args.number) (Refused c.adopt_refusal.result) (state_of (with_both_at c.self.inside c.args.number c.adopt.new.shard c.adopt.new.self c.self.inside.guesses))) c.self.view_is
     (CoreStep-adopt_refused_fields c.self.inside c.args.number c.in-Some.shard.now c.adopt.new.shard c.adopt.new.self c.self.inside.guesses c.in-Err.error c.adopt_refusal.result c.self.invariant
     (record { within = c.in-Some.ensures.variant.0 refl; value = c.in-Some.ensures.value }) c.adopt_refusal.ensures c.in-Err.ensures.spent c.in-Err.ensures.ended c.in-Err.ensures.plan_open c.in-Err.ensures.nothing c.in-Err.ensures.err_shard c.in-Err.ensures.err)
 
-read_shard : (c : goal.After-self-2-1) → slice_get c.self.inside.shards.items c.args.number ≡ Some c.in-Some.shard.now
-read_shard c = shard-read c.self.inside c.args.number c.in-Some.shard.now (record { within = c.in-Some.ensures.variant.0 refl; value = c.in-Some.ensures.value })
+read_shard : (g : _) (c : goal.After-self-2-1 g) → slice_get c.self.inside.shards.items c.args.number ≡ Some c.in-Some.shard.now
+read_shard g c = shard-read c.self.inside c.args.number c.in-Some.shard.now (record { within = c.in-Some.ensures.variant.0 refl; value = c.in-Some.ensures.value })
 
-not_full : (c : goal.After-self-2-1) → c.in-Some.shard.now.page_limit ≢ length c.in-Some.shard.now.groups
-not_full c full = let never = c.in-Ok.ensures.spent.1 full in cc
+not_full : (g : _) (c : goal.After-self-2-1 g) → c.in-Some.shard.now.page_limit ≢ length c.in-Some.shard.now.groups
+not_full g c full = let never = c.in-Ok.ensures.spent.1 full in cc
 
-still_running : (c : goal.After-self-2-1) → c.in-Some.shard.now.ended ≡ false
-still_running c = running-adopted c.in-Some.shard.now (not_full c) (λ both. let never = c.in-Ok.ensures.ended.1 both in cc)
+still_running : (g : _) (c : goal.After-self-2-1 g) → c.in-Some.shard.now.ended ≡ false
+still_running g c = running-adopted c.in-Some.shard.now (not_full g c) (λ both. let never = c.in-Ok.ensures.ended.1 both in cc)
 
-adopted : (c : goal.After-self-2-1) → IsSoundStep c.args.self.now (Adopt c.args.number) (Adopted c.in-Ok.head) (state_of (with_both_at c.self.inside c.args.number c.adopt.new.shard c.adopt.new.self c.guess.new.guesses))
-adopted c =
+adopted : (g : _) (c : goal.After-self-2-1 g) → IsSoundStep c.args.self.now (Adopt c.args.number) (Adopted c.in-Ok.head) (state_of (with_both_at c.self.inside c.args.number c.adopt.new.shard c.adopt.new.self c.guess.new.guesses))
+adopted g c =
     subst (λ old. IsSoundStep old (Adopt c.args.number) (Adopted c.in-Ok.head) (state_of (with_both_at c.self.inside c.args.number c.adopt.new.shard c.adopt.new.self c.guess.new.guesses))) c.self.view_is
     (IsStep-adopt_fields c.self.inside c.args.number c.in-Ok.head c.in-Some.shard.now c.adopt.new.shard c.adopt.new.self c.guess.new.guesses c.self.invariant
-    (no_plan_if_adopted c.self.inside c.self.invariant (λ told. let never = c.in-Ok.ensures.plan_open.1 (not_full c, still_running c, not_doubled (state_of c.self.inside) c.self.invariant.groups c.args.number c.in-Some.shard.now (read_shard c) (still_running c), told) in cc))
+    (no_plan_if_adopted c.self.inside c.self.invariant (λ told. let never = c.in-Ok.ensures.plan_open.1 (not_full g c, still_running g c, not_doubled (state_of c.self.inside) c.self.invariant.groups c.args.number c.in-Some.shard.now (read_shard g c) (still_running g c), told) in cc))
     (record { within = c.in-Some.ensures.variant.0 refl; value = c.in-Some.ensures.value })
-    (still_running c) c.in-Ok.ensures.ok c.adopt.ensures.sound_shard c.adopt.ensures.sound)
+    (still_running g c) c.in-Ok.ensures.ok c.adopt.ensures.sound_shard c.adopt.ensures.sound)
 
 pub invariant_of-self-2 : goal.invariant_of-self-2
-invariant_of-self-2 c = (adopted c).kept
+invariant_of-self-2 g c = (adopted g c).kept
 
 pub returns-clause-exact : goal.returns-clause-exact
-returns-clause-exact c = (adopted c).exact
+returns-clause-exact g c = (adopted g c).exact
 
 pub returns-clause-same : goal.returns-clause-same
-returns-clause-same c = (adopted c).plain
+returns-clause-same g c = (adopted g c).plain
 
 pub returns-clause-sound : goal.returns-clause-sound
-returns-clause-sound c = (adopted c).kept
+returns-clause-sound g c = (adopted g c).kept
 
 pub no_adopter-requires : goal.no_adopter-requires
-no_adopter-requires c = no_read c.self.inside c.args.number c.in_default.ensures.variant.1
+no_adopter-requires g c = no_read c.self.inside c.args.number c.in_default.ensures.variant.1
 
 pub returns-in_default-clause-exact : goal.returns-in_default-clause-exact
-returns-in_default-clause-exact c = subst (λ (s : CoreState). CoreStep s (Adopt c.args.number) (Refused c.no_adopter.result) (state_of c.self.inside)) c.self.view_is c.no_adopter.ensures
+returns-in_default-clause-exact g c = subst (λ (s : CoreState). CoreStep s (Adopt c.args.number) (Refused c.no_adopter.result) (state_of c.self.inside)) c.self.view_is c.no_adopter.ensures

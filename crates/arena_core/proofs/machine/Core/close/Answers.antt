@@ -11,21 +11,21 @@ use Rattle.arena_core.proofs.MarkSteps.{IsSound-closed, shown-closed, state_of-m
 use Rattle.arena_core.proofs.machine.Core.close.Goals as goal
 
 -- the fields after the close
-abbrev fields : goal.After-end → Inside
-fields c = record c.self.inside { shards = with_items c.self.inside.shards c.reopen_all.new.shards; pool = c.plan_closed.new.self; plan = c.end.new.self }
+abbrev fields : (g : _) → goal.After-end g → Inside g.row.L.Denot
+fields g c = record c.self.inside { shards = with_items c.self.inside.shards c.reopen_all.new.shards; pool = c.plan_closed.new.self; plan = c.end.new.self }
 
-is_closed : (c : goal.After-end) → state_of (fields c) ≡ with_plan_closed (state_of c.self.inside)
-is_closed c =
-    state_of-mapped c.self.inside (fields c) reopened refl refl refl
+is_closed : (g : _) (c : goal.After-end g) → state_of (fields g c) ≡ with_plan_closed (state_of c.self.inside)
+is_closed g c =
+    state_of-mapped c.self.inside (fields g c) reopened refl refl refl
     (with_items_is c.self.inside.shards c.reopen_all.new.shards (ap length c.reopen_all.ensures ∙ length-map c.deref_mut.result.now reopened ∙ c.deref_mut.ensures.len)
     ∙ c.reopen_all.ensures ∙ ap (map reopened) c.deref_mut.ensures.value)
     ∙ (λ i. record (state_of c.self.inside) { shards = map reopened c.self.inside.shards.items; pool = c.plan_closed.ensures.closed i; plan = c.end.ensures i })
 
 pub invariant_of-self : goal.invariant_of-self
-invariant_of-self c = subst IsSound (sym (is_closed c)) (IsSound-closed (state_of c.self.inside) c.self.invariant)
+invariant_of-self g c = subst IsSound (sym (is_closed g c)) (IsSound-closed (state_of c.self.inside) c.self.invariant)
 
 pub returns-clause-same : goal.returns-clause-same
-returns-clause-same c = ap shown (is_closed c) ∙ shown-closed (state_of c.self.inside) c.self.invariant ∙ ap shown c.self.view_is
+returns-clause-same g c = ap shown (is_closed g c) ∙ shown-closed (state_of c.self.inside) c.self.invariant ∙ ap shown c.self.view_is
 
 pub returns-clause-sound : goal.returns-clause-sound
-returns-clause-sound c = invariant_of-self c
+returns-clause-sound g c = invariant_of-self g c

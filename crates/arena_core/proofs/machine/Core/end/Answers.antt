@@ -11,36 +11,36 @@ use Rattle.arena_core.proofs.Steps.{not_in_pool}
 use Rattle.arena_core.proofs.machine.Core.end.Goals as goal
 
 pub end_refusal-requires : goal.end_refusal-requires
-end_refusal-requires c = λ e.
+end_refusal-requires g c = λ e.
     not_in_pool (state_of c.self.inside) c.self.invariant.groups c.args.number c.in-Some.shard.now
     (shard-read c.self.inside c.args.number c.in-Some.shard.now (record { within = c.in-Some.ensures.variant.0 refl; value = c.in-Some.ensures.value }))
     (c.in-Err.ensures.doubled.0 (ap Err e)).1
 
 pub returns-in-Err-clause-exact : goal.returns-in-Err-clause-exact
-returns-in-Err-clause-exact c =
+returns-in-Err-clause-exact g c =
     subst (λ old. CoreStep old (End c.args.number) (Refused c.end_refusal.result) (state_of (with_both_at c.self.inside c.args.number c.receive.new.shard c.receive.new.self c.self.inside.guesses))) c.self.view_is
     (CoreStep-end_refused_fields c.self.inside c.args.number c.in-Some.shard.now c.receive.new.shard c.receive.new.self c.self.inside.guesses c.in-Err.error c.end_refusal.result c.self.invariant
     (record { within = c.in-Some.ensures.variant.0 refl; value = c.in-Some.ensures.value }) c.end_refusal.ensures c.in-Err.ensures.ended c.in-Err.ensures.plan_open c.in-Err.ensures.err_shard c.in-Err.ensures.err)
 
-read_shard : (c : goal.In-Ok) → slice_get c.self.inside.shards.items c.args.number ≡ Some c.in-Some.shard.now
-read_shard c = shard-read c.self.inside c.args.number c.in-Some.shard.now (record { within = c.in-Some.ensures.variant.0 refl; value = c.in-Some.ensures.value })
+read_shard : (g : _) (c : goal.In-Ok g) → slice_get c.self.inside.shards.items c.args.number ≡ Some c.in-Some.shard.now
+read_shard g c = shard-read c.self.inside c.args.number c.in-Some.shard.now (record { within = c.in-Some.ensures.variant.0 refl; value = c.in-Some.ensures.value })
 
-ended : (c : goal.In-Ok) → IsSoundStep c.args.self.now (End c.args.number) ShardEnded (state_of (with_both_at c.self.inside c.args.number c.receive.new.shard c.receive.new.self c.self.inside.guesses))
-ended c =
+ended : (g : _) (c : goal.In-Ok g) → IsSoundStep c.args.self.now (End c.args.number) ShardEnded (state_of (with_both_at c.self.inside c.args.number c.receive.new.shard c.receive.new.self c.self.inside.guesses))
+ended g c =
     subst (λ old. IsSoundStep old (End c.args.number) ShardEnded (state_of (with_both_at c.self.inside c.args.number c.receive.new.shard c.receive.new.self c.self.inside.guesses))) c.self.view_is
     (IsStep-end_fields c.self.inside c.args.number c.in-Some.shard.now c.receive.new.shard c.receive.new.self c.self.inside.guesses c.self.invariant
     (record { within = c.in-Some.ensures.variant.0 refl; value = c.in-Some.ensures.value })
-    (λ closed. let never = c.in-Ok.ensures.plan_open.1 (running-received c.in-Ok.ensures.ok, not_in_pool (state_of c.self.inside) c.self.invariant.groups c.args.number c.in-Some.shard.now (read_shard c), closed) in cc)
+    (λ closed. let never = c.in-Ok.ensures.plan_open.1 (running-received c.in-Ok.ensures.ok, not_in_pool (state_of c.self.inside) c.self.invariant.groups c.args.number c.in-Some.shard.now (read_shard g c), closed) in cc)
     c.in-Ok.ensures.ok c.receive.ensures.sound_shard c.receive.ensures.sound)
 
 pub invariant_of-self-2 : goal.invariant_of-self-2
-invariant_of-self-2 c = (ended c).kept
+invariant_of-self-2 g c = (ended g c).kept
 
 pub returns-clause-exact : goal.returns-clause-exact
-returns-clause-exact c = (ended c).exact
+returns-clause-exact g c = (ended g c).exact
 
 pub returns-clause-same : goal.returns-clause-same
-returns-clause-same c = (ended c).plain
+returns-clause-same g c = (ended g c).plain
 
 pub returns-clause-sound : goal.returns-clause-sound
-returns-clause-sound c = (ended c).kept
+returns-clause-sound g c = (ended g c).kept

@@ -14,7 +14,7 @@ use Rattle.arena_core.proofs.PlanSteps.{IsSoundStep}
 use Rattle.arena_core.proofs.machine.Core.fold_next.Goals as goal
 
 pub returns-in_err-step-clause-exact : goal.returns-in_err-step-clause-exact
-returns-in_err-step-clause-exact c =
+returns-in_err-step-clause-exact g c =
     let refused = err_from_is_err_and c.from_residual.result c.from_residual.ensures.1 in
     let step : CoreStep c.args.self.now Step (Refused OutOfMemory) (state_of (with_step_at c.self.inside c.args.number c.fold_one.new.shard c.fold_one.new.pool c.self.inside.plan c.self.inside.guesses)) = (
       (c.requires.next.0, (c.args.abandoned, c.args.owned), c.requires.next.1),
@@ -25,12 +25,12 @@ returns-in_err-step-clause-exact c =
     rw refused.1 step
 
 pub overflow_cast-number : goal.overflow_cast-number
-overflow_cast-number c =
+overflow_cast-number g c =
     let few : c.args.number < 64 = number-named (state_of c.self.inside) c.args.owned c.args.number c.self.invariant.groups (subst (λ (s : CoreState). StandsAt s c.args.owned (owner.Shard c.args.number)) (sym c.self.view_is) c.requires.there) in
     omega arith
 
-stepped : (c : goal.After-advance) → IsSoundStep c.args.self.now Step (Stepped c.args.abandoned c.args.owned c.in_ok-step.step) (state_of (with_step_at c.self.inside c.args.number c.fold_one.new.shard c.fold_one.new.pool c.advance.new.self c.guess.new.guesses))
-stepped c =
+stepped : (g : _) (c : goal.After-advance g) → IsSoundStep c.args.self.now Step (Stepped c.args.abandoned c.args.owned c.in_ok-step.step) (state_of (with_step_at c.self.inside c.args.number c.fold_one.new.shard c.fold_one.new.pool c.advance.new.self c.guess.new.guesses))
+stepped g c =
     subst (λ old. IsSoundStep old Step (Stepped c.args.abandoned c.args.owned c.in_ok-step.step) (state_of (with_step_at c.self.inside c.args.number c.fold_one.new.shard c.fold_one.new.pool c.advance.new.self c.guess.new.guesses))) c.self.view_is
     (IsSoundStep-fold_fields c.self.inside c.requires.next.0 (c.args.abandoned, c.args.owned) c.args.number c.index_mut-shard.result.now c.fold_one.new.shard c.fold_one.new.pool c.advance.new.self c.guess.new.guesses c.in_ok-step.step c.self.invariant
     (subst (λ (s : CoreState). IsNext s c.requires.next.0 (c.args.abandoned, c.args.owned)) (sym c.self.view_is) c.requires.next.1)
@@ -38,13 +38,13 @@ stepped c =
     c.index_mut-shard.ensures.value c.in_ok-step.ensures.ok c.fold_one.ensures.sound_shard c.fold_one.ensures.sound c.advance.ensures)
 
 pub invariant_of-self-2 : goal.invariant_of-self-2
-invariant_of-self-2 c = (stepped c).kept
+invariant_of-self-2 g c = (stepped g c).kept
 
 pub returns-clause-exact : goal.returns-clause-exact
-returns-clause-exact c = (stepped c).exact
+returns-clause-exact g c = (stepped g c).exact
 
 pub returns-clause-same : goal.returns-clause-same
-returns-clause-same c = (stepped c).plain
+returns-clause-same g c = (stepped g c).plain
 
 pub returns-clause-sound : goal.returns-clause-sound
-returns-clause-sound c = (stepped c).kept
+returns-clause-sound g c = (stepped g c).kept

@@ -13,8 +13,8 @@ use Rattle.arena_core.proofs.Steps.{value-no_home}
 use Rattle.arena_core.proofs.machine.Core.free.Goals as goal
 use Rattle.arena_core.proofs.machine.Core.free.Goals.{in-NotHere, in_default-matches}
 
-nowhere : (c : goal.After-self-in_default-2-1) → IsSoundStep c.args.self.now (Free c.args.key.now) (Freed false) c.args.self.now
-nowhere c =
+nowhere : (g : _) (c : goal.After-self-in_default-2-1 g) → IsSoundStep c.args.self.now (Free c.args.key.now) (Freed false) c.args.self.now
+nowhere g c =
     subst (λ old. IsSoundStep old (Free c.args.key.now) (Freed false) old) c.self.view_is
     (IsSoundStep-dead (state_of c.self.inside) c.args.key.now c.self.invariant
     (value-no_home (state_of c.self.inside) c.self.invariant.groups c.args.key.now
@@ -22,13 +22,13 @@ nowhere c =
     ∙ slice_get_past c.self.inside.shards.items c.shard.result (no_read c.self.inside c.shard.result c.in_default.ensures.variant.1))))
 
 pub returns-in_default-clause-exact : goal.returns-in_default-clause-exact
-returns-in_default-clause-exact c = ((nowhere c).exact.0, c.self.view_is)
+returns-in_default-clause-exact g c = ((nowhere g c).exact.0, c.self.view_is)
 
 pub returns-in_default-clause-plain : goal.returns-in_default-clause-plain
-returns-in_default-clause-plain c = ((nowhere c).plain.0, ap shown c.self.view_is)
+returns-in_default-clause-plain g c = ((nowhere g c).plain.0, ap shown c.self.view_is)
 
-home : (c : goal.Else-matches) → IsSoundStep c.args.self.now (Free c.args.key.now) (Freed (was_freed c.free-freed.result)) (state_of (with_shard_at c.self.inside c.shard.result c.free-freed.new.self))
-home c =
+home : (g : _) (c : goal.Else-matches g) → IsSoundStep c.args.self.now (Free c.args.key.now) (Freed (was_freed c.free-freed.result)) (state_of (with_shard_at c.self.inside c.shard.result c.free-freed.new.self))
+home g c =
     IsStep-free_home c.self.inside c.args.self.now c.shard.result c.args.key.now c.in-Some.shard.now c.free-freed.new.self c.free-freed.result c.self.view_is c.self.invariant
     (record { within = c.in-Some.ensures.variant.0 refl; value = c.in-Some.ensures.value })
     (elim c.match-matches.branch [
@@ -37,8 +37,8 @@ home c =
     ])
     c.free-freed.ensures.step c.free-freed.ensures.found c.free-freed.ensures.plain c.free-freed.ensures.sound
 
-done : (c : goal.After-was_done) → IsSoundStep c.args.self.now (Free c.args.key.now) (Freed c.was_done.result) (state_of (with_shard_at c.self.inside c.shard.result c.free-freed.new.self))
-done c =
+done : (g : _) (c : goal.After-was_done g) → IsSoundStep c.args.self.now (Free c.args.key.now) (Freed c.was_done.result) (state_of (with_shard_at c.self.inside c.shard.result c.free-freed.new.self))
+done g c =
     subst (λ b. IsSoundStep c.args.self.now (Free c.args.key.now) (Freed b) (state_of (with_shard_at c.self.inside c.shard.result c.free-freed.new.self))) (sym c.was_done.ensures)
     (IsStep-free_home c.self.inside c.args.self.now c.shard.result c.args.key.now c.in-Some.shard.now c.free-freed.new.self c.free-freed.result c.self.view_is c.self.invariant
     (record { within = c.in-Some.ensures.variant.0 refl; value = c.in-Some.ensures.value })
@@ -49,13 +49,13 @@ done c =
     c.free-freed.ensures.step c.free-freed.ensures.found c.free-freed.ensures.plain c.free-freed.ensures.sound)
 
 pub invariant_of-self-else-matches : goal.invariant_of-self-else-matches
-invariant_of-self-else-matches c = (home c).kept
+invariant_of-self-else-matches g c = (home g c).kept
 
 pub returns-clause-exact : goal.returns-clause-exact
-returns-clause-exact c = (done c).exact
+returns-clause-exact g c = (done g c).exact
 
 pub returns-clause-plain : goal.returns-clause-plain
-returns-clause-plain c = (done c).plain
+returns-clause-plain g c = (done g c).plain
 
 pub returns-clause-sound : goal.returns-clause-sound
-returns-clause-sound c = (done c).kept
+returns-clause-sound g c = (done g c).kept

@@ -12,8 +12,8 @@ use Rattle.arena_core.proofs.PlanSteps.{IsSoundStep, IsSoundStep-Frees, IsSoundS
 use Rattle.arena_core.proofs.Steps.{value-nowhere}
 use Rattle.arena_core.proofs.machine.Core.free_moved.Goals as goal
 
-owned : (c : goal.After-was_done) → IsSoundStep c.args.self.now (Free c.args.key.now) (Freed c.was_done.result) (state_of (with_shard_at c.self.inside c.in-Some-Shard.number c.free.new.self))
-owned c =
+owned : (g : _) (c : goal.After-was_done g) → IsSoundStep c.args.self.now (Free c.args.key.now) (Freed c.was_done.result) (state_of (with_shard_at c.self.inside c.in-Some-Shard.number c.free.new.self))
+owned g c =
     let there = shard-there (state_of c.self.inside) c.args.key.now c.span.result c.in-Some-Shard.field-0 c.self.invariant.groups (subst (λ (s : CoreState). StandsAt s c.span.result c.in-Some-Shard.field-0) (sym c.self.view_is) c.in-Some-Shard.ensures) c.span.ensures
     c.in-Some-Shard.number c.index_mut.result.now c.in-Some-Shard.field-0-is c.index_mut.ensures.value in
     subst (λ old. IsSoundStep old (Free c.args.key.now) (Freed c.was_done.result) (state_of (with_shard_at c.self.inside c.in-Some-Shard.number c.free.new.self))) c.self.view_is
@@ -22,8 +22,8 @@ owned c =
     (IsSoundStep-Frees (state_of c.self.inside) c.args.key.now c.in-Some-Shard.number c.index_mut.result.now c.free.new.self c.free.result c.self.invariant there.0 there.1
     c.free.ensures.step c.free.ensures.found c.free.ensures.plain c.free.ensures.sound)))
 
-pooled : (c : goal.After-was_done-in-Some-Pool) → IsSoundStep c.args.self.now (Free c.args.key.now) (Freed c.was_done-in-Some-Pool.result) (with_pool (state_of c.self.inside) c.free-in-Some-Pool.new.self)
-pooled c =
+pooled : (g : _) (c : goal.After-was_done-in-Some-Pool g) → IsSoundStep c.args.self.now (Free c.args.key.now) (Freed c.was_done-in-Some-Pool.result) (with_pool (state_of c.self.inside) c.free-in-Some-Pool.new.self)
+pooled g c =
     let some = pooled-there (state_of c.self.inside) c.args.key.now c.span.result c.in-Some-Pool.field-0 c.self.invariant.groups (subst (λ (s : CoreState). StandsAt s c.span.result c.in-Some-Pool.field-0) (sym c.self.view_is) c.in-Some-Pool.ensures) c.span.ensures c.in-Some-Pool.field-0-is in
     subst (λ old. IsSoundStep old (Free c.args.key.now) (Freed c.was_done-in-Some-Pool.result) (with_pool (state_of c.self.inside) c.free-in-Some-Pool.new.self)) c.self.view_is
     (subst (λ b. IsSoundStep (state_of c.self.inside) (Free c.args.key.now) (Freed b) (with_pool (state_of c.self.inside) c.free-in-Some-Pool.new.self)) (sym c.was_done-in-Some-Pool.ensures)
@@ -31,36 +31,36 @@ pooled c =
     c.free-in-Some-Pool.ensures.step c.free-in-Some-Pool.ensures.found c.free-in-Some-Pool.ensures.plain c.free-in-Some-Pool.ensures.sound))
 
 pub invariant_of-self : goal.invariant_of-self
-invariant_of-self c = (owned c).kept
+invariant_of-self g c = (owned g c).kept
 
 pub invariant_of-self-in-Some-Pool : goal.invariant_of-self-in-Some-Pool
-invariant_of-self-in-Some-Pool c = (pooled c).kept
+invariant_of-self-in-Some-Pool g c = (pooled g c).kept
 
 pub returns-in-Some-Shard-clause-exact : goal.returns-in-Some-Shard-clause-exact
-returns-in-Some-Shard-clause-exact c = (owned c).exact
+returns-in-Some-Shard-clause-exact g c = (owned g c).exact
 
 pub returns-in-Some-Shard-clause-plain : goal.returns-in-Some-Shard-clause-plain
-returns-in-Some-Shard-clause-plain c = (owned c).plain
+returns-in-Some-Shard-clause-plain g c = (owned g c).plain
 
 pub returns-in-Some-Shard-clause-sound : goal.returns-in-Some-Shard-clause-sound
-returns-in-Some-Shard-clause-sound c = (owned c).kept
+returns-in-Some-Shard-clause-sound g c = (owned g c).kept
 
 pub returns-in-Some-Pool-clause-exact : goal.returns-in-Some-Pool-clause-exact
-returns-in-Some-Pool-clause-exact c = (pooled c).exact
+returns-in-Some-Pool-clause-exact g c = (pooled g c).exact
 
 pub returns-in-Some-Pool-clause-plain : goal.returns-in-Some-Pool-clause-plain
-returns-in-Some-Pool-clause-plain c = (pooled c).plain
+returns-in-Some-Pool-clause-plain g c = (pooled g c).plain
 
 pub returns-in-Some-Pool-clause-sound : goal.returns-in-Some-Pool-clause-sound
-returns-in-Some-Pool-clause-sound c = (pooled c).kept
+returns-in-Some-Pool-clause-sound g c = (pooled g c).kept
 
-nowhere : (c : goal.In-None) → IsSoundStep c.args.self.now (Free c.args.key.now) (Freed false) c.args.self.now
-nowhere c =
+nowhere : (g : _) (c : goal.In-None g) → IsSoundStep c.args.self.now (Free c.args.key.now) (Freed false) c.args.self.now
+nowhere g c =
     IsSoundStep-dead c.args.self.now c.args.key.now (subst IsSound c.self.view_is c.self.invariant)
     (value-nowhere c.args.self.now (subst IsSound c.self.view_is c.self.invariant).groups c.args.key.now (subst (IsNowhere c.args.self.now) c.span.ensures c.in-None.ensures))
 
 pub returns-in-None-clause-exact : goal.returns-in-None-clause-exact
-returns-in-None-clause-exact c = (nowhere c).exact
+returns-in-None-clause-exact g c = (nowhere g c).exact
 
 pub returns-in-None-clause-plain : goal.returns-in-None-clause-plain
-returns-in-None-clause-plain c = (nowhere c).plain
+returns-in-None-clause-plain g c = (nowhere g c).plain

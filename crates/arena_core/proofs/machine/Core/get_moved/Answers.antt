@@ -8,7 +8,7 @@ use Rattle.arena_core.proofs.Steps.{value-nowhere}
 use Rattle.arena_core.proofs.machine.Core.get_moved.Goals as goal
 
 pub returns-in-Some-Shard : goal.returns-in-Some-Shard
-returns-in-Some-Shard c = record {
+returns-in-Some-Shard g c = record {
   value = value-there c.args.self.now c.args.key.now c.span.result c.in-Some-Shard.field-0 (subst IsSound c.self.view_is c.self.invariant).groups c.in-Some-Shard.ensures c.span.ensures
       c.in-Some-Shard.number c.index.result.now c.value_of.result c.in-Some-Shard.field-0-is
       (c.index.ensures ∙ ap (λ (s : CoreState). get_or s.shards c.in-Some-Shard.number c.index.result.now) c.self.view_is)
@@ -16,11 +16,11 @@ returns-in-Some-Shard c = record {
 }
 
 pub returns-in-Some-Pool : goal.returns-in-Some-Pool
-returns-in-Some-Pool c = record {
+returns-in-Some-Pool g c = record {
   value = value-pooled c.args.self.now c.args.key.now c.span.result c.in-Some-Pool.field-0 (subst IsSound c.self.view_is c.self.invariant).groups c.in-Some-Pool.ensures c.span.ensures
       c.value_of-in-Some-Pool.result c.in-Some-Pool.field-0-is
       (c.value_of-in-Some-Pool.ensures ∙ c.get-in-Some-Pool.ensures.plain ∙ ap (λ (s : CoreState). (shown_by_pool s.pool).value_of c.args.key.now) c.self.view_is);
 }
 
 pub returns-in-None : goal.returns-in-None
-returns-in-None c = record { value = sym (value-nowhere c.args.self.now (subst IsSound c.self.view_is c.self.invariant).groups c.args.key.now (subst (IsNowhere c.args.self.now) c.span.ensures c.in-None.ensures)) }
+returns-in-None g c = record { value = sym (value-nowhere c.args.self.now (subst IsSound c.self.view_is c.self.invariant).groups c.args.key.now (subst (IsNowhere c.args.self.now) c.span.ensures c.in-None.ensures)) }

@@ -7,20 +7,20 @@ use Rattle.arena_core.proofs.Owner.{elsewhere-pooled}
 use Rattle.arena_core.proofs.machine.Core.owner_of.Goals as goal
 
 pub returns-then-has_at : goal.returns-then-has_at
-returns-then-has_at c =
+returns-then-has_at g c =
     let (shard, at, some) = c.if-has_at.ensures.0 refl in
     subst (λ (s : CoreState). StandsAt s c.args.id (owner.Shard c.in-Some.number)) c.self.view_is (shard, ap (λ shards. slice_get shards c.in-Some.number) (sym c.as_slice.ensures.value) ∙ at, some)
 
 pub returns-then-has : goal.returns-then-has
-returns-then-has c = subst (λ (s : CoreState). IsElsewhere s.pool.groups c.args.id → ⊥) c.self.view_is (c.if-has.ensures.0 refl)
+returns-then-has g c = subst (λ (s : CoreState). IsElsewhere s.pool.groups c.args.id → ⊥) c.self.view_is (c.if-has.ensures.0 refl)
 
 pub returns-in-Some-position : goal.returns-in-Some-position
-returns-in-Some-position c =
+returns-in-Some-position g c =
     let (shard, at, some) = c.in-Some-position.ensures in
     subst (λ (s : CoreState). StandsAt s c.args.id (owner.Shard c.in-Some-position.number)) c.self.view_is (shard, ap (λ shards. slice_get shards c.in-Some-position.number) (sym c.as_slice-2.ensures.value) ∙ at, some)
 
 pub returns-in-None : goal.returns-in-None
-returns-in-None c =
+returns-in-None g c =
     subst (λ (s : CoreState). IsNowhere s c.args.id) c.self.view_is
     (record {
       shards = λ number shard here. c.in-None.ensures number shard (ap (λ shards. slice_get shards number) c.as_slice-2.ensures.value ∙ here);

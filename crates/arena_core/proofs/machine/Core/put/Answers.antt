@@ -11,15 +11,15 @@ use Rattle.arena_core.proofs.Fields.{with_shard_at}
 use Rattle.arena_core.proofs.PlanSteps.{IsSoundStep}
 use Rattle.arena_core.proofs.machine.Core.put.Goals as goal
 
-issued : (c : goal.After-key-1) → IsSoundStep c.args.self.now (Put c.args.number c.args.value) (Issued c.in_ok-key.key) (state_of (with_shard_at c.self.inside c.args.number c.put.new.self))
-issued c =
+issued : (g : _) (c : goal.After-key-1 g) → IsSoundStep c.args.self.now (Put c.args.number c.args.value) (Issued c.in_ok-key.key) (state_of (with_shard_at c.self.inside c.args.number c.put.new.self))
+issued g c =
     subst (λ old. IsSoundStep old (Put c.args.number c.args.value) (Issued c.in_ok-key.key) (state_of (with_shard_at c.self.inside c.args.number c.put.new.self))) c.self.view_is
     (IsStep-put_fields c.self.inside c.args.number c.args.value c.in_ok-key.key c.in_ok-key.field-0-1 c.in-Some.shard.now c.put.new.self
     c.self.invariant (record { within = c.in-Some.ensures.variant.0 refl; value = c.in-Some.ensures.value })
     c.in_ok-key.ensures.ok c.in_ok-key.ensures.fresh c.in_ok-key.ensures.plain c.put.ensures.sound)
 
 pub returns-in_err-key-clause-exact : goal.returns-in_err-key-clause-exact
-returns-in_err-key-clause-exact c =
+returns-in_err-key-clause-exact g c =
     let refused = err_from_is_err_and c.from_residual.result c.from_residual.ensures.1 in
     let step = subst (λ old. CoreStep old (Put c.args.number c.args.value) (Refused (refusal_of c.in_err-key.field-0.0)) (state_of (with_shard_at c.self.inside c.args.number c.put.new.self))) c.self.view_is
     (CoreStep-refused_fields c.self.inside c.args.number c.args.value c.in_err-key.field-0.0 c.in-Some.shard.now c.put.new.self
@@ -28,20 +28,20 @@ returns-in_err-key-clause-exact c =
     rw (refused.1, refused.2) step
 
 pub returns-in_err-key-clause-plain : goal.returns-in_err-key-clause-plain
-returns-in_err-key-clause-plain c =
+returns-in_err-key-clause-plain g c =
     let refused = err_from_is_err_and c.from_residual.result c.from_residual.ensures.1 in
     let same = state_of-same c.self.inside c.args.number c.in-Some.shard.now c.put.new.self (record { within = c.in-Some.ensures.variant.0 refl; value = c.in-Some.ensures.value }) c.in_err-key.ensures.err in
     let step = PlainStep-refused (shown c.args.self.now) (shown (state_of (with_shard_at c.self.inside c.args.number c.put.new.self))) c.args.number c.args.value c.in_err-key.field-0.0 (ap shown (same ∙ c.self.view_is)) in
     rw (refused.1, refused.2) step
 
 pub invariant_of-self-2 : goal.invariant_of-self-2
-invariant_of-self-2 c = (issued c).kept
+invariant_of-self-2 g c = (issued g c).kept
 
 pub returns-clause-exact : goal.returns-clause-exact
-returns-clause-exact c = (issued c).exact
+returns-clause-exact g c = (issued g c).exact
 
 pub returns-clause-plain : goal.returns-clause-plain
-returns-clause-plain c = (issued c).plain
+returns-clause-plain g c = (issued g c).plain
 
 pub returns-clause-sound : goal.returns-clause-sound
-returns-clause-sound c = (issued c).kept
+returns-clause-sound g c = (issued g c).kept

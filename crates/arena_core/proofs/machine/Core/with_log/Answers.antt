@@ -1,0 +1,25 @@
+use Rattle.std.proofs.Common.{ap, subst, sym, ◌∙◌}
+use Rattle.arena_core.specs.Sound.{IsSound}
+use Rattle.arena_core.specs.State.{AreWithin, Limits, limits_of, shown}
+use Rattle.arena_core.proofs.Start.{HasSoundGroups-new_core, IsSound-new_core, new_core-fields, shown-new_core}
+use Rattle.arena_core.proofs.machine.Core.with_log.Goals as goal
+
+pub invariant_of-result : goal.invariant_of-result
+invariant_of-result g c =
+    let limits : Limits = limits_of c.args.shards c.args.page_limit c.args.ring_capacity c.args.gens in
+    let within : AreWithin limits = c.are_within.ensures.0 c.if-not-are_within.false in
+    subst IsSound (sym (new_core-fields limits c.in_ok-shards.shards.items c.with_log.result c.in_ok-plan.plan c.in_ok-shards.ensures.shards c.with_log.ensures.empty c.in_ok-plan.ensures)) (IsSound-new_core limits (HasSoundGroups-new_core limits within c.in_ok-shards.ensures.sound))
+
+pub returns-clause-ok : goal.returns-clause-ok
+returns-clause-ok g c = new_core-fields (limits_of c.args.shards c.args.page_limit c.args.ring_capacity c.args.gens) c.in_ok-shards.shards.items c.with_log.result c.in_ok-plan.plan c.in_ok-shards.ensures.shards c.with_log.ensures.empty c.in_ok-plan.ensures
+
+pub returns-clause-empty : goal.returns-clause-empty
+returns-clause-empty g c =
+    let limits : Limits = limits_of c.args.shards c.args.page_limit c.args.ring_capacity c.args.gens in
+    ap shown (new_core-fields limits c.in_ok-shards.shards.items c.with_log.result c.in_ok-plan.plan c.in_ok-shards.ensures.shards c.with_log.ensures.empty c.in_ok-plan.ensures) ∙ shown-new_core limits
+
+pub returns-clause-sound : goal.returns-clause-sound
+returns-clause-sound g c =
+    let limits : Limits = limits_of c.args.shards c.args.page_limit c.args.ring_capacity c.args.gens in
+    let within : AreWithin limits = c.are_within.ensures.0 c.if-not-are_within.false in
+    subst IsSound (sym (new_core-fields limits c.in_ok-shards.shards.items c.with_log.result c.in_ok-plan.plan c.in_ok-shards.ensures.shards c.with_log.ensures.empty c.in_ok-plan.ensures)) (IsSound-new_core limits (HasSoundGroups-new_core limits within c.in_ok-shards.ensures.sound))
