@@ -36,38 +36,35 @@ impl Write for Drip {
     }
 }
 
-fn given(alloc: Global, fails_at: usize, gives_zero: bool) -> (Result<(), SinkFailed>, Out<Drip>) {
+/// Whether so many bytes of the text are taken, where the write behind them fails, and the failure is told, once.
+fn takes_front(alloc: Global, taken: usize, gives_zero: bool) -> bool {
     let mut out = Out::new(Drip {
         bytes: Vec::new(alloc),
         writes: 0,
-        fails_at,
+        fails_at: taken.saturating_add(1),
         gives_zero,
     });
     let result = give(&mut out, TEXT);
-    (result, out)
+    let (wanted, failures) = if taken < TEXT.len() {
+        (Err(SinkFailed), 1)
+    } else {
+        (Ok(()), 0)
+    };
+    let bytes = out.writer.bytes.as_slice();
+    (result, out.failures(), bytes.len()) == (wanted, failures, taken) && TEXT.starts_with(bytes)
 }
 
 #[test]
 fn one_byte_a_write(rt: HostRuntime) {
-    for gives_zero in [false, true] {
-        for fails_at in 1..28usize {
-            let (result, out) = given(rt.alloc(), fails_at, gives_zero);
-            assert_eq!(rt; result, Err(SinkFailed), "at {fails_at}");
-            assert_eq!(rt; out.failures(), 1);
-            assert!(rt; fails_at <= TEXT.len());
-            assert_eq!(rt; out.writer.bytes.as_slice(), &TEXT[..fails_at - 1]);
-        }
-        let (result, out) = given(rt.alloc(), 28, gives_zero);
-        assert_eq!(rt; result, Ok(()));
-        assert_eq!(rt; out.failures(), 0);
-        assert_eq!(rt; out.writer.bytes.as_slice(), TEXT);
+    for taken in 0..28usize {
+        assert!(rt; takes_front(rt.alloc(), taken, false), "at {taken}");
+        assert!(rt; takes_front(rt.alloc(), taken, true), "at {taken}");
     }
 }
 
 #[test]
 fn in_memory(rt: HostRuntime) {
     let mut memory = Memory::new(rt.alloc());
-    assert_eq!(rt; give(&mut memory, TEXT), Ok(()));
-    assert_eq!(rt; give(&mut memory, b""), Ok(()));
-    assert_eq!(rt; memory.bytes.as_slice(), TEXT);
+    let given = (give(&mut memory, TEXT), give(&mut memory, b""));
+    assert_eq!(rt; (given, memory.bytes.as_slice()), ((Ok(()), Ok(())), TEXT));
 }

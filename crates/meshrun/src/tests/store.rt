@@ -56,20 +56,23 @@ fn saves_to_the_named_file(rt: HostRuntime) -> Result<(), Fail> {
     let mut store = OneFile::new(rt.alloc(), false);
     save(&mut store, Some("a.cert"), b"first")?;
     save(&mut store, Some("b.cert"), b"last")?;
-    assert_eq!(rt; store.path.as_str(), "b.cert");
-    assert_eq!(rt; store.bytes.as_slice(), b"last".as_slice());
+    assert_eq!(rt;
+        (store.path.as_str(), store.bytes.as_slice()),
+        ("b.cert", b"last".as_slice())
+    );
     Ok(())
 }
 
 #[test]
-fn nothing_to_save(rt: HostRuntime) -> Result<(), Fail> {
+fn nothing_to_save(rt: HostRuntime) {
     let mut store = OneFile::new(rt.alloc(), true);
-    save(&mut store, None, b"text")?;
-    save(&mut store, Some("a.cert"), b"")?;
-    assert_eq!(rt; store.failures, 0);
-    assert_eq!(rt; save(&mut store, Some("a.cert"), b"text"), Err(StoreFailed));
-    assert_eq!(rt; store.failures, 1);
-    Ok(())
+    let unnamed = save(&mut store, None, b"text");
+    let empty = save(&mut store, Some("a.cert"), b"");
+    let failed = save(&mut store, Some("a.cert"), b"text");
+    assert_eq!(rt;
+        (unnamed, empty, failed, store.failures),
+        (Ok(()), Ok(()), Err(StoreFailed), 1)
+    );
 }
 
 // The text of the file of the certificate on the disk, after a longer one and then a shorter one were saved.
