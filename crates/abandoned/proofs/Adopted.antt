@@ -1,17 +1,18 @@
 -- An adoption: the lowest group that has a page, and what the shard asks of it.
-use Rattle.std.proofs.Common.{◌≡◌, ℕ, false, length, Option, Some, None, slice_get, ap, sym, subst, ◌∙◌, refl, inl, inr, arith}
+use Rattle.std.proofs.Common.{◌≡◌, ℕ, ◌≤◌, false, length, Option, Some, None, slice_get, ap, sym, subst, ◌∙◌, refl, inl, inr, arith}
 use Rattle.std.specs.Prelude.{◌≢◌, option_map}
 use Rattle.std.specs.Option.{IsSome}
 use Rattle.std.proofs.lemmas.Bool.{cases_eq, cases_lt}
+use Rattle.span.specs.Ids.{rank}
 use Rattle.page_table.specs.State.{words_of}
 use Rattle.shard.specs.Moves.{MayTakeIn, TakesIn, WholeState, spans_moved, with_room}
 use Rattle.shard.specs.Sound.{IsSound as IsSoundShard}
 use Rattle.shard.specs.State.{ShardState}
 use Rattle.shard.proofs.Heads.{one_of_head}
 use Rattle.shard.proofs.Lists.{same_some}
-use Rattle.abandoned.specs.Calls.{Adopts, HasDoubled, IsDoubled, IsLowestPaged, Lifts}
+use Rattle.abandoned.specs.Calls.{Adopts, HasDoubled, IsDoubled, IsFirstPaged, IsLowestPaged, Lifts}
 use Rattle.abandoned.specs.Sound.{IsSound}
-use Rattle.abandoned.specs.State.{PoolState, PooledState, spans_of, whole_of}
+use Rattle.abandoned.specs.State.{Ascend, PoolState, PooledState, spans_of, whole_of}
 use Rattle.abandoned.proofs.Heads.{head_id}
 
 some_page : (o : Option ℕ) → o ≡ None → IsSome o → ⊥
@@ -19,17 +20,30 @@ some_page None is some = absurd cc
 some_page (Some page) is some = absurd cc
 
 -- one group is the lowest that has a page
-pub one_lowest : (pool : PoolState) (i j : ℕ) (a b : PooledState) → IsLowestPaged pool i a → IsLowestPaged pool j b → a ≡ b
-one_lowest pool i j a b one other = elim (cases_lt i j) [
-  | inl less ↦ absurd (some_page a.page (other.lower i a less one.here) one.paged)
+pub one_lowest : (pool : PoolState) → Ascend pool.groups → (i j : ℕ) (a b : PooledState) → IsLowestPaged pool i a → IsLowestPaged pool j b → a ≡ b
+one_lowest pool ascend i j a b one other = elim (cases_lt i j) [
+  | inl less ↦ absurd (omega (arith, ascend i j a b less one.here other.here, other.lowest i a one.here one.paged))
   | inr more ↦ elim (cases_eq i j) [
     | inl same ↦ same_some (sym one.here ∙ ap (slice_get pool.groups) same ∙ other.here)
-    | inr apart ↦ absurd (some_page b.page (one.lower j b (omega arith) other.here) other.paged)
+    | inr apart ↦ absurd (omega (arith, ascend j i b a (omega arith) other.here one.here, one.lowest j b other.here other.paged))
   ]
 ]
 
-pub IsDoubled-lowest : (pool : PoolState) (shard : ShardState) (index : ℕ) (group : PooledState) → IsLowestPaged pool index group → IsDoubled pool shard → HasDoubled shard (spans_of group)
-IsDoubled-lowest pool shard index group lowest (other, g, its, doubled) = subst (λ (x : PooledState). HasDoubled shard (spans_of x)) (one_lowest pool other index g group its lowest) doubled
+-- the first group that has a page is the lowest
+pub IsLowestPaged-first : (pool : PoolState) → Ascend pool.groups → (index : ℕ) (group : PooledState) → IsFirstPaged pool.groups index group → IsLowestPaged pool index group
+IsLowestPaged-first pool ascend index group first = record { here = first.here; paged = first.paged; lowest = lowest }
+  where
+    lowest : (other : ℕ) (paged : PooledState) → slice_get pool.groups other ≡ Some paged → IsSome paged.page → rank group.head.id ≤ rank paged.head.id
+    lowest other paged there some = elim (cases_lt other index) [
+      | inl less ↦ absurd (some_page paged.page (first.lower other paged less there) some)
+      | inr more ↦ elim (cases_eq other index) [
+        | inl same ↦ let one : paged ≡ group = same_some (sym there ∙ ap (slice_get pool.groups) same ∙ first.here) in omega (arith, ap (λ (g : PooledState). rank g.head.id) one)
+        | inr apart ↦ omega (arith, ascend index other group paged (omega arith) first.here there)
+      ]
+    ]
+
+pub IsDoubled-lowest : (pool : PoolState) → Ascend pool.groups → (shard : ShardState) (index : ℕ) (group : PooledState) → IsLowestPaged pool index group → IsDoubled pool shard → HasDoubled shard (spans_of group)
+IsDoubled-lowest pool ascend shard index group lowest (other, g, its, doubled) = subst (λ (x : PooledState). HasDoubled shard (spans_of x)) (one_lowest pool ascend other index g group its lowest) doubled
 
 pub nothing_lowest : (pool : PoolState) (index : ℕ) (group : PooledState) → IsLowestPaged pool index group → ((other : ℕ) (g : PooledState) → slice_get pool.groups other ≡ Some g → g.page ≡ None) → ⊥
 nothing_lowest pool index group lowest none = some_page group.page (none index group lowest.here) lowest.paged

@@ -134,9 +134,11 @@ pub record IsFirstPaged (groups : List PooledState) (index : ℕ) (group : Poole
   pub paged : IsSome group.page
   pub lower : (other : ℕ) (before : PooledState) → other < index → slice_get groups other ≡ Some before → before.page ≡ None
 
--- the group of lowest head that has a page: groups stand by ascending head
-abbrev pub IsLowestPaged : PoolState → ℕ → PooledState → Type 0
-IsLowestPaged pool index group = IsFirstPaged pool.groups index group
+-- of the groups that have a page, the one of lowest head
+pub record IsLowestPaged (pool : PoolState) (index : ℕ) (group : PooledState) : Type 0 where
+  pub here : slice_get pool.groups index ≡ Some group
+  pub paged : IsSome group.page
+  pub lowest : (other : ℕ) (paged : PooledState) → slice_get pool.groups other ≡ Some paged → IsSome paged.page → rank group.head.id ≤ rank paged.head.id
 
 -- none of the groups has a page
 abbrev pub HasNoPage : List PooledState → Type 0
@@ -156,9 +158,13 @@ pub record Adopts (old : PoolState) (shard : ShardState) (head : SpanId) (new : 
   pub lifts : Lifts old head (Some whole) new
   pub takes_in : TakesInShard (with_room_in shard None (length (spans_moved whole))) whole adopter
 
+-- the shard has a span of this id, or is the one that opens it
+abbrev pub IsTaken : ShardState → SpanId → Type 0
+IsTaken shard id = (id.shard ≡ shard.number) ⊎ (IsElsewhereInShard shard.groups id → ⊥)
+
 -- one of the spans is in the shard already, or bears its number
 abbrev pub HasDoubled : ShardState → List SpanState → Type 0
-HasDoubled shard spans = (place : ℕ) × (span : SpanState) × (slice_get spans place ≡ Some span) × ((span.id.shard ≡ shard.number) ⊎ (IsElsewhereInShard shard.groups span.id → ⊥))
+HasDoubled shard spans = (place : ℕ) × (span : SpanState) × (slice_get spans place ≡ Some span) × IsTaken shard span.id
 
 -- a span of the pool's lowest group that has a page is in the shard already, or bears its number
 abbrev pub IsDoubled : PoolState → ShardState → Type 0

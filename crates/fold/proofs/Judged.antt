@@ -9,12 +9,12 @@ use Rattle.shard.specs.Moves.{IsHeadOf as IsHeadOfInShard}
 use Rattle.shard.specs.Sound.{IsSound as IsSoundShard}
 use Rattle.shard.specs.State.{ShardState}
 use Rattle.shard.proofs.HeadsHere.{same_group}
-use Rattle.abandoned.specs.Calls.{HasDoubled, IsMemberAt}
+use Rattle.abandoned.specs.Calls.{HasDoubled, IsMemberAt, IsTaken}
 use Rattle.abandoned.specs.Sound.{IsSound}
 use Rattle.abandoned.specs.State.{IsHeadOf, PoolState, PooledState, spans_of}
 use Rattle.abandoned.proofs.Adopted.{one_head}
 use Rattle.abandoned.proofs.Searches.{below_next, not_there}
-use Rattle.fold.specs.Folds.{IsAbsent, IsClash, IsEmptied, IsTaken, MayFold, WouldDouble}
+use Rattle.fold.specs.Folds.{IsAbsent, IsClash, IsEmptied, MayFold, WouldDouble}
 
 -- one group of the pool has the head
 pub WouldDouble-here : (pool : PoolState) → IsSound pool → (shard : ShardState) (a : SpanId) (index : ℕ) (group : PooledState) → IsHeadOf pool.groups a index group → WouldDouble pool shard a → HasDoubled shard (spans_of group)

@@ -4,15 +4,11 @@ use Rattle.bitmap.specs.Slots.{AreDisjoint}
 use Rattle.span.specs.declared.id.SpanId.{SpanId}
 use Rattle.shard.specs.Group.{GroupState, occupied, union_of}
 use Rattle.shard.specs.Moves.{Grafts, HasNoHead as HasNoHeadInShard, IsHeadOf as IsHeadOfInShard, WholeState, spans_moved, with_room}
-use Rattle.shard.specs.State.{ShardState, IsElsewhere as IsElsewhereInShard}
+use Rattle.shard.specs.State.{ShardState}
 use Rattle.abandoned.specs.Calls.{HasDoubled, Lifts}
 use Rattle.abandoned.specs.State.{HasNoHead, IsHeadOf, PoolState, PooledState, spans_of}
 use Rattle.fold.specs.declared.step.Step.{Step}
 use Rattle.fold.specs.declared.step.Step.TheVariants.{Absent, Clash, Emptied, Folded}
-
--- the shard has a span of this id, or is the one that opens it
-abbrev pub IsTaken : ShardState → SpanId → Type 0
-IsTaken shard id = (id.shard ≡ shard.number) ⊎ (IsElsewhereInShard shard.groups id → ⊥)
 
 -- a span of the pool's group of a is in the shard already, or bears its number
 abbrev pub WouldDouble : PoolState → ShardState → SpanId → Type 0

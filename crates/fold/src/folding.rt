@@ -2,10 +2,11 @@
 ghost use Rattle.std.specs.Prelude.{◌≡◌, ◌+◌, ◌↔◌, ℕ, IfOk, IsTrue, OnErr, OnOk, Ok, length};
 ghost use Rattle.shard.specs.Shown.{shown as shown_by_shard};
 ghost use Rattle.shard.specs.Sound.{IsSound as IsSoundShard};
+ghost use Rattle.abandoned.specs.Calls.{IsTaken};
 ghost use Rattle.abandoned.specs.Shown.{shown, together};
 ghost use Rattle.abandoned.specs.Sound.{IsSound};
 ghost use Rattle.abandoned.specs.State.{IsHeadOf, PooledState, paged_groups, spans_of};
-ghost use Rattle.fold.specs.Folds.{Folds, IsStepFor, IsTaken, MayFold, Steps, WouldDouble};
+ghost use Rattle.fold.specs.Folds.{Folds, IsStepFor, MayFold, Steps, WouldDouble};
 
 use crate::step::Step;
 use abandoned::Pool;
@@ -109,7 +110,12 @@ fn is_taken<L: Log>(shard: &Shard<L>, id: SpanId) -> bool
 }
 
 // Makes room in the shard, and then moves the group there.
-fn carry_out<L: Log>(pool: &mut Pool<L>, shard: &mut Shard<L>, a: SpanId, b: SpanId) -> Result<(), AllocError>
+fn carry_out<L: Log>(
+    pool: &mut Pool<L>,
+    shard: &mut Shard<L>,
+    a: SpanId,
+    b: SpanId,
+) -> Result<(), AllocError>
     requires may { MayFold pool.old shard.old a b }
     requires sound { IsSound pool.old }
     requires sound_shard { IsSoundShard shard.old }

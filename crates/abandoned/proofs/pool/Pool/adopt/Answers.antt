@@ -1,5 +1,6 @@
-use Rattle.std.proofs.Common.{◌≡◌, ℕ, None, subst}
+use Rattle.std.proofs.Common.{◌≡◌, ℕ, None, refl, subst, sym}
 use Rattle.std.specs.Prelude.{Result, IsOkUnless, IsSome, Err}
+use Rattle.std.proofs.lemmas.Bool.{false≢true}
 use Rattle.span.specs.declared.id.SpanId.{SpanId}
 use Rattle.abandoned.specs.declared.error.AdoptError.{AdoptError}
 use Rattle.abandoned.specs.declared.error.AdoptError.TheVariants.{NothingToAdopt, OutOfMemory}
@@ -15,5 +16,18 @@ pub returns-clause-nothing : goal.returns-clause-nothing
 returns-clause-nothing g c =
     let lowest = c.in-Some.ensures.lowest in (
       (λ nothing. absurd (found_some c.move_to.result c.move_to.ensures.only nothing)),
+      (λ causes. let paged : IsSome {T = ℕ} None = subst IsSome (causes.3 c.in-Some.index lowest.0 lowest.1.here) lowest.1.paged in absurd cc),
+    )
+
+pub returns-then-would_double-clause-doubled : goal.returns-then-would_double-clause-doubled
+returns-then-would_double-clause-doubled g c = (
+  (λ said. ((λ full. absurd (false≢true (c.if-is_full.ensures.1 full))), sym c.if-ended.ensures.ended, c.if-would_double.ensures.0 refl)),
+  (λ causes. refl),
+)
+
+pub returns-then-would_double-clause-nothing : goal.returns-then-would_double-clause-nothing
+returns-then-would_double-clause-nothing g c =
+    let lowest = c.in-Some.ensures.lowest in (
+      (λ said. absurd cc),
       (λ causes. let paged : IsSome {T = ℕ} None = subst IsSome (causes.3 c.in-Some.index lowest.0 lowest.1.here) lowest.1.paged in absurd cc),
     )

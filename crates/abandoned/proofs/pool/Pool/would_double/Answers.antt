@@ -5,7 +5,7 @@ use Rattle.shard.specs.Group.{SpansState, all_spans}
 use Rattle.shard.proofs.Lists.{same_some}
 use Rattle.abandoned.specs.Calls.{HasDoubled, IsLowestPaged}
 use Rattle.abandoned.specs.Kept.{state_of}
-use Rattle.abandoned.specs.State.{PoolState, PooledState, spans_of}
+use Rattle.abandoned.specs.State.{Ascend, PoolState, PooledState, spans_of}
 use Rattle.abandoned.proofs.Adopted.{IsDoubled-lowest}
 use Rattle.abandoned.proofs.pool.Pool.would_double.Goals as goal
 
@@ -17,5 +17,5 @@ returns g c =
     let same : group ≡ c.index.result.now = same_some (sym inside.here ∙ here) in
     let both = subst (λ (s : SpansState). IsTrue c.is_doubled.result ↔ HasDoubled c.args.shard.now (all_spans s)) c.spans.ensures c.is_doubled.ensures in (
       (λ t. (c.args.index, group, c.requires.lowest.1, subst (λ (g : PooledState). HasDoubled c.args.shard.now (spans_of g)) (sym same) (both.0 t))),
-      (λ found. both.1 (subst (λ (g : PooledState). HasDoubled c.args.shard.now (spans_of g)) same (IsDoubled-lowest c.args.self.now c.args.shard.now c.args.index group c.requires.lowest.1 found))),
+      (λ found. both.1 (subst (λ (g : PooledState). HasDoubled c.args.shard.now (spans_of g)) same (IsDoubled-lowest c.args.self.now (subst (λ (s : PoolState). Ascend s.groups) c.self.view_is c.self.invariant.sound.ascending) c.args.shard.now c.args.index group c.requires.lowest.1 found))),
     )
