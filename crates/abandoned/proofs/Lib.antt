@@ -1,4 +1,5 @@
 pub mod Adopted
+pub mod Arrived
 pub mod Freed
 pub mod HeadPlaces
 pub mod Heads

@@ -43,12 +43,12 @@ empty_or_not s = by_items (set.items s) (same_slots _ _ (λ q. set.contains-from
 abbrev pub pooled : WholeState → Option ℕ → PooledState
 pooled whole page = record { head = whole.head; guests = whole.guests; page = page }
 
-abbrev IsElsewhereWhole : PoolState → WholeState → Type 0
+abbrev pub IsElsewhereWhole : PoolState → WholeState → Type 0
 IsElsewhereWhole pool whole = (place : ℕ) (span : SpanState) → slice_get (spans_moved whole) place ≡ Some span → IsElsewhere pool.groups span.id
 
 module _ (old : PoolState) (sound : IsSound old) (whole : WholeState) (fits : IsSoundWhole whole) (elsewhere : IsElsewhereWhole old whole) where
   -- where no slot is live
-  table_without : union_of (spans_moved whole) ≡ set.empty → IsTableWith old (pooled whole None) (less_room old.table (length (spans_moved whole)))
+  pub table_without : union_of (spans_moved whole) ≡ set.empty → IsTableWith old (pooled whole None) (less_room old.table (length (spans_moved whole)))
   table_without none = record {
     here = record { apart = fits.apart; legal = fits.legal; page = none };
     others = λ index other there. record { page = λ page is. refl; spans = λ page is place span at. refl };
@@ -72,10 +72,10 @@ module _ (old : PoolState) (sound : IsSound old) (whole : WholeState) (fits : Is
     get_page : map.get table.pages page ≡ Some words
     get_page = get-insert_same old.table.pages page words
 
-    words_now : words_of table page ≡ words
+    pub words_now : words_of table page ≡ words
     words_now = ap (λ (o : Option (List ℕ)). unwrap_or o []) get_page
 
-    table_with : IsTableWith old (pooled whole (Some page)) table
+    pub table_with : IsTableWith old (pooled whole (Some page)) table
     table_with = record {
       here = record {
         apart = fits.apart;

@@ -1,5 +1,5 @@
 -- What the calls of the pool do and answer.
-use Rattle.std.specs.Prelude.{◌≡◌, ◌≢◌, ◌⊎◌, map, ℕ, ◌-◌, ◌<◌, ◌≤◌, true, false, List, [], ◌∷◌, length, insert, remove, Option, Some, None, IsSome, is_some, slice_get, slice_set, slice_index}
+use Rattle.std.specs.Prelude.{◌≡◌, ◌≢◌, ◌⊎◌, map, ℕ, ◌+◌, ◌-◌, ◌<◌, ◌≤◌, true, false, List, [], ◌∷◌, length, insert, option_map, remove, Option, Some, None, IsSome, is_some, slice_get, slice_set, slice_index}
 use Rattle.std.specs.FinMap as finite
 use Rattle.std.specs.FinSet as set
 use Rattle.span.specs.declared.id.SpanId.{SpanId}
@@ -119,6 +119,22 @@ pub record Receives (old : PoolState) (shard : ShardState) (new : PoolState) (en
   pub running : shard.ended ≡ false
   pub moved : TakesAll (with_rooms old page_room span_room) (map (whole_of_shard shard.table) shard.groups) new
   pub after : ended ≡ record shard { ended = true; onto = None; groups = []; table = record shard.table { spans = finite.empty; pages = finite.empty } }
+
+-- the group is in the pool whole: its spans with their logs, and the words of its page where a slot is live; where none is, it has no page
+pub record IsPooled (pool : PoolState) (whole : WholeState) : Type 0 where
+  pub index : ℕ
+  pub group : PooledState
+  pub here : slice_get pool.groups index ≡ Some group
+  pub head : group.head ≡ whole.head
+  pub guests : group.guests ≡ whole.guests
+  pub words : union_of (spans_moved whole) ≢ set.empty → option_map (words_of pool.table) group.page ≡ whole.words
+  pub unpaged : union_of (spans_moved whole) ≡ set.empty → group.page ≡ None
+
+-- every group of the shard is in the pool, whole, every earlier group stays there, and there is no other
+pub record HasReceived (old : PoolState) (shard : ShardState) (new : PoolState) : Type 0 where
+  pub came : (index : ℕ) (group : GroupState) → slice_get shard.groups index ≡ Some group → IsPooled new (whole_of_shard shard.table group)
+  pub stays : (index : ℕ) (group : PooledState) → slice_get old.groups index ≡ Some group → IsPooled new (whole_of old.table group)
+  pub no_other : length new.groups ≡ length old.groups + length shard.groups
 
 -- one of the spans is among the groups already
 abbrev pub HasAny : List PooledState → List SpanState → Type 0

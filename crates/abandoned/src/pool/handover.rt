@@ -8,7 +8,7 @@ ghost use Rattle.shard.specs.Moves.{whole_of};
 ghost use Rattle.shard.specs.Shown.{shown as shown_by_shard};
 ghost use Rattle.shard.specs.Sound.{IsSound as IsSoundShard};
 ghost use Rattle.shard.specs.State.{spans_in as spans_in_shard};
-ghost use Rattle.abandoned.specs.Calls.{Adopts, HasAny, HasDoubled, HasNothingToAdopt, IsDoubled, IsInPool, IsLowestPaged, Receives, TakesAll};
+ghost use Rattle.abandoned.specs.Calls.{Adopts, HasAny, HasDoubled, HasNothingToAdopt, HasReceived, IsDoubled, IsInPool, IsLowestPaged, Receives, TakesAll};
 ghost use Rattle.abandoned.specs.Handover.{AreApart, HasRoomFor, IsEmptied};
 ghost use Rattle.abandoned.specs.Shown.{shown, together};
 ghost use Rattle.abandoned.specs.Sound.{IsSound};
@@ -31,6 +31,7 @@ impl<L: Log> Pool<L> {
     /// growth was refused; each growth stands before the first change.
     pub fn receive(&mut self, shard: &mut Shard<L>) -> Result<(), ReceiveError>
         ensures ok { OnOk result (Receives self.old shard.old self.new shard.new) }
+        ensures whole { OnOk result (HasReceived self.old shard.old self.new) }
         ensures kept { OnOk result (shown self.new ≡ together (shown self.old) (shown_by_shard shard.old)) }
         ensures ended { (result ≡ Err ReceiveError.Ended) ↔ (shard.old.ended ≡ true) }
         ensures doubled { (result ≡ Err ReceiveError.Doubled) ↔ ((shard.old.ended ≡ false) × IsInPool self.old shard.old) }
@@ -60,6 +61,7 @@ impl<L: Log> Pool<L> {
         requires sound { IsSound self.old }
         requires sound_shard { IsSoundShard shard.old }
         ensures ok { OnOk result (Receives self.old shard.old self.new shard.new) }
+        ensures whole { OnOk result (HasReceived self.old shard.old self.new) }
         ensures kept { OnOk result (shown self.new ≡ together (shown self.old) (shown_by_shard shard.old)) }
         ensures only { IsOkUnless result ReceiveError.OutOfMemory }
         ensures err { OnErr result (self.new ≡ self.old) }

@@ -3,6 +3,7 @@ use Rattle.shard.specs.Moves.{whole_of}
 use Rattle.abandoned.specs.Calls.{TakesAll}
 use Rattle.abandoned.specs.Handover.{AreApart}
 use Rattle.abandoned.specs.State.{PoolState}
+use Rattle.abandoned.proofs.Arrived.{HasReceived-TakesAll}
 use Rattle.abandoned.proofs.Received.{AreApart-receiving, AreSound-groups, ended_after}
 use Rattle.abandoned.proofs.TakenIn.{IsSound-with_rooms}
 use Rattle.abandoned.proofs.Together.{together-Receives}
@@ -25,5 +26,12 @@ pub returns-clause-kept : goal.returns-clause-kept
 returns-clause-kept g c =
     together-Receives c.args.self.now c.take_all.new.self c.args.shard.now c.pages.result c.count_spans.result
     (IsSound-with_rooms c.args.self.now c.pages.result c.count_spans.result c.requires.sound) c.requires.sound c.requires.sound_shard (AreSound-groups c.args.shard.now c.requires.sound_shard)
+    (AreApart-receiving c.args.self.now c.args.shard.now c.requires.sound c.requires.sound_shard c.requires.apart)
+    (subst (λ (p : PoolState). TakesAll p (map (whole_of c.args.shard.now.table) c.args.shard.now.groups) c.take_all.new.self) (c.in_ok-reserve.ensures {u = tt}).ok c.take_all.ensures.moved)
+
+pub returns-clause-whole : goal.returns-clause-whole
+returns-clause-whole g c =
+    HasReceived-TakesAll c.args.self.now c.take_all.new.self c.args.shard.now c.pages.result c.count_spans.result
+    (IsSound-with_rooms c.args.self.now c.pages.result c.count_spans.result c.requires.sound) c.requires.sound (AreSound-groups c.args.shard.now c.requires.sound_shard)
     (AreApart-receiving c.args.self.now c.args.shard.now c.requires.sound c.requires.sound_shard c.requires.apart)
     (subst (λ (p : PoolState). TakesAll p (map (whole_of c.args.shard.now.table) c.args.shard.now.groups) c.take_all.new.self) (c.in_ok-reserve.ensures {u = tt}).ok c.take_all.ensures.moved)
