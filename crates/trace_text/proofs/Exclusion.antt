@@ -1,5 +1,5 @@
 -- A text that spells a trace has no fault, and spells no other trace.
-use Rattle.std.proofs.Common.{◌≡◌, ℕ, true, false, List, [], ◌∷◌, ◌++◌, drop, Some, None, Result, Ok, Err, IfOk, IfErr, refl, sym, ap, ◌∙◌, inl, inr, subst, append_assoc, append-nil}
+use Rattle.std.proofs.Common.{◌≡◌, ℕ, true, false, List, [], ◌∷◌, ◌++◌, Some, None, Result, Ok, Err, IfOk, IfErr, refl, sym, ap, ◌∙◌, inl, inr, subst, append_assoc, append-nil}
 use Rattle.trace_text.specs.declared.header.Header.{Header}
 use Rattle.trace_text.specs.declared.line.Line.{Line}
 use Rattle.trace_text.specs.declared.cause.Cause.{Cause}
@@ -10,6 +10,7 @@ use Rattle.trace_text.specs.Form.{HasForm}
 use Rattle.trace_text.specs.Causes.{BeginsAtFault, HasCause, IsNextLine, Reads, awaits_mark, first_cause}
 use Rattle.trace_text.specs.Words.{lines_of}
 use Rattle.trace_text.specs.Trace.{Spells, IsTrace, IsFault, IsFaultAt, IsReadAs}
+use Rattle.trace_text.proofs.Heads.{HasHeader-fine, HasHeader-same}
 use Rattle.trace_text.proofs.Lines.{form_again}
 
 -- bytes have the form of one line
@@ -42,12 +43,11 @@ read_or_fault h before (t ∷ ts) rest (l ∷ ls) (m ∷ ms) c all settled fine 
 
 -- a text that spells a trace has no first fault
 pub spelled_has_no_fault : (text : List ℕ) (h : Header) (lines : List Line) (n : ℕ) (c : Cause) → Spells text h lines → IsFaultAt text n c → ⊥
-spelled_has_no_fault text h lines n c spelled (inl fault) = let bad = sym spelled.head ∙ fault in cc
-spelled_has_no_fault text h lines n c spelled (inr (g, header, fault)) =
-    let same : h ≡ g = let e = sym spelled.head ∙ header in cc in
-    let P : Header → Type 0 = λ x. Reads x [] (drop 5 (lines_of text)) lines in
-    let all = subst P same spelled.below in
-    read_or_fault g [] fault.above fault.rest lines fault.lines c (rw fault.split at all) spelled.settled fault.fine fault.fault
+spelled_has_no_fault text h lines n c spelled (inl fault) = HasHeader-fine h (lines_of text) spelled.below n c spelled.head fault
+spelled_has_no_fault text h lines n c spelled (inr (g, below, head, fault)) =
+    let same = HasHeader-same h g (lines_of text) spelled.below below spelled.head head in
+    let all : Reads g [] (fault.above ++ fault.rest) lines = rw (same.0, same.1, fault.split) at spelled.body in
+    read_or_fault g [] fault.above fault.rest lines fault.lines c all spelled.settled fault.fine fault.fault
 
 -- texts are read as one list of lines
 same_lines : (h : Header) (before : List Line) (texts : List (List ℕ)) (ls ms : List Line) → Reads h before texts ls → Reads h before texts ms → ls ≡ ms
@@ -64,8 +64,8 @@ same_lines h before (t ∷ ts) (l ∷ ls) (m ∷ ms) a b =
 -- so it is read, as the trace that it spells
 pub spelled_is_read : (text : List ℕ) (h : Header) (lines : List Line) (r : Result Trace ParseError) → Spells text h lines → IfOk r (IsTrace text) → IfErr r (IsFault text) → IsReadAs r h lines
 spelled_is_read text h lines (Ok trace) spelled read fault =
-    let header : trace.header ≡ h = let e = sym read.head ∙ spelled.head in cc in
-    let P : Header → Type 0 = λ x. Reads x [] (drop 5 (lines_of text)) trace.lines.items in
-    (header, same_lines h [] (drop 5 (lines_of text)) trace.lines.items lines (subst P header read.below) spelled.below)
+    let same = HasHeader-same trace.header h (lines_of text) read.below spelled.below read.head spelled.head in
+    let body : Reads h [] spelled.below trace.lines.items = rw (same.0, same.1) at read.body in
+    (same.0, same_lines h [] spelled.below trace.lines.items lines body spelled.body)
 spelled_is_read text h lines (Err OutOfMemory) spelled read fault = tt
 spelled_is_read text h lines (Err (BadTrace n c)) spelled read fault = spelled_has_no_fault text h lines n c spelled fault

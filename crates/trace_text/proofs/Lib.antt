@@ -1,5 +1,6 @@
 pub mod Digits
 pub mod Ends
+pub mod Heads
 pub mod Forms
 pub mod Lines
 pub mod Clips

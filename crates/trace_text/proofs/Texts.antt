@@ -1,7 +1,5 @@
 -- The lines of a text, one after another.
-use Rattle.std.proofs.Common.{◌≡◌, ℕ, ◌+◌, ◌<◌, ◌⊎◌, true, false, List, [], ◌∷◌, ◌++◌, length, take, drop, get_or, map, Bor, Option, Some, None, Ok, Err, zero, suc, arith, refl, sym, ap, ◌∙◌, inl, inr, subst, append_assoc, append-nil}
-use Rattle.std.proofs.lemmas.List.{take_more, map-append, length-map, length-take-le}
-use Rattle.std.proofs.Math.Seq.{split_at}
+use Rattle.std.proofs.Common.{◌≡◌, ℕ, ◌+◌, ◌⊎◌, true, false, List, [], ◌∷◌, ◌++◌, length, take, Option, Some, None, Ok, Err, zero, suc, arith, refl, sym, ap, ◌∙◌, inl, inr, subst, append_assoc, append-nil}
 use Rattle.std.specs.List.{slice_get}
 use Rattle.trace_text.specs.declared.line.Line.{Line}
 use Rattle.trace_text.specs.declared.header.Header.{Header}
@@ -69,41 +67,58 @@ first_cause-none h before l fine = elim (chosen (is_call is_call_over l) (Some c
   | inr p ↦ (p.0, p.1)
 ]
 
--- the first line at fault, at a place in the list
-pub first_fault_at : (h : Header) (texts : List (Bor (List ℕ))) (before : List Line) (d : Bor (List ℕ)) (i n : ℕ) (c : Cause) → i < length texts → n ≡ i + 6 → Reads h [] (map (λ t. t.now) (take i texts)) before → HasCause h before (get_or texts i d).now c → IsFirstFault h (map (λ t. t.now) texts) n c
-first_fault_at h texts before d i n c there place fine fault = record {
-  above = map (λ t. t.now) (take i texts);
-  rest = (get_or texts i d).now ∷ map (λ t. t.now) (drop (suc i) texts);
-  split = ap (map (λ (t : Bor (List ℕ)). t.now)) (split_at texts i d there) ∙ map-append (λ (t : Bor (List ℕ)). t.now) (take i texts) (get_or texts i d ∷ drop (suc i) texts);
-  place = omega (arith, length-map (take i texts) (λ (t : Bor (List ℕ)). t.now), length-take-le i texts (omega arith));
-  lines = before;
-  fine = fine;
-  fault = fault;
-}
-
 -- as many lines are read as there are texts
-pub Reads-length : (h : Header) (before : List Line) (texts : List (List ℕ)) (lines : List Line) → Reads h before texts lines → length lines ≡ length texts
+Reads-length : (h : Header) (before : List Line) (texts : List (List ℕ)) (lines : List Line) → Reads h before texts lines → length lines ≡ length texts
 Reads-length h before [] [] all = refl
 Reads-length h before (b ∷ bs) (m ∷ ms) all = omega (arith, Reads-length h (before ++ m ∷ []) bs ms all.1)
 Reads-length h before [] (m ∷ ms) all = absurd all
 Reads-length h before (b ∷ bs) [] all = absurd all
 
+-- of those texts the first ones are read as these lines, and the rest stand below
+pub record SoFar (h : Header) (texts rest : List (List ℕ)) (lines : List Line) : Type 0 where
+  pub above : List (List ℕ)
+  pub split : texts ≡ above ++ rest
+  pub fine : Reads h [] above lines
+
+-- before the first line
+pub SoFar-start : (h : Header) (texts : List (List ℕ)) → SoFar h texts texts []
+SoFar-start h texts = record { above = []; split = refl; fine = tt; }
+
+-- one line more
+pub SoFar-more : (h : Header) (texts rest more : List (List ℕ)) (lines : List Line) (bytes : List ℕ) (l : Line) → SoFar h texts rest lines → rest ≡ bytes ∷ more → IsNextLine h lines bytes l → SoFar h texts more (lines ++ l ∷ [])
+SoFar-more h texts rest more lines bytes l far next fine = record {
+  above = far.above ++ bytes ∷ [];
+  split = rw append_assoc (far.split ∙ ap (λ ls. far.above ++ ls) next);
+  fine = Reads-push h [] far.above lines bytes l far.fine fine;
+}
+
+-- all texts are read
+pub SoFar-all : (h : Header) (texts rest : List (List ℕ)) (lines : List Line) → SoFar h texts rest lines → rest ≡ [] → Reads h [] texts lines
+SoFar-all h texts rest lines far end = subst (λ ts. Reads h [] ts lines) (sym (far.split ∙ ap (λ ls. far.above ++ ls) end ∙ append-nil far.above)) far.fine
+
+-- the first line of the rest is at fault
+pub SoFar-fault : (h : Header) (texts rest more : List (List ℕ)) (lines : List Line) (bytes : List ℕ) (n : ℕ) (c : Cause) → SoFar h texts rest lines → rest ≡ bytes ∷ more → HasCause h lines bytes c → n ≡ length lines + 6 → IsFirstFault h texts n c
+SoFar-fault h texts rest more lines bytes n c far next fault place = record {
+  above = far.above;
+  rest = bytes ∷ more;
+  split = far.split ∙ ap (λ ls. far.above ++ ls) next;
+  place = omega (arith, place, Reads-length h [] far.above lines far.fine);
+  lines = lines;
+  fine = far.fine;
+  fault = fault;
+}
+
 -- the end of the text at fault
-pub end_fault : (h : Header) (texts : List (List ℕ)) (lines : List Line) (n : ℕ) → Reads h [] texts lines → awaits_mark lines ≡ true → n ≡ length texts + 6 → IsFirstFault h texts n cause.Adopt
+pub end_fault : (h : Header) (texts : List (List ℕ)) (lines : List Line) (n : ℕ) → Reads h [] texts lines → awaits_mark lines ≡ true → n ≡ length lines + 6 → IsFirstFault h texts n cause.Adopt
 end_fault h texts lines n fine awaits place = record {
   above = texts;
   rest = [];
   split = sym (append-nil texts);
-  place = place;
+  place = omega (arith, place, Reads-length h [] texts lines fine);
   lines = lines;
   fine = fine;
   fault = (refl, awaits);
 }
-
--- one line more is read
-pub Reads-more : (h : Header) (texts : List (Bor (List ℕ))) (lines : List Line) (d : Bor (List ℕ)) (l : Line) (i : ℕ) → i < length texts → Reads h [] (map (λ t. t.now) (take i texts)) lines → IsNextLine h lines (get_or texts i d).now l → Reads h [] (map (λ t. t.now) (take (i + 1) texts)) (lines ++ l ∷ [])
-Reads-more h texts lines d l i there fine next =
-    rw (take_more texts i d there, map-append) (Reads-push h [] (map (λ t. t.now) (take i texts)) lines (get_or texts i d).now l fine next)
 
 -- no cause holds of a line that was read after those lines and the ones above it
 Reads-fine : (h : Header) (before : List Line) (texts : List (List ℕ)) (lines : List Line) (place : ℕ) (l : Line) → Reads h before texts lines → slice_get lines place ≡ Some l → first_cause h (before ++ take place lines) l ≡ None

@@ -1,58 +1,67 @@
--- The header: the line `mesh 1`, and four lines of a word and a number.
-use Rattle.std.specs.Prelude.{◌+◌, ◌&&◌, ℕ, Bool, false, nat_le, List, [], ◌∷◌, Option, Some, None, Result, Ok, Err, slice_get, codes, if◌then◌else◌}
+-- The header: five lines, of which the first is `mesh 1`, and each other one a word and a number within its range.
+use Rattle.std.specs.Prelude.{◌≡◌, ◌+◌, ◌⊎◌, ℕ, List, [], ◌∷◌, ◌++◌, length, Option, None, codes, if◌then◌else◌}
 use Rattle.std.specs.Int.{IsInRange}
 use Rattle.std.specs.Str.{bytes_eq}
 use Rattle.certificate.specs.Number.{number_in}
-use Rattle.trace_text.specs.Number.{Says}
+use Rattle.trace_text.specs.Form.{AreWords, Number, Verb}
 use Rattle.trace_text.specs.Words.{words_of}
 use Rattle.trace_text.specs.declared.header.Header.{Header}
-use Rattle.trace_text.specs.declared.numeral.Number.{Number}
+use Rattle.trace_text.specs.declared.cause.Cause.{Cause}
 use Rattle.trace_text.specs.declared.cause.Cause.TheVariants as cause
 use Rattle.trace_text.specs.declared.cause.ParseError.{ParseError}
-use Rattle.trace_text.specs.declared.cause.ParseError.TheVariants.{BadTrace}
+use Rattle.trace_text.specs.declared.cause.ParseError.TheVariants.{BadTrace, OutOfMemory}
 
--- the first step, and then the next one, unless the first fails
-infixl 10 ◌>>=◌
-abbrev pub ◌>>=◌ : {A B : Type 0} → Result A ParseError → (A → Result B ParseError) → Result B ParseError
-(Ok x) >>= f = f x
-(Err e) >>= f = Err e
+-- what a line of the header says: that a trace begins, or a size, by its word and the greatest number it may be
+pub data Field : Type 0 where
+  Opening : Field
+  Size : (word : List ℕ) → (most : ℕ) → Field
 
--- the number behind the word, where the line has these two words
-abbrev pub field_in : List ℕ → List (List ℕ) → Option ℕ
-field_in word (first ∷ number ∷ []) = if bytes_eq first word then number_in number else None
-field_in word _ = None
+-- the five lines, in their order
+abbrev pub fields : List Field
+fields = Opening ∷ Size (codes "shards") 64 ∷ Size (codes "pages") 1024 ∷ Size (codes "ring") 1024 ∷ Size (codes "gens") 4294967295 ∷ []
 
--- a number from 1 to `most`; no number is a line without its form
-abbrev pub ranged : ℕ → ℕ → Option ℕ → Result ℕ ParseError
-ranged line most None = Err (BadTrace line cause.Header)
-ranged line most (Some n) = if nat_le 1 n && nat_le n most then Ok n else Err (BadTrace line cause.Limit)
+-- the line has this form and says this number, which may be of any size: `mesh 1` says 1, and each other line its word and the number
+abbrev pub SaysNumber : Field → ℕ → List ℕ → Type 0
+SaysNumber Opening n line = (line ≡ codes "mesh 1") × (n ≡ 1)
+SaysNumber (Size word most) n line = AreWords (words_of line) (Verb word ∷ Number n ∷ [])
 
--- the number behind the word on a line that may be missing
-abbrev pub number_of_line : ℕ → List ℕ → ℕ → Option (List ℕ) → Result ℕ ParseError
-number_of_line line word most None = Err (BadTrace line cause.Header)
-number_of_line line word most (Some bytes) = ranged line most (field_in word (words_of bytes))
+-- the number is in its range
+abbrev pub IsWithin : Field → ℕ → Type 0
+IsWithin Opening n = Unit {0}
+IsWithin (Size word most) n = IsInRange 1 most n
 
--- the number behind the word on the line at this place, or what is wrong with it
-abbrev pub number_at : List (List ℕ) → ℕ → List ℕ → ℕ → Result ℕ ParseError
-number_at lines at word most = number_of_line (at + 1) word most (slice_get lines at)
+-- the first lines are these, one each, and say these numbers, each in its range; the others are those below
+abbrev pub BeginWith : List Field → List ℕ → (lines below : List (List ℕ)) → Type 0
+BeginWith [] [] lines below = lines ≡ below
+BeginWith (field ∷ more) (n ∷ numbers) (line ∷ lines) below = (SaysNumber field n line × IsWithin field n) × BeginWith more numbers lines below
+BeginWith _ _ _ _ = ⊥
 
--- the first line is `mesh 1`
-abbrev pub has_opening : List (List ℕ) → Bool
-has_opening [] = false
-has_opening (first ∷ more) = bytes_eq first (codes "mesh 1")
+-- the numbers that the lines of a header say
+abbrev pub numbers_of : Header → List ℕ
+numbers_of h = 1 ∷ h.shards ∷ h.pages ∷ h.ring ∷ h.gens ∷ []
 
--- the numbers of lines 2 to 5, or the first of these lines at fault
-abbrev pub sizes_of : List (List ℕ) → Result Header ParseError
-sizes_of lines = do
-  shards ← number_at lines 1 (codes "shards") 64
-  pages ← number_at lines 2 (codes "pages") 1024
-  ring ← number_at lines 3 (codes "ring") 1024
-  gens ← number_at lines 4 (codes "gens") 4294967295
-  Ok (record { shards = shards; pages = pages; ring = ring; gens = gens })
+-- the lines begin with a header of these sizes, and then come those below it
+abbrev pub HasHeader : Header → (lines below : List (List ℕ)) → Type 0
+HasHeader h lines below = BeginWith fields (numbers_of h) lines below
 
--- the header, or its first line at fault
-unfoldable pub header_of : List (List ℕ) → Result Header ParseError
-header_of lines = if has_opening lines then sizes_of lines else Err (BadTrace 1 cause.Header)
+-- the first of the lines is at fault: it is missing or has not this form, or its number is outside its range
+abbrev pub IsAtFault : Field → List (List ℕ) → Cause → Type 0
+IsAtFault field [] c = c ≡ cause.Header
+IsAtFault field (line ∷ below) c =
+    ((c ≡ cause.Header) × ((n : ℕ) → SaysNumber field n line → ⊥))
+    ⊎ ((c ≡ cause.Limit) × (n : ℕ) × SaysNumber field n line × (IsWithin field n → ⊥))
+
+-- the header's line of this number is at fault by this cause, and none above it is
+pub record IsHeaderFault (lines : List (List ℕ)) (number : ℕ) (c : Cause) : Type 0 where
+  pub above : List Field
+  pub field : Field
+  pub more : List Field
+  pub split : fields ≡ above ++ field ∷ more
+  pub place : number ≡ length above + 1
+  pub numbers : List ℕ
+  pub rest : List (List ℕ)
+  pub fine : BeginWith above numbers lines rest
+  pub fault : IsAtFault field rest c
 
 -- each size is in its range
 pub record IsWithinLimits (h : Header) : Type 0 where
@@ -61,6 +70,19 @@ pub record IsWithinLimits (h : Header) : Type 0 where
   pub ring : IsInRange 1 1024 h.ring
   pub gens : IsInRange 1 4294967295 h.gens
 
--- the fact holds of the number that was kept
-abbrev pub IfSays : Option Number → (Option ℕ → Type 0) → Type 0
-IfSays number P = (n : Option ℕ) → Says number n → P n
+-- ---- as the parser finds it
+
+-- the number behind the word, where the line has these two words
+abbrev pub field_in : List ℕ → List (List ℕ) → Option ℕ
+field_in word (first ∷ number ∷ []) = if bytes_eq first word then number_in number else None
+field_in word _ = None
+
+-- the refusal names the first of the lines, which has this number, and its cause
+abbrev pub FailsField : Field → ℕ → List (List ℕ) → ParseError → Type 0
+FailsField field number lines OutOfMemory = ⊥
+FailsField field number lines (BadTrace line c) = (line ≡ number) × IsAtFault field lines c
+
+-- the refusal names the first line of the header that is at fault, and its cause
+abbrev pub FailsHeader : List (List ℕ) → ParseError → Type 0
+FailsHeader lines OutOfMemory = ⊥
+FailsHeader lines (BadTrace line c) = IsHeaderFault lines line c

@@ -1,5 +1,6 @@
 -- What is kept of a number.
 use Rattle.std.specs.Prelude.{◌≡◌, ◌≤◌, ◌^◌, ℕ, Option, Some, None, option_map}
+use Rattle.std.specs.Int.{IsInRange}
 use Rattle.certificate.specs.Number.{clip}
 use Rattle.trace_text.specs.declared.numeral.Number.{Number}
 use Rattle.trace_text.specs.declared.numeral.Number.TheVariants.{Fits, Large}
@@ -19,3 +20,7 @@ Says None None = Unit {0}
 Says (Some number) (Some n) = HasValue number n
 Says None (Some n) = ⊥
 Says (Some number) None = ⊥
+
+-- what is kept is of no number from 1 to `most`
+abbrev pub IsOutside : (most : ℕ) → Number → Type 0
+IsOutside most number = (n : ℕ) → HasValue number n → IsInRange 1 most n → ⊥

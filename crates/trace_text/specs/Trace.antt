@@ -1,7 +1,7 @@
 -- The texts that are traces.
-use Rattle.std.specs.Prelude.{◌≡◌, ◌⊎◌, ℕ, false, List, [], drop, Result, Ok, Err}
+use Rattle.std.specs.Prelude.{◌≡◌, ◌⊎◌, ℕ, false, List, [], Result, Ok, Err}
 use Rattle.trace_text.specs.Words.{lines_of}
-use Rattle.trace_text.specs.Header.{header_of}
+use Rattle.trace_text.specs.Header.{HasHeader, IsHeaderFault}
 use Rattle.trace_text.specs.Causes.{Reads, IsFirstFault, awaits_mark}
 use Rattle.trace_text.specs.declared.header.Header.{Header}
 use Rattle.trace_text.specs.declared.line.Line.{Line}
@@ -12,8 +12,9 @@ use Rattle.trace_text.specs.declared.cause.ParseError.TheVariants.{OutOfMemory, 
 
 -- the text spells this header and, below it, these lines, and no adoption lacks its mark
 pub record Spells (text : List ℕ) (header : Header) (lines : List Line) : Type 0 where
-  pub head : header_of (lines_of text) ≡ Ok header
-  pub below : Reads header [] (drop 5 (lines_of text)) lines
+  pub below : List (List ℕ)
+  pub head : HasHeader header (lines_of text) below
+  pub body : Reads header [] below lines
   pub settled : awaits_mark lines ≡ false
 
 -- the text spells this trace
@@ -22,8 +23,8 @@ IsTrace text trace = Spells text trace.header trace.lines.items
 
 -- the first line at fault is this one, of the header or, below a header, of the further lines and the end of the text
 abbrev pub IsFaultAt : List ℕ → ℕ → Cause → Type 0
-IsFaultAt text line c = (header_of (lines_of text) ≡ Err (BadTrace line c))
-    ⊎ ((header : Header) × (header_of (lines_of text) ≡ Ok header) × IsFirstFault header (drop 5 (lines_of text)) line c)
+IsFaultAt text line c = IsHeaderFault (lines_of text) line c
+    ⊎ ((header : Header) × (below : List (List ℕ)) × HasHeader header (lines_of text) below × IsFirstFault header below line c)
 
 -- the refusal names the first line at fault and its first cause
 abbrev pub IsFault : List ℕ → ParseError → Type 0

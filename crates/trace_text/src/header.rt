@@ -1,14 +1,16 @@
 //! The header of a trace.
 
-ghost use Rattle.std.specs.Prelude.{◌≡◌, ◌<◌, IfOk};
+ghost use Rattle.std.specs.Prelude.{◌≡◌, ◌∷◌, [], IfErr, IfNone, IfOk, IfSome};
 ghost use Rattle.std.specs.Int.{IsInRange};
-ghost use Rattle.trace_text.specs.Number.{Says};
 ghost use Rattle.certificate.specs.Words.{contents_of};
-ghost use Rattle.trace_text.specs.Header.{IfSays, IsWithinLimits, field_in, has_opening, header_of, number_at, ranged};
+ghost use Rattle.trace_text.specs.Header.{BeginWith, FailsField, FailsHeader, HasHeader, IsWithinLimits, Opening, Size, field_in};
+ghost use Rattle.trace_text.specs.Number.{IsOutside, Says};
+ghost use Rattle.trace_text.specs.Words.{lines_of, words_of};
+ghost use Rattle.trace_text.specs.declared.numeral.Number.TheVariants.{Fits};
 
 use super::cause::{Cause, ParseError};
 use super::numeral::{Number, parse_number};
-use super::words::words;
+use super::words::{first_line, words};
 
 /// The line that every trace begins with.
 const OPENING: &[u8] = b"mesh 1";
@@ -35,7 +37,7 @@ pub struct Header {
     pub gens: u32,
 }
 
-/// The number behind the word, where the line has these two words.
+/// The number behind the word, where these two are all words.
 fn field(word: &[u8], words: &[&[u8]]) -> Option<Number>
     ensures { Says result (field_in word.now (contents_of words.now)) }
 {
@@ -45,73 +47,88 @@ fn field(word: &[u8], words: &[&[u8]]) -> Option<Number>
     }
 }
 
-/// A number from 1 to `most`.
-fn ranged(line: usize, most: u32, number: Option<Number>) -> Result<u32, ParseError>
-    ensures value { IfSays number (λ n. result ≡ ranged line most n) }
-    ensures range { IfOk result (IsInRange 1 most) }
+/// The number behind the word, where the line has these two words.
+fn number_behind(word: &[u8], line: &[u8]) -> Option<Number>
+    ensures { Says result (field_in word.now (words_of line.now)) }
+{
+    match words(line) {
+        None => None,
+        Some(words) => field(word, words.as_slice()),
+    }
+}
+
+/// The number, where it is from 1 to `most`.
+fn ranged(number: Number, most: u32) -> Option<u32>
+    ensures some { IfSome result (λ n. (number ≡ Fits n) × IsInRange 1 most n) }
+    ensures none { IfNone result (IsOutside most number) }
 {
     match number {
-        None => Err(ParseError::BadTrace {
-            line,
+        Number::Fits(n) if 1 <= n && n <= u128::from(most) => Some(n as u32),
+        _ => None,
+    }
+}
+
+/// Reads the line that every trace begins with, and gives the text below it.
+fn opening(text: &[u8]) -> Result<&[u8], ParseError>
+    ensures ok { IfOk result (λ below. BeginWith (Opening ∷ []) (1 ∷ []) (lines_of text.now) (lines_of below.now)) }
+    ensures err { IfErr result (FailsField Opening 1 (lines_of text.now)) }
+{
+    match first_line(text) {
+        Some((line, below)) if line == OPENING => Ok(below),
+        _ => Err(ParseError::BadTrace {
+            line: 1,
             cause: Cause::Header,
         }),
-        Some(Number::Fits(n)) if 1 <= n && n <= u128::from(most) => Ok(n as u32),
-        Some(_) => Err(ParseError::BadTrace {
+    }
+}
+
+/// Reads the line of a size, which has this number in the whole text, and gives the size and the text below it.
+fn size<'a>(
+    text: &'a [u8],
+    line: usize,
+    word: &[u8],
+    most: u32,
+) -> Result<(u32, &'a [u8]), ParseError>
+    ensures ok { IfOk result (λ read. BeginWith (Size word.now most ∷ []) (read.0 ∷ []) (lines_of text.now) (lines_of read.1.now)) }
+    ensures err { IfErr result (FailsField (Size word.now most) line (lines_of text.now)) }
+{
+    let Some((bytes, below)) = first_line(text) else {
+        return Err(ParseError::BadTrace {
+            line,
+            cause: Cause::Header,
+        });
+    };
+    let Some(number) = number_behind(word, bytes) else {
+        return Err(ParseError::BadTrace {
+            line,
+            cause: Cause::Header,
+        });
+    };
+    match ranged(number, most) {
+        Some(n) => Ok((n, below)),
+        None => Err(ParseError::BadTrace {
             line,
             cause: Cause::Limit,
         }),
     }
 }
 
-/// The number behind the word on the header's line at this place, counted from 0.
-fn number_at(lines: &[&[u8]], at: usize, word: &[u8], most: u32) -> Result<u32, ParseError>
-    requires { at < 5 }
-    ensures value { result ≡ number_at (contents_of lines.now) at word.now most }
-    ensures range { IfOk result (IsInRange 1 most) }
+/// Reads the header, and gives the text below it.
+pub fn read_header(text: &[u8]) -> Result<(Header, &[u8]), ParseError>
+    ensures ok { IfOk result (λ read. HasHeader read.0 (lines_of text.now) (lines_of read.1.now)) }
+    ensures err { IfErr result (FailsHeader (lines_of text.now)) }
+    ensures within { IfOk result (λ read. IsWithinLimits read.0) }
 {
-    if at >= lines.len() {
-        return Err(ParseError::BadTrace {
-            line: at + 1,
-            cause: Cause::Header,
-        });
-    }
-    let number = match words(lines[at]) {
-        None => None,
-        Some(words) => field(word, words.as_slice()),
-    };
-    ranged(at + 1, most, number)
-}
-
-/// Whether the first line is the one that every trace begins with.
-fn has_opening(lines: &[&[u8]]) -> bool
-    ensures { result ≡ has_opening (contents_of lines.now) }
-{
-    match lines {
-        [first, ..] => *first == OPENING,
-        _ => false,
-    }
-}
-
-/// Reads the header.
-#[tactic(auto, unfolding(crate::specs::Header::header_of))]
-pub fn read_header(lines: &[&[u8]]) -> Result<Header, ParseError>
-    ensures read { result ≡ header_of (contents_of lines.now) }
-    ensures within { IfOk result IsWithinLimits }
-{
-    if !has_opening(lines) {
-        return Err(ParseError::BadTrace {
-            line: 1,
-            cause: Cause::Header,
-        });
-    }
-    let shards = number_at(lines, 1, b"shards", MOST_SHARDS)?;
-    let pages = number_at(lines, 2, b"pages", MOST_PAGES)?;
-    let ring = number_at(lines, 3, b"ring", MOST_PLACES)?;
-    let gens = number_at(lines, 4, b"gens", u32::MAX)?;
-    Ok(Header {
+    let below = opening(text)?;
+    let (shards, below) = size(below, 2, b"shards", MOST_SHARDS)?;
+    let (pages, below) = size(below, 3, b"pages", MOST_PAGES)?;
+    let (ring, below) = size(below, 4, b"ring", MOST_PLACES)?;
+    let (gens, below) = size(below, 5, b"gens", u32::MAX)?;
+    let header = Header {
         shards,
         pages,
         ring,
         gens,
-    })
+    };
+    Ok((header, below))
 }

@@ -1,12 +1,12 @@
 //! Reads a trace.
 
-ghost use Rattle.std.specs.Prelude.{◌≡◌, [], List, drop, IfOk, IfErr};
+ghost use Rattle.std.specs.Prelude.{◌≡◌, [], List, IfOk, IfErr};
 ghost use Rattle.trace_text.specs.declared.header.Header.{Header};
 ghost use Rattle.trace_text.specs.declared.line.Line.{Line};
 ghost use Rattle.trace_text.specs.Causes.{HasCause, IsNextLine, Reads};
 ghost use Rattle.trace_text.specs.Header.{IsWithinLimits};
 ghost use Rattle.trace_text.specs.Earlier.{Knows};
-ghost use Rattle.certificate.specs.Words.{contents_of};
+ghost use Rattle.trace_text.specs.Words.{lines_of};
 ghost use Rattle.trace_text.specs.Trace.{FailsAt, IsFault, IsReadAs, IsTrace, Spells};
 
 use super::cause::{Cause, ParseError};
@@ -15,7 +15,7 @@ use super::header::{Header, read_header};
 use super::line::Line;
 use super::reading::read_line;
 use super::trace::Trace;
-use super::words::lines;
+use super::words::first_line;
 use std::alloc::Global;
 
 /// How many lines the header has.
@@ -34,17 +34,18 @@ fn next_line(header: &Header, earlier: &Earlier, text: &[u8]) -> Result<Line, Ca
     }
 }
 
-/// Reads the lines below the header, with what is kept of them.
-fn body(alloc: Global, header: &Header, texts: &[&[u8]]) -> Result<(Vec<Line>, Earlier), ParseError>
+/// Reads the lines of the text below the header, one after another, with what is kept of them.
+fn body(alloc: Global, header: &Header, text: &[u8]) -> Result<(Vec<Line>, Earlier), ParseError>
     requires { IsWithinLimits header.now }
     ensures known { IfOk result (λ body. Knows body.0.items body.1) }
-    ensures ok { IfOk result (λ body. Reads header.now [] (contents_of texts.now) body.0.items) }
-    ensures err { IfErr result (FailsAt header.now (contents_of texts.now)) }
+    ensures ok { IfOk result (λ body. Reads header.now [] (lines_of text.now) body.0.items) }
+    ensures err { IfErr result (FailsAt header.now (lines_of text.now)) }
 {
-    let mut lines = Vec::with_capacity(alloc, texts.len())?;
+    let mut lines = Vec::new(alloc);
     let mut earlier = Earlier::new(alloc);
-    for text in texts {
-        let line = match next_line(header, &earlier, text) {
+    let mut rest = text;
+    while let Some((bytes, below)) = first_line(rest) {
+        let line = match next_line(header, &earlier, bytes) {
             Ok(line) => line,
             Err(cause) => return Err(ParseError::BadTrace {
                 line: lines.len() + HEADER_LINES + 1,
@@ -53,19 +54,9 @@ fn body(alloc: Global, header: &Header, texts: &[&[u8]]) -> Result<(Vec<Line>, E
         };
         earlier.note(lines.len(), &line)?;
         lines.push(line)?;
+        rest = below;
     }
     Ok((lines, earlier))
-}
-
-/// The lines below the header.
-fn below_header<'a, 'b>(lines: &'b [&'a [u8]]) -> &'b [&'a [u8]]
-    ensures { result.now ≡ drop 5 lines.now }
-{
-    if lines.len() < HEADER_LINES {
-        &[]
-    } else {
-        &lines[HEADER_LINES..]
-    }
 }
 
 /// Reads a trace, so that what is read or refused can be asked whether the text spells it.
@@ -73,9 +64,8 @@ fn trace_of(alloc: Global, text: &[u8]) -> Result<Trace, ParseError>
     ensures trace { IfOk result (IsTrace text.now) }
     ensures fault { IfErr result (IsFault text.now) }
 {
-    let texts = lines(alloc, text)?;
-    let header = read_header(texts.as_slice())?;
-    let (lines, earlier) = body(alloc, &header, below_header(texts.as_slice()))?;
+    let (header, below) = read_header(text)?;
+    let (lines, earlier) = body(alloc, &header, below)?;
     if earlier.awaits_mark() {
         return Err(ParseError::BadTrace {
             line: lines.len() + HEADER_LINES + 1,
@@ -89,7 +79,7 @@ fn trace_of(alloc: Global, text: &[u8]) -> Result<Trace, ParseError>
     })
 }
 
-/// Reads a trace.
+/// Reads a trace, line by line up to the first that is at fault.
 ///
 /// # Errors
 ///

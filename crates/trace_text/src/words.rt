@@ -1,11 +1,11 @@
 //! The lines of a text, and the words of a line.
 
-ghost use Rattle.std.specs.Prelude.{◌≡◌, ◌<◌, length, IfNone, IfOk, IfSome};
+ghost use Rattle.std.specs.Prelude.{◌≡◌, ◌<◌, ◌==◌, ◌∷◌, [], length, IfNone, IfSome};
+ghost use Rattle.std.specs.List.{position};
 ghost use Rattle.certificate.specs.Words.{contents_of, parts_of};
-ghost use Rattle.trace_text.specs.Words.{lines_of, without_empty_end, words_of};
+ghost use Rattle.trace_text.specs.Words.{lines_of, words_of};
 
 use arrayvec::ArrayVec;
-use std::alloc::{AllocError, Global};
 
 /// No line has more words.
 const MOST_WORDS: usize = 5;
@@ -25,29 +25,25 @@ pub fn parts(separator: u8, bytes: &[u8]) -> Option<ArrayVec<&[u8], MOST_WORDS>>
     Some(parts)
 }
 
-/// The lines of a text. The last one may lack its line feed.
-pub fn lines(alloc: Global, text: &[u8]) -> Result<Vec<&[u8]>, AllocError>
-    ensures { IfOk result (λ lines. contents_of lines.items ≡ lines_of text.now) }
+/// Where the first line feed stands.
+fn line_end(text: &[u8]) -> Option<usize>
+    ensures { result ≡ position (λ byte. byte == 10) text.now }
 {
-    let mut lines = all_lines(alloc, text)?;
-    drop_empty_end(&mut lines);
-    Ok(lines)
+    text.iter().position(|byte| *byte == b'\n')
 }
 
-/// What is between the line feeds.
-fn all_lines(alloc: Global, text: &[u8]) -> Result<Vec<&[u8]>, AllocError>
-    ensures { IfOk result (λ lines. contents_of lines.items ≡ parts_of 10 text.now) }
+/// The first line of a text, without its line feed, and the text below it. An empty text has no line.
+pub fn first_line(text: &[u8]) -> Option<(&[u8], &[u8])>
+    ensures some { IfSome result (λ split. lines_of text.now ≡ split.0.now ∷ lines_of split.1.now) }
+    ensures none { IfNone result (lines_of text.now ≡ []) }
+    ensures shorter { IfSome result (λ split. length split.1.now < length text.now) }
 {
-    text.split(|byte| *byte == b'\n').collect(alloc)
-}
-
-/// A line feed at the end begins no line.
-fn drop_empty_end(lines: &mut Vec<&[u8]>)
-    ensures { contents_of lines.new.items ≡ without_empty_end (contents_of lines.old.items) }
-{
-    let count = lines.len();
-    if count > 0 && lines[count - 1].is_empty() {
-        lines.pop();
+    if text.is_empty() {
+        return None;
+    }
+    match line_end(text) {
+        None => Some((text, &[])),
+        Some(end) => Some((&text[..end], &text[end + 1..])),
     }
 }
 
