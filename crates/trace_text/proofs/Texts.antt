@@ -82,7 +82,7 @@ pub record SoFar (h : Header) (texts rest : List (List ℕ)) (lines : List Line)
 
 -- before the first line
 pub SoFar-start : (h : Header) (texts : List (List ℕ)) → SoFar h texts texts []
-SoFar-start h texts = record { above = []; split = refl; fine = tt; }
+SoFar-start h texts = record { above = []; split = refl; fine = tt }
 
 -- one line more
 pub SoFar-more : (h : Header) (texts rest more : List (List ℕ)) (lines : List Line) (bytes : List ℕ) (l : Line) → SoFar h texts rest lines → rest ≡ bytes ∷ more → IsNextLine h lines bytes l → SoFar h texts more (lines ++ l ∷ [])
