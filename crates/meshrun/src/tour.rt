@@ -1,25 +1,38 @@
-//! The library's lines of the README.
+//! The library's lines of the README. What a test owns is let go at each exit, so the lines with most exits stand in functions
+//! that are lent it.
 use abandoned::Pool;
 use arena_core::{Core, Event, Reply};
 use bitmap::Bits256;
 use certificate::check;
 use mesh_graph::{Entry, Graph, Snapshot};
 use shard::{Found, Freed, Shard};
-use span::SpanId;
+use span::{Key, SpanId};
 use std::process::Abort;
 use std::test::Fail;
 use trace_runner::{Memory, replay_serial};
+
+// The lines that need a shard alone; its two keys.
+fn puts_and_frees(rt: &impl Abort, shard: &mut Shard) -> Result<(Key, Key), Fail> {
+    let (key, _) = shard.put(7)?; // 0.0/0/1
+    assert_eq!(rt; shard.get(&key), Found::Value(7, 1));
+    assert_eq!(rt; shard.free(&key), Freed::Yes(1));
+    let (again, _) = shard.put(8)?; // 0.0/0/2: the same slot, the next generation
+    assert_eq!(rt; shard.get(&key), Found::Gone(3));
+    Ok((key, again))
+}
+
+// What the shard that adopted them answers of the two keys.
+fn finds(rt: &impl Abort, other: &Shard, key: Key, again: Key) {
+    assert_eq!(rt; other.get(&again), Found::Value(8, 3));
+    assert_eq!(rt; other.get(&key), Found::Gone(3));
+}
 
 #[test]
 fn moves_a_group_whole(rt: HostRuntime) -> Result<(), Fail> {
     let alloc = rt.alloc();
     // Shard 0 may have 16 pages, and a slot 2 generations.
     let mut shard = Shard::new(alloc, 0, 16, 2)?;
-    let (key, _) = shard.put(7)?; // 0.0/0/1
-    assert_eq!(rt; shard.get(&key), Found::Value(7, 1));
-    assert_eq!(rt; shard.free(&key), Freed::Yes(1));
-    let (again, _) = shard.put(8)?; // 0.0/0/2: the same slot, the next generation
-    assert_eq!(rt; shard.get(&key), Found::Gone(3));
+    let (key, again) = puts_and_frees(&rt, &mut shard)?;
 
     // Its thread ends: its groups go to the pool, and another shard adopts one, with its page.
     let mut pool = Pool::new(alloc);
@@ -27,16 +40,12 @@ fn moves_a_group_whole(rt: HostRuntime) -> Result<(), Fail> {
     let mut other = Shard::new(alloc, 1, 16, 2)?;
     let head = pool.adopt(&mut other)?; // 0.0
     assert_eq!(rt; head, again.span());
-    assert_eq!(rt; other.get(&again), Found::Value(8, 3));
-    assert_eq!(rt; other.get(&key), Found::Gone(3));
+    finds(&rt, &other, key, again);
     Ok(())
 }
 
-#[test]
-fn folds_a_group_away(rt: HostRuntime) -> Result<(), Fail> {
-    let alloc = rt.alloc();
-    // Two shards of 4 pages each, rings of 4 keys, 9 generations.
-    let mut core = Core::new(alloc, 2, 4, 4, 9)?;
+// The lines that need a core.
+fn folds(rt: &impl Abort, core: &mut Core) -> Result<(), Fail> {
     let put = |shard, value| Event::Put { shard, value };
     let Reply::Issued(first) = core.step(put(0, 10)) else {
         return Err("no key".into());
@@ -55,6 +64,14 @@ fn folds_a_group_away(rt: HostRuntime) -> Result<(), Fail> {
     assert!(rt; matches!(found, Reply::Found(Some(11))));
     assert_eq!(rt; core.totals().pages, 1);
     Ok(())
+}
+
+#[test]
+fn folds_a_group_away(rt: HostRuntime) -> Result<(), Fail> {
+    let alloc = rt.alloc();
+    // Two shards of 4 pages each, rings of 4 keys, 9 generations.
+    let mut core = Core::new(alloc, 2, 4, 4, 9)?;
+    folds(&rt, &mut core)
 }
 
 // The first group of the shard, with these slots occupied.
