@@ -7,7 +7,7 @@ use Rattle.span.specs.declared.key.Key.{Key}
 use Rattle.span.specs.Ids.{rank}
 use Rattle.span.specs.Log.{Holds}
 use Rattle.span.specs.State.{SpanState}
-use Rattle.page_table.specs.State.{TableState, words_of}
+use Rattle.page_table.specs.State.{TableState, word_at, words_of}
 use Rattle.shard.specs.Group.{GroupState, IsSpanAt, spans_of as spans_in_shard, union_of, with_free}
 use Rattle.shard.specs.Moves.{IsBriefOf, WholeState, TakesIn as TakesInShard, spans_moved, whole_of as whole_of_shard, with_page, with_room as with_room_in, without_page}
 use Rattle.shard.specs.State.{ShardState, IsElsewhere as IsElsewhereInShard}
@@ -22,7 +22,7 @@ use Rattle.abandoned.specs.State.{HasNoHead, IsElsewhere, IsHeadOf, IsHere, Pool
 abbrev pub Gets : PoolState → Key → Found → Type 0
 Gets pool key (Value value at) =
     (index place page : ℕ) × (group : PooledState) × (span : SpanState) × IsHere pool.groups key.span index place group span × (group.page ≡ Some page)
-    × Holds span.log key.slot key.generation × (value ≡ slice_index (words_of pool.table page) key.slot) × (at ≡ length span.log)
+    × Holds span.log key.slot key.generation × (value ≡ word_at pool.table page key.slot) × (at ≡ length span.log)
 Gets pool key (Gone at) =
     (index place : ℕ) × (group : PooledState) × (span : SpanState) × IsHere pool.groups key.span index place group span
     × (Holds span.log key.slot key.generation → ⊥) × (at ≡ length span.log)

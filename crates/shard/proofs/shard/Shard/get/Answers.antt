@@ -1,6 +1,7 @@
 use Rattle.std.proofs.Common.{◌∙◌, ap, refl, subst, sym}
 use Rattle.std.proofs.lemmas.Bool.{true≢false}
-use Rattle.shard.specs.State.{ShardState, IsElsewhere, IsHere, word_at}
+use Rattle.page_table.specs.State.{word_at}
+use Rattle.shard.specs.State.{ShardState, IsElsewhere, IsHere}
 use Rattle.shard.specs.declared.shard.Found.TheVariants.{Gone, NotHere, Value}
 use Rattle.shard.proofs.Here.{found_in, here_read, read_is}
 use Rattle.shard.proofs.ShownLogs.{value_found-Gets}
@@ -27,7 +28,7 @@ returns-then-find-clause-found g c =
       c.span_at-span.result.now,
       subst (λ (s : ShardState). IsHere s.groups c.args.key.now.span c.in-Some.index c.in-Some.place c.index-group.result.now c.span_at-span.result.now) c.self.view_is here,
       (c.if-find.ensures.0 refl).1,
-      c.value_at.ensures ∙ rw (c.page.ensures, c.slot.ensures) (ap (λ (s : ShardState). word_at s.table c.index-group.result.now c.args.key.now.slot) c.self.view_is),
+      c.value_at.ensures ∙ rw (c.page.ensures, c.slot.ensures) (ap (λ (s : ShardState). word_at s.table c.index-group.result.now.page c.args.key.now.slot) c.self.view_is),
       c.changes-at.ensures,
     )
 

@@ -6,8 +6,8 @@ use Rattle.span.specs.Ids.{rank}
 use Rattle.span.specs.Log.{live_slots, puts_of, worn_slots}
 use Rattle.span.specs.State.{SpanState}
 use Rattle.span.specs.declared.id.SpanId.{SpanId}
-use Rattle.page_table.specs.State.{TableState, HasPage}
-use Rattle.shard.specs.Calls.{IsFull, IsPlaceFor, new_group, with_open, with_word}
+use Rattle.page_table.specs.State.{with_word, TableState, HasPage}
+use Rattle.shard.specs.Calls.{IsFull, IsPlaceFor, new_group, with_open}
 use Rattle.shard.specs.Group.{GroupState, group_of, with_put}
 use Rattle.shard.specs.Kept.{state_of}
 use Rattle.shard.specs.State.{ShardState}
