@@ -19,11 +19,16 @@ find_rt() {
     return 1
 }
 
-# A sum of the program and of all that it is built from, by name and content: a file that is copied, checked out or removed
-# changes it, whatever its date.
-sum_of_build() {
+# A sum of what the program is built from, by name and content: a file that is copied, checked out or removed changes it,
+# whatever its date.
+sum_of_sources() {
     (cd "$top" && find crates.txt crates \( -name out -o -name must-fail \) -prune -o -type f -print0 |
-        LC_ALL=C sort -z | xargs -0 sha256sum "${program#"$top/"}" | sha256sum)
+        LC_ALL=C sort -z | xargs -0 sha256sum | sha256sum)
+}
+
+sum_of_build() {
+    sum_of_sources
+    sha256sum <"$program"
 }
 
 # Whether there is a program, and it was proved and built from the sources as they stand.
@@ -31,7 +36,8 @@ is_current() {
     [ -x "$program" ] && [ -f "$built_from" ] && [ "$(sum_of_build)" = "$(cat "$built_from")" ]
 }
 
-# To be called behind a proof and a build.
+# To be called behind a proof and a build, with the sum of the sources before it: where they changed meanwhile, nobody
+# knows of which of them the program is.
 keep_sum() {
-    sum_of_build >"$built_from"
+    if [ "$(sum_of_sources)" = "$1" ]; then sum_of_build >"$built_from"; fi
 }
