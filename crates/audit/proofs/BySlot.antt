@@ -1,0 +1,193 @@
+-- A log's changes by slot, the last one of a slot before a place, and what the slot then holds.
+use Rattle.std.proofs.Common.{zero, suc, ◌≡◌, ℕ, ◌+◌, ◌-◌, ◌<◌, ◌≤◌, true, false, List, [], ◌∷◌, ◌++◌, length, take, get_or, Option, Some, None, option_map, slice_get, sym, subst, ap, refl, ◌∙◌, inl, inr, arith, eq-eqb, ltb, ltb-true, ltb-false}
+use Rattle.std.specs.FinMap as map
+use Rattle.std.specs.List.{AllWithin}
+use Rattle.std.specs.List.Sorted.{IsPermutation}
+use Rattle.std.proofs.lemmas.Bool.{cases_lt, ne_eqb}
+use Rattle.std.proofs.lemmas.List.{length-append}
+use Rattle.std.proofs.lemmas.Option.{same_Some, slice_get_cases, slice_get_within, slice_get_read, get_or_from_slice_get}
+use Rattle.std.proofs.lemmas.List.Sorted.{Contains-permutation, IsPermutation-sym}
+use Rattle.span.specs.declared.change.Change.{Change}
+use Rattle.span.specs.declared.key.Key.{Key}
+use Rattle.span.specs.Log.{Held, replay, value_if}
+use Rattle.audit.specs.declared.slot.SlotChange.{SlotChange}
+use Rattle.audit.specs.Receipts.{value_after}
+use Rattle.audit.specs.Changes.{slot_of, left_by, parts}
+use Rattle.audit.specs.Slots.{slot_rank, change_rank, HasChanges, IsBySlot, IsQuiet, IsLast}
+use Rattle.audit.proofs.Flat.{get_left, get_right}
+use Rattle.audit.proofs.Replies.{Holding, Holding-more, held_none}
+
+-- the first n changes, in order
+pub record AreFirst (changes : List Change) (n : ℕ) (found : List SlotChange) : Type 0 where
+  pub len : length found ≡ n
+  pub each : (k : ℕ) (change : Change) → k < n → slice_get changes k ≡ Some change → slice_get found k ≡ Some (record { slot = slot_of change; place = k })
+
+pub AreFirst-none : (changes : List Change) → AreFirst changes 0 []
+AreFirst-none changes = record { len = refl; each = λ k change less at. absurd (omega arith) }
+
+pub AreFirst-more : (changes : List Change) (n : ℕ) (found : List SlotChange) (change : Change) (slot : ℕ) → AreFirst changes n found → slice_get changes n ≡ Some change → slot ≡ slot_of change
+    → AreFirst changes (n + 1) (found ++ record { slot = slot; place = n } ∷ [])
+AreFirst-more changes n found change slot are at is = record {
+  len = let long = are.len in length-append found (record { slot = slot; place = n } ∷ []) ∙ omega arith;
+  each = λ k other fits at_k. elim (cases_lt k n) [
+    | inl less ↦ get_left found (record { slot = slot; place = n } ∷ []) k (record { slot = slot_of other; place = k }) (are.each k other less at_k)
+    | inr high ↦
+        let last : n ≡ k = omega arith in
+        let same : change ≡ other = same_Some change other (sym at ∙ ap (λ k. slice_get changes k) last ∙ at_k) in
+        let long = are.len in
+        get_right found (record { slot = slot; place = n } ∷ []) k 0 (record { slot = slot_of other; place = k }) (omega arith)
+        (λ i. Some (record { slot = (is ∙ ap slot_of same) i; place = last i }))
+  ];
+}
+
+pub HasChanges-all : (changes : List Change) (n : ℕ) (found : List SlotChange) → AreFirst changes n found → length changes ≡ n → n < 18446744073709551616 → HasChanges changes found
+HasChanges-all changes n found are long small = record {
+  each = λ place change at. (
+    place,
+    record { slot = slot_of change; place = place },
+    are.each place change (let within = slice_get_within changes place change at in omega arith) at,
+    refl,
+    refl,
+  );
+  only = λ k x at. elim (slice_get_cases changes k).1 [
+    | inl there ↦
+        let same : record { slot = slot_of there.0; place = k } ≡ x = same_Some (record { slot = slot_of there.0; place = k }) x (sym (are.each k there.0 (omega (arith, there.1)) there.2) ∙ at) in
+        (there.0, ap (λ (y : SlotChange). slice_get changes y.place) (sym same) ∙ there.2, ap (λ (y : SlotChange). y.slot) same)
+    | inr past ↦ absurd (let within = slice_get_within found k x at in let whole = are.len in omega (arith, past.0))
+  ];
+  small = λ k x at. elim (slice_get_cases changes k).1 [
+    | inl there ↦
+        let same : record { slot = slot_of there.0; place = k } ≡ x = same_Some (record { slot = slot_of there.0; place = k }) x (sym (are.each k there.0 (omega (arith, there.1)) there.2) ∙ at) in
+        let place : k ≡ x.place = ap (λ (y : SlotChange). y.place) same in
+        omega (arith, there.1)
+    | inr past ↦ absurd (let within = slice_get_within found k x at in let whole = are.len in omega (arith, past.0))
+  ];
+}
+
+moved : {X : Type 0} (xs ys : List X) (k : ℕ) (x : X) → IsPermutation xs ys → slice_get xs k ≡ Some x → (l : ℕ) × (slice_get ys l ≡ Some x)
+moved xs ys k x permutation at =
+    let there = Contains-permutation xs ys x permutation (k, slice_get_within xs k x at, get_or_from_slice_get xs k x x at) in
+    (there.0, slice_get_read ys (length ys) there.0 x refl there.1 (sym there.2))
+
+pub HasChanges-moved : (changes : List Change) (xs ys : List SlotChange) → IsPermutation xs ys → HasChanges changes xs → HasChanges changes ys
+HasChanges-moved changes xs ys permutation has = record {
+  each = λ place change at.
+      let there = has.each place change at in
+      let now = moved xs ys there.0 there.1 permutation there.2 in
+      (now.0, there.1, now.1, there.3, there.4);
+  only = λ k x at.
+      let before = moved ys xs k x (IsPermutation-sym xs ys permutation) at in
+      has.only before.0 x before.1;
+  small = λ k x at.
+      let before = moved ys xs k x (IsPermutation-sym xs ys permutation) at in
+      has.small before.0 x before.1;
+}
+
+module _ (changes : List Change) (found : List SlotChange) (by : IsBySlot changes found) (slot at n : ℕ) (small : at < 18446744073709551616)
+    (low : (k : ℕ) (x : SlotChange) → k < n → slice_get found k ≡ Some x → change_rank x < slot_rank slot at)
+    (high : (k : ℕ) (x : SlotChange) → n ≤ k → slice_get found k ≡ Some x → slot_rank slot at ≤ change_rank x) where
+  -- a change of the slot before the place stands in the first n
+  early : (q : ℕ) (change : Change) → q < at → slice_get changes q ≡ Some change → slot_of change ≡ slot → (k : ℕ) × (x : SlotChange) × (k < n) × (slice_get found k ≡ Some x) × (x.place ≡ q) × (x.slot ≡ slot)
+  early q change less at_q same =
+      let there = by.has.each q change at_q in
+      let of_slot : there.1.slot ≡ slot = there.4 ∙ same in
+      elim (cases_lt there.0 n) [
+        | inl first ↦ (there.0, there.1, first, there.2, there.3, of_slot)
+        | inr later ↦ absurd (let most = high there.0 there.1 later there.2 in omega (arith, there.3))
+      ]
+
+  pub quiet_first : n ≡ 0 → IsQuiet changes slot 0 at
+  quiet_first none q change from to at_q same = let there = early q change to at_q same in omega (arith, there.2)
+
+  module _ (x : SlotChange) (some : 1 ≤ n) (at_x : slice_get found (n - 1) ≡ Some x) where
+    -- none of the first n stands after the last of them
+    below_last : (k : ℕ) (y : SlotChange) → k < n → slice_get found k ≡ Some y → change_rank y ≤ change_rank x
+    below_last k y less at_y =
+        let up = by.sorted k (n - 1) x (omega arith) (slice_get_within found (n - 1) x at_x) in
+        let is_y : get_or found k x ≡ y = get_or_from_slice_get found k y x at_y in
+        let is_x : get_or found (n - 1) x ≡ x = get_or_from_slice_get found (n - 1) x x at_x in
+        rw (is_y, is_x) at up
+
+    pub quiet_other : (x.slot ≡ slot → ⊥) → IsQuiet changes slot 0 at
+    quiet_other other q change from to at_q same =
+        let there = early q change to at_q same in
+        let most = below_last there.0 there.1 there.2 there.3 in
+        let least = low (n - 1) x (omega arith) at_x in
+        let fits = by.has.small (n - 1) x at_x in
+        other (omega (arith, there.4, there.5))
+
+    pub last_here : x.slot ≡ slot → IsLast changes slot at x.place
+    last_here is =
+        let least = low (n - 1) x (omega arith) at_x in
+        record {
+          before = omega arith;
+          here = let of = by.has.only (n - 1) x at_x in (of.0, of.1, of.2 ∙ is);
+          quiet = λ q change from to at_q same.
+              let there = early q change to at_q same in
+              let most = below_last there.0 there.1 there.2 there.3 in
+              omega (arith, there.4, there.5);
+        }
+
+-- what a partition point says of the elements before it, and from it on
+pub low_from : (found : List SlotChange) (rank n : ℕ) → AllWithin (λ y. ltb (change_rank y) rank ≡ true) found 0 n
+    → (k : ℕ) (x : SlotChange) → k < n → slice_get found k ≡ Some x → change_rank x < rank
+low_from found rank n all k x less at = ltb-true _ _ (ap (λ (y : SlotChange). ltb (change_rank y) rank) (sym (get_or_from_slice_get found k x x at)) ∙ all k x (omega arith) less)
+
+pub high_from : (found : List SlotChange) (rank n : ℕ) → AllWithin (λ y. ltb (change_rank y) rank ≡ false) found n (length found)
+    → (k : ℕ) (x : SlotChange) → n ≤ k → slice_get found k ≡ Some x → rank ≤ change_rank x
+high_from found rank n all k x from at =
+    ltb-false _ _ (ap (λ (y : SlotChange). ltb (change_rank y) rank) (sym (get_or_from_slice_get found k x x at)) ∙ all k x from (slice_get_within found k x at))
+
+-- a slot holds what it held while no change of it comes
+quiet_from : (changes : List Change) (slot from m : ℕ) (pair : Option (ℕ × ℕ)) → IsQuiet changes slot from (from + m) → from + m ≤ length changes
+    → Holding pair (map.get (replay (take from changes)) slot) → Holding pair (map.get (replay (take (from + m) changes)) slot)
+quiet_from changes slot from zero pair quiet inside holding = let e : from ≡ from + 0 = omega arith in subst (λ k. Holding pair (map.get (replay (take k changes)) slot)) e holding
+quiet_from changes slot from (suc m) pair quiet inside holding =
+    let before = quiet_from changes slot from m pair (λ q change low high. quiet q change low (omega arith)) (omega arith) holding in
+    let next : (from + m) + 1 ≡ from + suc m = omega arith in
+    elim (slice_get_cases changes (from + m)).1 [
+      | inl there ↦
+          subst (λ k. Holding pair (map.get (replay (take k changes)) slot)) next
+          (Holding-more changes (from + m) there.0 slot pair false there.2 (ne_eqb slot (slot_of there.0) (λ e. quiet (from + m) there.0 (omega arith) (omega arith) there.2 (sym e))) before)
+      | inr past ↦ absurd (omega (arith, past.0))
+    ]
+
+-- where no change of the slot stands before the place, it holds nothing
+pub holds_none : (changes : List Change) (slot at : ℕ) → IsQuiet changes slot 0 at → at ≤ length changes → Holding None (map.get (replay (take at changes)) slot)
+holds_none changes slot at quiet inside =
+    let e : 0 + at ≡ at = omega arith in
+    subst (λ k. Holding None (map.get (replay (take k changes)) slot)) e
+    (quiet_from changes slot 0 at None (subst (IsQuiet changes slot 0) (sym e) quiet) (omega arith) (sym (held_none slot)))
+
+-- the slot holds what the last change of it left
+pub holds_last : (changes : List Change) (slot at place : ℕ) (change : Change) → IsLast changes slot at place → at ≤ length changes → slice_get changes place ≡ Some change
+    → Holding (left_by change) (map.get (replay (take at changes)) slot)
+holds_last changes slot at place change last inside at_place =
+    let of_slot : slot ≡ slot_of change = sym last.here.2 ∙ ap slot_of (same_Some last.here.0 change (sym last.here.1 ∙ at_place)) in
+    let before = last.before in
+    let m : (place + 1) + (at - (place + 1)) ≡ at = omega arith in
+    let after : Holding (left_by change) (map.get (replay (take (place + 1) changes)) slot) =
+    Holding-more changes place change slot (option_map parts (map.get (replay (take place changes)) slot)) true at_place (eq-eqb slot (slot_of change) of_slot) refl in
+    subst (λ k. Holding (left_by change) (map.get (replay (take k changes)) slot)) m
+    (quiet_from changes slot (place + 1) (at - (place + 1)) (left_by change) (subst (IsQuiet changes slot (place + 1)) (sym m) last.quiet) (omega arith) after)
+
+-- the value of a key, by what its slot holds
+pub value_none : (held : Option Held) (generation : ℕ) → Holding None held → value_if generation held ≡ None
+value_none None generation holding = refl
+value_none (Some h) generation holding = absurd cc
+
+pub value_other : (held : Option Held) (pair : ℕ × ℕ) (generation : ℕ) → Holding (Some pair) held → (pair.0 ≡ generation → ⊥) → value_if generation held ≡ None
+value_other None pair generation holding other = refl
+value_other (Some h) pair generation holding other =
+    let same : pair ≡ parts h = same_Some pair (parts h) holding in
+    rw (ne_eqb h.generation generation (λ e. other (ap (λ (p : ℕ × ℕ). p.0) same ∙ e))) refl
+
+pub value_here : (held : Option Held) (pair : ℕ × ℕ) (generation : ℕ) → Holding (Some pair) held → pair.0 ≡ generation → value_if generation held ≡ Some pair.1
+value_here None pair generation holding same = absurd cc
+value_here (Some h) pair generation holding is =
+    let same : pair ≡ parts h = same_Some pair (parts h) holding in
+    rw (eq-eqb h.generation generation (sym (ap (λ (p : ℕ × ℕ). p.0) same) ∙ is)) (ap (λ (p : ℕ × ℕ). Some p.1) (sym same))
+
+-- no key has a value before the first change
+pub value_after-none : (changes : List Change) (at : ℕ) (key : Key) → at ≡ 0 → value_after (take at changes) key ≡ None
+value_after-none changes at key none = rw none (value_none (map.get (replay []) key.slot) key.generation (sym (held_none key.slot)))

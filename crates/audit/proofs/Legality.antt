@@ -1,0 +1,93 @@
+-- A walk over a log's changes.
+use Rattle.std.proofs.Common.{◌≡◌, ℕ, ◌+◌, ◌<◌, Bool, true, false, cond, eqb, List, [], ◌∷◌, ◌++◌, length, take, replicate, set, get_or, Option, Some, None, option_map, slice_get, sym, ap, refl, ◌∙◌, inl, inr, arith, eq-eqb, eqb-true, get_or-set_same, get_or-set_other}
+use Rattle.std.specs.FinMap as map
+use Rattle.std.proofs.lemmas.Bool.{cases_lt, cases_eq, ne_eqb}
+use Rattle.std.proofs.lemmas.List.{get_or_past, get_or-replicate, length-replicate}
+use Rattle.std.proofs.lemmas.Option.{slice_get-get_or}
+use Rattle.span.specs.declared.change.Change.{Change}
+use Rattle.span.specs.Log.{replay, puts_of, IsLegal, IsLegalAfter}
+use Rattle.span.proofs.Changes.{puts_of-push}
+use Rattle.audit.specs.Changes.{AreAfter, AreIssued, slot_of, left_by, issued_by, parts}
+use Rattle.audit.proofs.Replies.{held_more, held_none}
+
+pub IsLegal-empty : (gens : ℕ) → IsLegal gens []
+unfolding IsLegal
+IsLegal-empty gens at change is = absurd cc
+
+pub legal_at : (gens : ℕ) (changes : List Change) (at : ℕ) (change : Change) → IsLegal gens changes → slice_get changes at ≡ Some change → IsLegalAfter gens (take at changes) change
+unfolding IsLegal
+legal_at gens changes at change legal is = legal at change is
+
+pub legal_here : (gens : ℕ) (changes : List Change) (at : ℕ) (d : Change) → at < length changes → IsLegal gens changes → IsLegalAfter gens (take at changes) (get_or changes at d)
+legal_here gens changes at d inside legal = legal_at gens changes at (get_or changes at d) legal (slice_get-get_or changes at d inside)
+
+none_held : (n slot : ℕ) → get_or (replicate {A = Option (ℕ × ℕ)} n None) slot None ≡ None
+none_held n slot = elim (cases_lt slot n) [
+  | inl low ↦ get_or-replicate n slot None None low
+  | inr past ↦ get_or_past (replicate {A = Option (ℕ × ℕ)} n None) slot None (let long : length (replicate {A = Option (ℕ × ℕ)} n None) ≡ n = length-replicate n None in omega arith)
+]
+
+pub after_none : (n slot : ℕ) → get_or (replicate {A = Option (ℕ × ℕ)} n None) slot None ≡ option_map parts (map.get (replay []) slot)
+after_none n slot = none_held n slot ∙ sym (held_none slot)
+
+read_zeros : (n slot : ℕ) → get_or (replicate {A = ℕ} n 0) slot 0 ≡ 0
+read_zeros n slot = elim (cases_lt slot n) [
+  | inl low ↦ get_or-replicate n slot 0 0 low
+  | inr past ↦ get_or_past (replicate {A = ℕ} n 0) slot 0 (let long : length (replicate {A = ℕ} n 0) ≡ n = length-replicate {A = ℕ} n 0 in omega arith)
+]
+
+puts_none : (slot : ℕ) → puts_of slot [] ≡ 0
+unfolding puts_of
+puts_none slot = refl
+
+pub issued_none : (n slot : ℕ) → get_or (replicate n 0) slot 0 ≡ puts_of slot []
+issued_none n slot = read_zeros n slot ∙ sym (puts_none slot)
+
+pub AreAfter-more : (before : List Change) (c : Change) (held : List (Option (ℕ × ℕ))) (s : ℕ) (left : Option (ℕ × ℕ)) → length held ≡ 256 → s ≡ slot_of c → left ≡ left_by c
+    → AreAfter before held → AreAfter (before ++ c ∷ []) (set held s left)
+AreAfter-more before c held s left long is_slot is_left after q fits = elim (cases_eq q s) [
+  | inl same ↦
+      ap (λ k. get_or (set held s left) k None) same ∙ get_or-set_same held s left None (omega arith) ∙ is_left
+      ∙ sym (held_more before c q ∙ ap (λ b. cond b (left_by c) (option_map parts (map.get (replay before) q))) (eq-eqb q (slot_of c) (same ∙ is_slot)))
+  | inr other ↦
+      get_or-set_other held s q left None other ∙ after q fits
+      ∙ sym (held_more before c q ∙ ap (λ b. cond b (left_by c) (option_map parts (map.get (replay before) q))) (ne_eqb q (slot_of c) (λ e. other (e ∙ sym is_slot))))
+]
+
+-- how many puts of a slot there are after one more change that is legal
+puts_more : (gens : ℕ) (before : List Change) (c : Change) → IsLegalAfter gens before c → (q : ℕ)
+    → puts_of q (before ++ c ∷ []) ≡ cond (eqb q (slot_of c)) (issued_by c (puts_of (slot_of c) before)) (puts_of q before)
+puts_more gens before (Change.Put slot generation value) legal q = elim (cases_eq q slot) [
+  | inl same ↦
+      let pushed : puts_of q (before ++ Change.Put slot generation value ∷ []) ≡ puts_of q before + 1 =
+      puts_of-push q before (Change.Put slot generation value) ∙ ap (λ b. puts_of q before + cond b 1 0) (eq-eqb slot q (sym same)) in
+      let here : puts_of q before ≡ puts_of slot before = ap (λ s. puts_of s before) same in
+      let next : puts_of q (before ++ Change.Put slot generation value ∷ []) ≡ generation = omega (arith, legal.1) in
+      next ∙ ap (λ b. cond b generation (puts_of q before)) (sym (eq-eqb q slot same))
+  | inr other ↦
+      let pushed : puts_of q (before ++ Change.Put slot generation value ∷ []) ≡ puts_of q before + 0 =
+      puts_of-push q before (Change.Put slot generation value) ∙ ap (λ b. puts_of q before + cond b 1 0) (ne_eqb slot q (λ e. other (sym e))) in
+      let stays : puts_of q (before ++ Change.Put slot generation value ∷ []) ≡ puts_of q before = omega arith in
+      stays ∙ ap (λ b. cond b generation (puts_of q before)) (sym (ne_eqb q slot other))
+]
+puts_more gens before (Change.Free slot generation) legal q = stays ∙ either (eqb q slot) refl
+  where
+    stays : puts_of q (before ++ Change.Free slot generation ∷ []) ≡ puts_of q before
+    stays = puts_of-push q before (Change.Free slot generation) ∙ omega arith
+
+    either : (b : Bool) → eqb q slot ≡ b → puts_of q before ≡ cond b (puts_of slot before) (puts_of q before)
+    either true is = ap (λ s. puts_of s before) (eqb-true q slot is)
+    either false is = refl
+
+pub AreIssued-more : (gens : ℕ) (before : List Change) (c : Change) (issued : List ℕ) (s last next : ℕ) → length issued ≡ 256 → s < 256 → s ≡ slot_of c → last ≡ get_or issued s 0 → next ≡ issued_by c last
+    → AreIssued before issued → IsLegalAfter gens before c → AreIssued (before ++ c ∷ []) (set issued s next)
+AreIssued-more gens before c issued s last next long small is_slot is_last is_next is legal q fits =
+    let lasts : last ≡ puts_of (slot_of c) before = is_last ∙ is s small ∙ ap (λ k. puts_of k before) is_slot in
+    elim (cases_eq q s) [
+      | inl same ↦
+          ap (λ k. get_or (set issued s next) k 0) same ∙ get_or-set_same issued s next 0 (omega arith) ∙ is_next ∙ ap (issued_by c) lasts
+          ∙ sym (puts_more gens before c legal q ∙ ap (λ b. cond b (issued_by c (puts_of (slot_of c) before)) (puts_of q before)) (eq-eqb q (slot_of c) (same ∙ is_slot)))
+      | inr other ↦
+          get_or-set_other issued s q next 0 other ∙ is q fits
+          ∙ sym (puts_more gens before c legal q ∙ ap (λ b. cond b (issued_by c (puts_of (slot_of c) before)) (puts_of q before)) (ne_eqb q (slot_of c) (λ e. other (e ∙ sym is_slot))))
+    ]

@@ -1,0 +1,14 @@
+pub mod Orders
+pub mod Ranks
+pub mod Entries
+pub mod Shown
+pub mod Histories
+pub mod Replies
+pub mod Orderly
+pub mod Lists
+pub mod Legality
+pub mod Flat
+pub mod LogTable
+pub mod BySlot
+pub mod Entered
+pub mod Between

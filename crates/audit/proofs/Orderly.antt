@@ -1,0 +1,155 @@
+-- A table of spans beside the calls that were passed: for each span the most changes that one of them left.
+use Rattle.std.proofs.Common.{◌≡◌, ℕ, ◌+◌, ◌-◌, ◌<◌, ◌≤◌, true, false, cond, List, length, set, get_or, Some, slice_get, sym, ap, subst, refl, ◌∙◌, inl, inr, arith, get_or-set_same, get_or-set_other}
+use Rattle.std.proofs.lemmas.Bool.{cases_lt, cases_eq}
+use Rattle.std.proofs.lemmas.Option.{same_Some, slice_get_cases, slice_get_within, slice_get-get_or, slice_get_read}
+use Rattle.span.specs.declared.receipt.Receipt.{Receipt}
+use Rattle.audit.proofs.LogTable.{same_rank}
+use Rattle.span.specs.Ids.{rank}
+use Rattle.audit.specs.Receipts.{changes_after, makes_change}
+use Rattle.audit.specs.Agreement.{IsInOrder}
+use Rattle.audit.specs.Order.{GoesBack, IsClear, IsLeftBelow, IsLeftFrom}
+
+-- the calls before an index are in order
+abbrev pub IsInOrderBelow : List Receipt → ℕ → Type 0
+IsInOrderBelow list n = (i j : ℕ) (a b : Receipt) → slice_get list i ≡ Some a → slice_get list j ≡ Some b → i < j → j < n →
+    (a.section ≤ b.section) × (a.key.span ≡ b.key.span → changes_after a ≤ b.at)
+
+pub changes_after-low : (r : Receipt) → r.at ≤ changes_after r
+changes_after-low r = elim (makes_change r) as (λ b. r.at ≤ cond b (r.at + 1) r.at) [
+  | true ↦ omega arith
+  | false ↦ omega arith
+]
+
+pub goes_back : (list : List Receipt) (i : ℕ) → GoesBack list i → IsInOrder list → ⊥
+goes_back list i back order = let p = (order back.0 i back.1 back.2 back.4 back.5 (omega (arith, back.3))).0 in omega (arith, back.6)
+
+pub too_early : (list : List Receipt) (n : ℕ) (left : List ℕ) (r : Receipt) → IsLeftBelow list n left → slice_get list n ≡ Some r
+    → r.at < get_or left (rank r.key.span) 0 → IsInOrder list → ⊥
+too_early list n left r is_left at early order = elim (is_left.from (rank r.key.span)) [
+  | inl none ↦ omega arith
+  | inr w ↦
+      let p = (order w.0 n w.1 r w.3 at w.2).1 (same_rank w.1.key.span r.key.span w.4) in
+      omega (arith, w.5)
+]
+
+module _ (list : List Receipt) (n : ℕ) (left : List ℕ) (r : Receipt) (is_left : IsLeftBelow list n left) (at : slice_get list n ≡ Some r)
+    (late : get_or left (rank r.key.span) 0 ≤ r.at) where
+  pub IsInOrderBelow-more : IsInOrderBelow list n → (GoesBack list n → ⊥) → IsInOrderBelow list (n + 1)
+  IsInOrderBelow-more below forward i j a b at_i at_j less fits = elim (cases_lt j n) [
+    | inl before ↦ below i j a b at_i at_j less before
+    | inr high ↦
+        let last : j ≡ n = omega arith in
+        let same : r ≡ b = same_Some r b (sym at ∙ sym (ap (λ k. slice_get list k) last) ∙ at_j) in
+        let most = is_left.most i a (omega arith) at_i in
+        let previous : (k : ℕ) (p : Receipt) → k + 1 ≡ n → slice_get list k ≡ Some p → p.section ≤ r.section = λ k p next at_k. elim (cases_lt r.section p.section) [
+          | inl back ↦ absurd (forward (k, p, r, next, at_k, at, back))
+          | inr here ↦ here
+        ] in
+        let sections : a.section ≤ r.section = elim (cases_eq (i + 1) n) [
+          | inl next ↦ previous i a next at_i
+          | inr farther ↦ before_previous i a at_i (omega arith) below previous
+        ] in
+        subst (λ (c : Receipt). (a.section ≤ c.section) × (a.key.span ≡ c.key.span → changes_after a ≤ c.at)) same
+        (sections, λ spans. omega (arith, most, ap rank spans, ap (λ s. get_or left (rank s) 0) spans))
+  ]
+    where
+      before_previous : (i : ℕ) (a : Receipt) → slice_get list i ≡ Some a → i + 1 < n → IsInOrderBelow list n
+          → ((k : ℕ) (p : Receipt) → k + 1 ≡ n → slice_get list k ≡ Some p → p.section ≤ r.section) → a.section ≤ r.section
+      before_previous i a at_i less below previous = elim (slice_get_cases list (n - 1)).1 [
+        | inl there ↦
+            let p = (below i (n - 1) a there.0 at_i there.2 (omega arith) (omega arith)).0 in
+            let q = previous (n - 1) there.0 (omega arith) there.2 in
+            omega arith
+        | inr past ↦ absurd (let within = slice_get_within list n r at in omega (arith, past.0))
+      ]
+
+module _ (list : List Receipt) (n : ℕ) (left : List ℕ) (r : Receipt) (is_left : IsLeftBelow list n left) (at : slice_get list n ≡ Some r) where
+  pub IsLeftBelow-more : rank r.key.span < length left → (after : ℕ) → after ≡ changes_after r → get_or left (rank r.key.span) 0 ≤ after → IsLeftBelow list (n + 1) (set left (rank r.key.span) after)
+  IsLeftBelow-more inside after is rises = record {
+    most = λ k a fits at_k. elim (cases_lt k n) [
+      | inl before ↦ elim (cases_eq (rank a.key.span) (rank r.key.span)) [
+        | inl same ↦
+            let old = is_left.most k a before at_k in
+            let new : get_or (set left (rank r.key.span) after) (rank a.key.span) 0 ≡ after = rw same (get_or-set_same left (rank r.key.span) after 0 inside) in
+            let there : get_or left (rank a.key.span) 0 ≡ get_or left (rank r.key.span) 0 = ap (λ q. get_or left q 0) same in
+            omega arith
+        | inr other ↦
+            let old = is_left.most k a before at_k in
+            let new : get_or (set left (rank r.key.span) after) (rank a.key.span) 0 ≡ get_or left (rank a.key.span) 0 =
+            get_or-set_other left (rank r.key.span) (rank a.key.span) after 0 other in
+            omega arith
+      ]
+      | inr high ↦
+          let last : k ≡ n = omega arith in
+          let same : r ≡ a = same_Some r a (sym at ∙ sym (ap (λ k. slice_get list k) last) ∙ at_k) in
+          subst (λ (c : Receipt). changes_after c ≤ get_or (set left (rank r.key.span) after) (rank c.key.span) 0) same
+          (let new = get_or-set_same left (rank r.key.span) after 0 inside in omega arith)
+    ];
+    from = λ q. elim (cases_eq q (rank r.key.span)) [
+      | inl same ↦ inr (n, r, omega arith, at, sym same, sym is ∙ sym (ap (λ p. get_or (set left (rank r.key.span) after) p 0) same ∙ get_or-set_same left (rank r.key.span) after 0 inside))
+      | inr other ↦
+          let new : get_or (set left (rank r.key.span) after) q 0 ≡ get_or left q 0 = get_or-set_other left (rank r.key.span) q after 0 other in
+          elim (is_left.from q) [
+            | inl none ↦ inl (new ∙ none)
+            | inr w ↦ inr (w.0, w.1, omega (arith, w.2), w.3, w.4, w.5 ∙ sym new)
+          ]
+    ];
+  }
+
+-- a read inside a list is the same whatever is said of the places past its end
+pub read_inside : (left : List ℕ) (q v : ℕ) → q < length left → v ≡ get_or left q v → v ≡ get_or left q 0
+read_inside left q v inside read = read ∙ same_Some (get_or left q v) (get_or left q 0) (sym (slice_get-get_or left q v inside) ∙ slice_get-get_or left q 0 inside)
+
+pub none_passed : (list : List Receipt) (left : List ℕ) → ((q : ℕ) → get_or left q 0 ≡ 0) → IsLeftBelow list 0 left
+none_passed list left none = record { most = λ k r fits at. absurd (omega arith); from = λ q. inl (none q) }
+
+-- what the calls left is taken out of the table, call by call
+pub IsLeftFrom-all : (list : List Receipt) (n : ℕ) (left : List ℕ) → IsLeftBelow list n left → IsLeftFrom list 0 left
+IsLeftFrom-all list n left is q = elim (is.from q) [
+  | inl none ↦ inl none
+  | inr w ↦ inr (w.0, w.1, omega arith, w.3, w.4)
+]
+
+pub IsLeftFrom-more : (list : List Receipt) (n : ℕ) (left : List ℕ) (r : Receipt) → IsLeftFrom list n left → slice_get list n ≡ Some r → rank r.key.span < length left
+    → IsLeftFrom list (n + 1) (set left (rank r.key.span) 0)
+IsLeftFrom-more list n left r is at inside q = elim (cases_eq q (rank r.key.span)) [
+  | inl same ↦ inl (ap (λ p. get_or (set left (rank r.key.span) 0) p 0) same ∙ get_or-set_same left (rank r.key.span) 0 0 inside)
+  | inr other ↦
+      let stays : get_or (set left (rank r.key.span) 0) q 0 ≡ get_or left q 0 = get_or-set_other left (rank r.key.span) q 0 0 other in
+      elim (is q) [
+        | inl none ↦ inl (stays ∙ none)
+        | inr w ↦ elim (cases_eq w.0 n) [
+          | inl last ↦
+              let same : r ≡ w.1 = same_Some r w.1 (sym at ∙ sym (ap (λ k. slice_get list k) last) ∙ w.3) in
+              absurd (other (sym w.4 ∙ sym (ap (λ (x : Receipt). rank x.key.span) same)))
+          | inr later ↦ inr (w.0, w.1, omega (arith, w.2), w.3, w.4)
+        ]
+      ]
+]
+
+pub IsClear-all : (list : List Receipt) (n : ℕ) (left : List ℕ) → IsLeftFrom list n left → length list ≤ n → IsClear left
+IsClear-all list n left is past q = elim (is q) [
+  | inl none ↦ none
+  | inr w ↦ let within = slice_get_within list w.0 w.1 w.3 in absurd (omega (arith, w.2))
+]
+
+pub all_passed : (list : List Receipt) (n : ℕ) → IsInOrderBelow list n → length list ≤ n → IsInOrder list
+all_passed list n below past i j a b at_i at_j less = below i j a b at_i at_j less (let within = slice_get_within list j b at_j in omega arith)
+
+-- the section of a call, and that of the call before it
+module _ (list : List Receipt) (i : ℕ) (b a : Receipt) (some : 1 ≤ i) (inside : i < length list) (is_b : b ≡ get_or list i b) (is_a : a ≡ get_or list (i - 1) a) where
+  at_b : slice_get list i ≡ Some b
+  at_b = slice_get_read list (length list) i b refl inside is_b
+
+  at_a : slice_get list (i - 1) ≡ Some a
+  at_a = slice_get_read list (length list) (i - 1) a refl (omega arith) is_a
+
+  pub goes_back-when : b.section < a.section → GoesBack list i
+  goes_back-when less = (i - 1, a, b, omega arith, at_a, at_b, less)
+
+  pub when-goes_back : GoesBack list i → b.section < a.section
+  when-goes_back back =
+      let k : back.0 ≡ i - 1 = omega (arith, back.3) in
+      let same_a : back.1 ≡ a = same_Some back.1 a (sym back.4 ∙ ap (λ k. slice_get list k) k ∙ at_a) in
+      let same_b : back.2 ≡ b = same_Some back.2 b (sym back.5 ∙ at_b) in
+      rw (← same_a, ← same_b) back.6

@@ -1,0 +1,164 @@
+-- What the plain map holds beside a span's changes, and what one more change does to both.
+use Rattle.std.proofs.Common.{◌≡◌, ℕ, ◌+◌, ◌≤◌, Bool, true, false, cond, ◌&&◌, ◌||◌, eqb, List, [], ◌∷◌, ◌++◌, Option, Some, None, is_some, IsSomeAnd, sym, subst, ap, refl, inl, inr, arith, ◌∙◌, eq-eqb, eqb-true}
+use Rattle.std.specs.Ordering.{nat_cmp}
+use Rattle.std.specs.FinMap as map
+use Rattle.std.proofs.lemmas.Bool.{cases_eq, ne_eqb}
+use Rattle.span.proofs.Ids.{test_from_same_id}
+use Rattle.span.proofs.Changes.{get-put, get-free, puts_of-push}
+use Rattle.span.specs.declared.id.SpanId.{SpanId}
+use Rattle.span.specs.declared.key.Key.{Key}
+use Rattle.span.specs.declared.change.Change.{Change}
+use Rattle.span.specs.declared.receipt.Call.{Call}
+use Rattle.span.specs.declared.receipt.Reply.{Reply}
+use Rattle.span.specs.Log.{Held, replay, puts_of, IsLegalAfter, value_if}
+use Rattle.span.specs.PlainMap.{PlainMap, empty_map, with_put, without, same_key}
+use Rattle.audit.specs.Receipts.{value_after, changes_by, is_yes}
+use Rattle.audit.specs.Agreement.{CallMakes, reply_to}
+use Rattle.audit.specs.History.{IsStep}
+
+-- the map's values at the keys of the span are those of the changes, and an issued key has no later generation than the last put of its slot
+pub record Shows (span : SpanId) (changes : List Change) (m : PlainMap) : Type 0 where
+  pub values : (key : Key) → key.span ≡ span → m.value_of key ≡ value_after changes key
+  pub issued : (key : Key) → key.span ≡ span → m.is_issued key ≡ true → key.generation ≤ puts_of key.slot changes
+
+pub Shows-empty : (span : SpanId) → Shows span [] empty_map
+unfolding replay
+Shows-empty span = record {
+  values = λ key same. ap (value_if key.generation) (sym (map.get-empty nat_cmp key.slot));
+  issued = λ key same is. absurd cc;
+}
+
+-- the value of a key after a change at a slot
+value_after_change : (before after : List Change) (slot : ℕ) (left : Option Held)
+    → ((q : ℕ) → map.get (replay after) q ≡ cond (eqb q slot) left (map.get (replay before) q))
+    → (key : Key) → value_after after key ≡ cond (eqb slot key.slot) (value_if key.generation left) (value_after before key)
+value_after_change before after slot left at key =
+    ap (value_if key.generation) (at key.slot)
+    ∙ elim (cases_eq slot key.slot) [
+      | inl same ↦ rw (eq-eqb key.slot slot (sym same), eq-eqb slot key.slot same) refl
+      | inr other ↦ rw (ne_eqb key.slot slot (λ e. other (sym e)), ne_eqb slot key.slot other) refl
+    ]
+
+-- a key of another generation than the one that its slot holds has no value
+no_value : (held : Option Held) (generation other : ℕ) → IsSomeAnd held (λ h. h.generation ≡ generation) → eqb generation other ≡ false
+    → value_if other held ≡ None
+no_value None generation other holds differ = absurd holds
+no_value (Some h) generation other holds differ = rw (holds, differ) refl
+
+pick : (b c : Bool) (here left before : Option ℕ) → (c ≡ true → left ≡ here) → (c ≡ false → left ≡ None) → (b ≡ true → c ≡ false → before ≡ None)
+    → cond (b && c) here before ≡ cond b left before
+pick true true here left before equal differ gone = sym (equal refl)
+pick true false here left before equal differ gone = gone refl refl ∙ sym (differ refl)
+pick false c here left before equal differ gone = refl
+
+module _ (span : SpanId) (changes : List Change) (m : PlainMap) (shows : Shows span changes m) (key : Key) (same : key.span ≡ span) where
+  -- the test of a key of the span for being this one
+  same_key-is : (other : Key) → other.span ≡ span → same_key key other ≡ (eqb key.slot other.slot && eqb key.generation other.generation)
+  same_key-is other same_too = rw (test_from_same_id key.span other.span (same ∙ sym same_too)) refl
+
+  shown : (change : Change) (left : Option Held) (here : Option ℕ)
+      → ((q : ℕ) → map.get (replay (changes ++ change ∷ [])) q ≡ cond (eqb q key.slot) left (map.get (replay changes) q))
+      → ((other : ℕ) → eqb key.generation other ≡ true → value_if other left ≡ here)
+      → ((other : ℕ) → eqb key.generation other ≡ false → value_if other left ≡ None)
+      → ((other : Key) → other.slot ≡ key.slot → eqb key.generation other.generation ≡ false → value_after changes other ≡ None)
+      → (other : Key) → other.span ≡ span → cond (same_key key other) here (m.value_of other) ≡ value_after (changes ++ change ∷ []) other
+  shown change left here at equal differ gone other same_too =
+      ap (λ b. cond b here (m.value_of other)) (same_key-is other same_too)
+      ∙ ap (λ v. cond (eqb key.slot other.slot && eqb key.generation other.generation) here v) (shows.values other same_too)
+      ∙ pick (eqb key.slot other.slot) (eqb key.generation other.generation) here (value_if other.generation left) (value_after changes other)
+      (equal other.generation) (differ other.generation) (λ slots. gone other (sym (eqb-true key.slot other.slot slots)))
+      ∙ sym (value_after_change changes (changes ++ change ∷ []) key.slot left at other)
+
+  issued_before : (change : Change) (other : Key) → other.span ≡ span → m.is_issued other ≡ true → other.generation ≤ puts_of other.slot (changes ++ change ∷ [])
+  issued_before change other same_too is = omega (arith, shows.issued other same_too is, puts_of-push other.slot changes change)
+
+  Shows-put : (value : ℕ) → map.get (replay changes) key.slot ≡ None → key.generation ≡ puts_of key.slot changes + 1
+      → Shows span (changes ++ Change.Put key.slot key.generation value ∷ []) (with_put m key value)
+  Shows-put value free next = record {
+    values = shown (Change.Put key.slot key.generation value) (Some (record { generation = key.generation; value = value })) (Some value)
+        (get-put changes key.slot key.generation value)
+        (λ other equal. rw equal refl)
+        (λ other differ. rw differ refl)
+        (λ other slots differ. ap (value_if other.generation) (ap (map.get (replay changes)) slots ∙ free));
+    issued = λ other same_too is. by_test other same_too (same_key key other) refl is;
+  }
+    where
+      by_test : (other : Key) → other.span ≡ span → (b : Bool) → same_key key other ≡ b → (b || m.is_issued other) ≡ true
+          → other.generation ≤ puts_of other.slot (changes ++ Change.Put key.slot key.generation value ∷ [])
+      by_test other same_too true this is =
+          let both : (eqb key.slot other.slot && eqb key.generation other.generation) ≡ true = sym (same_key-is other same_too) ∙ this in
+          let slots : key.slot ≡ other.slot = eqb-true key.slot other.slot (first (eqb key.slot other.slot) (eqb key.generation other.generation) both) in
+          let generations : key.generation ≡ other.generation = eqb-true key.generation other.generation (second (eqb key.slot other.slot) (eqb key.generation other.generation) both) in
+          let pushed = puts_of-push other.slot changes (Change.Put key.slot key.generation value) in
+          let more : puts_of other.slot (changes ++ Change.Put key.slot key.generation value ∷ []) ≡ puts_of other.slot changes + 1 =
+          pushed ∙ ap (λ b. puts_of other.slot changes + cond b 1 0) (eq-eqb key.slot other.slot slots) in
+          let before : puts_of key.slot changes ≡ puts_of other.slot changes = ap (λ s. puts_of s changes) slots in
+          omega arith
+        where
+          first : (x y : Bool) → (x && y) ≡ true → x ≡ true
+          first true y h = refl
+          first false y h = absurd cc
+
+          second : (x y : Bool) → (x && y) ≡ true → y ≡ true
+          second true y h = h
+          second false y h = absurd cc
+      by_test other same_too false this is = issued_before (Change.Put key.slot key.generation value) other same_too is
+
+  Shows-free : IsSomeAnd (map.get (replay changes) key.slot) (λ held. held.generation ≡ key.generation)
+      → Shows span (changes ++ Change.Free key.slot key.generation ∷ []) (without m key)
+  Shows-free holds = record {
+    values = shown (Change.Free key.slot key.generation) None None
+        (get-free changes key.slot key.generation)
+        (λ other equal. refl)
+        (λ other differ. refl)
+        (λ other slots differ. no_value (map.get (replay changes) other.slot) key.generation other.generation (rw slots holds) differ);
+    issued = issued_before (Change.Free key.slot key.generation);
+  }
+
+-- the map after a call that makes a change
+abbrev pub after_call : Call → Key → PlainMap → PlainMap
+after_call (Call.Put value) key m = with_put m key value
+after_call Call.Get key m = m
+after_call Call.Free key m = without m key
+
+pub Shows-change : (span : SpanId) (gens : ℕ) (changes : List Change) (m : PlainMap) (call : Call) (key : Key) (change : Change) → Shows span changes m → key.span ≡ span
+    → IsLegalAfter gens changes change → CallMakes call key change → Shows span (changes ++ change ∷ []) (after_call call key m)
+Shows-change span gens changes m (Call.Put value) key (Change.Put slot generation put_value) shows same legal makes =
+    let e : Change.Put key.slot key.generation value ≡ Change.Put slot generation put_value = cc in
+    subst (λ (c : Change). Shows span (changes ++ c ∷ []) (with_put m key value)) e
+    (Shows-put span changes m shows key same value (ap (map.get (replay changes)) makes.0 ∙ legal.0) (makes.1 ∙ legal.1 ∙ ap (λ s. puts_of s changes + 1) (sym makes.0)))
+Shows-change span gens changes m Call.Free key (Change.Free slot generation) shows same legal makes =
+    let e : Change.Free key.slot key.generation ≡ Change.Free slot generation = cc in
+    subst (λ (c : Change). Shows span (changes ++ c ∷ []) (without m key)) e
+    (Shows-free span changes m shows key same (rw (makes.0, makes.1) legal))
+Shows-change span gens changes m call key change shows same legal makes = absurd makes
+
+-- a call that makes no change is a step that leaves the map
+pub IsStep-quiet : (m : PlainMap) (call : Call) (key : Key) (reply : Reply) → reply ≡ reply_to call key (m.value_of key) → changes_by call reply ≡ false → IsStep m call key reply m
+IsStep-quiet m (Call.Put value) key reply is quiet = absurd cc
+IsStep-quiet m Call.Get key reply is quiet = (is, refl)
+IsStep-quiet m Call.Free key reply is quiet =
+    let gone : is_some (m.value_of key) ≡ false = ap is_yes (sym is) ∙ quiet in
+    (is, rw gone refl)
+
+-- a call that makes a legal change is a step to the map after it
+pub IsStep-change : (span : SpanId) (gens : ℕ) (changes : List Change) (m : PlainMap) (call : Call) (key : Key) (reply : Reply) (change : Change) → Shows span changes m → key.span ≡ span
+    → IsLegalAfter gens changes change → CallMakes call key change → reply ≡ reply_to call key (m.value_of key) → changes_by call reply ≡ true
+    → IsStep m call key reply (after_call call key m)
+IsStep-change span gens changes m (Call.Put value) key reply (Change.Put slot generation put_value) shows same legal makes is done = (
+  is,
+  never (m.is_issued key) (λ issued.
+      let most = shows.issued key same issued in
+      let slots : puts_of key.slot changes ≡ puts_of slot changes = ap (λ s. puts_of s changes) makes.0 in
+      omega (arith, makes.1, legal.1)),
+  refl,
+)
+  where
+    never : (b : Bool) → (b ≡ true → ⊥) → b ≡ false
+    never true h = absurd (h refl)
+    never false h = refl
+IsStep-change span gens changes m (Call.Put value) key reply change shows same legal makes is done = absurd makes
+IsStep-change span gens changes m Call.Get key reply change shows same legal makes is done = absurd cc
+IsStep-change span gens changes m Call.Free key reply change shows same legal makes is done =
+    let there : is_some (m.value_of key) ≡ true = ap is_yes (sym is) ∙ done in
+    (is, rw there refl)

@@ -1,0 +1,42 @@
+use Rattle.std.proofs.Common.{◌≡◌, ◌<◌, ◌≤◌, length, Some, slice_get, get_or, sym, ap, refl, ◌∙◌, arith, true, false}
+use Rattle.std.proofs.lemmas.Option.{slice_get_read}
+use Rattle.span.specs.Ids.{rank}
+use Rattle.audit.proofs.Orderly.{too_early, read_inside, all_passed, changes_after-low, IsInOrderBelow-more, IsLeftBelow-more, IsLeftFrom-all}
+use Rattle.audit.proofs.order.is_in_order.Goals as goal
+
+pub returns-then-receipt-index-clause-exact : goal.returns-then-receipt-index-clause-exact
+returns-then-receipt-index-clause-exact c =
+    let call = c.index-list-i.result in
+    let at : slice_get c.args.list.now c.loop-i.i ≡ Some call = slice_get_read c.args.list.now (length c.args.list.now) c.loop-i.i call refl c.loop-i-test.true c.index-list-i.is in
+    let inside : c.place_of-place.result < length c.loop-i.left.items = omega (arith, c.loop-i.left.ok.0, c.loop-i.invariant.len, c.place_of-place.ensures.in_range) in
+    let read : c.index.result.now ≡ get_or c.loop-i.left.items c.place_of-place.result 0 = read_inside c.loop-i.left.items c.place_of-place.result c.index.result.now inside c.index.ensures in
+    let there : c.index.result.now ≡ get_or c.loop-i.left.items (rank call.key.span) 0 = read ∙ ap (λ q. get_or c.loop-i.left.items q 0) c.place_of-place.ensures.place in (
+      λ so. absurd cc,
+      λ order. absurd (too_early c.args.list.now c.loop-i.i c.loop-i.left.items call c.loop-i.invariant.left at (omega (arith, c.if-receipt-index.true)) order),
+    )
+
+pub loop-i-preserved : goal.loop-i-preserved
+loop-i-preserved c =
+    let call = c.index-list-i.result in
+    let list = c.args.list.now in
+    let left = c.loop-i.left.items in
+    let at : slice_get list c.loop-i.i ≡ Some call = slice_get_read list (length list) c.loop-i.i call refl c.loop-i-test.true c.index-list-i.is in
+    let inside : c.place_of-place.result < length left = omega (arith, c.loop-i.left.ok.0, c.loop-i.invariant.len, c.place_of-place.ensures.in_range) in
+    let read : c.index.result.now ≡ get_or left c.place_of-place.result 0 = read_inside left c.place_of-place.result c.index.result.now inside c.index.ensures in
+    let there : c.index.result.now ≡ get_or left (rank call.key.span) 0 = read ∙ ap (λ q. get_or left q 0) c.place_of-place.ensures.place in
+    let late : get_or left (rank call.key.span) 0 ≤ call.at = omega (arith, c.if-receipt-index.false) in
+    record {
+      below = IsInOrderBelow-more list c.loop-i.i left call c.loop-i.invariant.left at late c.loop-i.invariant.below
+          (λ back. let e : false ≡ true = sym c.if-goes_back.false ∙ c.goes_back.ensures.1 back in cc);
+      left = rw c.place_of-place.ensures.place (IsLeftBelow-more list c.loop-i.i left call c.loop-i.invariant.left at (rw (← c.place_of-place.ensures.place) inside) c.changes_after.result c.changes_after.ensures (omega (arith, late, changes_after-low call, c.changes_after.ensures)));
+      len = c.loop-i.invariant.len;
+    }
+
+pub returns-clause-exact : goal.returns-clause-exact
+returns-clause-exact c = (
+  λ so. all_passed c.args.list.now c.loop-i.i c.loop-i.invariant.below c.loop-i-test.false,
+  λ order. refl,
+)
+
+pub returns-clause-left : goal.returns-clause-left
+returns-clause-left c so = IsLeftFrom-all c.args.list.now c.loop-i.i c.loop-i.left.items c.loop-i.invariant.left

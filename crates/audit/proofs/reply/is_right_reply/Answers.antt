@@ -1,0 +1,48 @@
+use Rattle.std.proofs.Common.{◌≡◌, ◌∙◌, List, None, take, vec_items, length, ap, sym, subst, arith}
+use Rattle.span.specs.declared.change.Change.{Change}
+use Rattle.audit.specs.declared.slot.SlotChange.{SlotChange}
+use Rattle.audit.specs.Receipts.{log_of, value_after}
+use Rattle.audit.specs.Agreement.{reply_to}
+use Rattle.audit.specs.Slots.{IsBySlot}
+use Rattle.audit.proofs.BySlot.{value_after-none}
+use Rattle.audit.proofs.Lists.{row_at}
+use Rattle.audit.proofs.LogTable.{log_items}
+use Rattle.audit.proofs.reply.is_right_reply.Goals as goal
+
+pub returns-then-receipt-eq0 : goal.returns-then-receipt-eq0
+returns-then-receipt-eq0 c =
+    let r = c.args.receipt.now in
+    let changes = log_of c.args.logs.now r.key.span in
+    let none : None ≡ value_after (take r.at changes) r.key = sym (value_after-none changes r.at r.key c.if-receipt-eq0.true) in (
+      λ so. (omega (arith, c.if-receipt-eq0.true), c.is_reply.ensures.0 so ∙ ap (reply_to r.call r.key) none),
+      λ right. c.is_reply.ensures.1 (right.1 ∙ ap (reply_to r.call r.key) (sym none)),
+    )
+
+pub returns-then-changes-receipt : goal.returns-then-changes-receipt
+returns-then-changes-receipt c =
+    let there = (c.in-Some.ensures {u = tt}).found in
+    let items : length c.as_slice-changes.result.now ≡ length (log_of c.args.logs.now c.args.receipt.now.key.span) =
+    ap length (c.as_slice-changes.ensures.value ∙ log_items c.args.logs.now c.in-Some.j c.index-logs-j.result there.0 there.1 ∙ sym there.3) in (
+      λ so. absurd cc,
+      λ right. absurd (let fits = right.0 in omega (arith, c.if-changes-receipt.true)),
+    )
+
+pub value_after-found-requires-clause-order : goal.value_after-found-requires-clause-order
+value_after-found-requires-clause-order c =
+    let there = (c.in-Some.ensures {u = tt}).found in
+    let within = (c.in-Some.ensures {u = tt}).within in
+    let order = c.index-orders-j.result in
+    let items = c.as_slice-changes.ensures.value ∙ log_items c.args.logs.now c.in-Some.j c.index-logs-j.result there.0 there.1 in
+    let by : IsBySlot there.0.changes.items order.items = c.requires.orders c.in-Some.j there.0 order.items there.1 (row_at vec_items c.args.orders.now c.in-Some.j order (omega (arith, within, c.requires.len)) c.index-orders-j.is) in
+    subst (λ (l : List SlotChange). IsBySlot c.as_slice-changes.result.now l) (sym c.as_slice.ensures.value) (subst (λ (l : List Change). IsBySlot l order.items) (sym items) by)
+
+pub returns : goal.returns
+returns c =
+    let r = c.args.receipt.now in
+    let there = (c.in-Some.ensures {u = tt}).found in
+    let items : c.as_slice-changes.result.now ≡ log_of c.args.logs.now r.key.span =
+    c.as_slice-changes.ensures.value ∙ log_items c.args.logs.now c.in-Some.j c.index-logs-j.result there.0 there.1 ∙ sym there.3 in
+    let found : c.value_after-found.result ≡ value_after (take r.at (log_of c.args.logs.now r.key.span)) r.key = c.value_after-found.ensures ∙ ap (λ l. value_after (take r.at l) r.key) items in (
+      λ so. (rw (← items) c.if-changes-receipt.false, c.is_reply-2.ensures.0 so ∙ ap (reply_to r.call r.key) found),
+      λ right. c.is_reply-2.ensures.1 (right.1 ∙ ap (reply_to r.call r.key) (sym found)),
+    )

@@ -1,0 +1,34 @@
+-- What a change does to its slot, as the walk over a log keeps it.
+use Rattle.std.specs.Prelude.{◌≡◌, ℕ, ◌<◌, Option, Some, None, List, slice_index_or}
+use Rattle.std.specs.Option.{option_map}
+use Rattle.std.specs.FinMap as map
+use Rattle.span.specs.declared.change.Change.{Change}
+use Rattle.span.specs.declared.change.Change.TheVariants.{Put, Free}
+use Rattle.span.specs.Log.{Held, replay, puts_of}
+
+-- the slot of a change
+abbrev pub slot_of : Change → ℕ
+slot_of (Put slot generation value) = slot
+slot_of (Free slot generation) = slot
+
+-- the generation and the value that the change's slot holds after it
+abbrev pub left_by : Change → Option (ℕ × ℕ)
+left_by (Put slot generation value) = Some (generation, value)
+left_by (Free slot generation) = None
+
+-- the last generation of the change's slot after it, where this was the last before it
+abbrev pub issued_by : Change → ℕ → ℕ
+issued_by (Put slot generation value) last = generation
+issued_by (Free slot generation) last = last
+
+-- what a slot holds, as a pair
+abbrev pub parts : Held → ℕ × ℕ
+parts held = (held.generation, held.value)
+
+-- the list has what each slot holds after the changes
+abbrev pub AreAfter : List Change → List (Option (ℕ × ℕ)) → Type 0
+AreAfter changes held = (slot : ℕ) → slot < 256 → slice_index_or held slot None ≡ option_map parts (map.get (replay changes) slot)
+
+-- the list has how many puts of each slot the changes have
+abbrev pub AreIssued : List Change → List ℕ → Type 0
+AreIssued changes issued = (slot : ℕ) → slot < 256 → slice_index_or issued slot 0 ≡ puts_of slot changes

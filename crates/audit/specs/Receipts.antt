@@ -1,0 +1,44 @@
+-- What receipts say, and where they stand.
+use Rattle.std.specs.Prelude.{◌≡◌, ℕ, ◌+◌, Bool, true, false, if◌then◌else◌, Option, Some, List, [], ◌∷◌, slice_get}
+use Rattle.std.specs.List.{slice_index_or}
+use Rattle.span.specs.declared.change.Change.{Change}
+use Rattle.span.specs.declared.id.SpanId.{SpanId}
+use Rattle.span.specs.declared.key.Key.{Key}
+use Rattle.span.specs.declared.receipt.Call.{Call}
+use Rattle.span.specs.declared.receipt.Reply.{Reply}
+use Rattle.span.specs.declared.receipt.Receipt.{Receipt}
+use Rattle.span.specs.Log.{Value, value_in}
+use Rattle.span.specs.Ids.{same_span}
+use Rattle.audit.specs.declared.log.SpanLog.{SpanLog}
+
+-- the reply that a free was done
+abbrev pub is_yes : Reply → Bool
+is_yes (Reply.Done done) = done
+is_yes _ = false
+
+-- the call with this reply makes a change: a put does, and a free that was done
+abbrev pub changes_by : Call → Reply → Bool
+changes_by (Call.Put value) reply = true
+changes_by Call.Get reply = false
+changes_by Call.Free reply = is_yes reply
+
+-- the receipt's call makes a change
+abbrev pub makes_change : Receipt → Bool
+makes_change receipt = changes_by receipt.call receipt.reply
+
+-- how many changes stood in the span's log after the call
+abbrev pub changes_after : Receipt → ℕ
+changes_after receipt = if makes_change receipt then receipt.at + 1 else receipt.at
+
+-- the receipt at an index of a worker's list
+abbrev pub IsAt : List (List Receipt) → ℕ → ℕ → Receipt → Type 0
+IsAt lists worker index receipt = slice_get (slice_index_or lists worker []) index ≡ Some receipt
+
+-- the changes of a span: those of the first log that is the span's, and none where there is no such log
+abbrev pub log_of : List SpanLog → SpanId → List Change
+log_of [] span = []
+log_of (log ∷ logs) span = if same_span log.span span then log.changes.items else log_of logs span
+
+-- the value that a key has after the changes, if any
+abbrev pub value_after : List Change → Key → Option Value
+value_after changes key = value_in changes key.slot key.generation

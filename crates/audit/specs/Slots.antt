@@ -1,0 +1,45 @@
+-- A log's changes by slot, among which the last one of a slot is found by halving.
+use Rattle.std.specs.Prelude.{◌≡◌, ℕ, ◌+◌, ◌*◌, ◌<◌, ◌≤◌, Some, List, slice_get}
+use Rattle.std.specs.List.Sorted.{IsNonDecreasingBy}
+use Rattle.span.specs.declared.change.Change.{Change}
+use Rattle.audit.specs.declared.log.SpanLog.{SpanLog}
+use Rattle.audit.specs.declared.slot.SlotChange.{SlotChange}
+use Rattle.audit.specs.Changes.{slot_of}
+
+-- the place among all changes by slot, and then by place in the log
+abbrev pub slot_rank : ℕ → ℕ → ℕ
+slot_rank slot place = 18446744073709551616 * slot + place
+
+-- the rank of a change
+abbrev pub change_rank : SlotChange → ℕ
+change_rank change = slot_rank change.slot change.place
+
+-- the change at this place of the log has this slot
+abbrev pub IsOf : List Change → SlotChange → Type 0
+IsOf changes found = (change : Change) × (slice_get changes found.place ≡ Some change) × (slot_of change ≡ found.slot)
+
+-- each change of the log, and nothing else; a place is below 2^64
+pub record HasChanges (changes : List Change) (found : List SlotChange) : Type 0 where
+  pub each : (place : ℕ) (change : Change) → slice_get changes place ≡ Some change
+      → (k : ℕ) × (x : SlotChange) × (slice_get found k ≡ Some x) × (x.place ≡ place) × (x.slot ≡ slot_of change)
+  pub only : (k : ℕ) (x : SlotChange) → slice_get found k ≡ Some x → IsOf changes x
+  pub small : (k : ℕ) (x : SlotChange) → slice_get found k ≡ Some x → x.place < 18446744073709551616
+
+-- the changes of the log, by slot, and those of a slot in their order
+pub record IsBySlot (changes : List Change) (found : List SlotChange) : Type 0 where
+  pub has : HasChanges changes found
+  pub sorted : IsNonDecreasingBy change_rank found
+
+-- for each log its changes by slot
+abbrev pub AreBySlot : List SpanLog → List (List SlotChange) → Type 0
+AreBySlot logs orders = (j : ℕ) (log : SpanLog) (found : List SlotChange) → slice_get logs j ≡ Some log → slice_get orders j ≡ Some found → IsBySlot log.changes.items found
+
+-- no change of the slot stands from the one place up to the other
+abbrev pub IsQuiet : List Change → ℕ → ℕ → ℕ → Type 0
+IsQuiet changes slot from to = (q : ℕ) (change : Change) → from ≤ q → q < to → slice_get changes q ≡ Some change → slot_of change ≡ slot → ⊥
+
+-- the last change of the slot before a place
+pub record IsLast (changes : List Change) (slot at place : ℕ) : Type 0 where
+  pub before : place < at
+  pub here : (change : Change) × (slice_get changes place ≡ Some change) × (slot_of change ≡ slot)
+  pub quiet : IsQuiet changes slot (place + 1) at

@@ -1,0 +1,68 @@
+// Whether the calls of each section stand behind those of the sections of lower number.
+ghost use Rattle.std.specs.Prelude.{◌≡◌, ◌↔◌, IsTrue, Some, ℕ, length, slice_get, map, flat_map, vec_items};
+ghost use Rattle.span.specs.declared.receipt.Receipt.{Receipt};
+ghost use Rattle.audit.specs.Agreement.{RepliesAreRight, SectionsAreInOrder};
+ghost use Rattle.audit.specs.Tables.{AreEntered, AreFull, IsTable, StandsBetween};
+
+use crate::log::{SpanLog, index_of};
+use crate::section::is_between;
+use span::Receipt;
+
+// Whether the call's section stands between those of the changes at its place.
+fn stands_between(
+    logs: &[SpanLog],
+    table: &[Option<usize>],
+    rows: &[Vec<Option<u64>>],
+    receipt: &Receipt,
+) -> bool
+    requires table { IsTable logs.now table.now }
+    requires len { length rows.now ≡ length logs.now }
+    ensures { IsTrue result ↔ StandsBetween logs.now (map vec_items rows.now) receipt.now }
+{
+    match index_of(logs, table, receipt.key.span) {
+        Some(j) => is_between(rows[j].as_slice(), receipt.at, receipt.section),
+        None => true,
+    }
+}
+
+// The same of each call of a worker.
+fn stand_between(
+    logs: &[SpanLog],
+    table: &[Option<usize>],
+    rows: &[Vec<Option<u64>>],
+    list: &[Receipt],
+) -> bool
+    requires table { IsTable logs.now table.now }
+    requires len { length rows.now ≡ length logs.now }
+    ensures { IsTrue result ↔ ((i : ℕ) (receipt : Receipt) → slice_get list.now i ≡ Some receipt → StandsBetween logs.now (map vec_items rows.now) receipt) }
+{
+    for receipt in list {
+        if !stands_between(logs, table, rows, receipt) {
+            return false;
+        }
+    }
+    true
+}
+
+/// Whether each call stands behind those on its span in the sections of lower number. The sections of
+/// the changes tell: a call may be in none before that of the change before it, and in none after
+/// that of the change at its place.
+pub fn sections_are_in_order(
+    logs: &[SpanLog],
+    table: &[Option<usize>],
+    rows: &[Vec<Option<u64>>],
+    lists: &[Vec<Receipt>],
+) -> bool
+    requires table { IsTable logs.now table.now }
+    requires entered { AreEntered logs.now (flat_map vec_items lists.now) (map vec_items rows.now) }
+    requires full { AreFull (map vec_items rows.now) }
+    requires replies { RepliesAreRight logs.now (map vec_items lists.now) }
+    ensures { IsTrue result ↔ SectionsAreInOrder (map vec_items lists.now) }
+{
+    for list in lists {
+        if !stand_between(logs, table, rows, list.as_slice()) {
+            return false;
+        }
+    }
+    true
+}

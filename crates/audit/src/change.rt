@@ -1,0 +1,116 @@
+// Whether each change has exactly one receipt, and each receipt of a change its change.
+ghost use Rattle.std.specs.Prelude.{◌≡◌, ◌<◌, ◌++◌, ◌∷◌, [], IfOk, IfSome, MatchOption, ℕ, List, true, length, map, flat_map, vec_len, vec_items};
+ghost use Rattle.span.specs.declared.receipt.Receipt.{Receipt};
+ghost use Rattle.audit.specs.Receipts.{log_of, makes_change};
+ghost use Rattle.audit.specs.Agreement.{ChangesHaveReceipts};
+ghost use Rattle.audit.specs.Tables.{AreEntered, AreFull, IsKnown, IsLogAt, IsTable, WereEntered};
+
+use crate::calls::{call_makes, makes_change};
+use crate::log::{SpanLog, index_of};
+use crate::section::{are_full, empty_rows, mark};
+use span::Receipt;
+use std::alloc::{AllocError, Global};
+
+// The index of the log that has the call's change, if one has.
+fn log_with_change(logs: &[SpanLog], table: &[Option<usize>], receipt: &Receipt) -> Option<usize>
+    requires table { IsTable logs.now table.now }
+    requires makes { makes_change receipt.now ≡ true }
+    ensures within { IfSome result (λ j. j < length logs.now) }
+    ensures known { MatchOption result (IsKnown logs.now receipt.now → ⊥) (λ j.
+        IsLogAt logs.now receipt.now.key.span j × IsKnown logs.now receipt.now × (receipt.now.at < length (log_of logs.now receipt.now.key.span))) }
+{
+    let j = index_of(logs, table, receipt.key.span)?;
+    let changes = logs[j].changes.as_slice();
+    if receipt.at < changes.len() && call_makes(receipt.call, receipt.key, changes[receipt.at]) {
+        Some(j)
+    } else {
+        None
+    }
+}
+
+// Enters a receipt, where it makes a change. Whether it is the only one so far that makes the change
+// of its place.
+fn enter(
+    logs: &[SpanLog],
+    table: &[Option<usize>],
+    rows: &mut Vec<Vec<Option<u64>>>,
+    receipt: &Receipt,
+) -> bool
+    requires table { IsTable logs.now table.now }
+    requires len { vec_len rows.old ≡ length logs.now }
+    ensures len { vec_len rows.new ≡ length logs.now }
+    ensures entered { (before : List Receipt) → AreEntered logs.now before (map vec_items rows.old.items)
+        → WereEntered logs.now (before ++ receipt.now ∷ []) (map vec_items rows.new.items) result }
+{
+    if !makes_change(receipt) {
+        return true;
+    }
+    match log_with_change(logs, table, receipt) {
+        Some(j) => mark(&mut rows[j], receipt.at, receipt.section),
+        None => false,
+    }
+}
+
+// The same of the receipts of a worker.
+fn enter_list(
+    logs: &[SpanLog],
+    table: &[Option<usize>],
+    rows: &mut Vec<Vec<Option<u64>>>,
+    list: &[Receipt],
+) -> bool
+    requires table { IsTable logs.now table.now }
+    requires len { vec_len rows.old ≡ length logs.now }
+    ensures len { vec_len rows.new ≡ length logs.now }
+    ensures entered { (before : List Receipt) → AreEntered logs.now before (map vec_items rows.old.items)
+        → WereEntered logs.now (before ++ list.now) (map vec_items rows.new.items) result }
+{
+    for receipt in list {
+        if !enter(logs, table, rows, receipt) {
+            return false;
+        }
+    }
+    true
+}
+
+// The same of the receipts of all workers.
+fn enter_lists(
+    logs: &[SpanLog],
+    table: &[Option<usize>],
+    rows: &mut Vec<Vec<Option<u64>>>,
+    lists: &[Vec<Receipt>],
+) -> bool
+    requires table { IsTable logs.now table.now }
+    requires len { vec_len rows.old ≡ length logs.now }
+    requires rows { AreEntered logs.now [] (map vec_items rows.old.items) }
+    ensures len { vec_len rows.new ≡ length logs.now }
+    ensures entered { WereEntered logs.now (flat_map vec_items lists.now) (map vec_items rows.new.items) result }
+{
+    for list in lists {
+        if !enter_list(logs, table, rows, list.as_slice()) {
+            return false;
+        }
+    }
+    true
+}
+
+/// The section of each change of each log, where each change has exactly one receipt and each
+/// receipt of a change its change.
+pub fn sections_of_changes(
+    alloc: Global,
+    logs: &[SpanLog],
+    table: &[Option<usize>],
+    lists: &[Vec<Receipt>],
+) -> Result<Option<Vec<Vec<Option<u64>>>>, AllocError>
+    requires { IsTable logs.now table.now }
+    ensures len { IfOk result (λ rows. IfSome rows (λ rows. vec_len rows ≡ length logs.now)) }
+    ensures entered { IfOk result (λ rows. MatchOption rows (ChangesHaveReceipts logs.now (map vec_items lists.now) → ⊥) (λ rows.
+        ChangesHaveReceipts logs.now (map vec_items lists.now) × AreEntered logs.now (flat_map vec_items lists.now) (map vec_items rows.items)
+        × AreFull (map vec_items rows.items))) }
+{
+    let mut rows = empty_rows(alloc, logs)?;
+    if enter_lists(logs, table, &mut rows, lists) && are_full(rows.as_slice()) {
+        Ok(Some(rows))
+    } else {
+        Ok(None)
+    }
+}

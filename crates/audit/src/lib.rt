@@ -1,0 +1,41 @@
+//! The audit of a run: whether what its calls answered agrees with the logs of its spans.
+//!
+//! A worker keeps a [`Receipt`](span::Receipt) of each of its calls. When the run is over, [`audit`]
+//! holds the receipts, one list a worker, against the logs.
+//!
+//! ```text
+//!   log of 0.0       Put 0 gen 1 = 5        Free 0 gen 1
+//!   place          0                  1                    2
+//!
+//!   worker 0         put ─► key             free ─► yes      get ─► none
+//!   worker 1                    get ─► 5
+//! ```
+//!
+//! A receipt says in `at` how many changes stood in the log before its call. So each change must
+//! have the receipt of the call that made it, each answer must be that of the changes before it, and
+//! the places must not fall where a worker, or a section of the run, came after another.
+//!
+//! The public fact of the crate is what then follows: the calls on each span have one order, in
+//! which each is answered as by a plain map of keys that one thread uses, and which respects the
+//! lists of the workers and the sections (`specs/History.antt`). Nothing is taken on trust but the
+//! lists themselves: that they have every receipt, in order.
+//!
+//! A receipt is looked at once for each part of the agreement, and finds its span's log by a table.
+//! A look-up finds the last change of its slot by halving, among the log's changes sorted by slot.
+#![tactic(auto)]
+
+mod barrier;
+mod calls;
+mod change;
+mod fault;
+mod legal;
+mod log;
+mod order;
+mod reply;
+mod section;
+mod slot;
+#[cfg(test)]
+mod tests;
+
+pub use fault::{AuditCause, AuditError, audit};
+pub use log::SpanLog;

@@ -1,0 +1,121 @@
+// Whether each call was answered as its span's log says.
+ghost use Rattle.std.specs.Prelude.{◌≡◌, ◌↔◌, ◌≤◌, IsTrue, IfOk, Some, ℕ, length, take, slice_get, map, vec_items};
+ghost use Rattle.span.specs.declared.receipt.Receipt.{Receipt};
+ghost use Rattle.audit.specs.Receipts.{value_after};
+ghost use Rattle.audit.specs.Agreement.{IsRightReply, RepliesAreRight, reply_to};
+ghost use Rattle.audit.specs.Slots.{AreBySlot, IsBySlot};
+ghost use Rattle.audit.specs.Tables.{IsTable};
+
+use crate::calls::left_by;
+use crate::log::{SpanLog, index_of};
+use crate::slot::{SlotChange, all_by_slot, last_before};
+use span::{Call, Change, Key, Receipt, Reply};
+use std::alloc::{AllocError, Global};
+
+// The value that the key has after the changes before the place.
+fn value_after(changes: &[Change], order: &[SlotChange], at: usize, key: &Key) -> Option<u128>
+    requires order { IsBySlot changes.now order.now }
+    requires inside { at ≤ length changes.now }
+    ensures { result ≡ value_after (take at changes.now) key.now }
+{
+    let last = last_before(order, key.slot, at)?;
+    match left_by(&changes[last]) {
+        Some((generation, value)) if generation == key.generation => Some(value),
+        _ => None,
+    }
+}
+
+fn is_same_key(one: Key, other: Key) -> bool
+    ensures { IsTrue result ↔ (one ≡ other) }
+{
+    one.span == other.span && one.slot == other.slot && one.generation == other.generation
+}
+
+// Whether this is the reply to a call where its key has this value.
+fn is_reply(reply: Reply, call: Call, key: Key, found: Option<u128>) -> bool
+    ensures { IsTrue result ↔ (reply ≡ reply_to call key found) }
+{
+    match (call, reply) {
+        (Call::Put(_), Reply::Key(other)) => is_same_key(other, key),
+        (Call::Get, Reply::Found(value)) => value == found,
+        (Call::Free, Reply::Done(done)) => done == found.is_some(),
+        _ => false,
+    }
+}
+
+// Whether the call stands at a place of its span's log and was answered as the changes before it say.
+fn is_right_reply(
+    logs: &[SpanLog],
+    table: &[Option<usize>],
+    orders: &[Vec<SlotChange>],
+    receipt: &Receipt,
+) -> bool
+    requires table { IsTable logs.now table.now }
+    requires len { length orders.now ≡ length logs.now }
+    requires orders { AreBySlot logs.now (map vec_items orders.now) }
+    ensures { IsTrue result ↔ IsRightReply logs.now receipt.now }
+{
+    let Some(j) = index_of(logs, table, receipt.key.span) else {
+        return receipt.at == 0 && is_reply(receipt.reply, receipt.call, receipt.key, None);
+    };
+    let changes = logs[j].changes.as_slice();
+    if changes.len() < receipt.at {
+        return false;
+    }
+    let found = value_after(changes, orders[j].as_slice(), receipt.at, &receipt.key);
+    is_reply(receipt.reply, receipt.call, receipt.key, found)
+}
+
+// Whether each call of a worker was answered as its span's log says.
+fn list_is_right(
+    logs: &[SpanLog],
+    table: &[Option<usize>],
+    orders: &[Vec<SlotChange>],
+    list: &[Receipt],
+) -> bool
+    requires table { IsTable logs.now table.now }
+    requires len { length orders.now ≡ length logs.now }
+    requires orders { AreBySlot logs.now (map vec_items orders.now) }
+    ensures { IsTrue result ↔ ((i : ℕ) (receipt : Receipt) → slice_get list.now i ≡ Some receipt → IsRightReply logs.now receipt) }
+{
+    for receipt in list {
+        if !is_right_reply(logs, table, orders, receipt) {
+            return false;
+        }
+    }
+    true
+}
+
+// The same of each worker.
+fn lists_are_right(
+    logs: &[SpanLog],
+    table: &[Option<usize>],
+    orders: &[Vec<SlotChange>],
+    lists: &[Vec<Receipt>],
+) -> bool
+    requires table { IsTable logs.now table.now }
+    requires len { length orders.now ≡ length logs.now }
+    requires orders { AreBySlot logs.now (map vec_items orders.now) }
+    ensures { IsTrue result ↔ RepliesAreRight logs.now (map vec_items lists.now) }
+{
+    for list in lists {
+        if !list_is_right(logs, table, orders, list.as_slice()) {
+            return false;
+        }
+    }
+    true
+}
+
+/// Whether each call of each worker was answered as its span's log says.
+pub fn replies_are_right(
+    alloc: Global,
+    logs: &[SpanLog],
+    table: &[Option<usize>],
+    lists: &[Vec<Receipt>],
+) -> Result<bool, AllocError>
+    requires { IsTable logs.now table.now }
+    ensures { IfOk result (λ yes. IsTrue yes ↔ RepliesAreRight logs.now (map vec_items lists.now)) }
+{
+    let orders = all_by_slot(alloc, logs)?;
+    Ok(lists_are_right(logs, table, orders.as_slice(), lists))
+}

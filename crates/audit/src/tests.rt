@@ -1,0 +1,181 @@
+//! Receipts that agree with a log, and lists that differ from them in one thing.
+use crate::{AuditCause, AuditError, SpanLog, audit};
+use span::{Call, Change, Key, Receipt, Reply, SpanId};
+use std::alloc::Global;
+use std::test::Fail;
+
+const PUT: Change = Change::Put {
+    slot: 0,
+    generation: 1,
+    value: 5,
+};
+
+const FREE: Change = Change::Free {
+    slot: 0,
+    generation: 1,
+};
+
+// The key of slot 0 of span 0.0 at generation 1.
+fn some_key() -> Result<Key, Fail> {
+    let id = SpanId::new(0, 0).ok_or("there are 64 shards")?;
+    Ok(Key::new(id, 0, 1).ok_or("generations count from 1")?)
+}
+
+fn receipt(key: Key, section: u64, at: usize, call: Call, reply: Reply) -> Receipt {
+    Receipt {
+        worker: 0,
+        section,
+        key,
+        at,
+        call,
+        reply,
+    }
+}
+
+fn put(key: Key, section: u64, at: usize) -> Receipt {
+    receipt(key, section, at, Call::Put(5), Reply::Key(key))
+}
+
+fn get(key: Key, section: u64, at: usize, found: Option<u128>) -> Receipt {
+    receipt(key, section, at, Call::Get, Reply::Found(found))
+}
+
+fn free(key: Key, section: u64, at: usize, done: bool) -> Receipt {
+    receipt(key, section, at, Call::Free, Reply::Done(done))
+}
+
+// A log of span 0.0 with these changes, and asks again where memory was refused.
+fn log_of(alloc: Global, changes: &[Change]) -> Result<SpanLog, Fail> {
+    let changes = match Vec::from_slice(alloc, changes) {
+        Ok(changes) => changes,
+        Err(_) => Vec::from_slice(alloc, changes)?,
+    };
+    Ok(SpanLog {
+        span: some_key()?.span(),
+        gens: 9,
+        changes,
+    })
+}
+
+// A worker's list, and asks again where memory was refused.
+fn list_of(alloc: Global, receipts: &[Receipt]) -> Result<Vec<Receipt>, Fail> {
+    match Vec::from_slice(alloc, receipts) {
+        Ok(list) => Ok(list),
+        Err(_) => Ok(Vec::from_slice(alloc, receipts)?),
+    }
+}
+
+// Why the audit is not passed, if it is not. It asks again where memory was refused.
+fn told(
+    alloc: Global,
+    logs: &[SpanLog],
+    first: &[Receipt],
+    second: &[Receipt],
+) -> Result<Option<AuditCause>, Fail> {
+    let lists = [list_of(alloc, first)?, list_of(alloc, second)?];
+    let mut answer = audit(alloc, logs, &lists);
+    if answer == Err(AuditError::OutOfMemory) {
+        answer = audit(alloc, logs, &lists);
+    }
+    match answer {
+        Ok(()) => Ok(None),
+        Err(AuditError::Fault(cause)) => Ok(Some(cause)),
+        Err(AuditError::OutOfMemory) => Err("out of memory".into()),
+    }
+}
+
+// The same of one span with these changes.
+fn cause(
+    alloc: Global,
+    changes: &[Change],
+    first: &[Receipt],
+    second: &[Receipt],
+) -> Result<Option<AuditCause>, Fail> {
+    told(alloc, &[log_of(alloc, changes)?], first, second)
+}
+
+#[test]
+fn names_the_first_part_that_fails(rt: HostRuntime) -> Result<(), Fail> {
+    let alloc = rt.alloc();
+    let key = some_key()?;
+    let log = [PUT, FREE];
+    let (put_0, get_1, free_1, get_2) = (
+        put(key, 0, 0),
+        get(key, 0, 1, Some(5)),
+        free(key, 0, 1, true),
+        get(key, 0, 2, None),
+    );
+    let honest = [put_0, get_1, free_1, get_2];
+    let later = [
+        put(key, 1, 0),
+        get(key, 1, 1, Some(5)),
+        free(key, 1, 1, true),
+        get(key, 1, 2, None),
+    ];
+    let found = [
+        cause(alloc, &log, &honest, &[])?,
+        cause(alloc, &[FREE, PUT], &honest, &[])?,
+        cause(alloc, &log, &[put_0, get_1, get_2], &[])?,
+        cause(alloc, &log, &[put_0, get_1, put(key, 0, 1), get_2], &[])?,
+        cause(
+            alloc,
+            &log,
+            &[put_0, get(key, 0, 1, None), free_1, get_2],
+            &[],
+        )?,
+        cause(alloc, &log, &[put_0, get_1, get_2, free_1], &[])?,
+        cause(alloc, &log, &honest, &[get(key, 1, 0, None)])?,
+        cause(alloc, &log, &later, &[get(key, 0, 1, Some(5))])?,
+    ];
+    let wanted = [
+        None,
+        Some(AuditCause::Log),
+        Some(AuditCause::Change),
+        Some(AuditCause::Change),
+        Some(AuditCause::Reply),
+        Some(AuditCause::Order),
+        Some(AuditCause::Barrier),
+        Some(AuditCause::Barrier),
+    ];
+    assert_eq!(rt; found, wanted);
+    Ok(())
+}
+
+// A span with two logs, a generation that is used twice, a change with two receipts, a look-up that answers what the
+// span held when it was opened, and a span that was never opened.
+#[test]
+fn looks_at_each_part(rt: HostRuntime) -> Result<(), Fail> {
+    let alloc = rt.alloc();
+    let key = some_key()?;
+    let log = [PUT, FREE];
+    let honest = [put(key, 0, 0), free(key, 0, 1, true)];
+    let two = [log_of(alloc, &log)?, log_of(alloc, &log)?];
+    let found = [
+        told(alloc, &two, &honest, &[])?,
+        cause(alloc, &[PUT, FREE, PUT], &honest, &[put(key, 0, 2)])?,
+        cause(alloc, &log, &honest, &[put(key, 0, 0)])?,
+        cause(
+            alloc,
+            &log,
+            &honest,
+            &[get(key, 0, 2, None), get(key, 0, 0, None)],
+        )?,
+        told(
+            alloc,
+            &[],
+            &[get(key, 0, 0, None), free(key, 0, 0, false)],
+            &[],
+        )?,
+        told(alloc, &[], &[get(key, 0, 1, None)], &[])?,
+    ];
+    let wanted = [
+        Some(AuditCause::Log),
+        Some(AuditCause::Log),
+        Some(AuditCause::Change),
+        Some(AuditCause::Order),
+        None,
+        Some(AuditCause::Reply),
+    ];
+    assert_eq!(rt; found, wanted);
+    Ok(())
+}
