@@ -12,6 +12,7 @@ ghost use Rattle.trace_runner.specs.Runs.{finishing, stepping};
 use crate::report::{CloseNews, Heads, MarkNews, PlanNews, PlanNote, Steps, TakenStep};
 use arena_core::{Core, Event, Refusal, Reply};
 use certificate::{Certificate, partners, write};
+use span::Counted;
 use std::alloc::{AllocError, Global};
 use std::mem;
 
@@ -56,7 +57,7 @@ impl Plans {
     }
 
     /// Takes a step of the open plan while a pair is left, as behind each thread's line.
-    pub(crate) fn follow(&mut self, core: &mut Core) -> Result<(), AllocError>
+    pub(crate) fn follow(&mut self, core: &mut Core<Counted>) -> Result<(), AllocError>
         requires knows { KnowsPlan self.old core.old }
         ensures made { (above : ℕ) → OnOk result (Carries (stepping core.old.plan) core.old (news_at above self.old) core.new (news_at above self.new)) }
         ensures knows { OnOk result (KnowsPlan self.new core.new) }
@@ -70,7 +71,11 @@ impl Plans {
     }
 
     /// Ends the open plan, if there is one: takes the steps that are left, and closes it. So many answers stand above.
-    pub(crate) fn finish(&mut self, core: &mut Core, above: usize) -> Result<(), AllocError>
+    pub(crate) fn finish(
+        &mut self,
+        core: &mut Core<Counted>,
+        above: usize,
+    ) -> Result<(), AllocError>
         requires knows { KnowsPlan self.old core.old }
         ensures made { OnOk result (Carries (finishing core.old.plan) core.old (news_at above self.old) core.new (news_at above self.new)) }
         ensures ended { OnOk result (core.new.plan ≡ None) }
@@ -86,7 +91,7 @@ impl Plans {
     }
 
     /// Takes all the steps that are left.
-    fn finish_steps(&mut self, core: &mut Core, left: usize) -> Result<(), AllocError>
+    fn finish_steps(&mut self, core: &mut Core<Counted>, left: usize) -> Result<(), AllocError>
         requires knows { KnowsPlan self.old core.old }
         requires left { self.old.left ≡ Some left }
         ensures made { (above : ℕ) → OnOk result (Carries (replicate left (Calls event.Step)) core.old (news_at above self.old) core.new (news_at above self.new)) }
@@ -102,7 +107,7 @@ impl Plans {
     }
 
     /// Takes the next step of the open plan, of which so many are left.
-    fn step(&mut self, core: &mut Core, left: usize) -> Result<(), AllocError>
+    fn step(&mut self, core: &mut Core<Counted>, left: usize) -> Result<(), AllocError>
         requires knows { KnowsPlan self.old core.old }
         requires left { self.old.left ≡ Some left }
         requires some { 0 < left }
@@ -127,7 +132,7 @@ impl Plans {
     }
 
     /// Closes the open plan, of which no pair is left.
-    fn close(&mut self, core: &mut Core, above: usize) -> Result<(), AllocError>
+    fn close(&mut self, core: &mut Core<Counted>, above: usize) -> Result<(), AllocError>
         requires knows { KnowsPlan self.old core.old }
         requires left { self.old.left ≡ Some 0 }
         ensures made { OnOk result (Carries (Calls event.Close ∷ []) core.old (news_at above self.old) core.new (news_at above self.new)) }
@@ -152,7 +157,7 @@ impl Plans {
     }
 
     /// Marks: makes a plan, and opens it, unless a side has too many groups.
-    pub(crate) fn mark(&mut self, core: &mut Core, above: usize) -> Result<(), AllocError>
+    pub(crate) fn mark(&mut self, core: &mut Core<Counted>, above: usize) -> Result<(), AllocError>
         requires unplanned { core.old.plan ≡ None }
         requires left { self.old.left ≡ None }
         requires few { self.old.marks + 1 < 2 ^ 64 }
@@ -175,7 +180,7 @@ impl Plans {
     /// Keeps what a mark has planned.
     fn planned(
         &mut self,
-        core: &Core,
+        core: &Core<Counted>,
         certificate: Certificate,
         above: usize,
     ) -> Result<(), AllocError>

@@ -15,6 +15,7 @@ use crate::run::run_lines;
 use crate::sink::{Sink, give};
 use crate::writing::report_text;
 use arena_core::{Core, CoreError};
+use span::Counted;
 use std::alloc::{AllocError, Global};
 use trace_text::{Header, Trace, parse};
 
@@ -84,15 +85,15 @@ fn replay(alloc: Global, trace: &Trace, replies: bool) -> Result<Replayed, Alloc
     })
 }
 
-/// The core that the header asks for.
-fn core_of(alloc: Global, header: &Header) -> Result<Core, AllocError>
+/// The core that the header asks for. Its logs are only counted, since no report shows one.
+fn core_of(alloc: Global, header: &Header) -> Result<Core<Counted>, AllocError>
     requires { IsWithinLimits header.now }
     ensures core { IfOk result (λ core. core ≡ start_of header.now) }
     ensures empty { OnOk result (shown (start_of header.now) ≡ empty_map) }
 {
     let pages = header.pages as usize;
     let ring = header.ring as usize;
-    match Core::new(alloc, header.shards, pages, ring, header.gens) {
+    match Core::with_log(alloc, header.shards, pages, ring, header.gens) {
         Ok(core) => Ok(core),
         Err(CoreError::OutOfMemory) => Err(AllocError),
         Err(CoreError::Config) => unreachable!(),

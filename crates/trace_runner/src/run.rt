@@ -15,7 +15,7 @@ ghost use Rattle.arena_core.specs.declared.event.Event.{Event};
 use crate::plans::Plans;
 use crate::report::{Answer, LineAnswer, PlanNote};
 use arena_core::{Core, Event, Refusal, Reply};
-use span::Key;
+use span::{Counted, Key};
 use std::alloc::{AllocError, Global};
 use std::collections::HashSet;
 use trace_text::{Binding, Call, Line, Name, Reference, Trace};
@@ -24,7 +24,7 @@ use trace_text::{Binding, Call, Line, Name, Reference, Trace};
 #[derive(Drop)]
 struct Run<'t> {
     trace: &'t Trace,
-    core: Core,
+    core: Core<Counted>,
     /// The answers so far, in the order of the calls.
     answers: Vec<LineAnswer>,
     /// Of each line that was run, where its answers begin.
@@ -36,7 +36,7 @@ struct Run<'t> {
 
 impl<'t> Run<'t> {
     /// A run of no line yet.
-    fn new(alloc: Global, trace: &'t Trace, core: Core) -> Run<'t>
+    fn new(alloc: Global, trace: &'t Trace, core: Core<Counted>) -> Run<'t>
         requires { Serves trace.now.header.shards core }
         ensures trace { result.trace.now ≡ trace.now }
         ensures come { HasCome trace.now.header.shards trace.now.lines.items 0 core result.core result.answers.items result.starts.items (has result.leaving) result.plans }
@@ -369,7 +369,7 @@ impl<'t> Run<'t> {
 #[derive(Drop)]
 pub struct Ran {
     /// The core after the last line, and after the end of the text.
-    pub core: Core,
+    pub core: Core<Counted>,
     /// The answers of all lines, in the order of the report.
     pub answers: Vec<LineAnswer>,
     /// How many of them are those of threads' lines.
@@ -384,7 +384,7 @@ pub struct Ran {
 /// shards of the threads that ended behind the last mark.
 ///
 /// The error is want of memory, of a call or of the answers; the core is then dropped.
-pub fn run_lines(alloc: Global, trace: &Trace, core: Core) -> Result<Ran, AllocError>
+pub fn run_lines(alloc: Global, trace: &Trace, core: Core<Counted>) -> Result<Ran, AllocError>
     requires { Serves trace.now.header.shards core }
     ensures { IfOk result (λ ran. (news : News) × IsRun trace.now.header.shards trace.now.lines.items core ran.core ran.answers.items ran.calls news × (ran.notes.items ≡ news.notes) × (ran.certificate.items ≡ news.certificate)) }
 {
