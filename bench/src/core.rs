@@ -85,7 +85,7 @@ pub enum Stepped {
 /// A side of a snapshot: heads ascending, with what they occupy and where they are.
 type Side = Vec<(SpanId, Slots, usize)>;
 
-pub struct Core<const LOG: bool = true> {
+pub struct Core<const LOG: bool = false> {
     limits: Header,
     /// By the shard that opened them, then by serial.
     spans: Vec<Vec<Span>>,
