@@ -5,6 +5,7 @@ use Rattle.std.proofs.lemmas.List.{length-set, map-set, append-nil, append_assoc
 use Rattle.std.proofs.lemmas.Grind.{flat_map-append}
 use Rattle.std.proofs.lemmas.Option.{same_Some, slice_get_cases, slice_get_within, slice_get-get_or, slice_get_read, get_or_from_slice_get}
 use Rattle.span.specs.declared.change.Change.{Change}
+use Rattle.span.specs.declared.id.SpanId.{SpanId}
 use Rattle.span.specs.declared.receipt.Receipt.{Receipt}
 use Rattle.audit.specs.declared.log.SpanLog.{SpanLog}
 use Rattle.audit.specs.Receipts.{log_of, makes_change}
@@ -228,6 +229,12 @@ AreEntered-none logs rows are = record {
   rows_are = are;
 }
 
+-- the change at a receipt's place is the one at that place of its span's log
+same_change : (logs : List SpanLog) (span : SpanId) (r : Receipt) (at : ℕ) (c d : Change) → slice_get (log_of logs r.key.span) r.at ≡ Some c → r.key.span ≡ span → r.at ≡ at
+    → slice_get (log_of logs span) at ≡ Some d → c ≡ d
+same_change logs span r at c d at_c spans places at_d =
+    same_Some c d (sym at_c ∙ ap (λ s. slice_get (log_of logs s) r.at) spans ∙ ap (λ k. slice_get (log_of logs span) k) places ∙ at_d)
+
 module _ {X : Type 0} (f : X → List Receipt) (xs : List X) (logs : List SpanLog) where
   -- where each place has its section, each change has its receipt
   pub changes_have : (rows : List (List (Option ℕ))) → AreEntered logs (flat_map f xs) rows → AreFull rows → ChangesHaveReceipts logs (map f xs)
@@ -246,7 +253,7 @@ module _ {X : Type 0} (f : X → List Receipt) (xs : List X) (logs : List SpanLo
           let listed = flat_from f xs made.0 r made.2 in
           let known = are.good.known made.0 r made.2 made.3.makes in
           let spans : r.key.span ≡ span = made.3.same_span ∙ found.1.2 in
-          let same : known.0 ≡ change = same_Some known.0 change (sym known.1 ∙ ap (λ s. slice_get (log_of logs s) r.at) spans ∙ ap (λ k. slice_get (log_of logs span) k) made.3.same_place ∙ is) in (
+          let same = same_change logs span r at known.0 change known.1 spans made.3.same_place is in (
             listed.0,
             listed.1,
             r,

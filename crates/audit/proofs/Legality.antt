@@ -1,18 +1,15 @@
 -- A walk over a log's changes.
-use Rattle.std.proofs.Common.{◌≡◌, ℕ, ◌+◌, ◌<◌, Bool, true, false, cond, eqb, List, [], ◌∷◌, ◌++◌, length, take, replicate, set, get_or, Option, Some, None, option_map, slice_get, sym, ap, refl, ◌∙◌, inl, inr, arith, eq-eqb, eqb-true, get_or-set_same, get_or-set_other}
+use Rattle.std.proofs.Common.{◌≡◌, ℕ, ◌<◌, Bool, true, false, cond, eqb, List, [], ◌∷◌, ◌++◌, length, take, replicate, set, get_or, Option, Some, None, option_map, slice_get, sym, ap, refl, ◌∙◌, inl, inr, arith, eq-eqb, eqb-true, get_or-set_same, get_or-set_other}
 use Rattle.std.specs.FinMap as map
 use Rattle.std.proofs.lemmas.Bool.{cases_lt, cases_eq, ne_eqb}
 use Rattle.std.proofs.lemmas.List.{get_or_past, get_or-replicate, length-replicate}
 use Rattle.std.proofs.lemmas.Option.{slice_get-get_or}
 use Rattle.span.specs.declared.change.Change.{Change}
 use Rattle.span.specs.Log.{replay, puts_of, IsLegal, IsLegalAfter}
-use Rattle.span.proofs.Changes.{puts_of-push}
+use Rattle.span.proofs.Changes.{puts_of-put_same, puts_of-put_other, puts_of-free}
+use Rattle.span.proofs.LegalLogs.{puts_of-empty}
 use Rattle.audit.specs.Changes.{AreAfter, AreIssued, slot_of, left_by, issued_by, parts}
 use Rattle.audit.proofs.Replies.{held_more, held_none}
-
-pub IsLegal-empty : (gens : ℕ) → IsLegal gens []
-unfolding IsLegal
-IsLegal-empty gens at change is = absurd cc
 
 pub legal_at : (gens : ℕ) (changes : List Change) (at : ℕ) (change : Change) → IsLegal gens changes → slice_get changes at ≡ Some change → IsLegalAfter gens (take at changes) change
 unfolding IsLegal
@@ -36,12 +33,8 @@ read_zeros n slot = elim (cases_lt slot n) [
   | inr past ↦ get_or_past (replicate {A = ℕ} n 0) slot 0 (let long : length (replicate {A = ℕ} n 0) ≡ n = length-replicate {A = ℕ} n 0 in omega arith)
 ]
 
-puts_none : (slot : ℕ) → puts_of slot [] ≡ 0
-unfolding puts_of
-puts_none slot = refl
-
 pub issued_none : (n slot : ℕ) → get_or (replicate n 0) slot 0 ≡ puts_of slot []
-issued_none n slot = read_zeros n slot ∙ sym (puts_none slot)
+issued_none n slot = read_zeros n slot ∙ sym (puts_of-empty slot)
 
 pub AreAfter-more : (before : List Change) (c : Change) (held : List (Option (ℕ × ℕ))) (s : ℕ) (left : Option (ℕ × ℕ)) → length held ≡ 256 → s ≡ slot_of c → left ≡ left_by c
     → AreAfter before held → AreAfter (before ++ c ∷ []) (set held s left)
@@ -59,22 +52,14 @@ puts_more : (gens : ℕ) (before : List Change) (c : Change) → IsLegalAfter ge
     → puts_of q (before ++ c ∷ []) ≡ cond (eqb q (slot_of c)) (issued_by c (puts_of (slot_of c) before)) (puts_of q before)
 puts_more gens before (Change.Put slot generation value) legal q = elim (cases_eq q slot) [
   | inl same ↦
-      let pushed : puts_of q (before ++ Change.Put slot generation value ∷ []) ≡ puts_of q before + 1 =
-      puts_of-push q before (Change.Put slot generation value) ∙ ap (λ b. puts_of q before + cond b 1 0) (eq-eqb slot q (sym same)) in
-      let here : puts_of q before ≡ puts_of slot before = ap (λ s. puts_of s before) same in
-      let next : puts_of q (before ++ Change.Put slot generation value ∷ []) ≡ generation = omega (arith, legal.1) in
-      next ∙ ap (λ b. cond b generation (puts_of q before)) (sym (eq-eqb q slot same))
+      let here : puts_of q (before ++ Change.Put slot generation value ∷ []) ≡ generation =
+      ap (λ s. puts_of s (before ++ Change.Put slot generation value ∷ [])) same ∙ puts_of-put_same before slot generation value ∙ sym legal.1 in
+      here ∙ ap (λ b. cond b generation (puts_of q before)) (sym (eq-eqb q slot same))
   | inr other ↦
-      let pushed : puts_of q (before ++ Change.Put slot generation value ∷ []) ≡ puts_of q before + 0 =
-      puts_of-push q before (Change.Put slot generation value) ∙ ap (λ b. puts_of q before + cond b 1 0) (ne_eqb slot q (λ e. other (sym e))) in
-      let stays : puts_of q (before ++ Change.Put slot generation value ∷ []) ≡ puts_of q before = omega arith in
-      stays ∙ ap (λ b. cond b generation (puts_of q before)) (sym (ne_eqb q slot other))
+      puts_of-put_other before slot generation value q (λ e. other (sym e)) ∙ ap (λ b. cond b generation (puts_of q before)) (sym (ne_eqb q slot other))
 ]
-puts_more gens before (Change.Free slot generation) legal q = stays ∙ either (eqb q slot) refl
+puts_more gens before (Change.Free slot generation) legal q = puts_of-free before slot generation q ∙ either (eqb q slot) refl
   where
-    stays : puts_of q (before ++ Change.Free slot generation ∷ []) ≡ puts_of q before
-    stays = puts_of-push q before (Change.Free slot generation) ∙ omega arith
-
     either : (b : Bool) → eqb q slot ≡ b → puts_of q before ≡ cond b (puts_of slot before) (puts_of q before)
     either true is = ap (λ s. puts_of s before) (eqb-true q slot is)
     either false is = refl

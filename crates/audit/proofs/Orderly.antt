@@ -1,7 +1,7 @@
 -- A table of spans beside the calls that were passed: for each span the most changes that one of them left.
 use Rattle.std.proofs.Common.{◌≡◌, ℕ, ◌+◌, ◌-◌, ◌<◌, ◌≤◌, true, false, cond, List, length, set, get_or, Some, slice_get, sym, ap, subst, refl, ◌∙◌, inl, inr, arith, get_or-set_same, get_or-set_other}
 use Rattle.std.proofs.lemmas.Bool.{cases_lt, cases_eq}
-use Rattle.std.proofs.lemmas.Option.{same_Some, slice_get_cases, slice_get_within, slice_get-get_or, slice_get_read}
+use Rattle.std.proofs.lemmas.Option.{same_Some, slice_get_cases, slice_get_within, slice_get_read}
 use Rattle.span.specs.declared.receipt.Receipt.{Receipt}
 use Rattle.audit.proofs.LogTable.{same_rank}
 use Rattle.span.specs.Ids.{rank}
@@ -95,10 +95,6 @@ module _ (list : List Receipt) (n : ℕ) (left : List ℕ) (r : Receipt) (is_lef
           ]
     ];
   }
-
--- a read inside a list is the same whatever is said of the places past its end
-pub read_inside : (left : List ℕ) (q v : ℕ) → q < length left → v ≡ get_or left q v → v ≡ get_or left q 0
-read_inside left q v inside read = read ∙ same_Some (get_or left q v) (get_or left q 0) (sym (slice_get-get_or left q v inside) ∙ slice_get-get_or left q 0 inside)
 
 pub none_passed : (list : List Receipt) (left : List ℕ) → ((q : ℕ) → get_or left q 0 ≡ 0) → IsLeftBelow list 0 left
 none_passed list left none = record { most = λ k r fits at. absurd (omega arith); from = λ q. inl (none q) }

@@ -1,10 +1,7 @@
 -- What a slot holds after the changes of a log.
-use Rattle.std.proofs.Common.{suc, ◌≡◌, ℕ, ◌+◌, ◌<◌, ◌≤◌, Bool, true, false, cond, eqb, List, [], ◌∷◌, ◌++◌, take, length, Option, Some, None, option_map, slice_get, get_or, sym, subst, eq-eqb, ap, refl, ◌∙◌, arith}
+use Rattle.std.proofs.Common.{suc, ◌≡◌, ℕ, ◌+◌, ◌<◌, Bool, true, false, cond, eqb, List, [], ◌∷◌, ◌++◌, take, length, Option, Some, None, option_map, slice_get, get_or, sym, subst, eq-eqb, ap, refl, ◌∙◌, arith}
 use Rattle.std.proofs.lemmas.Option.{slice_get_within, get_or_from_slice_get, slice_get-get_or}
 use Rattle.std.proofs.lemmas.Bool.{ne_eqb}
-use mathlib.Core.HLevel.{is_prop→PathP}
-use native.Mathlib.Bridge.{le_prop}
-use Rattle.span.specs.declared.key.Key.{Key}
 use Rattle.span.specs.declared.change.Change.{Change}
 use Rattle.span.specs.Log.{Held, replay}
 use Rattle.span.proofs.Changes.{get-put, get-free}
@@ -68,11 +65,3 @@ pub Holding-there : (changes : List Change) (n : ℕ) (q s : ℕ) (pair : Option
     → Holding pair (map.get (replay (take n changes)) q) → Holding pair (map.get (replay (take (n + 1) changes)) q)
 Holding-there changes n q s pair d inside is_slot other holding =
     Holding-more changes n (get_or changes n d) q pair false (slice_get-get_or changes n d inside) (ne_eqb q (slot_of (get_or changes n d)) (λ e. other (is_slot ∙ sym e))) holding
-
-pub same_key : (a b : Key) → a.span ≡ b.span → a.slot ≡ b.slot → a.generation ≡ b.generation → a ≡ b
-same_key a b spans slots generations i = record {
-  span = spans i;
-  slot = slots i;
-  generation = generations i;
-  generation_in_range = is_prop→PathP (λ i. 1 ≤ generations i) (λ i. le_prop) a.generation_in_range b.generation_in_range i;
-}

@@ -94,9 +94,15 @@ fn cause(
     told(alloc, &[log_of(alloc, changes)?], first, second)
 }
 
-#[test]
-fn names_the_first_part_that_fails(rt: HostRuntime) -> Result<(), Fail> {
-    let alloc = rt.alloc();
+// The same of a span with two logs.
+fn cause_of_two(alloc: Global, receipts: &[Receipt]) -> Result<Option<AuditCause>, Fail> {
+    let log = [PUT, FREE];
+    let logs = [log_of(alloc, &log)?, log_of(alloc, &log)?];
+    told(alloc, &logs, receipts, &[])
+}
+
+// The answers to honest receipts, and to lists that differ from them in one thing.
+fn causes(alloc: Global) -> Result<[Option<AuditCause>; 8], Fail> {
     let key = some_key()?;
     let log = [PUT, FREE];
     let (put_0, get_1, free_1, get_2) = (
@@ -112,7 +118,7 @@ fn names_the_first_part_that_fails(rt: HostRuntime) -> Result<(), Fail> {
         free(key, 1, 1, true),
         get(key, 1, 2, None),
     ];
-    let found = [
+    Ok([
         cause(alloc, &log, &honest, &[])?,
         cause(alloc, &[FREE, PUT], &honest, &[])?,
         cause(alloc, &log, &[put_0, get_1, get_2], &[])?,
@@ -126,32 +132,17 @@ fn names_the_first_part_that_fails(rt: HostRuntime) -> Result<(), Fail> {
         cause(alloc, &log, &[put_0, get_1, get_2, free_1], &[])?,
         cause(alloc, &log, &honest, &[get(key, 1, 0, None)])?,
         cause(alloc, &log, &later, &[get(key, 0, 1, Some(5))])?,
-    ];
-    let wanted = [
-        None,
-        Some(AuditCause::Log),
-        Some(AuditCause::Change),
-        Some(AuditCause::Change),
-        Some(AuditCause::Reply),
-        Some(AuditCause::Order),
-        Some(AuditCause::Barrier),
-        Some(AuditCause::Barrier),
-    ];
-    assert_eq!(rt; found, wanted);
-    Ok(())
+    ])
 }
 
-// A span with two logs, a generation that is used twice, a change with two receipts, a look-up that answers what the
-// span held when it was opened, and a span that was never opened.
-#[test]
-fn looks_at_each_part(rt: HostRuntime) -> Result<(), Fail> {
-    let alloc = rt.alloc();
+// The answers to a span with two logs, a generation that is used twice, a change with two receipts, a look-up that
+// answers what the span held when it was opened, and a span that was never opened.
+fn other_causes(alloc: Global) -> Result<[Option<AuditCause>; 6], Fail> {
     let key = some_key()?;
     let log = [PUT, FREE];
     let honest = [put(key, 0, 0), free(key, 0, 1, true)];
-    let two = [log_of(alloc, &log)?, log_of(alloc, &log)?];
-    let found = [
-        told(alloc, &two, &honest, &[])?,
+    Ok([
+        cause_of_two(alloc, &honest)?,
         cause(alloc, &[PUT, FREE, PUT], &honest, &[put(key, 0, 2)])?,
         cause(alloc, &log, &honest, &[put(key, 0, 0)])?,
         cause(
@@ -167,7 +158,27 @@ fn looks_at_each_part(rt: HostRuntime) -> Result<(), Fail> {
             &[],
         )?,
         told(alloc, &[], &[get(key, 0, 1, None)], &[])?,
+    ])
+}
+
+#[test]
+fn names_the_first_part_that_fails(rt: HostRuntime) -> Result<(), Fail> {
+    let wanted = [
+        None,
+        Some(AuditCause::Log),
+        Some(AuditCause::Change),
+        Some(AuditCause::Change),
+        Some(AuditCause::Reply),
+        Some(AuditCause::Order),
+        Some(AuditCause::Barrier),
+        Some(AuditCause::Barrier),
     ];
+    assert_eq!(rt; causes(rt.alloc())?, wanted);
+    Ok(())
+}
+
+#[test]
+fn looks_at_each_part(rt: HostRuntime) -> Result<(), Fail> {
     let wanted = [
         Some(AuditCause::Log),
         Some(AuditCause::Log),
@@ -176,6 +187,6 @@ fn looks_at_each_part(rt: HostRuntime) -> Result<(), Fail> {
         None,
         Some(AuditCause::Reply),
     ];
-    assert_eq!(rt; found, wanted);
+    assert_eq!(rt; other_causes(rt.alloc())?, wanted);
     Ok(())
 }

@@ -3,8 +3,9 @@ use Rattle.std.proofs.lemmas.List.{take_more}
 use Rattle.span.specs.declared.change.Change.{Change}
 use Rattle.span.specs.Log.{IsLegal}
 use Rattle.span.proofs.Changes.{IsLegal-push}
+use Rattle.span.proofs.LegalLogs.{IsLegal-empty}
 use Rattle.audit.specs.Changes.{AreAfter, AreIssued}
-use Rattle.audit.proofs.Legality.{IsLegal-empty, legal_here}
+use Rattle.audit.proofs.Legality.{legal_here}
 use Rattle.audit.proofs.legal.is_legal.Goals as goal
 
 pub loop-i-init : goal.loop-i-init

@@ -1,7 +1,8 @@
 use Rattle.std.proofs.Common.{◌≡◌, ◌<◌, ◌≤◌, length, Some, slice_get, get_or, sym, ap, refl, ◌∙◌, arith, true, false}
 use Rattle.std.proofs.lemmas.Option.{slice_get_read}
 use Rattle.span.specs.Ids.{rank}
-use Rattle.audit.proofs.Orderly.{too_early, read_inside, all_passed, changes_after-low, IsInOrderBelow-more, IsLeftBelow-more, IsLeftFrom-all}
+use Rattle.audit.proofs.Orderly.{too_early, all_passed, changes_after-low, IsInOrderBelow-more, IsLeftBelow-more, IsLeftFrom-all}
+use Rattle.audit.proofs.Lists.{read_at}
 use Rattle.audit.proofs.order.is_in_order.Goals as goal
 
 pub returns-then-receipt-index-clause-exact : goal.returns-then-receipt-index-clause-exact
@@ -9,7 +10,7 @@ returns-then-receipt-index-clause-exact c =
     let call = c.index-list-i.result in
     let at : slice_get c.args.list.now c.loop-i.i ≡ Some call = slice_get_read c.args.list.now (length c.args.list.now) c.loop-i.i call refl c.loop-i-test.true c.index-list-i.is in
     let inside : c.place_of-place.result < length c.loop-i.left.items = omega (arith, c.loop-i.left.ok.0, c.loop-i.invariant.len, c.place_of-place.ensures.in_range) in
-    let read : c.index.result.now ≡ get_or c.loop-i.left.items c.place_of-place.result 0 = read_inside c.loop-i.left.items c.place_of-place.result c.index.result.now inside c.index.ensures in
+    let read : c.index.result.now ≡ get_or c.loop-i.left.items c.place_of-place.result 0 = read_at c.loop-i.left.items c.place_of-place.result c.index.result.now 0 inside c.index.ensures in
     let there : c.index.result.now ≡ get_or c.loop-i.left.items (rank call.key.span) 0 = read ∙ ap (λ q. get_or c.loop-i.left.items q 0) c.place_of-place.ensures.place in (
       λ so. absurd cc,
       λ order. absurd (too_early c.args.list.now c.loop-i.i c.loop-i.left.items call c.loop-i.invariant.left at (omega (arith, c.if-receipt-index.true)) order),
@@ -22,7 +23,7 @@ loop-i-preserved c =
     let left = c.loop-i.left.items in
     let at : slice_get list c.loop-i.i ≡ Some call = slice_get_read list (length list) c.loop-i.i call refl c.loop-i-test.true c.index-list-i.is in
     let inside : c.place_of-place.result < length left = omega (arith, c.loop-i.left.ok.0, c.loop-i.invariant.len, c.place_of-place.ensures.in_range) in
-    let read : c.index.result.now ≡ get_or left c.place_of-place.result 0 = read_inside left c.place_of-place.result c.index.result.now inside c.index.ensures in
+    let read : c.index.result.now ≡ get_or left c.place_of-place.result 0 = read_at left c.place_of-place.result c.index.result.now 0 inside c.index.ensures in
     let there : c.index.result.now ≡ get_or left (rank call.key.span) 0 = read ∙ ap (λ q. get_or left q 0) c.place_of-place.ensures.place in
     let late : get_or left (rank call.key.span) 0 ≤ call.at = omega (arith, c.if-receipt-index.false) in
     record {
