@@ -16,7 +16,7 @@
 //! live object goes back to the system in the same way.) The group itself stays, with the logs of
 //! its spans, so that a stale key is still answered.
 //!
-//! That shards are left behind by their threads, and taken up by others, is mimalloc's abandonment of
+//! That shards are left by their threads, and taken up by others, is mimalloc's abandonment of
 //! segments; that a group moves whole, with its guests and its page, is this library's own.
 //!
 //! While a plan of folds is open, nothing is adopted, and no shard with a closed group ends: the pool

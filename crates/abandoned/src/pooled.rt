@@ -53,7 +53,7 @@ impl<L: Log> Pooled<L> {
         &self.spans
     }
 
-    /// A look at it.
+    /// A summary of the group.
     pub(crate) fn brief(&self) -> Brief
         ensures { IsBriefOf (spans_of self.now) (is_some self.now.page) false result }
     {

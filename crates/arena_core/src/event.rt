@@ -14,7 +14,7 @@ pub enum Event {
     End { shard: u32 },
     /// Move the pool's group of lowest head that has a page to the shard of this number.
     Adopt { shard: u32 },
-    /// Plan the most folds of the pool's groups onto the shards' groups, and close those that are planned onto.
+    /// Plan as many folds as possible of the pool's groups onto the shards' groups, and close those that are planned onto.
     Mark,
     /// Carry out the next pair of the open plan.
     Step,

@@ -14,7 +14,7 @@ pub struct Guesses {
 }
 
 impl Guesses {
-    /// No guess for any span of so many shards, with the room for all of them.
+    /// No guess for any span of that many shards, with the room for all of them.
     pub fn new(alloc: Global, shards: u32) -> Result<Guesses, AllocError>
         requires { shards ≤ 64 }
     {

@@ -146,7 +146,7 @@ impl<L: Log> Core<L> {
     /// | [`Refusal::TooMany`] | | | | a side has more than 4,096 groups | |
     /// | [`Refusal::NothingToAdopt`] | | | no group of the pool has a page | | |
     /// | [`Refusal::Config`] | there is no such shard | there is no such shard | there is no such shard | | |
-    /// | [`Refusal::OutOfMemory`] | a growth was refused | a growth was refused | a growth was refused | a growth was refused | a growth was refused; the pair stays next |
+    /// | [`Refusal::OutOfMemory`] | an allocation was refused | an allocation was refused | an allocation was refused | an allocation was refused | an allocation was refused; the pair stays next |
     ///
     /// A look-up, a free and a close are never refused, and take no memory.
     ///
@@ -205,7 +205,7 @@ impl<L: Log> Core<L> {
         Ok(())
     }
 
-    /// How many pages the shards and the pool have, one a group of a shard, and how many keys are live: so many keys have
+    /// How many pages the shards and the pool have, one a group of a shard, and how many keys are live: that many keys have
     /// a value in the map that the core shows.
     pub fn totals(&self) -> Totals
         ensures pages { result.pages ≡ pages self.now }

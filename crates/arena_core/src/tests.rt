@@ -1,4 +1,4 @@
-//! Cores that answer tables of events. Where a growth is refused, what was refused is asked again.
+//! Cores that answer tables of events. Where an allocation is refused, what was refused is asked again.
 use crate::error::CoreError;
 use crate::event::Event;
 use crate::machine::Core;
@@ -18,7 +18,7 @@ fn put(shard: u32, value: u128) -> Event {
     Event::Put { shard, value }
 }
 
-// A core of so many shards and pages, asked for again where a growth was refused.
+// A core of that many shards and pages, asked for again where an allocation was refused.
 fn new_core(alloc: Global, shards: u32, pages: usize) -> Option<Core> {
     match Core::new(alloc, shards, pages, 8, 9) {
         Err(CoreError::OutOfMemory) => Core::new(alloc, shards, pages, 8, 9).ok(),
@@ -58,7 +58,7 @@ fn tell(reply: &Reply) -> Told {
     }
 }
 
-// What the core answers. Where a growth was refused, the totals are as they were, and the event is asked again.
+// What the core answers. Where an allocation was refused, the totals are as they were, and the event is asked again.
 fn answer<L: Log>(core: &mut Core<L>, event: Event) -> Option<Told> {
     let before = core.totals();
     let first = tell(&core.step(event));
@@ -92,7 +92,7 @@ fn are_answered(core: &mut Core, table: &[(Event, Told)]) -> bool {
     true
 }
 
-// The totals of a core of so many shards and pages, where it has answered as wanted.
+// The totals of a core of that many shards and pages, where it has answered as wanted.
 fn totals_after(
     alloc: Global,
     shards: u32,
@@ -241,7 +241,7 @@ fn each_cause_is_told(rt: HostRuntime) {
     );
 }
 
-// A core of three shards whose logs are only counted, asked for again where a growth was refused.
+// A core of three shards whose logs are only counted, asked for again where an allocation was refused.
 fn new_counted_core(alloc: Global) -> Option<Core<Counted>> {
     match Core::with_log(alloc, 3, 4, 8, 9) {
         Err(CoreError::OutOfMemory) => Core::with_log(alloc, 3, 4, 8, 9).ok(),

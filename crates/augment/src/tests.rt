@@ -1,4 +1,4 @@
-//! How many phases a plan takes. Where a growth is refused, what was refused is asked again.
+//! How many phases a plan takes. Where an allocation is refused, what was refused is asked again.
 use super::*;
 use bitmap::Bits256;
 use certificate::{Plan, Short, check};

@@ -14,7 +14,7 @@ use span::SpanId;
 use std::alloc::{AllocError, Global};
 
 /// The owned groups that are compatible with some abandoned group of the short set, by ascending
-/// ids. An id that no abandoned group has gives none. The error is want of memory.
+/// ids. An id that no abandoned group has gives none. The error means that memory ran out.
 pub fn partners(
     alloc: Global,
     snapshot: &Snapshot,

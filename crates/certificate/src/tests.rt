@@ -1,4 +1,4 @@
-//! A certificate that is read, accepted and written again. Where a growth is refused, what was refused is asked again.
+//! A certificate that is read, accepted and written again. Where an allocation is refused, what was refused is asked again.
 //! Which texts are rejected, and what is said of those that are no certificates, is tested with the program.
 ghost use Rattle.std.specs.Prelude.{IfOk};
 ghost use Rattle.certificate.specs.Text.{IsWritable};

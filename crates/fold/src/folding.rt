@@ -26,7 +26,7 @@ use std::alloc::AllocError;
 /// # Errors
 ///
 /// `AllocError` where the groups could be folded and memory is refused. Pool and shard are then as they were; each
-/// growth stands before the first change.
+/// allocation comes before the first change.
 pub fn fold_one<L: Log>(
     pool: &mut Pool<L>,
     shard: &mut Shard<L>,
@@ -81,7 +81,7 @@ fn step_for<L: Log>(pool: &Pool<L>, shard: &Shard<L>, a: SpanId, b: SpanId) -> S
     }
 }
 
-// Whether a span of the pool's group of the head, which has so many spans, is in the shard already or bears its
+// Whether a span of the pool's group of the head, which has that many spans, is in the shard already or bears its
 // number.
 fn would_double<L: Log>(pool: &Pool<L>, shard: &Shard<L>, head: SpanId, spans: usize) -> bool
     requires group { (index : ℕ) × (group : PooledState) × IsHeadOf pool.now.groups head index group × (spans ≡ length (spans_of group)) }

@@ -50,7 +50,7 @@ fn abandon(pool: &mut Pool, shard: &mut Shard) -> Option<()> {
     Some(())
 }
 
-// Opens so many groups, each closed so that the next put opens another. In each, 8 is live at slot 1.
+// Opens that many groups, each closed so that the next put opens another. In each, 8 is live at slot 1.
 fn open_groups(shard: &mut Shard, groups: u32) -> Option<()> {
     for _ in 0..groups {
         let first = put(shard, 5)?;
@@ -73,7 +73,7 @@ fn fold(pool: &mut Pool, shard: &mut Shard, onto: u32) -> Option<Step> {
     }
 }
 
-// What is seen after a fold onto the first of so many groups.
+// What is seen after a fold onto the first of that many groups.
 fn seen_after(
     pool: &mut Pool,
     ended: &mut Shard,

@@ -1,4 +1,4 @@
-//! A small graph, and graphs at their limits. Where a growth is refused, what was refused is asked again.
+//! A small graph, and graphs at their limits. Where an allocation is refused, what was refused is asked again.
 ghost use Rattle.std.specs.Prelude.{◌≤◌};
 
 use super::*;
@@ -16,7 +16,7 @@ fn entry(shard: u32, serial: u32, slots: &[u8]) -> Option<Entry> {
     Some(Entry { id, occupied })
 }
 
-// A list of these groups. Where the first growth was refused, it is made the second time.
+// A list of these groups. Where the first allocation was refused, it is made the second time.
 fn list(alloc: Global, groups: &[Entry]) -> Option<Vec<Entry>> {
     match Vec::from_slice(alloc, groups) {
         Err(_) => Vec::from_slice(alloc, groups).ok(),

@@ -1,4 +1,4 @@
-//! What no clause says, and no example of `examples/` shows: sinks, files and growths that fail, and what is told of it.
+//! What no clause says, and no example of `examples/` shows: sinks, files and allocations that fail, and what is told of it.
 ghost use Rattle.std.specs.Prelude.{None};
 
 use trace_runner::{CheckError, ReplayError, Sink, SinkFailed, check_text, replay_serial};

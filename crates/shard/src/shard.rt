@@ -45,7 +45,7 @@ pub enum Found {
 /// What a free did. A `usize` is the number of changes that the log of the key's span had before.
 #[derive(Clone, Copy, PartialEq, Eq, Debug)]
 pub enum Freed {
-    /// The key was live, and is no more.
+    /// The key was live and has been freed.
     Yes(usize),
     /// The span is here, and the key was not live.
     No(usize),
@@ -90,7 +90,7 @@ impl<L: Log> Model for Shard<L> {
 }
 
 impl Shard<Kept> {
-    /// A shard with no page, which may have so many pages, and gives a slot the generations 1 to `gens`. It
+    /// A shard with no page, which may have that many pages, and gives a slot the generations 1 to `gens`. It
     /// is refused exactly where the number is not below 64, the pages are not 1 to 1,024, or `gens` is 0.
     pub fn new(alloc: Global, number: u32, page_limit: usize, gens: u32) -> Result<Shard, Config>
         ensures in_range { IsOk result ↔ ((number < 64) × (1 ≤ page_limit) × (page_limit ≤ 1024) × (1 ≤ gens)) }
@@ -174,7 +174,7 @@ impl<L: Log> Shard<L> {
     }
 
     /// The head of each group and the slots that are live in one of its spans, by ascending head. The
-    /// error is want of memory for the list.
+    /// error means that memory ran out for the list.
     pub fn groups(&self) -> Result<Vec<(SpanId, Bits256)>, AllocError>
         ensures items { IfOk result (λ groups. groups.items ≡ map summary self.now.groups) }
         ensures ascending { IsStrictlyIncreasing (map (λ group. rank group.head.id) self.now.groups) }
@@ -230,7 +230,7 @@ impl<L: Log> Shard<L> {
     ///
     /// It is refused with `Ended` exactly after the shard's end, and with `PagesSpent` exactly where it has not
     /// ended, no open group has a usable slot, and it has all its pages or has opened 1,024 spans. With
-    /// `OutOfMemory` a growth was refused; each stands before the first change.
+    /// `OutOfMemory` an allocation was refused; each stands before the first change.
     pub fn put(&mut self, value: u128) -> Result<(Key, usize), PutError>
         ensures ok { IfOk result (λ made. Puts self.old value made.0 made.1 self.new) }
         ensures fresh { IfOk result (λ made. (shown self.old).is_issued made.0 ≡ false) }

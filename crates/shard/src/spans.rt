@@ -209,7 +209,7 @@ fn position<L: Log>(spans: &[Span<L>], id: SpanId) -> Option<usize>
     None
 }
 
-// Moves the head and the others behind the guests, all of them into the list with room for them. The lists change
+// Moves the head and the others after the guests, all of them into the list with room for them. The lists change
 // places, so that the one with room has none afterwards.
 fn append_all<L: Log>(
     guests: &mut Vec<Span<L>>,
@@ -228,7 +228,7 @@ fn append_all<L: Log>(
     swap(guests, room);
 }
 
-// Moves the spans of a list behind those of another that has room for them, which needs no memory.
+// Moves the spans of a list after those of another that has room for them, which needs no memory.
 fn append_reserved<L: Log>(spans: &mut Vec<Span<L>>, more: &mut Vec<Span<L>>)
     requires { vec_len spans.old + vec_len more.old ≤ vec_capacity spans.old }
     ensures items { spans.new.items ≡ spans.old.items ++ more.old.items }

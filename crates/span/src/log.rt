@@ -21,7 +21,7 @@ pub trait Log: Drop {
     fn new(alloc: Global) -> Self
         ensures { changes result ≡ [] };
 
-    /// Makes room for so many more changes.
+    /// Makes room for that many more changes.
     ///
     /// # Errors
     ///

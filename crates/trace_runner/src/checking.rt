@@ -14,8 +14,8 @@ use std::alloc::{AllocError, Global};
 /// `accepted folds F short K partners Q`, with the numbers of its pairs, of its short set and of the partners of that, or `rejected`.
 ///
 /// `BadCertificate` comes exactly for a text that is no certificate, with its first line at fault and the first cause that
-/// holds of it. `SinkFailed` comes where `out` failed; it has then taken a front of the line. `OutOfMemory` comes where a
-/// growth was refused. After the first and the last `out` has taken nothing.
+/// holds of it. `SinkFailed` comes where `out` failed; it has then taken a prefix of the line. `OutOfMemory` comes where an
+/// allocation was refused. After the first and the last `out` has taken nothing.
 pub fn check_text<S: Sink>(alloc: Global, text: &[u8], out: &mut S) -> Result<bool, CheckError>
     requires { S.failures out.old < 2 ^ 64 - 1 }
     ensures ok { IfOk result (WritesVerdict text.now (S.taken out.old) (S.taken out.new)) }

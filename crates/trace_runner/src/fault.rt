@@ -25,7 +25,7 @@ pub enum ReplayError {
     /// nothing was written.
     #[error("line {line} of the trace is at fault: {cause}")]
     BadTrace { line: usize, cause: Cause },
-    /// The sink did not take the whole report. It took a front of it.
+    /// The sink did not take the whole report. It took a prefix of it.
     #[error("the report could not be written whole: look for a full disk or a closed pipe")]
     SinkFailed,
 }
@@ -78,7 +78,7 @@ pub enum CheckError {
         line: usize,
         cause: certificate::Cause,
     },
-    /// The sink did not take the whole line. It took a front of it.
+    /// The sink did not take the whole line. It took a prefix of it.
     #[error("the verdict could not be written whole: look for a full disk or a closed pipe")]
     SinkFailed,
 }

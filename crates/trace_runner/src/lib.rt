@@ -4,7 +4,7 @@
 //! A trace is a text with one call on a line, in sections that marks part. [`replay_serial`] reads it and runs its calls on
 //! a `Core`, which keeps one word of 128 bits under each key and answers as a plain map of keys does. At a mark the shards
 //! of threads that have ended are abandoned, other shards adopt what they left, and as many folds as can be are planned;
-//! they are carried out behind the lines that follow. Its report goes to any [`Sink`].
+//! they are carried out after the lines that follow. Its report goes to any [`Sink`].
 //!
 //! [`check_text`] reads a certificate, tests it by the checker of the crate `certificate`, and says in one line whether it is
 //! accepted.

@@ -56,7 +56,7 @@ impl Plans {
         (self.notes, self.certificate)
     }
 
-    /// Takes a step of the open plan while a pair is left, as behind each thread's line.
+    /// Takes a step of the open plan while a pair is left, as after each thread's line.
     pub(crate) fn follow(&mut self, core: &mut Core<Counted>) -> Result<(), AllocError>
         requires knows { KnowsPlan self.old core.old }
         ensures made { (above : ℕ) → OnOk result (Carries (stepping core.old.plan) core.old (news_at above self.old) core.new (news_at above self.new)) }
@@ -106,7 +106,7 @@ impl Plans {
         Ok(())
     }
 
-    /// Takes the next step of the open plan, of which so many are left.
+    /// Takes the next step of the open plan, of which that many are left.
     fn step(&mut self, core: &mut Core<Counted>, left: usize) -> Result<(), AllocError>
         requires knows { KnowsPlan self.old core.old }
         requires left { self.old.left ≡ Some left }
@@ -211,7 +211,7 @@ impl Plans {
         self.tell(above, PlanNews::Marked(marked))
     }
 
-    /// Keeps news behind so many answers.
+    /// Keeps news after that many answers.
     fn tell(&mut self, above: usize, news: PlanNews) -> Result<(), AllocError>
         ensures told { OnOk result (self.new.notes.items ≡ self.old.notes.items ++ (record { above = above; news = news }) ∷ []) }
         ensures marks { self.new.marks ≡ self.old.marks }

@@ -24,8 +24,8 @@ use trace_text::{Header, Trace, parse};
 /// mark that planned, or empty where none did.
 ///
 /// `BadTrace` comes exactly for a text that is no trace, with its first line at fault and the first cause that holds of it.
-/// `SinkFailed` comes where `out` failed; it has then taken a front of the report. `OutOfMemory` comes where a
-/// growth was refused. After the first and the last `out` has taken nothing. After each of them `cert` is as it was.
+/// `SinkFailed` comes where `out` failed; it has then taken a prefix of the report. `OutOfMemory` comes where an
+/// allocation was refused. After the first and the last `out` has taken nothing. After each of them `cert` is as it was.
 pub fn replay_serial<S: Sink>(
     alloc: Global,
     text: &[u8],

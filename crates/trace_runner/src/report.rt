@@ -78,7 +78,7 @@ impl Steps {
         }
     }
 
-    /// Adds a step behind the others. `AllocError` comes where memory runs out, and then nothing is added.
+    /// Adds a step after the others. `AllocError` comes where memory runs out, and then nothing is added.
     pub fn push(&mut self, step: TakenStep) -> Result<(), AllocError>
         ensures pushed { OnOk result (self.new ≡ self.old ++ step ∷ []) }
         ensures same { OnErr result (self.new ≡ self.old) }

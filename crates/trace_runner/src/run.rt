@@ -314,7 +314,7 @@ impl<'t> Run<'t> {
         self.abandon()
     }
 
-    /// Does what the line at that place below the header asks for, and behind a thread's line takes a step while a pair
+    /// Does what the line at that place below the header asks for, and after a thread's line takes a step while a pair
     /// of the open plan is left. A barrier begins with its first adoption, since no thread's line stands between that
     /// and the mark.
     fn line(&mut self, place: usize, line: &Line) -> Result<(), AllocError>
@@ -381,9 +381,9 @@ pub struct Ran {
 }
 
 /// Runs the lines of a trace on the core, one after another. At the end of the text it ends the open plan, and abandons the
-/// shards of the threads that ended behind the last mark.
+/// shards of the threads that ended after the last mark.
 ///
-/// The error is want of memory, of a call or of the answers; the core is then dropped.
+/// The error means that memory ran out, in a call or for the answers; the core is then dropped.
 pub fn run_lines(alloc: Global, trace: &Trace, core: Core<Counted>) -> Result<Ran, AllocError>
     requires { Serves trace.now.header.shards core }
     ensures { IfOk result (λ ran. (news : News) × IsRun trace.now.header.shards trace.now.lines.items core ran.core ran.answers.items ran.calls news × (ran.notes.items ≡ news.notes) × (ran.certificate.items ≡ news.certificate)) }
@@ -435,7 +435,7 @@ fn part(answers: &[LineAnswer], start: usize, end: usize) -> &[LineAnswer]
 }
 
 /// What the report tells of the reply to a call. Of the refusals it tells only that of a page and that of an adoption
-/// which finds nothing; want of memory ends the run.
+/// which finds nothing; running out of memory ends the run.
 fn answer_to(reply: Reply) -> Result<Answer, AllocError>
     requires { IsServed reply }
     ensures told { OnOk result (IsTold reply) }

@@ -26,7 +26,7 @@ pub trait Sink {
 
     ghost failures: { Self → ℕ };
 
-    /// Takes a front of the bytes, at least one of them, and answers how many. After
+    /// Takes a prefix of the bytes, at least one of them, and answers how many. After
     /// `SinkFailed` it has taken none of them.
     fn take(&mut self, bytes: &[u8]) -> Result<usize, SinkFailed>
         requires some { 0 < length bytes.now }
@@ -42,7 +42,7 @@ pub trait Sink {
         ensures { result ≡ failures self.now };
 }
 
-/// Gives all bytes to the sink. At `SinkFailed` it has taken a front of them, and failed once.
+/// Gives all bytes to the sink. At `SinkFailed` it has taken a prefix of them, and failed once.
 pub fn give<S: Sink>(sink: &mut S, bytes: &[u8]) -> Result<(), SinkFailed>
     requires { S.failures sink.old < 2 ^ 64 - 1 }
     ensures whole { OnOk result (Appends (S.taken sink.old) (S.taken sink.new) bytes.now) }

@@ -16,7 +16,7 @@ pub enum TellError {
     /// Memory ran out before anything was written.
     #[error("memory ran out before the fault was told")]
     OutOfMemory,
-    /// The sink took a front of the message, and failed.
+    /// The sink took a prefix of the message, and failed.
     #[error("the fault could not be told whole: look for a full disk or a closed pipe")]
     SinkFailed,
 }
@@ -77,7 +77,7 @@ fn message(alloc: Global, fault: &Fault) -> Result<Vec<u8>, AllocError>
 ///
 /// Help that was asked for goes to `out`, and all else to `err`; the other sink stays as it is.
 /// After `OutOfMemory` both sinks are as they were, and after `SinkFailed` the one that was written
-/// to has taken a front of the message.
+/// to has taken a prefix of the message.
 pub fn tell<O: Sink, E: Sink>(
     alloc: Global,
     fault: &Fault,

@@ -52,7 +52,7 @@ fn push_ending(out: &mut Vec<u8>, ending: &Ending) -> Result<(), AllocError>
     out.extend_from_slice(b"\n")
 }
 
-/// The answers in order, each note behind as many of them as it says.
+/// The answers in order, each note after as many of them as it says.
 fn push_body(
     out: &mut Vec<u8>,
     replies: bool,

@@ -37,7 +37,7 @@ pub struct Header {
     pub gens: u32,
 }
 
-/// The number behind the word, where these two are all words.
+/// The number after the word, where these two are all words.
 fn field(word: &[u8], words: &[&[u8]]) -> Option<Number>
     ensures { Says result (field_in word.now (contents_of words.now)) }
 {
@@ -47,7 +47,7 @@ fn field(word: &[u8], words: &[&[u8]]) -> Option<Number>
     }
 }
 
-/// The number behind the word, where the line has these two words.
+/// The number after the word, where the line has these two words.
 fn number_behind(word: &[u8], line: &[u8]) -> Option<Number>
     ensures { Says result (field_in word.now (words_of line.now)) }
 {

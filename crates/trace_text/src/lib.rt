@@ -19,10 +19,10 @@
 //! A name is 1 to 16 of `a` to `z` and `0` to `9`, and begins with a letter. It is bound once, by a
 //! put or a fill, and stands for its keys from the next line on: alone where a put binds it, and
 //! with a full stop and an index below the count where a fill does. A sweep lies within its fill.
-//! Other threads may use the name only behind the next mark, since threads meet at marks alone.
+//! Other threads may use the name only after the next mark, since threads meet at marks alone.
 //!
 //! There are 1 to 64 shards, each with one thread of its number, from 0 on. A thread that has ended
-//! calls no more, and its shard doesn't adopt. Behind an adoption stand adoptions and then a mark,
+//! calls no more, and its shard doesn't adopt. After an adoption stand adoptions and then a mark,
 //! with nothing between them but empty lines and remarks.
 //!
 //! A shard has 1 to 1,024 pages, a ring 1 to 1,024 places, and a slot 1 to 4,294,967,295

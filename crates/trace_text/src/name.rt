@@ -14,7 +14,7 @@ use arrayvec::ArrayVec;
 use std::hash::{Hash, Hasher};
 use std::marker::Model;
 
-/// The longest name has so many bytes.
+/// The longest name has that many bytes.
 const NAME_LENGTH: usize = 16;
 
 /// A name: 1 to 16 small letters and digits, of which the first is a letter.
@@ -31,7 +31,7 @@ impl Model for Name {
     ghost invariant = { λ name. is_name name.bytes.items ≡ true };
 }
 
-/// Whether each byte may stand in a name behind its first.
+/// Whether each byte may stand in a name after its first.
 fn has_name_bytes(bytes: &[u8]) -> bool
     ensures { result ≡ has_name_bytes bytes.now }
 {

@@ -27,8 +27,8 @@ impl<L: Log> Pool<L> {
     /// # Errors
     ///
     /// The first of these that holds, exactly: `Ended` where the shard has ended before; `Doubled` where one of its
-    /// spans is here already; `PlanOpen` where one of its groups is closed. `OutOfMemory` where none holds and a
-    /// growth was refused; each growth stands before the first change.
+    /// spans is here already; `PlanOpen` where one of its groups is closed. `OutOfMemory` where none holds and an
+    /// allocation was refused; each allocation comes before the first change.
     pub fn receive(&mut self, shard: &mut Shard<L>) -> Result<(), ReceiveError>
         ensures ok { OnOk result (Receives self.old shard.old self.new shard.new) }
         ensures whole { OnOk result (HasReceived self.old shard.old self.new) }
@@ -130,7 +130,7 @@ impl<L: Log> Pool<L> {
     /// whatever the pool holds; `Ended` where the shard has ended; `Doubled` where a span of the group is in the
     /// shard already or bears its number; `PlanOpen` where a plan of folds is open; `NothingToAdopt` where no group
     /// has a page. `OutOfMemory` where none
-    /// holds and a growth was refused; each growth stands before the first change.
+    /// holds and an allocation was refused; each allocation comes before the first change.
     pub fn adopt(&mut self, shard: &mut Shard<L>) -> Result<SpanId, AdoptError>
         ensures ok { IfOk result (λ head. Adopts self.old shard.old head self.new shard.new) }
         ensures kept { OnOk result (together (shown self.new) (shown_by_shard shard.new) ≡ together (shown self.old) (shown_by_shard shard.old)) }

@@ -60,7 +60,7 @@ impl<L: Log> Pool<L> {
         Some(Whole::new(spans, words))
     }
 
-    /// Makes room for one group of so many spans. Guests come to no group of the pool, so it makes no difference
+    /// Makes room for one group of that many spans. Guests come to no group of the pool, so it makes no difference
     /// onto which group they were to come. It takes the place of the room that was reserved before.
     ///
     /// # Errors
@@ -75,7 +75,7 @@ impl<L: Log> Pool<L> {
         Ok(())
     }
 
-    // Makes room for so many groups, with so many spans together.
+    // Makes room for that many groups, with that many spans together.
     pub(super) fn reserve(&mut self, groups: usize, spans: usize) -> Result<(), AllocError>
         ensures ok { OnOk result (self.new ≡ with_rooms self.old groups spans) }
         ensures err { OnErr result (self.new ≡ self.old) }

@@ -1,4 +1,4 @@
-//! Ends and adoptions at work, and what a refused growth leaves of pool and shard.
+//! Ends and adoptions at work, and what a refused allocation leaves of pool and shard.
 //!
 //! Each call stands in a helper that promises nothing and owns neither pool nor shard, and the answers are compared at
 //! once: a test carries no clauses then, and has one exit. A call that was refused memory is made again where pool and

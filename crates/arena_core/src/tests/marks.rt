@@ -57,7 +57,7 @@ fn looks(keys: [Key; 3]) -> [(Event, Told); 3] {
     ]
 }
 
-// Whether a mark plans so many folds. Where a growth was refused, no plan is open and nothing is lost, and the mark is
+// Whether a mark plans that many folds. Where an allocation was refused, no plan is open and nothing is lost, and the mark is
 // asked again.
 fn is_marked(core: &mut Core, looks: &[(Event, Told)], pairs: usize) -> bool {
     let before = core.totals();
@@ -76,7 +76,7 @@ fn is_made_and_marked(core: &mut Core, keys: [Key; 3], shards: u32) -> bool {
     is_made(core, keys, shards) && is_marked(core, looks(keys).as_slice(), 1)
 }
 
-// Whether a step folds the one pair. Where a growth was refused, the plan stays open, the pair stays next and nothing is
+// Whether a step folds the one pair. Where an allocation was refused, the plan stays open, the pair stays next and nothing is
 // lost, and the step is asked again.
 fn is_stepped(core: &mut Core, keys: [Key; 3]) -> bool {
     let [freed, _, kept] = keys;

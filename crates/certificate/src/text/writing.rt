@@ -13,7 +13,7 @@ use span::SpanId;
 use std::alloc::{AllocError, Global};
 
 /// The text of a certificate, of version 1: the only one that it has. The lists and numbers are within
-/// the grammar, so that `read` reads it again. The error is want of memory.
+/// the grammar, so that `read` reads it again. The error means that memory ran out.
 pub fn write(alloc: Global, certificate: &Certificate) -> Result<Vec<u8>, AllocError>
     requires { IsWritable certificate.now }
     ensures text { IfOk result (λ text. text.items ≡ certificate_text certificate.now) }

@@ -1,4 +1,4 @@
-//! What a refused growth leaves.
+//! What a refused allocation leaves.
 ghost use Rattle.std.specs.Prelude.{◌≡◌};
 
 use super::NO_PARTNER;
@@ -57,7 +57,7 @@ fn before(alloc: Global) -> Result<Vec<u8>, AllocError> {
     }
 }
 
-// Replays the text. Where a growth is refused, nothing is written and the certificate stays, and the same call is made again.
+// Replays the text. Where an allocation is refused, nothing is written and the certificate stays, and the same call is made again.
 fn replay_again(
     rt: &(impl AllocGlobal + Abort),
     text: &[u8],
@@ -70,7 +70,7 @@ fn replay_again(
     if result.is_ok() {
         return result;
     }
-    // The report is in the sink's memory, so the last growth is the sink's.
+    // The report is in the sink's memory, so the last allocation is the sink's.
     let failures = if result == Err(ReplayError::SinkFailed) {
         1
     } else {
@@ -85,7 +85,7 @@ fn replay_again(
     replay_serial(rt.alloc(), text, true, out, cert)
 }
 
-/// Whether the text has this report and this certificate, at once or where a growth was refused.
+/// Whether the text has this report and this certificate, at once or where an allocation was refused.
 fn is_replayed(
     rt: &(impl AllocGlobal + Abort),
     text: &[u8],
@@ -132,7 +132,7 @@ fn a_refused_growth_of_an_adoption_leaves_nothing(rt: HostRuntime) -> Result<(),
     is_replayed(&rt, ADOPTION, ADOPTION_REPORT, ADOPTION_CERTIFICATE)
 }
 
-// Checks the certificate. Where a growth is refused, nothing is written, and the same call is made again.
+// Checks the certificate. Where an allocation is refused, nothing is written, and the same call is made again.
 fn check_again(
     rt: &(impl AllocGlobal + Abort),
     text: &[u8],

@@ -41,7 +41,7 @@ fn told_of_no_words(alloc: Global) -> Result<(u8, Memory, Memory), TellError> {
     }
 }
 
-// Where a growth is refused, a call says so and never tells a shorter text.
+// Where an allocation is refused, a call says so and never tells a shorter text.
 #[test]
 fn refused_memory(rt: HostRuntime) {
     match told_of_no_words(rt.alloc()) {
