@@ -7,6 +7,7 @@ pub mod HeadsHere
 pub mod Here
 pub mod Housed
 pub mod Inserted
+pub mod KnownGuests
 pub mod Lifted
 pub mod Moving
 pub mod Pages

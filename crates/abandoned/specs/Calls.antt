@@ -1,5 +1,5 @@
 -- What the calls of the pool do and answer.
-use Rattle.std.specs.Prelude.{◌≡◌, ◌≢◌, ◌⊎◌, map, ℕ, ◌+◌, ◌-◌, ◌<◌, ◌≤◌, true, false, List, [], ◌∷◌, length, insert, option_map, remove, Option, Some, None, IsSome, is_some, slice_get, slice_set, slice_index}
+use Rattle.std.specs.Prelude.{◌≡◌, ◌≢◌, ◌⊎◌, map, ℕ, ◌+◌, ◌-◌, ◌<◌, ◌≤◌, true, false, List, [], ◌∷◌, length, insert, option_map, remove, Option, Some, None, IsSome, is_some, slice_get, slice_set}
 use Rattle.std.specs.FinMap as finite
 use Rattle.std.specs.FinSet as set
 use Rattle.span.specs.declared.id.SpanId.{SpanId}

@@ -12,10 +12,10 @@ ghost use Rattle.abandoned.specs.Sound.{IsSound};
 ghost use Rattle.abandoned.specs.State.{HasNoHead, IsElsewhere, IsHeadOf, IsHere, PooledState, live_keys, paged_groups, summary};
 
 use crate::pooled::Pooled;
-use crate::search::{find_at, lower_heads, search};
+use crate::search::lower_heads;
 use bitmap::Bits256;
 use page_table::Table;
-use shard::{Found, Freed, Hints};
+use shard::{Directory, Found, Freed, Place};
 use span::{Kept, Key, Log, SpanId};
 use std::alloc::{AllocError, Global};
 use std::marker::Model;
@@ -33,7 +33,7 @@ mod tests;
 pub struct Pool<L: Log = Kept> {
     alloc: Global,
     groups: Vec<Pooled<L>>,
-    hints: Hints,
+    directory: Directory,
     table: Table,
     page_room: usize,
     span_room: usize,
@@ -75,7 +75,7 @@ impl<L: Log> Pool<L> {
         Pool {
             alloc,
             groups: Vec::new(alloc),
-            hints: Hints::new(alloc),
+            directory: Directory::new(alloc),
             table: Table::new(alloc),
             page_room: 0,
             span_room: 0,
@@ -195,13 +195,12 @@ impl<L: Log> Pool<L> {
         ensures sound { IsSound self.now }
         ensures place { MatchOption result (IsElsewhere self.now.groups id) (λ at. (group : PooledState) × (span : SpanState) × IsHere self.now.groups id at.0 at.1 group span) }
     {
-        let groups = self.groups.as_slice();
-        let head = self.hints.head_of(id).unwrap_or(id);
-        let guess = lower_heads(groups, head.rank());
-        if let Some(at) = find_at(groups, guess, id) {
-            return Some(at);
-        }
-        search(groups, id)
+        let head = Place { head: id, place: 0 };
+        let at = self.directory.place_of(id).unwrap_or(head);
+        let Some(index) = self.find_head(at.head) else {
+            return None;
+        };
+        Some((index, at.place))
     }
 
     // Where the group of the head stands.

@@ -108,13 +108,6 @@ impl<L: Log> Pooled<L> {
         self.spans.live()
     }
 
-    /// Where the span is among the head and its guests; 0 is the head.
-    pub(crate) fn place_of(&self, id: SpanId) -> Option<usize>
-        ensures { MatchOption result (HasNoSpan (spans_of self.now) id) (IsSpanAt (spans_of self.now) id) }
-    {
-        self.spans.place_of(id)
-    }
-
     /// The span at the place, 0 being the head.
     pub(crate) fn span_at(&self, place: usize) -> &Span<L>
         requires { place < length (spans_of self.now) }

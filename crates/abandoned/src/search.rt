@@ -1,4 +1,4 @@
-// Where spans and heads stand among the groups.
+// Where heads stand among the groups.
 ghost use Rattle.std.specs.Prelude.{◌≡◌, ◌<◌, ◌≤◌, ℕ, IfSome, MatchOption, Some, length, slice_get};
 ghost use Rattle.span.specs.Ids.{rank};
 ghost use Rattle.span.specs.State.{SpanState};
@@ -26,35 +26,6 @@ pub(crate) fn lower_heads<L: Log>(groups: &[Pooled<L>], number: u32) -> usize
         }
     }
     low
-}
-
-/// Where the span of the id stands, if it is in the group at the index.
-pub(crate) fn find_at<L: Log>(
-    groups: &[Pooled<L>],
-    index: usize,
-    id: SpanId,
-) -> Option<(usize, usize)>
-    ensures { IfSome result (λ at. (group : PooledState) × (span : SpanState) × IsHere groups.now id at.0 at.1 group span) }
-{
-    if index >= groups.len() {
-        return None;
-    }
-    match groups[index].place_of(id) {
-        Some(place) => Some((index, place)),
-        None => None,
-    }
-}
-
-/// Where the span of the id stands among the groups: the walk that decides where no guess was right.
-pub(crate) fn search<L: Log>(groups: &[Pooled<L>], id: SpanId) -> Option<(usize, usize)>
-    ensures { MatchOption result (IsElsewhere groups.now id) (λ at. (group : PooledState) × (span : SpanState) × IsHere groups.now id at.0 at.1 group span) }
-{
-    for index in 0..groups.len() {
-        if let Some(place) = groups[index].place_of(id) {
-            return Some((index, place));
-        }
-    }
-    None
 }
 
 /// The first group that has a page.

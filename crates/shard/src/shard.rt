@@ -12,9 +12,9 @@ ghost use Rattle.shard.specs.Sound.{IsSound};
 ghost use Rattle.shard.specs.State.{IsElsewhere, IsHere, live_keys, no_pages, summary};
 ghost use Rattle.shard.specs.Calls.{Ascend, Frees, Gets, IsFull, IsLowestRoom, IsSpent, Puts, PutsHere, PutsInNew, value_found, was_freed};
 
+use crate::directory::{Directory, Place};
 use crate::error::{Config, PutError};
 use crate::group::Group;
-use crate::hints::Hints;
 use crate::rooms::Rooms;
 use crate::spans::Spans;
 use bitmap::Bits256;
@@ -66,7 +66,7 @@ pub struct Shard<L: Log = Kept> {
     ended: bool,
     groups: Vec<Group<L>>,
     rooms: Rooms,
-    hints: Hints,
+    directory: Directory,
     table: Table,
     onto: Option<SpanId>,
     // An empty list with room for the guests of the group `onto` and those for which room is reserved.
@@ -125,7 +125,7 @@ impl<L: Log> Shard<L> {
             ended: false,
             groups: Vec::new(alloc),
             rooms: Rooms::empty(),
-            hints: Hints::new(alloc),
+            directory: Directory::new(alloc),
             table: Table::new(alloc),
             onto: None,
             guest_room: Vec::new(alloc),
@@ -299,45 +299,22 @@ impl<L: Log> Shard<L> {
         Ok((key, 0))
     }
 
-    // Where the span of the id stands: its group, and its place there.
+    // Where the span of the id stands: its group, and its place there. Tried first is the index that a head has
+    // while the shard has all groups that it opened, and no other.
     fn find(&self, id: SpanId) -> Option<(usize, usize)>
         ensures sound { IsSound self.now }
         ensures place { MatchOption result (IsElsewhere self.now.groups id) (λ at. (group : GroupState) × (span : SpanState) × IsHere self.now.groups id at.0 at.1 group span) }
     {
-        if let Some(at) = self.find_at(self.guess(id), id) {
-            return Some(at);
+        let first = id.serial() as usize;
+        if first < self.groups.len() && self.groups[first].head_id() == id {
+            return Some((first, 0));
         }
-        if self.table.page_of(id).is_none() {
+        let head = Place { head: id, place: 0 };
+        let at = self.directory.place_of(id).unwrap_or(head);
+        let Some(index) = self.find_head(at.head) else {
             return None;
-        }
-        search(self.groups.as_slice(), id)
-    }
-
-    // The index of a group that may have the span: its serial where the shard has all that it opened, and else
-    // the place of the head that a hint names for a guest, or of the span itself.
-    fn guess(&self, id: SpanId) -> usize {
-        let index = id.serial() as usize;
-        if index < self.groups.len() && self.groups[index].head_id() == id {
-            return index;
-        }
-        match self.hints.head_of(id) {
-            Some(head) => lower_heads(self.groups.as_slice(), head),
-            None => lower_heads(self.groups.as_slice(), id),
-        }
-    }
-
-    // The place of the span in the group at the index, if it stands there.
-    fn find_at(&self, index: usize, id: SpanId) -> Option<(usize, usize)>
-        ensures sound { IsSound self.now }
-        ensures place { IfSome result (λ at. (group : GroupState) × (span : SpanState) × IsHere self.now.groups id at.0 at.1 group span) }
-    {
-        if index >= self.groups.len() {
-            return None;
-        }
-        match self.groups[index].place_of(id) {
-            Some(place) => Some((index, place)),
-            None => None,
-        }
+        };
+        Some((index, at.place))
     }
 
     // Where the group of the head stands.
@@ -365,18 +342,6 @@ fn head_index<L: Log>(groups: &[Group<L>], head: SpanId) -> Option<usize>
     } else {
         None
     }
-}
-
-// Where the span of the id stands among the groups: the walk that decides where no guess was right.
-fn search<L: Log>(groups: &[Group<L>], id: SpanId) -> Option<(usize, usize)>
-    ensures { MatchOption result (IsElsewhere groups.now id) (λ at. (group : GroupState) × (span : SpanState) × IsHere groups.now id at.0 at.1 group span) }
-{
-    for index in 0..groups.len() {
-        if let Some(place) = groups[index].place_of(id) {
-            return Some((index, place));
-        }
-    }
-    None
 }
 
 // Inserts where there is room, which needs no memory.

@@ -63,6 +63,13 @@ impl<L: Log> Spans<L> {
         1 + self.guests.len()
     }
 
+    /// The guests, behind the head.
+    pub fn guests(&self) -> &[Span<L>]
+        ensures { result.now ≡ self.now.guests }
+    {
+        self.guests.as_slice()
+    }
+
     /// Takes a guest in. Its live slots are live in none of the spans so far.
     ///
     /// # Errors
@@ -105,19 +112,6 @@ impl<L: Log> Spans<L> {
         ensures at_most { result ≤ 256 }
     {
         self.occupied.count() as usize
-    }
-
-    /// Where the span is among the head and its guests; 0 is the head.
-    pub fn place_of(&self, id: SpanId) -> Option<usize>
-        ensures { MatchOption result (HasNoSpan (all_spans self.now) id) (IsSpanAt (all_spans self.now) id) }
-    {
-        if self.head.id() == id {
-            return Some(0);
-        }
-        match position(self.guests.as_slice(), id) {
-            Some(at) => Some(at + 1),
-            None => None,
-        }
     }
 
     /// The span at the place, 0 being the head.
@@ -194,19 +188,6 @@ impl<L: Log> Spans<L> {
         self.occupied.remove(key.slot());
         true
     }
-}
-
-// The place of the span of this id.
-fn position<L: Log>(spans: &[Span<L>], id: SpanId) -> Option<usize>
-    ensures place { MatchOption result (HasNoSpan spans.now id) (IsSpanAt spans.now id) }
-    ensures within { IfSome result (λ place. place < length spans.now) }
-{
-    for at in 0..spans.len() {
-        if spans[at].id() == id {
-            return Some(at);
-        }
-    }
-    None
 }
 
 // Moves the head and the others after the guests, all of them into the list with room for them. The lists change

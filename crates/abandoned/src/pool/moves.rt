@@ -55,7 +55,7 @@ impl<L: Log> Pool<L> {
         };
         let group = self.groups.remove(index);
         let (spans, page) = group.into_parts();
-        self.hints.forget(&spans);
+        self.directory.strike_all(spans.guests());
         let words = take_page(&mut self.table, page);
         Some(Whole::new(spans, words))
     }
@@ -82,7 +82,7 @@ impl<L: Log> Pool<L> {
         ensures sound { IsSound self.new }
     {
         self.groups.reserve(groups)?;
-        self.hints.reserve(spans)?;
+        self.directory.reserve(spans)?;
         self.table.reserve(groups, spans)?;
         self.page_room = groups;
         self.span_room = spans;
@@ -98,9 +98,10 @@ impl<L: Log> Pool<L> {
     {
         let (spans, words) = whole.into_parts();
         let count = spans.len();
-        let index = lower_heads(self.groups.as_slice(), spans.head_id().rank());
+        let head = spans.head_id();
+        let index = lower_heads(self.groups.as_slice(), head.rank());
         let page = house(&mut self.table, &spans, words);
-        self.hints.note(&spans);
+        self.directory.enter_from(0, spans.guests(), head);
         insert_reserved(&mut self.groups, index, Pooled::new(spans, page));
         self.page_room -= 1;
         self.span_room -= count;

@@ -11,6 +11,7 @@ use Rattle.abandoned.proofs.Freed.{IsSound-Frees, IsSound-Leaves}
 use Rattle.abandoned.proofs.Here.{found_in, here_read, index_within, place_within, read_is}
 use Rattle.abandoned.proofs.Released.{Leaves-GivesUp, page_there, rooms-GivesUp}
 use Rattle.abandoned.proofs.ShownLogs.{shown-Frees, was_freed-Frees}
+use Rattle.abandoned.proofs.KnownGuests.{KnowsGuests-free}
 use Rattle.abandoned.proofs.pool.Pool.free.Goals as goal
 
 pub returns-in_default-clause-step : goal.returns-in_default-clause-step
@@ -79,6 +80,8 @@ invariant_of-self-2 g c =
       room_for_pages = rw rooms.0 c.self.invariant.room_for_pages;
       room_for_spans = rw rooms.1 c.self.invariant.room_for_spans;
       room_for_groups = c.self.invariant.room_for_groups;
+      guests_known = KnowsGuests-free c.self.inside.groups.items c.self.inside.directory.entries c.self.invariant.guests_known c.in-Some.index c.in-Some.place c.index_mut-group.result.now c.span_at.result.now (with_free c.span_at.result.now c.args.key.now) here.group_is here.span_is refl _ _ _ gives;
+      room_for_entries = c.self.invariant.room_for_entries;
     }
 
 pub returns-clause-step : goal.returns-clause-step

@@ -9,6 +9,8 @@ use Rattle.abandoned.specs.State.{IsHeadOf, PoolState, PooledState, whole_of}
 use Rattle.abandoned.proofs.HeadsHere.{head_read}
 use Rattle.abandoned.proofs.Lifted.{IsSound-left_over, IsSoundWhole-whole_of}
 use Rattle.abandoned.proofs.Released.{page_there, same_rooms, with_rooms-without}
+use Rattle.shard.specs.Directory.{DirectoryState}
+use Rattle.abandoned.proofs.KnownGuests.{KnowsGuests-remove}
 use Rattle.abandoned.proofs.pool.Pool.lift.Goals as goal
 
 pub take_page-words-requires : goal.take_page-words-requires
@@ -28,6 +30,7 @@ invariant_of-self g c =
     let page_is : c.remove-group.result.page ≡ c.into_parts-spans.result.1 = ap (λ (g : PooledState). g.page) c.into_parts-spans.ensures in
     let table_is : c.take_page-words.new.table ≡ without_page_of c.self.inside.table c.remove-group.result.page = c.take_page-words.ensures.table ∙ ap (without_page_of c.self.inside.table) (sym page_is) in
     let rooms = same_rooms c.self.inside.table c.remove-group.result.page in
+    let guests_are : c.guests.result.now ≡ c.remove-group.result.guests = c.guests.ensures ∙ ap (λ (g : PooledState). g.guests) (sym c.into_parts-spans.ensures) in
     record {
       sound =
           subst IsSound (λ i. record {
@@ -39,6 +42,8 @@ invariant_of-self g c =
       room_for_pages = rw (table_is, rooms.0) c.self.invariant.room_for_pages;
       room_for_spans = rw (table_is, rooms.1) c.self.invariant.room_for_spans;
       room_for_groups = omega (arith, c.self.invariant.room_for_groups, c.remove-group.ensures.len, c.remove-group.ensures.capacity);
+      guests_known = rw (c.remove-group.ensures.items, c.strike_all.ensures, guests_are) (KnowsGuests-remove c.self.inside.groups.items c.self.inside.directory.entries c.self.invariant.guests_known c.self.invariant.sound.ascending c.in-Some.index c.remove-group.result head_here.here);
+      room_for_entries = omega (arith, c.self.invariant.room_for_entries, ap (λ (d : DirectoryState). d.room) c.strike_all.ensures);
     }
 
 pub returns-clause-lifts : goal.returns-clause-lifts

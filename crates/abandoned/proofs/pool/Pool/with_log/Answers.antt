@@ -1,5 +1,7 @@
-use Rattle.std.proofs.Common.{arith}
+use Rattle.std.proofs.Common.{ap, arith}
 use Rattle.abandoned.proofs.Started.{IsSound-new}
+use Rattle.shard.specs.Directory.{DirectoryState}
+use Rattle.shard.proofs.GuestDirectory.{IsDirectory-none}
 use Rattle.abandoned.proofs.pool.Pool.with_log.Goals as goal
 
 pub invariant_of-result : goal.invariant_of-result
@@ -8,6 +10,8 @@ invariant_of-result g c = record {
   room_for_pages = omega arith;
   room_for_spans = omega arith;
   room_for_groups = omega arith;
+  guests_known = IsDirectory-none _ _ c.new.result.items _ c.new.ensures.items (ap (λ (d : DirectoryState). d.entries) c.new-2.ensures);
+  room_for_entries = omega arith;
 }
 
 pub returns-clause-sound : goal.returns-clause-sound

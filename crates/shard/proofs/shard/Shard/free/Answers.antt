@@ -12,6 +12,7 @@ use Rattle.shard.proofs.Here.{found_in, here_read, read_is}
 use Rattle.shard.proofs.Lists.{same_some}
 use Rattle.shard.proofs.RoomBits.{HasRooms-free}
 use Rattle.shard.proofs.ShownLogs.{IsSound-Frees, shown-Frees, was_freed-Frees}
+use Rattle.shard.proofs.KnownGuests.{KnowsGuests-span}
 use Rattle.shard.proofs.shard.Shard.free.Goals as goal
 
 pub returns-in_default-clause-step : goal.returns-in_default-clause-step
@@ -66,6 +67,8 @@ invariant_of-self g c =
       no_guests = c.self.invariant.no_guests;
       room_for_guests = rw (freed_now g c)
           (HasGuestRoom-span c.self.inside.groups.items c.self.inside.onto c.self.inside.table.span_room (vec_capacity c.self.inside.guest_room) c.self.invariant.room_for_guests c.in-Some.index c.in-Some.place group span (with_free span c.args.key.now) here.group_is here.span_is refl);
+      guests_known = rw (freed_now g c) (KnowsGuests-span c.self.inside.groups.items c.self.inside.directory.entries c.self.invariant.guests_known c.in-Some.index c.in-Some.place group span (with_free span c.args.key.now) here.group_is here.span_is refl);
+      room_for_entries = c.self.invariant.room_for_entries;
     }
 
 pub returns-clause-step : goal.returns-clause-step

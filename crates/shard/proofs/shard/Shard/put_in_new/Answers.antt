@@ -18,6 +18,7 @@ use Rattle.shard.proofs.Heads.{head_id}
 use Rattle.shard.proofs.PutInNew.{IsSound-put_in_new}
 use Rattle.shard.proofs.RoomBits.{HasRooms-only}
 use Rattle.shard.proofs.Tables.{HasPage-with_open_same}
+use Rattle.shard.proofs.KnownGuests.{KnowsGuests-alone}
 use Rattle.shard.proofs.shard.Shard.put_in_new.Goals as goal
 
 pub put_at-requires-clause-not_live : goal.put_at-requires-clause-not_live
@@ -71,6 +72,8 @@ invariant_of-self-2 g c = record {
   room_for_groups = omega (arith, c.self.invariant.room_for_groups, c.insert_reserved.ensures.len, c.insert_reserved.ensures.capacity, c.in_ok-reserve.ensures.len, c.in_ok-reserve.ensures.ok, c.in_ok-reserve.ensures.capacity, ap (λ (t : TableState). t.page_room) (table_now g c));
   no_guests = c.self.invariant.no_guests;
   room_for_guests = HasGuestRoom-none _ _ _;
+  guests_known = rw (groups_now g c) (KnowsGuests-alone c.self.inside.groups.items c.self.inside.directory.entries c.self.invariant.guests_known c.lower_heads-index.result (made g c) (place_now g c).within refl);
+  room_for_entries = omega (arith, c.self.invariant.room_for_entries, ap (λ (t : TableState). t.span_room) (table_now g c));
 }
 
 pub returns-clause-ok : goal.returns-clause-ok
@@ -105,6 +108,8 @@ invariant_of-self g c = record {
   room_for_groups = omega (arith, c.self.invariant.room_for_groups, c.reserve.ensures.len, c.reserve.ensures.capacity);
   no_guests = c.self.invariant.no_guests;
   room_for_guests = rw c.reserve.ensures.items c.self.invariant.room_for_guests;
+  guests_known = rw c.reserve.ensures.items c.self.invariant.guests_known;
+  room_for_entries = c.self.invariant.room_for_entries;
 }
 
 pub invariant_of-self-in_err-page : goal.invariant_of-self-in_err-page
@@ -117,4 +122,6 @@ invariant_of-self-in_err-page g c = record {
   room_for_groups = omega (arith, c.self.invariant.room_for_groups, c.in_ok-reserve.ensures.len, c.in_ok-reserve.ensures.capacity, ap (λ (t : TableState). t.page_room) c.in_err-page.ensures.err);
   no_guests = c.self.invariant.no_guests;
   room_for_guests = rw (c.in_ok-reserve.ensures.items, c.in_err-page.ensures.err) c.self.invariant.room_for_guests;
+  guests_known = rw c.in_ok-reserve.ensures.items c.self.invariant.guests_known;
+  room_for_entries = rw c.in_err-page.ensures.err c.self.invariant.room_for_entries;
 }
