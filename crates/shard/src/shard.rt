@@ -214,12 +214,11 @@ impl<L: Log> Shard<L> {
         let Some((index, place)) = self.find(key.span()) else {
             return Freed::NotHere;
         };
-        let span = self.groups[index].span_at(place);
-        let at = span.changes();
-        if !span.find(key) {
+        let group = &mut self.groups[index];
+        let at = group.span_at(place).changes();
+        if !group.free(place, key) {
             return Freed::No(at);
         }
-        self.groups[index].free(place, key);
         self.rooms.insert(index);
         Freed::Yes(at)
     }

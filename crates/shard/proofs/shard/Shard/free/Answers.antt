@@ -1,15 +1,19 @@
-use Rattle.std.proofs.Common.{◌≡◌, ◌∙◌, Some, ap, sym, subst, refl, slice_get}
+use Rattle.std.proofs.Common.{◌≡◌, ◌∙◌, List, ap, arith, set, sym, subst, refl}
 use Rattle.std.specs.Prelude.{vec_capacity}
-use Rattle.std.proofs.lemmas.Bool.{OnTrue_at, true≢false}
+use Rattle.std.proofs.lemmas.Bool.{true≢false}
 use Rattle.std.proofs.lemmas.Option.{slice_get_within}
-use Rattle.shard.specs.Group.{GroupState, spans_of, with_span, with_free}
-use Rattle.shard.specs.Kept.{state_of}
+use Rattle.span.specs.Log.{Holds}
+use Rattle.shard.specs.Group.{GroupState, with_span, with_free}
+use Rattle.shard.specs.Kept.{KnowsGuests, state_of}
+use Rattle.shard.specs.Moves.{HasGuestRoom}
+use Rattle.shard.specs.Rooms.{HasRooms}
+use Rattle.shard.specs.Sound.{IsSound}
 use Rattle.shard.specs.State.{ShardState, IsElsewhere, IsHere}
 use Rattle.shard.specs.declared.shard.Freed.TheVariants.{No, NotHere, Yes}
 use Rattle.shard.proofs.FreeHere.{IsSound-free_here}
 use Rattle.shard.proofs.GuestRoom.{HasGuestRoom-span}
 use Rattle.shard.proofs.Here.{found_in, here_read, read_is}
-use Rattle.shard.proofs.Lists.{same_some}
+use Rattle.shard.proofs.Lists.{set-same}
 use Rattle.shard.proofs.RoomBits.{HasRooms-free}
 use Rattle.shard.proofs.ShownLogs.{IsSound-Frees, shown-Frees, was_freed-Frees}
 use Rattle.shard.proofs.KnownGuests.{KnowsGuests-span}
@@ -21,47 +25,77 @@ returns-in_default-clause-step g c = (subst (IsElsewhere c.args.self.now.groups)
 pub returns-in_default-clause-found : goal.returns-in_default-clause-found
 returns-in_default-clause-found g c = was_freed-Frees c.args.self.now c.args.self.now c.args.key.now NotHere c.find.ensures.sound (subst (IsElsewhere c.args.self.now.groups) c.span.ensures c.in_default.ensures.place, refl)
 
-pub returns-then-not-find-clause-step : goal.returns-then-not-find-clause-step
-returns-then-not-find-clause-step g c =
-    let found = found_in c.args.self.now.groups c.self.inside.groups.items _ c.args.key.now.span c.in-Some.index c.in-Some.place (ap (λ (s : ShardState). s.groups) (sym c.self.view_is)) c.span.ensures c.in-Some.ensures.place in
-    let here = here_read _ _ _ _ found.0 found.1 found.2 c.index.result.now c.index.ensures c.span_at-span.result.now c.span_at-span.ensures in (
-      c.in-Some.index,
-      c.in-Some.place,
-      c.index.result.now,
-      c.span_at-span.result.now,
-      subst (λ (s : ShardState). IsHere s.groups c.args.key.now.span c.in-Some.index c.in-Some.place c.index.result.now c.span_at-span.result.now) c.self.view_is here,
-      (λ holds. true≢false (sym (c.if-not-find.ensures.1 (sym here.id_is, holds)))),
-      c.changes-at.ensures,
-      refl,
-    )
-
-pub returns-then-not-find-clause-found : goal.returns-then-not-find-clause-found
-returns-then-not-find-clause-found g c = was_freed-Frees c.args.self.now c.args.self.now c.args.key.now (No c.changes-at.result) c.find.ensures.sound (returns-then-not-find-clause-step g c)
-
-here_now : (g : _) (c : goal.After-insert g) → IsHere c.self.inside.groups.items c.args.key.now.span c.in-Some.index c.in-Some.place c.index_mut.result.now c.span_at-span.result.now
+-- the span stands where it was found
+here_now : (g : _) (c : goal.After-insert g) → IsHere c.self.inside.groups.items c.args.key.now.span c.in-Some.index c.in-Some.place c.index_mut-group.result.now c.span_at.result.now
 here_now g c =
     let found = found_in c.args.self.now.groups c.self.inside.groups.items _ c.args.key.now.span c.in-Some.index c.in-Some.place (ap (λ (s : ShardState). s.groups) (sym c.self.view_is)) c.span.ensures c.in-Some.ensures.place in
-    let same : c.index.result.now ≡ c.index_mut.result.now = same_some (sym (read_is _ _ _ _ found.0 found.1 found.2 c.index.result.now c.index.ensures) ∙ read_is _ _ _ _ found.0 found.1 found.2 c.index_mut.result.now c.index_mut.ensures.value) in
-    here_read _ _ _ _ found.0 found.1 found.2 c.index_mut.result.now c.index_mut.ensures.value c.span_at-span.result.now
-    (subst (λ (g : GroupState). slice_get (spans_of g) c.in-Some.place ≡ Some c.span_at-span.result.now) same c.span_at-span.ensures)
+    here_read _ _ _ _ found.0 found.1 found.2 c.index_mut-group.result.now c.index_mut-group.ensures.value c.span_at.result.now c.span_at.ensures
 
-freed_now : (g : _) (c : goal.After-insert g) → c.free.new.self ≡ with_span c.index_mut.result.now c.in-Some.place (with_free c.span_at-span.result.now c.args.key.now)
-freed_now g c =
-    let here = here_now g c in
-    OnTrue_at
-    ((c.free.ensures.found c.span_at-span.result.now here.span_is).1 (sym here.id_is, (c.if-not-find.ensures.0 refl).1))
-    (c.free.ensures.freed c.span_at-span.result.now here.span_is)
+-- a key that is not live leaves the groups as they were
+groups_same : (g : _) (c : goal.Then-not-free g) → set c.self.inside.groups.items c.in-Some.index c.free.new.self ≡ c.self.inside.groups.items
+groups_same g c =
+    let found = found_in c.args.self.now.groups c.self.inside.groups.items _ c.args.key.now.span c.in-Some.index c.in-Some.place (ap (λ (s : ShardState). s.groups) (sym c.self.view_is)) c.span.ensures c.in-Some.ensures.place in
+    let read = read_is _ _ _ _ found.0 found.1 found.2 c.index_mut-group.result.now c.index_mut-group.ensures.value in
+    ap (set c.self.inside.groups.items c.in-Some.index) (c.if-not-free.ensures {u = tt}).unknown ∙ set-same c.self.inside.groups.items c.in-Some.index c.index_mut-group.result.now read
 
 pub invariant_of-self : goal.invariant_of-self
 invariant_of-self g c =
+    let kept = c.self.invariant in
+    let same = sym (groups_same g c) in
+    record {
+      number_fits = kept.number_fits;
+      pages_fit = kept.pages_fit;
+      gens_fit = kept.gens_fit;
+      sound = subst (λ (groups : List GroupState). IsSound (record (state_of c.self.inside) { groups = groups })) same kept.sound;
+      rooms = subst (λ (groups : List GroupState). HasRooms groups c.self.inside.rooms) same kept.rooms;
+      room_for_groups = kept.room_for_groups;
+      no_guests = kept.no_guests;
+      room_for_guests = subst (λ (groups : List GroupState). HasGuestRoom groups c.self.inside.onto c.self.inside.table.span_room (vec_capacity c.self.inside.guest_room)) same kept.room_for_guests;
+      guests_known = subst (λ (groups : List GroupState). KnowsGuests groups c.self.inside.directory.entries) same kept.guests_known;
+      room_for_entries = kept.room_for_entries;
+    }
+
+pub returns-then-not-free-clause-step : goal.returns-then-not-free-clause-step
+returns-then-not-free-clause-step g c =
+    let found = found_in c.args.self.now.groups c.self.inside.groups.items _ c.args.key.now.span c.in-Some.index c.in-Some.place (ap (λ (s : ShardState). s.groups) (sym c.self.view_is)) c.span.ensures c.in-Some.ensures.place in
+    let here = here_read _ _ _ _ found.0 found.1 found.2 c.index_mut-group.result.now c.index_mut-group.ensures.value c.span_at.result.now c.span_at.ensures in (
+      c.in-Some.index,
+      c.in-Some.place,
+      c.index_mut-group.result.now,
+      c.span_at.result.now,
+      subst (λ (s : ShardState). IsHere s.groups c.args.key.now.span c.in-Some.index c.in-Some.place c.index_mut-group.result.now c.span_at.result.now) c.self.view_is here,
+      (λ holds. true≢false (sym (((c.if-not-free.ensures {u = tt}).found c.span_at.result.now c.span_at.ensures).1 (sym here.id_is, holds)))),
+      c.changes-at.ensures,
+      ap (λ (groups : List GroupState). record (state_of c.self.inside) { groups = groups }) (groups_same g c) ∙ c.self.view_is,
+    )
+
+pub returns-then-not-free-clause-found : goal.returns-then-not-free-clause-found
+returns-then-not-free-clause-found g c = was_freed-Frees c.args.self.now _ c.args.key.now (No c.changes-at.result) c.find.ensures.sound (returns-then-not-free-clause-step g c)
+
+pub insert-requires : goal.insert-requires
+insert-requires g c =
+    let found = found_in c.args.self.now.groups c.self.inside.groups.items _ c.args.key.now.span c.in-Some.index c.in-Some.place (ap (λ (s : ShardState). s.groups) (sym c.self.view_is)) c.span.ensures c.in-Some.ensures.place in
+    let here = here_read _ _ _ _ found.0 found.1 found.2 c.index_mut-group.result.now c.index_mut-group.ensures.value c.span_at.result.now c.span_at.ensures in
+    let low = slice_get_within c.self.inside.groups.items c.in-Some.index c.index_mut-group.result.now here.group_is in
+    omega (arith, low, c.self.invariant.sound.limit, c.self.invariant.pages_fit)
+
+freed_now : (g : _) (c : goal.After-insert g) → c.free.new.self ≡ with_span c.index_mut-group.result.now c.in-Some.place (with_free c.span_at.result.now c.args.key.now)
+freed_now g c = (c.if-not-free.ensures {u = tt}).freed c.span_at.result.now c.span_at.ensures
+
+-- the key was live
+held : (g : _) (c : goal.After-insert g) → Holds c.span_at.result.now.log c.args.key.now.slot c.args.key.now.generation
+held g c = (((c.if-not-free.ensures {u = tt}).found c.span_at.result.now c.span_at.ensures).0 refl).1
+
+pub invariant_of-self-2 : goal.invariant_of-self-2
+invariant_of-self-2 g c =
     let here = here_now g c in
-    let group = c.index_mut.result.now in
-    let span = c.span_at-span.result.now in
+    let group = c.index_mut-group.result.now in
+    let span = c.span_at.result.now in
     record {
       number_fits = c.self.invariant.number_fits;
       pages_fit = c.self.invariant.pages_fit;
       gens_fit = c.self.invariant.gens_fit;
-      sound = rw (freed_now g c) (IsSound-free_here (state_of c.self.inside) c.self.invariant.sound c.in-Some.index c.in-Some.place group span c.args.key.now (here.group_is, here.span_is) (c.if-not-find.ensures.0 refl).1);
+      sound = rw (freed_now g c) (IsSound-free_here (state_of c.self.inside) c.self.invariant.sound c.in-Some.index c.in-Some.place group span c.args.key.now (here.group_is, here.span_is) (held g c));
       rooms = rw c.insert.ensures (HasRooms-free c.self.inside.groups.items c.self.inside.rooms c.self.invariant.rooms c.in-Some.index c.free.new.self (slice_get_within c.self.inside.groups.items c.in-Some.index group here.group_is));
       room_for_groups = c.self.invariant.room_for_groups;
       no_guests = c.self.invariant.no_guests;
@@ -75,10 +109,10 @@ pub returns-clause-step : goal.returns-clause-step
 returns-clause-step g c = (
   c.in-Some.index,
   c.in-Some.place,
-  c.index_mut.result.now,
-  c.span_at-span.result.now,
-  subst (λ (s : ShardState). IsHere s.groups c.args.key.now.span c.in-Some.index c.in-Some.place c.index_mut.result.now c.span_at-span.result.now) c.self.view_is (here_now g c),
-  (c.if-not-find.ensures.0 refl).1,
+  c.index_mut-group.result.now,
+  c.span_at.result.now,
+  subst (λ (s : ShardState). IsHere s.groups c.args.key.now.span c.in-Some.index c.in-Some.place c.index_mut-group.result.now c.span_at.result.now) c.self.view_is (here_now g c),
+  held g c,
   c.changes-at.ensures,
   rw (← c.self.view_is, freed_now g c) refl,
 )
