@@ -1,4 +1,4 @@
-// Whether the calls of each section stand behind those of the sections of lower number.
+// Whether the calls of each section stand after those of the sections of lower number.
 ghost use Rattle.std.specs.Prelude.{◌≡◌, ◌↔◌, IsTrue, Some, ℕ, length, slice_get, map, flat_map, vec_items};
 ghost use Rattle.span.specs.declared.receipt.Receipt.{Receipt};
 ghost use Rattle.audit.specs.Agreement.{RepliesAreRight, SectionsAreInOrder};
@@ -44,7 +44,7 @@ fn stand_between(
     true
 }
 
-/// Whether each call stands behind those on its span in the sections of lower number. The sections of
+/// Whether each call stands after those on its span in the sections of lower number. The sections of
 /// the changes tell: a call may be in none before that of the change before it, and in none after
 /// that of the change at its place.
 pub fn sections_are_in_order(
