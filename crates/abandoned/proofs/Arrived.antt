@@ -15,7 +15,7 @@ use Rattle.shard.proofs.Lists.{after-insert, get-insert}
 use Rattle.abandoned.specs.Calls.{HasReceived, IsPooled, TakesAll, TakesIn, with_rooms}
 use Rattle.abandoned.specs.Sound.{IsSound, IsSoundPaged}
 use Rattle.abandoned.specs.State.{PoolState, PooledState, spans_in, spans_of, whole_of}
-use Rattle.abandoned.proofs.TakenIn.{AreOnce, AreSound, IsElsewhereWhole, IsSound-TakesIn, elsewhere_first, empty_or_not, once_after, pooled, table_with, table_without, words_now}
+use Rattle.abandoned.proofs.TakenIn.{AreOnce, AreOnce-rest, AreSound, HasAll-TakesAll, IsElsewhere-next, IsElsewhereWhole, empty_or_not, pooled, table_with, table_without, words_now}
 use Rattle.abandoned.proofs.Together.{flat_map-whole_of}
 
 -- the words of a group are the same in two tables that have the same page for it
@@ -101,20 +101,23 @@ HaveCome-TakesAll [] old new sound fits once same = record {
   earlier = λ other was. subst (λ (p : PoolState). IsPooled p other) (sym same) was;
   count = ap (λ (p : PoolState). length p.groups) same ∙ omega arith;
 }
-HaveCome-TakesAll (whole ∷ wholes) old new sound fits once (mid, takes, rest) =
+HaveCome-TakesAll (whole ∷ wholes) old new sound fits once (mid, rest, takes) =
     let first = fits 0 whole refl in
-    let apart = elsewhere_first old whole wholes once in
-    let more = HaveCome-TakesAll wholes mid new (IsSound-TakesIn old mid whole sound first apart takes) (λ at other there. fits (suc at) other there) (once_after old mid whole wholes sound first once takes) rest in
-    let one = length-TakesIn old mid sound whole first apart takes in
+    let fits_rest : AreSound wholes = λ at other there. fits (suc at) other there in
+    let once_rest = AreOnce-rest old whole wholes once in
+    let has = HasAll-TakesAll wholes old mid sound fits_rest once_rest rest in
+    let apart = IsElsewhere-next old mid whole wholes once has in
+    let most = HaveCome-TakesAll wholes old mid sound fits_rest once_rest rest in
+    let one = length-TakesIn mid new has.sound whole first apart takes in
     record {
-      each = λ at other there. by_place at other more there (IsPooled-TakesIn old mid sound whole first apart takes);
-      earlier = λ other was. more.earlier other (IsPooled-stays old mid sound whole first apart takes other was);
-      count = omega (arith, more.count, one);
+      each = λ at other there. by_place at other there (IsPooled-TakesIn mid new has.sound whole first apart takes) (λ later other there. IsPooled-stays mid new has.sound whole first apart takes other (most.each later other there));
+      earlier = λ other was. IsPooled-stays mid new has.sound whole first apart takes other (most.earlier other was);
+      count = omega (arith, most.count, one);
     }
   where
-    by_place : (at : ℕ) (other : WholeState) → HaveCome mid wholes new → slice_get (whole ∷ wholes) at ≡ Some other → IsPooled mid whole → IsPooled new other
-    by_place zero other more there here = more.earlier other (let same : whole ≡ other = cc in subst (IsPooled mid) same here)
-    by_place (suc at) other more there here = more.each at other there
+    by_place : (at : ℕ) (other : WholeState) → slice_get (whole ∷ wholes) at ≡ Some other → IsPooled new whole → ((later : ℕ) (other : WholeState) → slice_get wholes later ≡ Some other → IsPooled new other) → IsPooled new other
+    by_place zero other there here rest = let same : whole ≡ other = cc in subst (IsPooled new) same here
+    by_place (suc at) other there here rest = rest at other there
 
 -- a group of a sound pool has a page exactly where a slot is live
 unpaged-sound : (table : TableState) (group : PooledState) (page : Option ℕ) → MatchOption page (union_of (spans_of group) ≡ set.empty) (IsSoundPaged table group) → union_of (spans_of group) ≡ set.empty → page ≡ None

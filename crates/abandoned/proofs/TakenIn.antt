@@ -163,25 +163,40 @@ AreSound wholes = (at : ℕ) (whole : WholeState) → slice_get wholes at ≡ So
 abbrev pub AreOnce : PoolState → List WholeState → Type 0
 AreOnce pool wholes = (id : SpanId) → times id (flat_map spans_moved wholes) + times id (spans_in pool.groups) ≤ 1
 
-pub elsewhere_first : (pool : PoolState) (whole : WholeState) (wholes : List WholeState) → AreOnce pool (whole ∷ wholes) → IsElsewhereWhole pool whole
-elsewhere_first pool whole wholes once place span here = elsewhere-times spans_of pool.groups span.id (
+pub AreOnce-rest : (pool : PoolState) (whole : WholeState) (wholes : List WholeState) → AreOnce pool (whole ∷ wholes) → AreOnce pool wholes
+AreOnce-rest pool whole wholes once id =
+    let most = once id in
+    let both = count-append (λ (s : SpanState). same_span s.id id) (spans_moved whole) (flat_map spans_moved wholes) in
+    omega arith
+
+-- the pool is sound with the groups, and has each id as often as it had it and they have it
+pub record HasAll (old : PoolState) (wholes : List WholeState) (new : PoolState) : Type 0 where
+  pub sound : IsSound new
+  pub count : (id : SpanId) → times id (spans_in new.groups) ≡ times id (flat_map spans_moved wholes) + times id (spans_in old.groups)
+
+-- the spans of one group more are elsewhere
+pub IsElsewhere-next : (old mid : PoolState) (whole : WholeState) (wholes : List WholeState) → AreOnce old (whole ∷ wholes) → HasAll old wholes mid → IsElsewhereWhole mid whole
+IsElsewhere-next old mid whole wholes once has place span here = elsewhere-times spans_of mid.groups span.id (
     let most = once span.id in
     let both = count-append (λ (s : SpanState). same_span s.id span.id) (spans_moved whole) (flat_map spans_moved wholes) in
     let some = count-some (λ (s : SpanState). same_span s.id span.id) (spans_moved whole) place span here (test_from_same_id span.id span.id refl) in
+    let before = has.count span.id in
     omega arith)
 
-pub once_after : (old mid : PoolState) (whole : WholeState) (wholes : List WholeState) → IsSound old → IsSoundWhole whole → AreOnce old (whole ∷ wholes) → TakesIn old whole mid → AreOnce mid wholes
-once_after old mid whole wholes sound fits once takes id =
-    let most = once id in
-    let both = count-append (λ (s : SpanState). same_span s.id id) (spans_moved whole) (flat_map spans_moved wholes) in
-    let now = times-TakesIn old mid whole sound fits (elsewhere_first old whole wholes once) takes id in
-    omega arith
-
-pub IsSound-TakesAll : (wholes : List WholeState) (old new : PoolState) → IsSound old → AreSound wholes → AreOnce old wholes → TakesAll old wholes new → IsSound new
-IsSound-TakesAll [] old new sound fits once same = subst IsSound (sym same) sound
-IsSound-TakesAll (whole ∷ wholes) old new sound fits once (mid, takes, rest) =
+pub HasAll-TakesAll : (wholes : List WholeState) (old new : PoolState) → IsSound old → AreSound wholes → AreOnce old wholes → TakesAll old wholes new → HasAll old wholes new
+HasAll-TakesAll [] old new sound fits once same = record { sound = subst IsSound (sym same) sound; count = λ id. ap (λ (p : PoolState). times id (spans_in p.groups)) same ∙ omega arith }
+HasAll-TakesAll (whole ∷ wholes) old new sound fits once (mid, rest, takes) =
+    let has = HasAll-TakesAll wholes old mid sound (λ at other there. fits (suc at) other there) (AreOnce-rest old whole wholes once) rest in
     let first = fits 0 whole refl in
-    IsSound-TakesAll wholes mid new (IsSound-TakesIn old mid whole sound first (elsewhere_first old whole wholes once) takes) (λ at other there. fits (suc at) other there) (once_after old mid whole wholes sound first once takes) rest
+    let apart = IsElsewhere-next old mid whole wholes once has in
+    record {
+      sound = IsSound-TakesIn mid new whole has.sound first apart takes;
+      count = λ id.
+          let both = count-append (λ (s : SpanState). same_span s.id id) (spans_moved whole) (flat_map spans_moved wholes) in
+          let before = has.count id in
+          let now = times-TakesIn mid new whole has.sound first apart takes id in
+          omega arith;
+    }
 
 -- where a slot is live, the group came with a page
 pub words_if_live : (whole : WholeState) → IsSoundWhole whole → union_of (spans_moved whole) ≢ set.empty → IsSome whole.words

@@ -10,7 +10,7 @@ use Rattle.span.specs.declared.id.SpanId.{SpanId}
 use Rattle.span.specs.declared.key.Key.{Key}
 use Rattle.page_table.specs.State.{TableState}
 use Rattle.shard.specs.Group.{GroupState}
-use Rattle.shard.specs.Moves.{TakesIn as TakesInShard, WholeState, spans_moved, whole_of as whole_of_shard, with_room as with_room_in}
+use Rattle.shard.specs.Moves.{IsSoundWhole, TakesIn as TakesInShard, WholeState, spans_moved, whole_of as whole_of_shard, with_room as with_room_in}
 use Rattle.shard.specs.Shown.{issued_by, shown as shown_by_shard, span_named}
 use Rattle.shard.specs.Sound.{IsSound as IsSoundShard}
 use Rattle.shard.specs.State.{ShardState, spans_in as spans_in_shard}
@@ -24,7 +24,7 @@ use Rattle.abandoned.specs.Shown.{first_of, shown, together}
 use Rattle.abandoned.specs.Sound.{IsSound}
 use Rattle.abandoned.specs.State.{PoolState, spans_in, spans_of}
 use Rattle.abandoned.proofs.ShownLogs.{shown-logged}
-use Rattle.abandoned.proofs.TakenIn.{AreOnce, AreSound, IsSound-TakesAll, IsSound-TakesIn, elsewhere_first, is_in-TakesIn, once_after, pooled}
+use Rattle.abandoned.proofs.TakenIn.{AreOnce, AreOnce-rest, AreSound, HasAll-TakesAll, IsElsewhere-next, IsElsewhereWhole, is_in-TakesIn, pooled}
 
 -- the first span, if there is one, and else the second
 abbrev first_span : Option SpanState → Option SpanState → Option SpanState
@@ -186,9 +186,9 @@ together-Adopts old new shard adopter head whole spans sound sound_new sound_sha
 
 -- the end of a shard
 
-Alike-TakesIn : (old new : PoolState) (whole : WholeState) (wholes : List WholeState) → IsSound old → AreSound (whole ∷ wholes) → AreOnce old (whole ∷ wholes) → TakesIn old whole new → Alike (spans_in new.groups) (spans_moved whole ++ spans_in old.groups)
-Alike-TakesIn old new whole wholes sound fits once takes id =
-    let its = is_in-TakesIn old sound whole (fits 0 whole refl) (elsewhere_first old whole wholes once) new takes in
+Alike-TakesIn : (old new : PoolState) (whole : WholeState) → IsSound old → IsSoundWhole whole → IsElsewhereWhole old whole → TakesIn old whole new → Alike (spans_in new.groups) (spans_moved whole ++ spans_in old.groups)
+Alike-TakesIn old new whole sound fits apart takes id =
+    let its = is_in-TakesIn old sound whole fits apart new takes in
     let part = put_in spans_of old.groups takes.index (pooled whole its.0) in
     let is : spans_in new.groups ≡ part.left ++ (spans_moved whole ++ part.right) = ap spans_in its.1.groups_are ∙ part.after in
     let now : (other : SpanId) → times other (part.left ++ (spans_moved whole ++ part.right)) ≤ 1 = λ other. subst (λ xs. times other xs ≤ 1) is (its.1.sound_now.once other) in
@@ -196,16 +196,13 @@ Alike-TakesIn old new whole wholes sound fits once takes id =
 
 pub Alike-TakesAll : (wholes : List WholeState) (old new : PoolState) → IsSound old → AreSound wholes → AreOnce old wholes → TakesAll old wholes new → Alike (spans_in new.groups) (flat_map spans_moved wholes ++ spans_in old.groups)
 Alike-TakesAll [] old new sound fits once same id = ap (λ (p : PoolState). span_named (spans_in p.groups) id) same
-Alike-TakesAll (whole ∷ wholes) old new sound fits once (mid, takes, rest) id =
-    let first = fits 0 whole refl in
+Alike-TakesAll (whole ∷ wholes) old new sound fits once (mid, rest, takes) id =
     let others : List SpanState = flat_map spans_moved wholes in
-    let sound_mid = IsSound-TakesIn old mid whole sound first (elsewhere_first old whole wholes once) takes in
-    let later = Alike-TakesAll wholes mid new sound_mid (λ at other there. fits (suc at) other there) (once_after old mid whole wholes sound first once takes) rest in
-    let total : (other : SpanId) → times other (others ++ (spans_moved whole ++ spans_in old.groups)) ≤ 1 =
-    λ other. let most = once other in omega (arith, times-append other others (spans_moved whole ++ spans_in old.groups), times-append other (spans_moved whole) (spans_in old.groups), times-append other (spans_moved whole) others) in
-    later id
-    ∙ Alike-after others (spans_in mid.groups) (spans_moved whole ++ spans_in old.groups) (Alike-TakesIn old mid whole wholes sound fits once takes) id
-    ∙ Alike-front others (spans_moved whole) (spans_in old.groups) total id
+    let fits_rest : AreSound wholes = λ at other there. fits (suc at) other there in
+    let once_rest = AreOnce-rest old whole wholes once in
+    let has = HasAll-TakesAll wholes old mid sound fits_rest once_rest rest in
+    Alike-TakesIn mid new whole has.sound (fits 0 whole refl) (IsElsewhere-next old mid whole wholes once has) takes id
+    ∙ Alike-after (spans_moved whole) (spans_in mid.groups) (others ++ spans_in old.groups) (Alike-TakesAll wholes old mid sound fits_rest once_rest rest) id
     ∙ ap (λ xs. span_named xs id) (sym (append_assoc (spans_moved whole) others (spans_in old.groups)))
 
 -- lists that have no span in common may change places
@@ -234,7 +231,7 @@ together-Receives old new shard pages spans sound_room sound sound_shard fits on
     let once_all : AreOnce (with_rooms old pages spans) wholes = λ id. let most = once id in let count = ap (times id) same in omega arith in
     let mine : List SpanState = spans_in old.groups in
     let theirs : List SpanState = spans_in_shard shard.groups in
-    let sound_new = IsSound-TakesAll wholes (with_rooms old pages spans) new sound_room fits once_all all in
+    let sound_new = (HasAll-TakesAll wholes (with_rooms old pages spans) new sound_room fits once_all all).sound in
     let alike : Alike (spans_in new.groups) (mine ++ theirs) = λ id.
     Alike-TakesAll wholes (with_rooms old pages spans) new sound_room fits once_all all id
     ∙ ap (λ xs. span_named (xs ++ mine) id) same

@@ -103,10 +103,10 @@ pub record TakesIn (old : PoolState) (whole : WholeState) (new : PoolState) : Ty
   pub live : union_of (spans_moved whole) ≢ set.empty → (page : ℕ) × (words : List ℕ) × (finite.get old.table.pages page ≡ None) × (whole.words ≡ Some words)
       × (new ≡ record old { groups = insert old.groups index (record { head = whole.head; guests = whole.guests; page = Some page }); table = with_page old.table (spans_moved whole) page words })
 
--- the groups come into the pool, one after another
+-- the groups come into the pool, one after another, the last of them first
 abbrev pub TakesAll : PoolState → List WholeState → PoolState → Type 0
 TakesAll old [] new = new ≡ old
-TakesAll old (whole ∷ wholes) new = (mid : PoolState) × TakesIn old whole mid × TakesAll mid wholes new
+TakesAll old (whole ∷ wholes) new = (mid : PoolState) × TakesAll old wholes mid × TakesIn mid whole new
 
 -- the pools hold the same, reserved room aside
 abbrev pub with_rooms : PoolState → ℕ → ℕ → PoolState

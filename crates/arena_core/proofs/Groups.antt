@@ -183,8 +183,8 @@ sum_pooled-TakesIn w old new whole takes = elim (empty_or_not (union_of (spans_m
 
 pub sum_pooled-TakesAll : (w : SpanState → ℕ) (wholes : List WholeState) (old new : PoolState) → TakesAll old wholes new → sum_pooled w new ≡ sum_pooled w old + sum_by (sum_moved w) wholes
 sum_pooled-TakesAll w [] old new same = omega (arith, ap (λ (p : PoolState). sum_pooled w p) same)
-sum_pooled-TakesAll w (whole ∷ wholes) old new (mid, first, rest) =
-    omega (arith, sum_pooled-TakesIn w old mid whole first, sum_pooled-TakesAll w wholes mid new rest, sum_by-cons (sum_moved w) whole wholes)
+sum_pooled-TakesAll w (whole ∷ wholes) old new (mid, rest, first) =
+    omega (arith, sum_pooled-TakesIn w mid new whole first, sum_pooled-TakesAll w wholes old mid rest, sum_by-cons (sum_moved w) whole wholes)
 
 sum_by-whole_of : (w : SpanState → ℕ) (table : TableState) (groups : List GroupState) → sum_by (sum_moved w) (map (whole_of table) groups) ≡ sum_by w (flat_map spans_of groups)
 sum_by-whole_of w table [] = refl

@@ -268,9 +268,9 @@ HasStill-TakesIn old new whole takes index group here = by_case (empty_or_not (u
 
 HasStill-TakesAll : (wholes : List WholeState) (old new : PoolState) → TakesAll old wholes new → HasStill old.groups new.groups
 HasStill-TakesAll [] old new same index group here = (index, ap (λ (p : PoolState). slice_get p.groups index) same ∙ here)
-HasStill-TakesAll (whole ∷ wholes) old new (mid, takes, rest) index group here =
-    let (place, there) = HasStill-TakesIn old mid whole takes index group here in
-    HasStill-TakesAll wholes mid new rest place group there
+HasStill-TakesAll (whole ∷ wholes) old new (mid, rest, takes) index group here =
+    let (place, there) = HasStill-TakesAll wholes old mid rest index group here in
+    HasStill-TakesIn mid new whole takes place group there
 
 pub KeepsPooled-Receives : (old new : PoolState) (before after : ShardState) → Receives old before new after → KeepsPooled old.groups new.groups
 KeepsPooled-Receives old new before after receives index group here =
@@ -286,7 +286,7 @@ has_plan-TakesIn old new whole takes = by_case (empty_or_not (union_of (whole.he
 
 has_plan-TakesAll : (wholes : List WholeState) (old new : PoolState) → TakesAll old wholes new → new.has_plan ≡ old.has_plan
 has_plan-TakesAll [] old new same = ap (λ (p : PoolState). p.has_plan) same
-has_plan-TakesAll (whole ∷ wholes) old new (mid, takes, rest) = has_plan-TakesAll wholes mid new rest ∙ has_plan-TakesIn old mid whole takes
+has_plan-TakesAll (whole ∷ wholes) old new (mid, rest, takes) = has_plan-TakesIn mid new whole takes ∙ has_plan-TakesAll wholes old mid rest
 
 pub has_plan-Receives : (old new : PoolState) (before after : ShardState) → Receives old before new after → new.has_plan ≡ old.has_plan
 has_plan-Receives old new before after receives = has_plan-TakesAll _ (with_rooms old receives.page_room receives.span_room) new receives.moved

@@ -75,7 +75,7 @@ impl<L: Log> Pool<L> {
         Ok(())
     }
 
-    // Takes in the groups of the shard, one after another, in reserved room.
+    // Takes in the groups of the shard, one after another, in reserved room. The last goes first, so that none moves up.
     fn take_all(&mut self, shard: &mut Shard<L>)
         requires sound { IsSound self.old }
         requires sound_shard { IsSoundShard shard.old }
@@ -86,11 +86,7 @@ impl<L: Log> Pool<L> {
         ensures sound { IsSound self.new }
         ensures sound_shard { IsSoundShard shard.new }
     {
-        while shard.pages() > 0 {
-            let head = shard.spans_at(0).head_id();
-            let Some(whole) = shard.lift(head) else {
-                unreachable!();
-            };
+        while let Some(whole) = shard.lift_last() {
             self.take_in(whole);
         }
     }
