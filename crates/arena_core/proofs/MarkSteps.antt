@@ -17,12 +17,12 @@ use Rattle.fold.specs.declared.step.Step.{Step as Outcome}
 use Rattle.certificate.specs.declared.certificate.Certificate.{Certificate}
 use Rattle.arena_core.specs.Closings.{AreOpen, closed_as_planned, closed_onto, reopened}
 use Rattle.arena_core.specs.Kept.{state_of}
-use Rattle.arena_core.specs.Marks.{IsLargest, advanced, next_pair}
+use Rattle.arena_core.specs.Marks.{IsLargest, advanced, next_pair, with_plan_told}
 use Rattle.arena_core.specs.Owner.{IsNowhere, StandsAt}
 use Rattle.arena_core.specs.Plan.{IsNext, IsOwned, plans_onto}
 use Rattle.arena_core.specs.Sound.{HasSoundGroups, IsSound}
 use Rattle.arena_core.specs.State.{CoreState, OpenPlan, has_span, shown, with_plan, with_pool, with_shard}
-use Rattle.arena_core.specs.Step.{with_plan_closed, with_plan_told}
+use Rattle.arena_core.specs.Step.{with_plan_closed}
 use Rattle.arena_core.specs.declared.event.Event.TheVariants.{Step}
 use Rattle.arena_core.specs.declared.guesses.Guesses.{Guesses}
 use Rattle.arena_core.specs.declared.machine.Core.TheInside.{Inside}

@@ -50,11 +50,11 @@ length-owned (shard ∷ shards) =
     ∙ omega (arith, length-map shard.groups (λ group. entry_of (summary group)), length-owned shards, sum_by-cons (λ (s : ShardState). length s.groups) shard shards)
 
 -- the entries of one shard more
-pub owned-more : (shards : List ShardState) (index : ℕ) (shard : ShardState) → index < length shards → shard ≡ get_or shards index shard
-    → owned_entries (take index shards) ++ entries_in shard.groups ≡ owned_entries (take (index + 1) shards)
-owned-more shards index shard within is =
-    flat_map_more (λ (s : ShardState). entries_in s.groups) [] (take index shards) shard
-    ∙ ap owned_entries (ap (λ s. take index shards ++ s ∷ []) is ∙ sym (take_more shards index shard within))
+pub owned-more : {H : Type 0} (lent : H → ShardState) (shards : List H) (index : ℕ) (shard : H) → index < length shards → shard ≡ get_or shards index shard
+    → owned_entries (map lent (take index shards)) ++ entries_in (lent shard).groups ≡ owned_entries (map lent (take (index + 1) shards))
+owned-more lent shards index shard within is =
+    flat_map_more (λ (s : ShardState). entries_in s.groups) [] (map lent (take index shards)) (lent shard)
+    ∙ ap owned_entries (sym (map-append lent (take index shards) (shard ∷ [])) ∙ ap (map lent) (ap (λ s. take index shards ++ s ∷ []) is ∙ sym (take_more shards index shard within)))
 
 -- where the pool has few groups, a side has too many exactly where the shards have
 pub too_many-owned : (pool : PoolState) (shards : List ShardState) (pages owned : ℕ) → pages ≡ length (paged_groups pool) → pages ≤ 4096 → owned ≡ min (sum_by (λ shard. length shard.groups) shards) (2 ^ 64 - 1)

@@ -1,10 +1,18 @@
 -- Groups that a plan closes, and opens again at its end.
-use Rattle.std.specs.Prelude.{◌≡◌, ℕ, List, map, None, Some, slice_get}
+use Rattle.std.specs.Prelude.{◌≡◌, ◌||◌, ℕ, List, map, None, Some, slice_get}
 use Rattle.span.specs.declared.id.SpanId.{SpanId}
 use Rattle.shard.specs.Closes.{opened_group}
 use Rattle.shard.specs.Group.{GroupState}
 use Rattle.shard.specs.State.{ShardState}
 use Rattle.arena_core.specs.Plan.{AreClosedAsPlanned, plans_onto}
+
+-- the group, closed also where the pairs fold onto it
+abbrev pub closed_by : List (SpanId × SpanId) → GroupState → GroupState
+closed_by pairs group = record group { closed = group.closed || plans_onto pairs group.head.id }
+
+-- the shard, of which just those groups are closed in addition onto which the pairs fold
+abbrev pub closing : List (SpanId × SpanId) → ShardState → ShardState
+closing pairs shard = record shard { groups = map (closed_by pairs) shard.groups }
 
 -- the group, closed exactly where the pairs fold onto it
 abbrev pub closed_as_planned : List (SpanId × SpanId) → GroupState → GroupState

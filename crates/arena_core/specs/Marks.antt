@@ -1,9 +1,10 @@
 -- What a mark sees of the pool and the shards, what it answers, and how its plan goes on.
-use Rattle.std.specs.Prelude.{◌⊎◌, ℕ, ◌+◌, ◌<◌, Bool, true, false, List, length, Option, Some, None, slice_get}
+use Rattle.std.specs.Prelude.{◌≡◌, ◌⊎◌, ℕ, ◌+◌, ◌<◌, Bool, true, false, List, length, Option, Some, None, slice_get}
 use Rattle.std.specs.List.{IsDistinct}
 use Rattle.std.specs.List.Sorted.{IsPermutation}
 use Rattle.span.specs.declared.id.SpanId.{SpanId}
 use Rattle.span.specs.Ids.{same_span}
+use Rattle.shard.specs.Sound.{IsSound as IsSoundShard}
 use Rattle.shard.specs.State.{ShardState}
 use Rattle.abandoned.specs.State.{PoolState}
 use Rattle.mesh_graph.specs.Groups.{Groups, IsAscending, ids}
@@ -40,6 +41,10 @@ pub record AreDistinct (pool : PoolState) (shards : List ShardState) : Type 0 wh
   pub abandoned : IsDistinct same_span (ids (abandoned_entries pool))
   pub owned : IsDistinct same_span (ids (owned_entries shards))
 
+-- each of the shards is sound; so one that has ended has no group
+abbrev pub AreSound : List ShardState → Type 0
+AreSound shards = (number : ℕ) (shard : ShardState) → slice_get shards number ≡ Some shard → IsSoundShard shard
+
 -- a side has more groups than a plan may have
 abbrev pub AreTooMany : PoolState → List ShardState → Type 0
 AreTooMany pool shards = (4096 < length (abandoned_entries pool)) ⊎ (4096 < length (owned_entries shards))
@@ -51,3 +56,7 @@ pub record IsLargest (pool : PoolState) (shards : List ShardState) (found : Cert
   pub short : IsShortOf found.snapshot found.plan found.short
   pub certificate : IsCertificateOf found.snapshot found.plan found.short
   pub writable : IsWritable found
+
+-- the pool, which knows whether a plan is open
+abbrev pub with_plan_told : PoolState → Bool → PoolState
+with_plan_told pool told = record pool { has_plan = told }

@@ -6,8 +6,10 @@ use Rattle.abandoned.specs.declared.error.AdoptError.{AdoptError}
 use Rattle.abandoned.specs.declared.error.AdoptError.TheVariants as adopt
 use Rattle.abandoned.specs.declared.error.ReceiveError.{ReceiveError}
 use Rattle.abandoned.specs.declared.error.ReceiveError.TheVariants as receive
+use Rattle.arena_core.specs.declared.error.MarkError.{MarkError}
+use Rattle.arena_core.specs.declared.error.MarkError.TheVariants as mark
 use Rattle.arena_core.specs.declared.reply.Refusal.{Refusal}
-use Rattle.arena_core.specs.declared.reply.Refusal.TheVariants.{OutOfMemory, PagesSpent, Ended, PlanOpen, NothingToAdopt}
+use Rattle.arena_core.specs.declared.reply.Refusal.TheVariants.{OutOfMemory, PagesSpent, Ended, PlanOpen, TooMany, NothingToAdopt}
 
 -- the core gives the shard's cause
 abbrev pub refusal_of : PutError → Refusal
@@ -30,3 +32,10 @@ refusal_of_adoption adopt.Ended = Some Ended
 refusal_of_adoption adopt.Doubled = None
 refusal_of_adoption adopt.PlanOpen = Some PlanOpen
 refusal_of_adoption adopt.NothingToAdopt = Some NothingToAdopt
+
+-- the core gives the mark's cause, save that no span stands twice
+abbrev pub refusal_of_mark : MarkError → Option Refusal
+refusal_of_mark mark.OutOfMemory = Some OutOfMemory
+refusal_of_mark mark.Doubled = None
+refusal_of_mark mark.PlanOpen = Some PlanOpen
+refusal_of_mark mark.TooMany = Some TooMany

@@ -1,5 +1,5 @@
 -- The steps and runs of the core.
-use Rattle.std.specs.Prelude.{◌≡◌, ◌⊎◌, ℕ, ◌<◌, ◌≤◌, Bool, true, false, List, [], ◌∷◌, ◌++◌, length, map, slice_get, Some, None, is_some}
+use Rattle.std.specs.Prelude.{◌≡◌, ◌⊎◌, ℕ, ◌<◌, ◌≤◌, true, false, List, [], ◌∷◌, ◌++◌, length, map, slice_get, Some, None, is_some}
 use Rattle.std.specs.List.{list_any}
 use Rattle.span.specs.declared.id.SpanId.{SpanId}
 use Rattle.span.specs.declared.key.Key.{Key}
@@ -21,7 +21,7 @@ use Rattle.arena_core.specs.declared.reply.Reply.TheVariants.{Issued, Found, Fre
 use Rattle.arena_core.specs.declared.reply.Refusal.TheVariants.{OutOfMemory, PagesSpent, Ended, PlanOpen, TooMany, NothingToAdopt, Config}
 use Rattle.arena_core.specs.Sound.{IsSound}
 use Rattle.arena_core.specs.Closings.{closed_onto, reopened}
-use Rattle.arena_core.specs.Marks.{AreTooMany, IsLargest}
+use Rattle.arena_core.specs.Marks.{AreTooMany, IsLargest, with_plan_told}
 use Rattle.arena_core.specs.Plan.{IsCarriedOut, IsEmptied, IsNext, with_next_done}
 use Rattle.arena_core.specs.State.{CoreState, OpenPlan, shown, with_plan, with_pool, with_shard}
 use Rattle.arena_core.specs.Plain.{PlainRun, erased}
@@ -125,10 +125,6 @@ pub record AdoptsInShard (old : CoreState) (number : ℕ) (head : SpanId) (new :
   pub no_plan : old.plan ≡ None
   pub adopts : Adopts old.pool before head pool after
   pub rest : new ≡ with_pool (with_shard old number after) pool
-
--- the pool, which knows whether a plan is open
-abbrev pub with_plan_told : PoolState → Bool → PoolState
-with_plan_told pool told = record pool { has_plan = told }
 
 -- a mark: of what it sees it makes a largest plan with its short set, opens the plan and closes the groups that are planned onto
 pub record Marks (old : CoreState) (certificate : Certificate) (new : CoreState) : Type 0 where

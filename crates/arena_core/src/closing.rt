@@ -1,16 +1,15 @@
 // Closes the groups onto which a plan folds, and opens them again.
-ghost use Rattle.std.specs.Prelude.{◌≡◌, None, map};
-ghost use Rattle.arena_core.specs.Closings.{AreOpen, closed_onto, reopened};
-ghost use Rattle.arena_core.specs.Plan.{AreClosedAsPlanned};
+ghost use Rattle.std.specs.Prelude.{◌≡◌, map};
+ghost use Rattle.arena_core.specs.Closings.{closing, reopened};
 
+use crate::lends_shard::LendsShard;
 use shard::Shard;
 use span::{Log, SpanId};
 
 /// Closes each owned group onto which a pair folds, in the shard that has it, so that it takes no put. It takes no
 /// memory.
-pub(crate) fn close_planned<L: Log>(shards: &mut [Shard<L>], pairs: &[(SpanId, SpanId)])
-    requires { AreOpen shards.old }
-    ensures { shards.new ≡ map (closed_onto pairs.now) shards.old }
+pub(crate) fn close_planned<H: LendsShard>(shards: &mut [H], pairs: &[(SpanId, SpanId)])
+    ensures { map H.lent shards.new ≡ map (closing pairs.now) (map H.lent shards.old) }
 {
     for shard in shards.iter_mut() {
         close_in(shard, pairs);
@@ -27,9 +26,8 @@ pub(crate) fn reopen_all<L: Log>(shards: &mut [Shard<L>])
 }
 
 // Closes the groups onto which a pair folds and which stand in this shard.
-fn close_in<L: Log>(shard: &mut Shard<L>, pairs: &[(SpanId, SpanId)])
-    requires { AreClosedAsPlanned None shard.old.groups }
-    ensures { shard.new ≡ closed_onto pairs.now shard.old }
+fn close_in<H: LendsShard>(shard: &mut H, pairs: &[(SpanId, SpanId)])
+    ensures { H.lent shard.new ≡ closing pairs.now (H.lent shard.old) }
 {
     for pair in pairs {
         shard.close(pair.1);

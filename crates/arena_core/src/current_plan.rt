@@ -11,7 +11,7 @@ use std::marker::Model;
 /// folded onto, and how many of them are done with. It keeps the room for 4,096 pairs, so that a plan is opened without
 /// memory.
 #[derive(Drop)]
-pub(crate) struct CurrentPlan {
+pub struct CurrentPlan {
     pairs: Vec<(SpanId, SpanId)>,
     done: usize,
     is_open: bool,
@@ -31,7 +31,7 @@ impl Model for CurrentPlan {
 
 impl CurrentPlan {
     /// No plan, with the room for one of 4,096 pairs.
-    pub(crate) fn new(alloc: Global) -> Result<CurrentPlan, AllocError>
+    pub fn new(alloc: Global) -> Result<CurrentPlan, AllocError>
         ensures { IfOk result (λ plan. plan ≡ None) }
     {
         Ok(CurrentPlan {
@@ -43,7 +43,7 @@ impl CurrentPlan {
     }
 
     /// Whether a plan is open.
-    pub(crate) fn is_open(&self) -> bool
+    pub fn is_open(&self) -> bool
         ensures { result ≡ is_some self.now }
     {
         self.is_open
@@ -51,7 +51,7 @@ impl CurrentPlan {
 
     /// The pair that comes next. There is none where no plan is open, and none where all pairs of the plan are done
     /// with; `is_open` tells which.
-    pub(crate) fn next(&self) -> Option<(SpanId, SpanId)>
+    pub fn next(&self) -> Option<(SpanId, SpanId)>
         ensures { result ≡ next_pair self.now }
     {
         if !self.is_open {
@@ -61,7 +61,7 @@ impl CurrentPlan {
     }
 
     /// Goes on to the pair after the next one.
-    pub(crate) fn advance(&mut self)
+    pub fn advance(&mut self)
         requires { IsSome (next_pair self.old) }
         ensures { self.new ≡ advanced self.old }
     {
@@ -69,7 +69,7 @@ impl CurrentPlan {
     }
 
     /// Opens the plan of these pairs, of which none is done with. It takes no memory.
-    pub(crate) fn begin(&mut self, pairs: &[(SpanId, SpanId)])
+    pub fn begin(&mut self, pairs: &[(SpanId, SpanId)])
         requires none { self.old ≡ None }
         requires few { length pairs.now ≤ 4096 }
         ensures { self.new ≡ Some (record { pairs = pairs.now; done = 0 }) }
@@ -81,7 +81,7 @@ impl CurrentPlan {
     }
 
     /// Closes the plan, if there is one, and drops the pairs that are left. It takes no memory.
-    pub(crate) fn end(&mut self)
+    pub fn end(&mut self)
         ensures { self.new ≡ None }
     {
         self.is_open = false;

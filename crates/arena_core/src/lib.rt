@@ -26,6 +26,9 @@
 //! any plan, shown by the short set, and the whole can be written as a certificate (`specs/Marks.antt`);
 //! what it plans is carried out (`specs/Plan.antt`). Each step is besides an exact step of shards and
 //! pool (`specs/Step.antt`), and leads from a sound core to a sound core (`specs/Sound.antt`).
+//!
+//! The core's mark is [`mark_in`] on its own pool and shards. It can be called on any that are lent
+//! ([`LendsShard`]), as behind the guards of locks, and then with a [`CurrentPlan`] that the caller keeps.
 #![tactic(auto)]
 
 mod closing;
@@ -33,6 +36,7 @@ mod current_plan;
 mod error;
 mod event;
 mod guesses;
+mod lends_shard;
 mod machine;
 mod marking;
 mod reply;
@@ -40,8 +44,11 @@ mod reply;
 mod tests;
 mod totals;
 
-pub use error::CoreError;
+pub use current_plan::CurrentPlan;
+pub use error::{CoreError, MarkError};
 pub use event::Event;
+pub use lends_shard::LendsShard;
 pub use machine::Core;
+pub use marking::mark_in;
 pub use reply::{Refusal, Reply};
 pub use totals::Totals;

@@ -1,39 +1,89 @@
 // What a mark sees, and the largest plan of it.
-ghost use Rattle.std.specs.Prelude.{◌≡◌, ◌↔◌, ◌+◌, ◌-◌, ◌^◌, ◌≤◌, ◌++◌, IfOk, IsTrue, length, map, min, sum_by};
+ghost use Rattle.std.specs.Prelude.{◌≡◌, ◌≢◌, ◌↔◌, ◌+◌, ◌-◌, ◌^◌, ◌≤◌, ◌++◌, Err, IfOk, IsTrue, MatchResult, OnErr, OnOk, false, length, map, min, sum_by, true};
+ghost use Rattle.shard.specs.Sound.{IsSound as IsSoundShard};
 ghost use Rattle.shard.specs.State.{summary};
-ghost use Rattle.arena_core.specs.Marks.{AreDistinct, AreTooMany, IsLargest, IsSeen};
+ghost use Rattle.abandoned.specs.Sound.{IsSound as IsSoundPool};
+ghost use Rattle.certificate.specs.Plans.{IsBestPlanOf, IsCertificateOf, IsShortOf};
+ghost use Rattle.certificate.specs.Text.{IsWritable};
+ghost use Rattle.arena_core.specs.Closings.{closing};
+ghost use Rattle.arena_core.specs.Marks.{AreDistinct, AreSound, AreTooMany, IsLargest, IsSeen, with_plan_told};
 ghost use Rattle.arena_core.specs.Plan.{abandoned_entries, entry_of, owned_entries};
 
+use crate::closing::close_planned;
+use crate::error::MarkError;
+use crate::lends_shard::LendsShard;
 use abandoned::Pool;
 use augment::plan;
 use bitmap::Bits256;
 use certificate::Certificate;
-use mesh_graph::{BuildError, Entry, Graph, MOST_GROUPS, Snapshot};
-use shard::Shard;
+use mesh_graph::{BuildError, Doubled, Entry, Graph, MOST_GROUPS, Snapshot};
 use span::{Log, SpanId};
 use std::alloc::{AllocError, Global};
 
+/// A mark of the pool and the shards that are lent: it takes a snapshot of every group of the pool that has a page and
+/// every group of the shards, makes a plan of as many folds as can be, tells the pool that a plan is open, and closes the
+/// groups onto which the plan folds, so that they take no put. It gives the snapshot, the plan and the short set that
+/// shows the plan best.
+///
+/// # Errors
+///
+/// The first of these that holds: `PlanOpen` where a plan is open; `TooMany` where a side has more than 4,096 groups;
+/// `Doubled` where two groups of a side have the same head, which takes memory to tell. `OutOfMemory` where a growth was
+/// refused and neither of the first two holds. All growths stand before the first change.
+pub fn mark_in<H: LendsShard>(
+    alloc: Global,
+    pool: &mut Pool<H::Log>,
+    shards: &mut [H],
+) -> Result<Certificate, MarkError>
+    requires { 1 ≤ length shards.old }
+    ensures largest { IfOk result (IsLargest pool.old (map H.lent shards.old)) }
+    ensures distinct { OnOk result (AreDistinct pool.old (map H.lent shards.old)) }
+    ensures closed { IfOk result (λ found. map H.lent shards.new ≡ map (closing found.plan) (map H.lent shards.old)) }
+    ensures opened { OnOk result (pool.new ≡ with_plan_told pool.old true) }
+    ensures sound { OnOk result (AreSound (map H.lent shards.old)) }
+    ensures sound_new { OnOk result (AreSound (map H.lent shards.new)) }
+    ensures sound_pool { OnOk result (IsSoundPool pool.new) }
+    ensures plan_open { (result ≡ Err MarkError.PlanOpen) ↔ (pool.old.has_plan ≡ true) }
+    ensures too_many { (result ≡ Err MarkError.TooMany) ↔ ((pool.old.has_plan ≡ false) × AreTooMany pool.old (map H.lent shards.old)) }
+    ensures doubled { result ≡ Err MarkError.Doubled → AreDistinct pool.old (map H.lent shards.old) → ⊥ }
+    ensures err { OnErr result (pool.new ≡ pool.old) }
+    ensures err_shards { OnErr result (shards.new ≡ shards.old) }
+{
+    if pool.has_plan() {
+        return Err(MarkError::PlanOpen);
+    }
+    if has_too_many(pool, shards) {
+        return Err(MarkError::TooMany);
+    }
+    let Ok(snapshot) = snapshot_of(alloc, pool, shards)? else {
+        return Err(MarkError::Doubled);
+    };
+    let found = largest_plan(alloc, snapshot, shards.len())?;
+    close_planned(shards, found.plan.pairs());
+    pool.plan_opened();
+    Ok(found)
+}
+
 /// Whether a side has more than 4,096 groups: the pool, of groups that have a page, or all shards together. It takes no
 /// memory.
-pub(crate) fn has_too_many<L: Log>(pool: &Pool<L>, shards: &[Shard<L>]) -> bool
-    ensures { IsTrue result ↔ AreTooMany pool.now shards.now }
+pub(crate) fn has_too_many<H: LendsShard>(pool: &Pool<H::Log>, shards: &[H]) -> bool
+    ensures { IsTrue result ↔ AreTooMany pool.now (map H.lent shards.now) }
 {
     pool.pages() > MOST_GROUPS || owned_pages(shards) > MOST_GROUPS
 }
 
-/// A plan with the most pairs, with what it is of and what shows it.
-pub(crate) fn largest_plan<L: Log>(
-    alloc: Global,
-    pool: &Pool<L>,
-    shards: &[Shard<L>],
-) -> Result<Certificate, AllocError>
-    requires distinct { AreDistinct pool.now shards.now }
-    requires few { AreTooMany pool.now shards.now → ⊥ }
-    requires shards { 1 ≤ length shards.now }
-    ensures { IfOk result (IsLargest pool.now shards.now) }
+// A plan with the most pairs, with what it is of and what shows it.
+fn largest_plan(alloc: Global, snapshot: Snapshot, pieces: usize) -> Result<Certificate, AllocError>
+    requires abandoned { length snapshot.abandoned ≤ 4096 }
+    requires owned { length snapshot.owned ≤ 4096 }
+    requires pieces { 1 ≤ pieces }
+    ensures snapshot { IfOk result (λ found. found.snapshot ≡ snapshot) }
+    ensures best { IfOk result (λ found. IsBestPlanOf snapshot found.plan) }
+    ensures short { IfOk result (λ found. IsShortOf snapshot found.plan found.short) }
+    ensures certificate { IfOk result (λ found. IsCertificateOf snapshot found.plan found.short) }
+    ensures writable { IfOk result IsWritable }
 {
-    let snapshot = snapshot_of(alloc, pool, shards)?;
-    let graph = graph_of(alloc, &snapshot, shards.len())?;
+    let graph = graph_of(alloc, &snapshot, pieces)?;
     let (plan, short) = plan(alloc, &graph)?;
     Ok(Certificate {
         snapshot,
@@ -42,21 +92,20 @@ pub(crate) fn largest_plan<L: Log>(
     })
 }
 
-/// Every group of the pool that has a page, and every group of every shard.
-pub(crate) fn snapshot_of<L: Log>(
+// Every group of the pool that has a page, and every group of every shard, unless two of a side have one head.
+pub(crate) fn snapshot_of<H: LendsShard>(
     alloc: Global,
-    pool: &Pool<L>,
-    shards: &[Shard<L>],
-) -> Result<Snapshot, AllocError>
-    requires { AreDistinct pool.now shards.now }
-    ensures { IfOk result (IsSeen pool.now shards.now) }
+    pool: &Pool<H::Log>,
+    shards: &[H],
+) -> Result<Result<Snapshot, Doubled>, AllocError>
+    ensures seen { IfOk result (λ told. IfOk told (IsSeen pool.now (map H.lent shards.now))) }
+    ensures distinct { IfOk result (λ told. OnOk told (AreDistinct pool.now (map H.lent shards.now))) }
+    ensures doubled { IfOk result (λ told. OnErr told (AreDistinct pool.now (map H.lent shards.now) → ⊥)) }
+    ensures sound { OnOk result (AreSound (map H.lent shards.now)) }
 {
     let abandoned = list_abandoned(alloc, pool)?;
     let owned = list_owned(alloc, shards)?;
-    let Ok(snapshot) = Snapshot::new(abandoned, owned) else {
-        unreachable!();
-    };
-    Ok(snapshot)
+    Ok(Snapshot::new(abandoned, owned))
 }
 
 // The graph of a snapshot that has few groups.
@@ -87,11 +136,12 @@ pub(crate) fn list_abandoned<L: Log>(
 }
 
 /// The groups of all shards, each with its occupied set.
-pub(crate) fn list_owned<L: Log>(
+pub(crate) fn list_owned<H: LendsShard>(
     alloc: Global,
-    shards: &[Shard<L>],
+    shards: &[H],
 ) -> Result<Vec<Entry>, AllocError>
-    ensures { IfOk result (λ entries. entries.items ≡ owned_entries shards.now) }
+    ensures items { IfOk result (λ entries. entries.items ≡ owned_entries (map H.lent shards.now)) }
+    ensures sound { OnOk result (AreSound (map H.lent shards.now)) }
 {
     let mut entries = Vec::new(alloc);
     for shard in shards {
@@ -100,10 +150,15 @@ pub(crate) fn list_owned<L: Log>(
     Ok(entries)
 }
 
-// Appends the groups of the shard.
-fn push_groups<L: Log>(entries: &mut Vec<Entry>, shard: &Shard<L>) -> Result<(), AllocError>
-    ensures { IfOk result (λ _. entries.new.items ≡ entries.old.items ++ map (λ group. entry_of (summary group)) shard.now.groups) }
+// Appends the groups of the shard, where it has not ended. One that has ended has none.
+fn push_groups<H: LendsShard>(entries: &mut Vec<Entry>, lender: &H) -> Result<(), AllocError>
+    ensures items { IfOk result (λ _. entries.new.items ≡ entries.old.items ++ map (λ group. entry_of (summary group)) (H.lent lender.now).groups) }
+    ensures sound { IsSoundShard (H.lent lender.now) }
 {
+    let shard = lender.shard();
+    if shard.ended() {
+        return Ok(());
+    }
     let groups = shard.groups()?;
     push_entries(entries, &groups)
 }
@@ -122,12 +177,12 @@ fn push_entries(entries: &mut Vec<Entry>, groups: &[(SpanId, Bits256)]) -> Resul
 }
 
 // How many groups the shards have, or the greatest number where there are more.
-fn owned_pages<L: Log>(shards: &[Shard<L>]) -> usize
-    ensures { result ≡ min (sum_by (λ shard. length shard.groups) shards.now) (2 ^ 64 - 1) }
+fn owned_pages<H: LendsShard>(shards: &[H]) -> usize
+    ensures { result ≡ min (sum_by (λ shard. length shard.groups) (map H.lent shards.now)) (2 ^ 64 - 1) }
 {
     let mut pages: usize = 0;
     for shard in shards {
-        pages = pages.saturating_add(shard.pages());
+        pages = pages.saturating_add(shard.shard().pages());
     }
     pages
 }

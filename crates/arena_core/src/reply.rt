@@ -1,7 +1,8 @@
 // What the core answers.
 ghost use Rattle.std.specs.Prelude.{◌≡◌, ◌≢◌, Some};
-ghost use Rattle.arena_core.specs.Refusals.{refusal_of, refusal_of_adoption, refusal_of_end};
+ghost use Rattle.arena_core.specs.Refusals.{refusal_of, refusal_of_adoption, refusal_of_end, refusal_of_mark};
 
+use crate::error::MarkError;
 use abandoned::{AdoptError, ReceiveError};
 use certificate::Certificate;
 use fold::Step;
@@ -101,5 +102,18 @@ pub fn adopt_refusal(error: AdoptError) -> Refusal
         AdoptError::Doubled => unreachable!(),
         AdoptError::PlanOpen => Refusal::PlanOpen,
         AdoptError::NothingToAdopt => Refusal::NothingToAdopt,
+    }
+}
+
+/// Why a mark is refused, by why it is of pool and shards. No span stands twice in a core.
+pub fn mark_refusal(error: MarkError) -> Refusal
+    requires { error ≢ MarkError.Doubled }
+    ensures { refusal_of_mark error ≡ Some result }
+{
+    match error {
+        MarkError::OutOfMemory => Refusal::OutOfMemory,
+        MarkError::Doubled => unreachable!(),
+        MarkError::PlanOpen => Refusal::PlanOpen,
+        MarkError::TooMany => Refusal::TooMany,
     }
 }

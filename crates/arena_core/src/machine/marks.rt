@@ -11,9 +11,9 @@ ghost use Rattle.arena_core.specs.declared.reply.Refusal.TheVariants as refusal;
 ghost use Rattle.arena_core.specs.declared.reply.Reply.TheVariants as reply;
 
 use super::{Core, Owner, guess};
-use crate::closing::{close_planned, reopen_all};
-use crate::marking::{has_too_many, largest_plan};
-use crate::reply::{Refusal, Reply};
+use crate::closing::reopen_all;
+use crate::marking::mark_in;
+use crate::reply::{Refusal, Reply, mark_refusal};
 use certificate::Certificate;
 use fold::{Step, fold_one};
 use span::{Log, SpanId};
@@ -29,20 +29,11 @@ impl<L: Log> Core<L> {
         ensures same { shown self.new ≡ shown self.old }
         ensures sound { IsSound self.new }
     {
-        if self.plan.is_open() {
-            return Err(Refusal::PlanOpen);
-        }
-        if has_too_many(&self.pool, &self.shards) {
-            return Err(Refusal::TooMany);
-        }
-        let certificate = match largest_plan(self.alloc, &self.pool, &self.shards) {
+        let certificate = match mark_in(self.alloc, &mut self.pool, &mut self.shards) {
             Ok(certificate) => certificate,
-            Err(_) => return Err(Refusal::OutOfMemory),
+            Err(error) => return Err(mark_refusal(error)),
         };
-        let pairs = certificate.plan.pairs();
-        close_planned(&mut self.shards, pairs);
-        self.pool.plan_opened();
-        self.plan.begin(pairs);
+        self.plan.begin(certificate.plan.pairs());
         Ok(certificate)
     }
 
