@@ -4,7 +4,7 @@ use Rattle.std.proofs.lemmas.Bool.{cases_lt}
 use Rattle.std.proofs.lemmas.List.{get_or_past}
 use Rattle.std.proofs.lemmas.Option.{same_Some, slice_get_within, slice_get-get_or}
 use Rattle.span.specs.declared.receipt.Receipt.{Receipt}
-use Rattle.audit.specs.declared.log.SpanLog.{SpanLog}
+use Rattle.span.specs.declared.span_log.SpanLog.{SpanLog}
 use Rattle.audit.specs.Receipts.{IsAt, log_of, makes_change, changes_after}
 use Rattle.audit.specs.Agreement.{HaveOneSpanEach, RepliesAreRight, SectionsAreInOrder}
 use Rattle.audit.specs.Tables.{AreEntered, AreFull, IsBetween, IsLogAt, IsRowOf, MakesAt, StandsBetween}

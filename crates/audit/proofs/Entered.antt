@@ -7,7 +7,7 @@ use Rattle.std.proofs.lemmas.Option.{same_Some, slice_get_cases, slice_get_withi
 use Rattle.span.specs.declared.change.Change.{Change}
 use Rattle.span.specs.declared.id.SpanId.{SpanId}
 use Rattle.span.specs.declared.receipt.Receipt.{Receipt}
-use Rattle.audit.specs.declared.log.SpanLog.{SpanLog}
+use Rattle.span.specs.declared.span_log.SpanLog.{SpanLog}
 use Rattle.audit.specs.Receipts.{log_of, makes_change}
 use Rattle.audit.specs.Agreement.{ChangesHaveReceipts, CallMakes, HaveOneSpanEach}
 use Rattle.audit.specs.Tables.{AreEntered, AreFull, AreRowsOf, IsFull, IsKnown, IsLogAt, IsRowOf, MakeChanges, WereEntered}

@@ -6,7 +6,7 @@ use Rattle.std.proofs.lemmas.Option.{same_Some, slice_get_within, get_or_from_sl
 use Rattle.span.proofs.Ids.{same_id, same_id_from_test, test_from_same_id}
 use Rattle.span.specs.declared.id.SpanId.{SpanId}
 use Rattle.span.specs.Ids.{rank, same_span}
-use Rattle.audit.specs.declared.log.SpanLog.{SpanLog}
+use Rattle.span.specs.declared.span_log.SpanLog.{SpanLog}
 use Rattle.audit.specs.Receipts.{log_of}
 use Rattle.audit.specs.Agreement.{HaveOneSpanEach}
 use Rattle.audit.specs.Tables.{HasNoLog, IsTable, IsTableBelow, IsLogAt}

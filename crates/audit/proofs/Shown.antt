@@ -1,5 +1,5 @@
 -- What the plain map holds beside a span's changes, and what one more change does to both.
-use Rattle.std.proofs.Common.{◌≡◌, ℕ, ◌+◌, ◌≤◌, Bool, true, false, cond, ◌&&◌, ◌||◌, eqb, List, [], ◌∷◌, ◌++◌, Option, Some, None, is_some, IsSomeAnd, sym, subst, ap, refl, inl, inr, arith, ◌∙◌, eq-eqb, eqb-true}
+use Rattle.std.proofs.Common.{◌≡◌, ℕ, ◌+◌, ◌≤◌, Bool, true, false, cond, ◌&&◌, ◌||◌, eqb, List, [], ◌∷◌, ◌++◌, Option, Some, None, IsSomeAnd, sym, subst, ap, refl, inl, inr, arith, ◌∙◌, eq-eqb, eqb-true}
 use Rattle.std.specs.Ordering.{nat_cmp}
 use Rattle.std.specs.FinMap as map
 use Rattle.std.proofs.lemmas.Bool.{cases_eq, ne_eqb}
@@ -9,11 +9,10 @@ use Rattle.span.specs.declared.id.SpanId.{SpanId}
 use Rattle.span.specs.declared.key.Key.{Key}
 use Rattle.span.specs.declared.change.Change.{Change}
 use Rattle.span.specs.declared.receipt.Call.{Call}
-use Rattle.span.specs.declared.receipt.Reply.{Reply}
 use Rattle.span.specs.Log.{Held, replay, puts_of, IsLegalAfter, value_if}
 use Rattle.span.specs.PlainMap.{PlainMap, empty_map, with_put, without, same_key}
-use Rattle.audit.specs.Receipts.{value_after, changes_by, is_yes}
-use Rattle.audit.specs.Agreement.{CallMakes, reply_to}
+use Rattle.audit.specs.Receipts.{value_after, is_change}
+use Rattle.audit.specs.Agreement.{CallMakes, IsAnswered}
 use Rattle.audit.specs.History.{IsStep}
 
 -- the map's values at the keys of the span are those of the changes, and an issued key has no later generation than the last put of its slot
@@ -118,8 +117,8 @@ module _ (span : SpanId) (changes : List Change) (m : PlainMap) (shows : Shows s
 -- the map after a call that makes a change
 abbrev pub after_call : Call → Key → PlainMap → PlainMap
 after_call (Call.Put value) key m = with_put m key value
-after_call Call.Get key m = m
-after_call Call.Free key m = without m key
+after_call Call.Freed key m = without m key
+after_call _ key m = m
 
 pub Shows-change : (span : SpanId) (gens : ℕ) (changes : List Change) (m : PlainMap) (call : Call) (key : Key) (change : Change) → Shows span changes m → key.span ≡ span
     → IsLegalAfter gens changes change → CallMakes call key change → Shows span (changes ++ change ∷ []) (after_call call key m)
@@ -127,26 +126,24 @@ Shows-change span gens changes m (Call.Put value) key (Change.Put slot generatio
     let e : Change.Put key.slot key.generation value ≡ Change.Put slot generation put_value = cc in
     subst (λ (c : Change). Shows span (changes ++ c ∷ []) (with_put m key value)) e
     (Shows-put span changes m shows key same value (ap (map.get (replay changes)) makes.0 ∙ legal.0) (makes.1 ∙ legal.1 ∙ ap (λ s. puts_of s changes + 1) (sym makes.0)))
-Shows-change span gens changes m Call.Free key (Change.Free slot generation) shows same legal makes =
+Shows-change span gens changes m Call.Freed key (Change.Free slot generation) shows same legal makes =
     let e : Change.Free key.slot key.generation ≡ Change.Free slot generation = cc in
     subst (λ (c : Change). Shows span (changes ++ c ∷ []) (without m key)) e
     (Shows-free span changes m shows key same (rw (makes.0, makes.1) legal))
 Shows-change span gens changes m call key change shows same legal makes = absurd makes
 
 -- a call that makes no change is a step that leaves the map
-pub IsStep-quiet : (m : PlainMap) (call : Call) (key : Key) (reply : Reply) → reply ≡ reply_to call key (m.value_of key) → changes_by call reply ≡ false → IsStep m call key reply m
-IsStep-quiet m (Call.Put value) key reply is quiet = absurd cc
-IsStep-quiet m Call.Get key reply is quiet = (is, refl)
-IsStep-quiet m Call.Free key reply is quiet =
-    let gone : is_some (m.value_of key) ≡ false = ap is_yes (sym is) ∙ quiet in
-    (is, rw gone refl)
+pub IsStep-quiet : (m : PlainMap) (call : Call) (key : Key) → IsAnswered call (m.value_of key) → is_change call ≡ false → IsStep m call key m
+IsStep-quiet m (Call.Put value) key is quiet = absurd cc
+IsStep-quiet m (Call.Found value) key is quiet = (is, refl)
+IsStep-quiet m Call.NotFound key is quiet = (is, refl)
+IsStep-quiet m Call.Freed key is quiet = absurd cc
+IsStep-quiet m Call.NotFreed key is quiet = (is, refl)
 
 -- a call that makes a legal change is a step to the map after it
-pub IsStep-change : (span : SpanId) (gens : ℕ) (changes : List Change) (m : PlainMap) (call : Call) (key : Key) (reply : Reply) (change : Change) → Shows span changes m → key.span ≡ span
-    → IsLegalAfter gens changes change → CallMakes call key change → reply ≡ reply_to call key (m.value_of key) → changes_by call reply ≡ true
-    → IsStep m call key reply (after_call call key m)
-IsStep-change span gens changes m (Call.Put value) key reply (Change.Put slot generation put_value) shows same legal makes is done = (
-  is,
+pub IsStep-change : (span : SpanId) (gens : ℕ) (changes : List Change) (m : PlainMap) (call : Call) (key : Key) (change : Change) → Shows span changes m → key.span ≡ span
+    → IsLegalAfter gens changes change → CallMakes call key change → IsAnswered call (m.value_of key) → is_change call ≡ true → IsStep m call key (after_call call key m)
+IsStep-change span gens changes m (Call.Put value) key (Change.Put slot generation put_value) shows same legal makes is done = (
   never (m.is_issued key) (λ issued.
       let most = shows.issued key same issued in
       let slots : puts_of key.slot changes ≡ puts_of slot changes = ap (λ s. puts_of s changes) makes.0 in
@@ -157,8 +154,6 @@ IsStep-change span gens changes m (Call.Put value) key reply (Change.Put slot ge
     never : (b : Bool) → (b ≡ true → ⊥) → b ≡ false
     never true h = absurd (h refl)
     never false h = refl
-IsStep-change span gens changes m (Call.Put value) key reply change shows same legal makes is done = absurd makes
-IsStep-change span gens changes m Call.Get key reply change shows same legal makes is done = absurd cc
-IsStep-change span gens changes m Call.Free key reply change shows same legal makes is done =
-    let there : is_some (m.value_of key) ≡ true = ap is_yes (sym is) ∙ done in
-    (is, rw there refl)
+IsStep-change span gens changes m (Call.Put value) key change shows same legal makes is done = absurd makes
+IsStep-change span gens changes m Call.Freed key change shows same legal makes is done = (is, refl)
+IsStep-change span gens changes m call key change shows same legal makes is done = absurd cc

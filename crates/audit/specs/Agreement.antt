@@ -1,13 +1,12 @@
 -- When the receipts of all workers agree with the logs of all spans. The parts stand in the order in which they are looked at.
-use Rattle.std.specs.Prelude.{◌≡◌, ℕ, ◌<◌, ◌≤◌, true, Option, is_some, Some, List, [], length, take, slice_get, slice_index_or}
+use Rattle.std.specs.Prelude.{◌≡◌, ℕ, ◌<◌, ◌≤◌, true, Option, None, Some, is_some, List, [], length, take, slice_get, slice_index_or}
 use Rattle.span.specs.declared.change.Change.{Change}
 use Rattle.span.specs.declared.id.SpanId.{SpanId}
 use Rattle.span.specs.declared.key.Key.{Key}
 use Rattle.span.specs.declared.receipt.Call.{Call}
-use Rattle.span.specs.declared.receipt.Reply.{Reply}
 use Rattle.span.specs.declared.receipt.Receipt.{Receipt}
-use Rattle.span.specs.Log.{IsLegal}
-use Rattle.audit.specs.declared.log.SpanLog.{SpanLog}
+use Rattle.span.specs.Log.{IsLegal, Value}
+use Rattle.span.specs.declared.span_log.SpanLog.{SpanLog}
 use Rattle.audit.specs.Receipts.{IsAt, log_of, makes_change, changes_after, value_after}
 
 -- no span has two logs
@@ -22,7 +21,7 @@ pub record LogsAreLegal (logs : List SpanLog) : Type 0 where
 -- a put's receipt is of a Put and a free's of a Free, with the change's key and value
 abbrev pub CallMakes : Call → Key → Change → Type 0
 CallMakes (Call.Put value) key (Change.Put slot generation put_value) = (key.slot ≡ slot) × (key.generation ≡ generation) × (value ≡ put_value)
-CallMakes Call.Free key (Change.Free slot generation) = (key.slot ≡ slot) × (key.generation ≡ generation)
+CallMakes Call.Freed key (Change.Free slot generation) = (key.slot ≡ slot) × (key.generation ≡ generation)
 CallMakes _ _ _ = ⊥
 
 -- the receipt is that of the change at a place of the span's log
@@ -41,17 +40,19 @@ pub record ChangesHaveReceipts (logs : List SpanLog) (lists : List (List Receipt
   pub known : (w i : ℕ) (receipt : Receipt) → IsAt lists w i receipt → makes_change receipt ≡ true
       → (change : Change) × (slice_get (log_of logs receipt.key.span) receipt.at ≡ Some change) × CallMakes receipt.call receipt.key change
 
--- a put is answered by its key, a look-up by the key's value, a free by whether the key has one
-abbrev pub reply_to : Call → Key → Option ℕ → Reply
-reply_to (Call.Put value) key found = Reply.Key key
-reply_to Call.Get key found = Reply.Found found
-reply_to Call.Free key found = Reply.Done (is_some found)
+-- the call was answered as a key with this value, if any, answers it: a look-up finds the value, and a free is done where there is one
+abbrev pub IsAnswered : Call → Option Value → Type 0
+IsAnswered (Call.Put put_value) value = Unit {0}
+IsAnswered (Call.Found found) value = value ≡ Some found
+IsAnswered Call.NotFound value = value ≡ None
+IsAnswered Call.Freed value = is_some value ≡ true
+IsAnswered Call.NotFreed value = value ≡ None
 
--- the call stands at a place of its span's log, and its reply is that of the changes before this place
+-- the call stands at a place of its span's log, and was answered as the changes before this place say
 abbrev pub IsRightReply : List SpanLog → Receipt → Type 0
 IsRightReply logs receipt =
     let changes = log_of logs receipt.key.span in
-    (receipt.at ≤ length changes) × (receipt.reply ≡ reply_to receipt.call receipt.key (value_after (take receipt.at changes) receipt.key))
+    (receipt.at ≤ length changes) × IsAnswered receipt.call (value_after (take receipt.at changes) receipt.key)
 
 -- every call was answered so
 abbrev pub RepliesAreRight : List SpanLog → List (List Receipt) → Type 0

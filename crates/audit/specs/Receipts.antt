@@ -5,26 +5,20 @@ use Rattle.span.specs.declared.change.Change.{Change}
 use Rattle.span.specs.declared.id.SpanId.{SpanId}
 use Rattle.span.specs.declared.key.Key.{Key}
 use Rattle.span.specs.declared.receipt.Call.{Call}
-use Rattle.span.specs.declared.receipt.Reply.{Reply}
 use Rattle.span.specs.declared.receipt.Receipt.{Receipt}
 use Rattle.span.specs.Log.{Value, value_in}
 use Rattle.span.specs.Ids.{same_span}
-use Rattle.audit.specs.declared.log.SpanLog.{SpanLog}
+use Rattle.span.specs.declared.span_log.SpanLog.{SpanLog}
 
--- the reply that a free was done
-abbrev pub is_yes : Reply → Bool
-is_yes (Reply.Done done) = done
-is_yes _ = false
-
--- the call with this reply makes a change: a put does, and a free that was done
-abbrev pub changes_by : Call → Reply → Bool
-changes_by (Call.Put value) reply = true
-changes_by Call.Get reply = false
-changes_by Call.Free reply = is_yes reply
+-- the call makes a change: a put does, and a free that was done
+abbrev pub is_change : Call → Bool
+is_change (Call.Put value) = true
+is_change Call.Freed = true
+is_change _ = false
 
 -- the receipt's call makes a change
 abbrev pub makes_change : Receipt → Bool
-makes_change receipt = changes_by receipt.call receipt.reply
+makes_change receipt = is_change receipt.call
 
 -- how many changes stood in the span's log after the call
 abbrev pub changes_after : Receipt → ℕ

@@ -4,9 +4,9 @@ ghost use Rattle.span.specs.declared.receipt.Receipt.{Receipt};
 ghost use Rattle.audit.specs.Agreement.{RepliesAreRight, SectionsAreInOrder};
 ghost use Rattle.audit.specs.Tables.{AreEntered, AreFull, IsTable, StandsBetween};
 
-use crate::log::{SpanLog, index_of};
+use crate::log::index_of;
 use crate::section::is_between;
-use span::Receipt;
+use span::{Receipt, SpanLog};
 
 // Whether the call's section stands between those of the changes at its place.
 fn stands_between(

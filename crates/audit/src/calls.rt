@@ -5,7 +5,7 @@ ghost use Rattle.audit.specs.Receipts.{changes_after, makes_change};
 ghost use Rattle.audit.specs.Agreement.{CallMakes};
 ghost use Rattle.audit.specs.Changes.{slot_of, left_by, issued_by};
 
-use span::{Call, Change, Key, Receipt, Reply, SpanId};
+use span::{Call, Change, Key, Receipt, SpanId};
 
 /// How many spans there can be.
 pub const SPANS: usize = 65536;
@@ -23,12 +23,8 @@ pub fn makes_change(receipt: &Receipt) -> bool
     ensures { result ≡ makes_change receipt.now }
 {
     match receipt.call {
-        Call::Put(_) => true,
-        Call::Get => false,
-        Call::Free => match receipt.reply {
-            Reply::Done(done) => done,
-            _ => false,
-        },
+        Call::Put { .. } | Call::Freed => true,
+        Call::Found { .. } | Call::NotFound | Call::NotFreed => false,
     }
 }
 
@@ -50,14 +46,14 @@ pub fn call_makes(call: Call, key: Key, change: Change) -> bool
 {
     match (call, change) {
         (
-            Call::Put(value),
+            Call::Put { value },
             Change::Put {
                 slot,
                 generation,
                 value: put,
             },
         ) => { key.slot == slot && key.generation == generation && value == put }
-        (Call::Free, Change::Free { slot, generation }) => {
+        (Call::Freed, Change::Free { slot, generation }) => {
             key.slot == slot && key.generation == generation
         }
         _ => false,

@@ -6,9 +6,9 @@ ghost use Rattle.audit.specs.Agreement.{ChangesHaveReceipts};
 ghost use Rattle.audit.specs.Tables.{AreEntered, AreFull, IsKnown, IsLogAt, IsTable, WereEntered};
 
 use crate::calls::{call_makes, makes_change};
-use crate::log::{SpanLog, index_of};
+use crate::log::index_of;
 use crate::section::{are_full, empty_rows, mark};
-use span::Receipt;
+use span::{Receipt, SpanLog};
 use std::alloc::{AllocError, Global};
 
 // The index of the log that has the call's change, if one has.

@@ -7,10 +7,9 @@ ghost use Rattle.audit.specs.History.{HaveHistories};
 use crate::barrier::sections_are_in_order;
 use crate::change::sections_of_changes;
 use crate::legal::table_of_legal;
-use crate::log::SpanLog;
 use crate::order::workers_are_in_order;
 use crate::reply::replies_are_right;
-use span::Receipt;
+use span::{Receipt, SpanLog};
 use std::alloc::{AllocError, Global};
 use std::fmt;
 

@@ -2,14 +2,14 @@
 ghost use Rattle.std.specs.Prelude.{◌≡◌, ◌↔◌, ◌<◌, ◌≤◌, ◌+◌, ◌++◌, ◌∷◌, [], IsTrue, IfOk, MatchOption, List, Some, None, ℕ, slice_get};
 ghost use Rattle.span.specs.declared.change.Change.{Change};
 ghost use Rattle.span.specs.Log.{IsLegal, IsLegalAfter};
-ghost use Rattle.audit.specs.declared.log.SpanLog.{SpanLog};
+ghost use Rattle.span.specs.declared.span_log.SpanLog.{SpanLog};
 ghost use Rattle.audit.specs.Agreement.{LogsAreLegal};
 ghost use Rattle.audit.specs.Changes.{AreAfter, AreIssued};
 ghost use Rattle.audit.specs.Tables.{IsTable};
 
 use crate::calls::{issued_by, left_by, slot_of};
-use crate::log::{SpanLog, table_of};
-use span::Change;
+use crate::log::table_of;
+use span::{Change, SpanLog};
 use std::alloc::{AllocError, Global};
 
 // No slot holds anything.

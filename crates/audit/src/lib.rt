@@ -38,4 +38,3 @@ mod slot;
 mod tests;
 
 pub use fault::{AuditCause, AuditError, audit};
-pub use log::SpanLog;

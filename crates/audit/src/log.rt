@@ -1,22 +1,11 @@
-// A span's log, as it stands apart from its span, and the table by which it is found.
+// The table by which a span's log is found.
 ghost use Rattle.std.specs.Prelude.{◌≡◌, ◌<◌, IfOk, IfSome, MatchOption, None, ℕ, vec_len, length, slice_index_or};
 ghost use Rattle.audit.specs.Agreement.{HaveOneSpanEach};
 ghost use Rattle.audit.specs.Tables.{HasNoLog, IsLogAt, IsTable};
 
 use crate::calls::{SPANS, place_of};
-use span::{Change, SpanId};
+use span::{SpanId, SpanLog};
 use std::alloc::{AllocError, Global};
-
-/// All changes of a span, in order, and the greatest generation of its keys.
-#[derive(Drop)]
-pub struct SpanLog {
-    /// The span.
-    pub span: SpanId,
-    /// The greatest generation of each of its slots.
-    pub gens: u32,
-    /// All its changes, in order.
-    pub changes: Vec<Change>,
-}
 
 // For each span, that it has no log.
 fn no_logs(alloc: Global, spans: usize) -> Result<Vec<Option<usize>>, AllocError>

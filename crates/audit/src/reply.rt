@@ -2,14 +2,14 @@
 ghost use Rattle.std.specs.Prelude.{◌≡◌, ◌↔◌, ◌≤◌, IsTrue, IfOk, Some, ℕ, length, take, slice_get, map, vec_items};
 ghost use Rattle.span.specs.declared.receipt.Receipt.{Receipt};
 ghost use Rattle.audit.specs.Receipts.{value_after};
-ghost use Rattle.audit.specs.Agreement.{IsRightReply, RepliesAreRight, reply_to};
+ghost use Rattle.audit.specs.Agreement.{IsAnswered, IsRightReply, RepliesAreRight};
 ghost use Rattle.audit.specs.Slots.{AreBySlot, IsBySlot};
 ghost use Rattle.audit.specs.Tables.{IsTable};
 
 use crate::calls::left_by;
-use crate::log::{SpanLog, index_of};
+use crate::log::index_of;
 use crate::slot::{SlotChange, all_by_slot, last_before};
-use span::{Call, Change, Key, Receipt, Reply};
+use span::{Call, Change, Key, Receipt, SpanLog};
 use std::alloc::{AllocError, Global};
 
 // The value that the key has after the changes before the place.
@@ -25,21 +25,15 @@ fn value_after(changes: &[Change], order: &[SlotChange], at: usize, key: &Key) -
     }
 }
 
-fn is_same_key(one: Key, other: Key) -> bool
-    ensures { IsTrue result ↔ (one ≡ other) }
+// Whether the call was answered as a key with this value, if any, answers it.
+fn is_answered(call: Call, value: Option<u128>) -> bool
+    ensures { IsTrue result ↔ IsAnswered call value }
 {
-    one.span == other.span && one.slot == other.slot && one.generation == other.generation
-}
-
-// Whether this is the reply to a call where its key has this value.
-fn is_reply(reply: Reply, call: Call, key: Key, found: Option<u128>) -> bool
-    ensures { IsTrue result ↔ (reply ≡ reply_to call key found) }
-{
-    match (call, reply) {
-        (Call::Put(_), Reply::Key(other)) => is_same_key(other, key),
-        (Call::Get, Reply::Found(value)) => value == found,
-        (Call::Free, Reply::Done(done)) => done == found.is_some(),
-        _ => false,
+    match call {
+        Call::Put { .. } => true,
+        Call::Found { value: found } => value == Some(found),
+        Call::NotFound | Call::NotFreed => value.is_none(),
+        Call::Freed => value.is_some(),
     }
 }
 
@@ -56,14 +50,14 @@ fn is_right_reply(
     ensures { IsTrue result ↔ IsRightReply logs.now receipt.now }
 {
     let Some(j) = index_of(logs, table, receipt.key.span) else {
-        return receipt.at == 0 && is_reply(receipt.reply, receipt.call, receipt.key, None);
+        return receipt.at == 0 && is_answered(receipt.call, None);
     };
     let changes = logs[j].changes.as_slice();
     if changes.len() < receipt.at {
         return false;
     }
-    let found = value_after(changes, orders[j].as_slice(), receipt.at, &receipt.key);
-    is_reply(receipt.reply, receipt.call, receipt.key, found)
+    let value = value_after(changes, orders[j].as_slice(), receipt.at, &receipt.key);
+    is_answered(receipt.call, value)
 }
 
 // Whether each call of a worker was answered as its span's log says.

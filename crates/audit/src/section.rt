@@ -2,7 +2,7 @@
 ghost use Rattle.std.specs.Prelude.{◌≡◌, ◌↔◌, ◌<◌, IsTrue, IfOk, [], ℕ, None, Some, false, vec_len, vec_items, map, length, slice_index_or, slice_set};
 ghost use Rattle.audit.specs.Tables.{AreRowsOf, AreFull, IsFull, IsBetween};
 
-use crate::log::SpanLog;
+use span::SpanLog;
 use std::alloc::{AllocError, Global};
 
 // A row in which no change was seen.

@@ -4,8 +4,7 @@ ghost use Rattle.span.specs.declared.change.Change.{Change};
 ghost use Rattle.audit.specs.Slots.{change_rank, slot_rank, HasChanges, IsBySlot, AreBySlot, IsQuiet, IsLast};
 
 use crate::calls::slot_of;
-use crate::log::SpanLog;
-use span::Change;
+use span::{Change, SpanLog};
 use std::alloc::{AllocError, Global};
 
 /// Where a change stands: its slot, and its place in the log.

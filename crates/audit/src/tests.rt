@@ -1,6 +1,6 @@
 //! Receipts that agree with a log, and lists that differ from them in one thing.
-use crate::{AuditCause, AuditError, SpanLog, audit};
-use span::{Call, Change, Key, Receipt, Reply, SpanId};
+use crate::{AuditCause, AuditError, audit};
+use span::{Call, Change, Key, Receipt, SpanId, SpanLog};
 use std::alloc::Global;
 use std::test::Fail;
 
@@ -21,27 +21,26 @@ fn some_key() -> Result<Key, Fail> {
     Ok(Key::new(id, 0, 1).ok_or("generations count from 1")?)
 }
 
-fn receipt(key: Key, section: u64, at: usize, call: Call, reply: Reply) -> Receipt {
+fn receipt(key: Key, section: u64, at: usize, call: Call) -> Receipt {
     Receipt {
+        key,
         worker: 0,
         section,
-        key,
         at,
         call,
-        reply,
     }
 }
 
 fn put(key: Key, section: u64, at: usize) -> Receipt {
-    receipt(key, section, at, Call::Put(5), Reply::Key(key))
+    receipt(key, section, at, Call::Put { value: 5 })
 }
 
 fn get(key: Key, section: u64, at: usize, found: Option<u128>) -> Receipt {
-    receipt(key, section, at, Call::Get, Reply::Found(found))
+    receipt(key, section, at, Call::look_up(found))
 }
 
 fn free(key: Key, section: u64, at: usize, done: bool) -> Receipt {
-    receipt(key, section, at, Call::Free, Reply::Done(done))
+    receipt(key, section, at, Call::free(done))
 }
 
 // A log of span 0.0 with these changes, and asks again where memory was refused.
@@ -51,7 +50,7 @@ fn log_of(alloc: Global, changes: &[Change]) -> Result<SpanLog, Fail> {
         Err(_) => Vec::from_slice(alloc, changes)?,
     };
     Ok(SpanLog {
-        span: some_key()?.span(),
+        span: some_key()?.span,
         gens: 9,
         changes,
     })

@@ -36,10 +36,12 @@ mod key;
 mod log;
 mod receipt;
 mod span;
+mod span_log;
 
 pub use change::Change;
 pub use id::SpanId;
 pub use key::Key;
 pub use log::{Counted, Kept, Log};
-pub use receipt::{Call, Receipt, Reply};
+pub use receipt::{Call, Receipt};
 pub use span::Span;
+pub use span_log::SpanLog;

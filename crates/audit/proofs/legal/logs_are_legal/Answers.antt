@@ -2,7 +2,7 @@ use Rattle.std.proofs.Common.{subst, refl, length, List}
 use Rattle.std.proofs.lemmas.Option.{slice_get_read}
 use Rattle.span.specs.declared.change.Change.{Change}
 use Rattle.span.specs.Log.{IsLegal}
-use Rattle.audit.specs.declared.log.SpanLog.{SpanLog}
+use Rattle.span.specs.declared.span_log.SpanLog.{SpanLog}
 use Rattle.audit.proofs.Lists.{each_more, each_all}
 use Rattle.audit.proofs.legal.logs_are_legal.Goals as goal
 

@@ -1,6 +1,6 @@
 use Rattle.std.proofs.Common.{ℕ, ◌≡◌, ◌<◌, Some, slice_get}
 use Rattle.span.specs.Log.{IsLegal}
-use Rattle.audit.specs.declared.log.SpanLog.{SpanLog}
+use Rattle.span.specs.declared.span_log.SpanLog.{SpanLog}
 use Rattle.audit.proofs.legal.logs_are_legal.Given as goal
 
 abbrev pub invariant-loop-log : goal.invariant-loop-log

@@ -2,7 +2,7 @@ use Rattle.std.proofs.Common.{◌≡◌, ◌∙◌, List, None, take, vec_items,
 use Rattle.span.specs.declared.change.Change.{Change}
 use Rattle.audit.specs.declared.slot.SlotChange.{SlotChange}
 use Rattle.audit.specs.Receipts.{log_of, value_after}
-use Rattle.audit.specs.Agreement.{reply_to}
+use Rattle.audit.specs.Agreement.{IsAnswered}
 use Rattle.audit.specs.Slots.{IsBySlot}
 use Rattle.audit.proofs.BySlot.{value_after-none}
 use Rattle.audit.proofs.Lists.{row_at}
@@ -14,8 +14,8 @@ returns-then-receipt-eq0 c =
     let r = c.args.receipt.now in
     let changes = log_of c.args.logs.now r.key.span in
     let none : None ≡ value_after (take r.at changes) r.key = sym (value_after-none changes r.at r.key c.if-receipt-eq0.true) in (
-      λ so. (omega (arith, c.if-receipt-eq0.true), c.is_reply.ensures.0 so ∙ ap (reply_to r.call r.key) none),
-      λ right. c.is_reply.ensures.1 (right.1 ∙ ap (reply_to r.call r.key) (sym none)),
+      λ so. (omega (arith, c.if-receipt-eq0.true), subst (IsAnswered r.call) none (c.is_answered.ensures.0 so)),
+      λ right. c.is_answered.ensures.1 (subst (IsAnswered r.call) (sym none) right.1),
     )
 
 pub returns-then-changes-receipt : goal.returns-then-changes-receipt
@@ -27,8 +27,8 @@ returns-then-changes-receipt c =
       λ right. absurd (let fits = right.0 in omega (arith, c.if-changes-receipt.true)),
     )
 
-pub value_after-found-requires-clause-order : goal.value_after-found-requires-clause-order
-value_after-found-requires-clause-order c =
+pub value_after-value-requires-clause-order : goal.value_after-value-requires-clause-order
+value_after-value-requires-clause-order c =
     let there = (c.in-Some.ensures {u = tt}).found in
     let within = (c.in-Some.ensures {u = tt}).within in
     let order = c.index-orders-j.result in
@@ -42,7 +42,7 @@ returns c =
     let there = (c.in-Some.ensures {u = tt}).found in
     let items : c.as_slice-changes.result.now ≡ log_of c.args.logs.now r.key.span =
     c.as_slice-changes.ensures.value ∙ log_items c.args.logs.now c.in-Some.j c.index-logs-j.result there.0 there.1 ∙ sym there.3 in
-    let found : c.value_after-found.result ≡ value_after (take r.at (log_of c.args.logs.now r.key.span)) r.key = c.value_after-found.ensures ∙ ap (λ l. value_after (take r.at l) r.key) items in (
-      λ so. (rw (← items) c.if-changes-receipt.false, c.is_reply-2.ensures.0 so ∙ ap (reply_to r.call r.key) found),
-      λ right. c.is_reply-2.ensures.1 (right.1 ∙ ap (reply_to r.call r.key) (sym found)),
+    let value : c.value_after-value.result ≡ value_after (take r.at (log_of c.args.logs.now r.key.span)) r.key = c.value_after-value.ensures ∙ ap (λ l. value_after (take r.at l) r.key) items in (
+      λ so. (rw (← items) c.if-changes-receipt.false, subst (IsAnswered r.call) value (c.is_answered-2.ensures.0 so)),
+      λ right. c.is_answered-2.ensures.1 (subst (IsAnswered r.call) (sym value) right.1),
     )

@@ -1,6 +1,6 @@
 use Rattle.std.proofs.Common.{[], Option, ℕ, List, vec_items, length, refl, arith}
 use Rattle.std.proofs.lemmas.Option.{slice_get_read}
-use Rattle.audit.specs.declared.log.SpanLog.{SpanLog}
+use Rattle.span.specs.declared.span_log.SpanLog.{SpanLog}
 use Rattle.audit.specs.Tables.{IsRowOf}
 use Rattle.audit.proofs.Entered.{IsRowOf-none}
 use Rattle.audit.proofs.Lists.{rows_more}

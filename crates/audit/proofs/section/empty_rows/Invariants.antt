@@ -1,5 +1,5 @@
 use Rattle.std.proofs.Common.{ℕ, ◌≡◌, [], List, Option, Some, map, slice_get, vec_items, vec_len}
-use Rattle.audit.specs.declared.log.SpanLog.{SpanLog}
+use Rattle.span.specs.declared.span_log.SpanLog.{SpanLog}
 use Rattle.audit.specs.Tables.{IsRowOf}
 use Rattle.audit.proofs.section.empty_rows.Given as goal
 

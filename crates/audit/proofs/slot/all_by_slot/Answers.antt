@@ -1,7 +1,7 @@
 use Rattle.std.proofs.Common.{List, vec_items, length, subst, refl, arith}
 use Rattle.std.proofs.lemmas.Option.{slice_get_read}
 use Rattle.span.specs.declared.change.Change.{Change}
-use Rattle.audit.specs.declared.log.SpanLog.{SpanLog}
+use Rattle.span.specs.declared.span_log.SpanLog.{SpanLog}
 use Rattle.audit.specs.declared.slot.SlotChange.{SlotChange}
 use Rattle.audit.specs.Slots.{IsBySlot}
 use Rattle.audit.proofs.Lists.{rows_more}
