@@ -33,5 +33,5 @@ module _ (groups : List PooledState) (id : SpanId) (index place : ℕ) (group : 
 abbrev pub Somewhere : List PooledState → SpanId → ℕ → ℕ → Type 0
 Somewhere groups id index place = (group : PooledState) × (span : SpanState) × IsHere groups id index place group span
 
-pub found_in : (slice groups : List PooledState) (asked id : SpanId) (index place : ℕ) → slice ≡ groups → asked ≡ id → Somewhere slice asked index place → Somewhere groups id index place
-found_in slice groups asked id index place same same_id found = rw (← same, ← same_id) found
+pub found_in : (slice groups : List PooledState) (id : SpanId) (index place : ℕ) → slice ≡ groups → Somewhere slice id index place → Somewhere groups id index place
+found_in slice groups id index place same found = rw (← same) found

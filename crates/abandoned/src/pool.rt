@@ -157,7 +157,7 @@ impl<L: Log> Pool<L> {
         ensures plain { value_found result ≡ (shown self.now).value_of key.now }
         ensures sound { IsSound self.now }
     {
-        let Some((index, place)) = self.find(key.span()) else {
+        let Some((index, place)) = self.find(key.span) else {
             return Found::NotHere;
         };
         let group = &self.groups[index];
@@ -169,7 +169,7 @@ impl<L: Log> Pool<L> {
         let Some(page) = group.page() else {
             unreachable!();
         };
-        Found::Value(self.table.value_at(page, key.slot()), at)
+        Found::Value(self.table.value_at(page, key.slot), at)
     }
 
     /// Frees the key, where it is live here, and gives up the page of a group that it empties. It takes no memory.
@@ -179,7 +179,7 @@ impl<L: Log> Pool<L> {
         ensures plain { shown self.new ≡ (if was_freed result then plain.without (shown self.old) key.now else shown self.old) }
         ensures sound { IsSound self.new }
     {
-        let Some((index, place)) = self.find(key.span()) else {
+        let Some((index, place)) = self.find(key.span) else {
             return Freed::NotHere;
         };
         let group = &mut self.groups[index];

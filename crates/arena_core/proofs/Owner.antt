@@ -51,13 +51,13 @@ value-Gets core key number shard answer sound here found_here gets plain =
 
 -- the owner that was named answers for the key
 
-module _ (core : CoreState) (key : Key) (id : SpanId) (at : Owner) (sound : HasSoundGroups core) (stands : StandsAt core id at) (id_is : id ≡ key.span) where
+module _ (core : CoreState) (key : Key) (at : Owner) (sound : HasSoundGroups core) (stands : StandsAt core key.span at) where
   pub shard-there : (number : ℕ) (shard : ShardState) → at ≡ owner.Shard number → shard ≡ get_or core.shards number shard → (slice_get core.shards number ≡ Some shard) × (has_span key.span shard ≡ true)
   shard-there number shard at_is read =
-      let (other, here, some) = subst (StandsAt core id) at_is stands in
+      let (other, here, some) = subst (StandsAt core key.span) at_is stands in
       let same : other ≡ shard = sym (get_or_from_slice_get core.shards number other shard here) ∙ sym read in
       subst (λ s. (slice_get core.shards number ≡ Some s) × (has_span key.span s ≡ true)) same
-      (here, has_span-elsewhere other key.span (sound.shards number other here).sound (subst (λ i. IsElsewhere other.groups i → ⊥) id_is some))
+      (here, has_span-elsewhere other key.span (sound.shards number other here).sound some)
 
   pub value-there : (number : ℕ) (shard : ShardState) (answer : Option Value) → at ≡ owner.Shard number → shard ≡ get_or core.shards number shard → answer ≡ (shown_by shard).value_of key → answer ≡ (shown core).value_of key
   value-there number shard answer at_is read plain =
@@ -65,7 +65,7 @@ module _ (core : CoreState) (key : Key) (id : SpanId) (at : Owner) (sound : HasS
       plain ∙ sym (value-shard core sound key number shard there.0 there.1)
 
   pub pooled-there : at ≡ owner.Pool → 1 ≤ times_pooled key.span core.pool
-  pooled-there at_is = pooled-somewhere core.pool key.span (subst (λ i. IsElsewherePooled core.pool.groups i → ⊥) id_is (subst (StandsAt core id) at_is stands))
+  pooled-there at_is = pooled-somewhere core.pool key.span (subst (StandsAt core key.span) at_is stands)
 
   pub value-pooled : (answer : Option Value) → at ≡ owner.Pool → answer ≡ (shown_by_pool core.pool).value_of key → answer ≡ (shown core).value_of key
   value-pooled answer at_is plain = plain ∙ sym (value-pool core sound key (pooled-there at_is))

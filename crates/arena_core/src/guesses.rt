@@ -10,6 +10,7 @@ use std::alloc::{AllocError, Global};
 /// tried, and not believed.
 #[derive(Drop)]
 pub struct Guesses {
+    // By the ids' ranks.
     shards: Vec<Option<u8>>,
 }
 
@@ -25,7 +26,7 @@ impl Guesses {
 
     /// The shard that may have the span.
     pub fn shard_of(&self, id: SpanId) -> Option<usize> {
-        match self.shards.get(place(id)) {
+        match self.shards.get(id.rank() as usize) {
             Some(Some(shard)) => Some(usize::from(*shard)),
             Some(None) | None => None,
         }
@@ -33,13 +34,8 @@ impl Guesses {
 
     /// Guesses from now on that the shard of this number has the span. It takes no memory.
     pub fn set(&mut self, id: SpanId, shard: u8) {
-        if let Some(guess) = self.shards.get_mut(place(id)) {
+        if let Some(guess) = self.shards.get_mut(id.rank() as usize) {
             *guess = Some(shard);
         }
     }
-}
-
-// The place of the span's guess.
-fn place(id: SpanId) -> usize {
-    1024 * id.shard() as usize + id.serial() as usize
 }

@@ -247,7 +247,7 @@ impl<L: Log> Core<L> {
         ensures value { result ≡ (shown self.now).value_of key.now }
         ensures sound { IsSound self.now }
     {
-        let Some(shard) = self.shards.get(key.span().shard() as usize) else {
+        let Some(shard) = self.shards.get(key.span.shard as usize) else {
             return None;
         };
         match shard.get(key) {
@@ -261,7 +261,7 @@ impl<L: Log> Core<L> {
     fn get_moved(&self, key: &Key) -> Option<u128>
         ensures value { result ≡ (shown self.now).value_of key.now }
     {
-        match self.owner_of(key.span()) {
+        match self.owner_of(key.span) {
             Some(Owner::Shard(number)) => value_of(self.shards[number].get(key)),
             Some(Owner::Pool) => value_of(self.pool.get(key)),
             None => None,
@@ -275,7 +275,7 @@ impl<L: Log> Core<L> {
         ensures plain { PlainStep (shown self.old) (event.Free key.now) (reply.Freed result) (shown self.new) }
         ensures sound { IsSound self.new }
     {
-        let Some(shard) = self.shards.get_mut(key.span().shard() as usize) else {
+        let Some(shard) = self.shards.get_mut(key.span.shard as usize) else {
             return false;
         };
         let freed = shard.free(key);
@@ -291,7 +291,7 @@ impl<L: Log> Core<L> {
         ensures plain { PlainStep (shown self.old) (event.Free key.now) (reply.Freed result) (shown self.new) }
         ensures sound { IsSound self.new }
     {
-        match self.owner_of(key.span()) {
+        match self.owner_of(key.span) {
             Some(Owner::Shard(number)) => was_done(self.shards[number].free(key)),
             Some(Owner::Pool) => was_done(self.pool.free(key)),
             None => false,

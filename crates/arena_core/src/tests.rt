@@ -171,7 +171,7 @@ fn a_freed_key_finds_nothing(rt: HostRuntime) {
 
 fn totals_after_moves(alloc: Global) -> Option<Totals> {
     let (first, second) = (key(0, 0, 0, 1)?, key(0, 0, 1, 1)?);
-    let head = first.span();
+    let head = first.span;
     let table = [
         (put(0, 5), Told::Issued(first)),
         (Event::End { shard: 0 }, Told::ShardEnded),

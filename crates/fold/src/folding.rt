@@ -103,7 +103,7 @@ fn would_double<L: Log>(pool: &Pool<L>, shard: &Shard<L>, head: SpanId, spans: u
 fn is_taken<L: Log>(shard: &Shard<L>, id: SpanId) -> bool
     ensures { IsTrue result ↔ IsTaken shard.now id }
 {
-    if id.shard() == shard.number() {
+    if id.shard == shard.number() {
         return true;
     }
     shard.has(id)

@@ -55,7 +55,7 @@ fn open_groups(shard: &mut Shard, groups: u32) -> Option<()> {
     for _ in 0..groups {
         let first = put(shard, 5)?;
         put(shard, 8)?;
-        shard.close(first.span());
+        shard.close(first.span);
         shard.free(&first);
     }
     Some(())

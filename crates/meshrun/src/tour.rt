@@ -39,7 +39,7 @@ fn moves_a_group_whole(rt: HostRuntime) -> Result<(), Fail> {
     pool.receive(&mut shard)?;
     let mut other = Shard::new(alloc, 1, 16, 2)?;
     let head = pool.adopt(&mut other)?; // 0.0
-    assert_eq!(rt; head, again.span());
+    assert_eq!(rt; head, again.span);
     finds(&rt, &other, key, again);
     Ok(())
 }

@@ -191,14 +191,14 @@ impl<L: Log> Shard<L> {
         ensures plain { value_found result ≡ (shown self.now).value_of key.now }
         ensures sound { IsSound self.now }
     {
-        let Some((index, place)) = self.find(key.span()) else {
+        let Some((index, place)) = self.find(key.span) else {
             return Found::NotHere;
         };
         let group = &self.groups[index];
         let span = group.span_at(place);
         let at = span.changes();
         if span.find(key) {
-            Found::Value(self.table.value_at(group.page(), key.slot()), at)
+            Found::Value(self.table.value_at(group.page(), key.slot), at)
         } else {
             Found::Gone(at)
         }
@@ -211,7 +211,7 @@ impl<L: Log> Shard<L> {
         ensures plain { shown self.new ≡ (if was_freed result then plain.without (shown self.old) key.now else shown self.old) }
         ensures sound { IsSound self.new }
     {
-        let Some((index, place)) = self.find(key.span()) else {
+        let Some((index, place)) = self.find(key.span) else {
             return Freed::NotHere;
         };
         let group = &mut self.groups[index];
@@ -304,7 +304,7 @@ impl<L: Log> Shard<L> {
         ensures sound { IsSound self.now }
         ensures place { MatchOption result (IsElsewhere self.now.groups id) (λ at. (group : GroupState) × (span : SpanState) × IsHere self.now.groups id at.0 at.1 group span) }
     {
-        let first = id.serial() as usize;
+        let first = id.serial as usize;
         if first < self.groups.len() && self.groups[first].head_id() == id {
             return Some((first, 0));
         }

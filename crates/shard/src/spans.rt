@@ -172,7 +172,7 @@ impl<L: Log> Spans<L> {
         if !self.head.free(key) {
             return false;
         }
-        self.occupied.remove(key.slot());
+        self.occupied.remove(key.slot);
         true
     }
 
@@ -185,7 +185,7 @@ impl<L: Log> Spans<L> {
         if !self.guests[at].free(key) {
             return false;
         }
-        self.occupied.remove(key.slot());
+        self.occupied.remove(key.slot);
         true
     }
 }

@@ -103,10 +103,14 @@ impl<L: Log> Span<L> {
         ensures { IsTrue result ↔ ((key.now.span ≡ self.now.id)
             × Holds self.now.log key.now.slot key.now.generation) }
     {
-        let slot = key.slot();
-        key.span() == self.id
-            && self.live.contains(slot)
-            && generation_of(&self.generations, slot) == key.generation()
+        key.span == self.id && self.holds(key.slot, key.generation)
+    }
+
+    // Whether the slot is live at the generation.
+    fn holds(&self, slot: u8, generation: u32) -> bool
+        ensures { IsTrue result ↔ Holds self.now.log slot generation }
+    {
+        self.live.contains(slot) && generation_of(&self.generations, slot) == generation
     }
 
     /// Frees the key where it is of this span and live, and says whether it was. Takes no memory.
@@ -119,16 +123,24 @@ impl<L: Log> Span<L> {
         ensures unknown { OnFalse result (self.new ≡ self.old) }
         ensures legal { IsLegal self.new.gens self.new.log }
     {
+        let _ = &self.log;
         if !self.find(key) {
             return false;
         }
-        let slot = key.slot();
-        self.log.push_reserved(Change::Free {
-            slot,
-            generation: key.generation(),
-        });
-        self.live.remove(slot);
+        self.free_at(key.slot, key.generation);
         true
+    }
+
+    // Frees the slot, which is live at the generation.
+    fn free_at(&mut self, slot: u8, generation: u32)
+        requires { Holds self.old.log slot generation }
+        ensures freed { self.new ≡ record self.old {
+          log = self.old.log ++ Change.Free slot generation ∷ [];
+        } }
+        ensures legal { IsLegal self.new.gens self.new.log }
+    {
+        self.log.push_reserved(Change::Free { slot, generation });
+        self.live.remove(slot);
     }
 
     /// The slots that are live.
@@ -208,7 +220,7 @@ mod tests {
             return None;
         }
         let key = span.put_at(slot, value).ok()?;
-        Some((key.slot(), key.generation()))
+        Some((key.slot, key.generation))
     }
 
     // Its live slots, its worn slots and its changes.

@@ -25,19 +25,19 @@ pub(crate) fn push_number<I: Integer>(out: &mut Vec<u8>, number: I) -> Result<()
 fn push_id(out: &mut Vec<u8>, id: SpanId) -> Result<(), AllocError>
     ensures { OnOk result (out.new.items ≡ out.old.items ++ id_text id) }
 {
-    push_number(out, id.shard())?;
+    push_number(out, id.shard)?;
     out.extend_from_slice(b".")?;
-    push_number(out, id.serial())
+    push_number(out, id.serial)
 }
 
 fn push_key(out: &mut Vec<u8>, key: Key) -> Result<(), AllocError>
     ensures { OnOk result (out.new.items ≡ out.old.items ++ key_text key) }
 {
-    push_id(out, key.span())?;
+    push_id(out, key.span)?;
     out.extend_from_slice(b"/")?;
-    push_number(out, key.slot())?;
+    push_number(out, key.slot)?;
     out.extend_from_slice(b"/")?;
-    push_number(out, key.generation())
+    push_number(out, key.generation)
 }
 
 fn push_ending(out: &mut Vec<u8>, ending: &Ending) -> Result<(), AllocError>

@@ -243,7 +243,7 @@ fn is_doubled<L: Log>(shard: &Shard<L>, spans: &Spans<L>) -> bool
 {
     for place in 0..spans.len() {
         let id = spans.span_at(place).id();
-        if id.shard() == shard.number() {
+        if id.shard == shard.number() {
             return true;
         }
         if shard.has(id) {

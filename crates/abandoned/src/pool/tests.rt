@@ -168,12 +168,12 @@ fn keeps_a_key_until_it_is_freed(rt: HostRuntime) {
         (ended, adopted, both),
         (
             (Ok(()), (Found::Value(5, 1), Found::NotHere)),
-            (Ok(key.span()), (Found::NotHere, Found::Value(5, 1))),
+            (Ok(key.span), (Found::NotHere, Found::Value(5, 1))),
             (
                 Ok(()),
                 (2, 2, 0, 0),
-                Some((key.span(), 1)),
-                Some((other.span(), 1))
+                Some((key.span, 1)),
+                Some((other.span, 1))
             ),
         )
     );

@@ -21,7 +21,7 @@ fn is_given(core: &mut Core, number: u32) -> bool {
     let table = [
         (put(number, 3), Told::Issued(made)),
         (Event::End { shard: number }, Told::ShardEnded),
-        (Event::Adopt { shard: 1 }, Told::Adopted(made.span())),
+        (Event::Adopt { shard: 1 }, Told::Adopted(made.span)),
     ];
     are_answered(core, table.as_slice())
 }
@@ -81,7 +81,7 @@ fn is_made_and_marked(core: &mut Core, keys: [Key; 3], shards: u32) -> bool {
 fn is_stepped(core: &mut Core, keys: [Key; 3]) -> bool {
     let [freed, _, kept] = keys;
     let before = core.totals();
-    let wanted = Told::Stepped(freed.span(), kept.span(), Step::Folded);
+    let wanted = Told::Stepped(freed.span, kept.span, Step::Folded);
     let first = tell(&core.step(Event::Step));
     if first != Told::Refused(Refusal::OutOfMemory) {
         return first == wanted;
@@ -161,7 +161,7 @@ fn a_fold_saves_a_page(rt: HostRuntime) {
 fn is_passed(core: &mut Core) -> Option<bool> {
     let keys = keys()?;
     let [freed, folded, kept] = keys;
-    let emptied = Told::Stepped(freed.span(), kept.span(), Step::Emptied);
+    let emptied = Told::Stepped(freed.span, kept.span, Step::Emptied);
     let table = [
         (Event::Free { key: folded }, Told::Freed(true)),
         (Event::Step, emptied),
@@ -231,7 +231,7 @@ fn found(key: Key) -> (Event, Told) {
 }
 
 fn stepped(abandoned: Key, owned: Key) -> (Event, Told) {
-    let folded = Told::Stepped(abandoned.span(), owned.span(), Step::Folded);
+    let folded = Told::Stepped(abandoned.span, owned.span, Step::Folded);
     (Event::Step, folded)
 }
 

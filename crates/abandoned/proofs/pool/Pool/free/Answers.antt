@@ -6,7 +6,7 @@ use Rattle.shard.specs.Group.{with_free}
 use Rattle.shard.proofs.Lists.{set-same}
 use Rattle.abandoned.specs.Calls.{Leaves}
 use Rattle.abandoned.specs.Kept.{state_of}
-use Rattle.abandoned.specs.State.{IsElsewhere, IsHere, PoolState, PooledState, with_span}
+use Rattle.abandoned.specs.State.{IsHere, PoolState, PooledState, with_span}
 use Rattle.abandoned.proofs.Freed.{IsSound-Frees, IsSound-Leaves}
 use Rattle.abandoned.proofs.Here.{found_in, here_read, index_within, place_within, read_is}
 use Rattle.abandoned.proofs.Released.{Leaves-GivesUp, page_there, rooms-GivesUp}
@@ -15,30 +15,30 @@ use Rattle.abandoned.proofs.KnownGuests.{KnowsGuests-free}
 use Rattle.abandoned.proofs.pool.Pool.free.Goals as goal
 
 pub returns-in_default-clause-step : goal.returns-in_default-clause-step
-returns-in_default-clause-step g c = (subst (IsElsewhere c.args.self.now.groups) c.span.ensures c.in_default.ensures.place, refl)
+returns-in_default-clause-step g c = (c.in_default.ensures.place, refl)
 
 pub returns-in_default-clause-found : goal.returns-in_default-clause-found
-returns-in_default-clause-found g c = was_freed-Frees c.args.self.now c.args.self.now c.args.key.now NotHere c.find.ensures.sound (subst (IsElsewhere c.args.self.now.groups) c.span.ensures c.in_default.ensures.place, refl)
+returns-in_default-clause-found g c = was_freed-Frees c.args.self.now c.args.self.now c.args.key.now NotHere c.find.ensures.sound (c.in_default.ensures.place, refl)
 
 pub index_mut-group-requires : goal.index_mut-group-requires
 index_mut-group-requires g c =
-    let found = found_in c.args.self.now.groups c.self.inside.groups.items _ c.args.key.now.span c.in-Some.index c.in-Some.place (ap (λ (s : PoolState). s.groups) (sym c.self.view_is)) c.span.ensures c.in-Some.ensures.place in
+    let found = found_in c.args.self.now.groups c.self.inside.groups.items c.args.key.now.span c.in-Some.index c.in-Some.place (ap (λ (s : PoolState). s.groups) (sym c.self.view_is)) c.in-Some.ensures.place in
     let low = index_within _ _ _ _ found.0 found.1 found.2 in
     omega (arith, c.self.inside.groups.ok.0)
 
 pub span_at-requires : goal.span_at-requires
 span_at-requires g c =
-    let found = found_in c.args.self.now.groups c.self.inside.groups.items _ c.args.key.now.span c.in-Some.index c.in-Some.place (ap (λ (s : PoolState). s.groups) (sym c.self.view_is)) c.span.ensures c.in-Some.ensures.place in
+    let found = found_in c.args.self.now.groups c.self.inside.groups.items c.args.key.now.span c.in-Some.index c.in-Some.place (ap (λ (s : PoolState). s.groups) (sym c.self.view_is)) c.in-Some.ensures.place in
     place_within _ _ _ _ found.0 found.1 found.2 c.index_mut-group.result.now c.index_mut-group.ensures.value
 
 pub free-requires-clause-place : goal.free-requires-clause-place
 free-requires-clause-place g c =
-    let found = found_in c.args.self.now.groups c.self.inside.groups.items _ c.args.key.now.span c.in-Some.index c.in-Some.place (ap (λ (s : PoolState). s.groups) (sym c.self.view_is)) c.span.ensures c.in-Some.ensures.place in
+    let found = found_in c.args.self.now.groups c.self.inside.groups.items c.args.key.now.span c.in-Some.index c.in-Some.place (ap (λ (s : PoolState). s.groups) (sym c.self.view_is)) c.in-Some.ensures.place in
     place_within _ _ _ _ found.0 found.1 found.2 c.index_mut-group.result.now c.index_mut-group.ensures.value
 
 pub free-requires-clause-page : goal.free-requires-clause-page
 free-requires-clause-page g c =
-    let found = found_in c.args.self.now.groups c.self.inside.groups.items _ c.args.key.now.span c.in-Some.index c.in-Some.place (ap (λ (s : PoolState). s.groups) (sym c.self.view_is)) c.span.ensures c.in-Some.ensures.place in
+    let found = found_in c.args.self.now.groups c.self.inside.groups.items c.args.key.now.span c.in-Some.index c.in-Some.place (ap (λ (s : PoolState). s.groups) (sym c.self.view_is)) c.in-Some.ensures.place in
     page_there (state_of c.self.inside) c.self.invariant.sound c.in-Some.index c.index_mut-group.result.now (read_is _ _ _ _ found.0 found.1 found.2 c.index_mut-group.result.now c.index_mut-group.ensures.value)
 
 -- a group and a table that stay leave the pool as it was
@@ -50,7 +50,7 @@ same_pool groups table after pages spans index told group now here same same_tab
 
 pub returns-then-not-free-clause-step : goal.returns-then-not-free-clause-step
 returns-then-not-free-clause-step g c =
-    let found = found_in c.args.self.now.groups c.self.inside.groups.items _ c.args.key.now.span c.in-Some.index c.in-Some.place (ap (λ (s : PoolState). s.groups) (sym c.self.view_is)) c.span.ensures c.in-Some.ensures.place in
+    let found = found_in c.args.self.now.groups c.self.inside.groups.items c.args.key.now.span c.in-Some.index c.in-Some.place (ap (λ (s : PoolState). s.groups) (sym c.self.view_is)) c.in-Some.ensures.place in
     let read = read_is _ _ _ _ found.0 found.1 found.2 c.index_mut-group.result.now c.index_mut-group.ensures.value in
     let here = here_read _ _ _ _ found.0 found.1 found.2 c.index_mut-group.result.now c.index_mut-group.ensures.value c.span_at.result.now c.span_at.ensures in
     let same = (c.if-not-free.ensures {u = tt}).unknown in (
@@ -69,7 +69,7 @@ returns-then-not-free-clause-found g c = was_freed-Frees c.args.self.now _ c.arg
 
 pub invariant_of-self-2 : goal.invariant_of-self-2
 invariant_of-self-2 g c =
-    let found = found_in c.args.self.now.groups c.self.inside.groups.items _ c.args.key.now.span c.in-Some.index c.in-Some.place (ap (λ (s : PoolState). s.groups) (sym c.self.view_is)) c.span.ensures c.in-Some.ensures.place in
+    let found = found_in c.args.self.now.groups c.self.inside.groups.items c.args.key.now.span c.in-Some.index c.in-Some.place (ap (λ (s : PoolState). s.groups) (sym c.self.view_is)) c.in-Some.ensures.place in
     let here = here_read _ _ _ _ found.0 found.1 found.2 c.index_mut-group.result.now c.index_mut-group.ensures.value c.span_at.result.now c.span_at.ensures in
     let holds = (((c.if-not-free.ensures {u = tt}).found c.span_at.result.now c.span_at.ensures).0 refl).1 in
     let gives = (c.if-not-free.ensures {u = tt}).freed c.span_at.result.now c.span_at.ensures in
@@ -86,7 +86,7 @@ invariant_of-self-2 g c =
 
 pub returns-clause-step : goal.returns-clause-step
 returns-clause-step g c =
-    let found = found_in c.args.self.now.groups c.self.inside.groups.items _ c.args.key.now.span c.in-Some.index c.in-Some.place (ap (λ (s : PoolState). s.groups) (sym c.self.view_is)) c.span.ensures c.in-Some.ensures.place in
+    let found = found_in c.args.self.now.groups c.self.inside.groups.items c.args.key.now.span c.in-Some.index c.in-Some.place (ap (λ (s : PoolState). s.groups) (sym c.self.view_is)) c.in-Some.ensures.place in
     let here = here_read _ _ _ _ found.0 found.1 found.2 c.index_mut-group.result.now c.index_mut-group.ensures.value c.span_at.result.now c.span_at.ensures in
     let holds = (((c.if-not-free.ensures {u = tt}).found c.span_at.result.now c.span_at.ensures).0 refl).1 in
     let gives = (c.if-not-free.ensures {u = tt}).freed c.span_at.result.now c.span_at.ensures in

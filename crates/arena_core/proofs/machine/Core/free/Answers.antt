@@ -1,6 +1,5 @@
-use Rattle.std.proofs.Common.{◌≡◌, true, false, ap, refl, slice_get, subst, sym, ◌∙◌}
+use Rattle.std.proofs.Common.{◌≡◌, true, false, ap, refl, subst, sym, ◌∙◌}
 use Rattle.std.proofs.lemmas.Option.{slice_get_past}
-use Rattle.span.specs.declared.id.SpanId.{SpanId}
 use Rattle.shard.specs.Calls.{was_freed}
 use Rattle.arena_core.specs.declared.event.Event.TheVariants.{Free}
 use Rattle.arena_core.specs.declared.reply.Reply.TheVariants.{Freed}
@@ -18,8 +17,7 @@ nowhere g c =
     subst (λ old. IsSoundStep old (Free c.args.key.now) (Freed false) old) c.self.view_is
     (IsSoundStep-dead (state_of c.self.inside) c.args.key.now c.self.invariant
     (value-no_home (state_of c.self.inside) c.self.invariant.groups c.args.key.now
-    (ap (slice_get c.self.inside.shards.items) (sym (c.shard.ensures.value ∙ ap (λ (id : SpanId). id.shard) c.span.ensures))
-    ∙ slice_get_past c.self.inside.shards.items c.shard.result (no_read c.self.inside c.shard.result c.in_default.ensures.variant.1))))
+    (slice_get_past c.self.inside.shards.items c.args.key.now.span.shard (no_read c.self.inside c.args.key.now.span.shard c.in_default.ensures.variant.1))))
 
 pub returns-in_default-clause-exact : goal.returns-in_default-clause-exact
 returns-in_default-clause-exact g c = ((nowhere g c).exact.0, c.self.view_is)
@@ -27,9 +25,9 @@ returns-in_default-clause-exact g c = ((nowhere g c).exact.0, c.self.view_is)
 pub returns-in_default-clause-plain : goal.returns-in_default-clause-plain
 returns-in_default-clause-plain g c = ((nowhere g c).plain.0, ap shown c.self.view_is)
 
-home : (g : _) (c : goal.Else-matches g) → IsSoundStep c.args.self.now (Free c.args.key.now) (Freed (was_freed c.free-freed.result)) (state_of (with_shard_at c.self.inside c.shard.result c.free-freed.new.self))
+home : (g : _) (c : goal.Else-matches g) → IsSoundStep c.args.self.now (Free c.args.key.now) (Freed (was_freed c.free-freed.result)) (state_of (with_shard_at c.self.inside c.args.key.now.span.shard c.free-freed.new.self))
 home g c =
-    IsStep-free_home c.self.inside c.args.self.now c.shard.result c.args.key.now c.in-Some.shard.now c.free-freed.new.self c.free-freed.result c.self.view_is c.self.invariant
+    IsStep-free_home c.self.inside c.args.self.now c.args.key.now.span.shard c.args.key.now c.in-Some.shard.now c.free-freed.new.self c.free-freed.result c.self.view_is c.self.invariant
     (record { within = c.in-Some.ensures.variant.0 refl; value = c.in-Some.ensures.value })
     (elim c.match-matches.branch [
       | in-NotHere w ↦ (λ e. let both : true ≡ false = sym w.matches-is ∙ c.if-matches.false in cc)
@@ -37,10 +35,10 @@ home g c =
     ])
     c.free-freed.ensures.step c.free-freed.ensures.found c.free-freed.ensures.plain c.free-freed.ensures.sound
 
-done : (g : _) (c : goal.After-was_done g) → IsSoundStep c.args.self.now (Free c.args.key.now) (Freed c.was_done.result) (state_of (with_shard_at c.self.inside c.shard.result c.free-freed.new.self))
+done : (g : _) (c : goal.After-was_done g) → IsSoundStep c.args.self.now (Free c.args.key.now) (Freed c.was_done.result) (state_of (with_shard_at c.self.inside c.args.key.now.span.shard c.free-freed.new.self))
 done g c =
-    subst (λ b. IsSoundStep c.args.self.now (Free c.args.key.now) (Freed b) (state_of (with_shard_at c.self.inside c.shard.result c.free-freed.new.self))) (sym c.was_done.ensures)
-    (IsStep-free_home c.self.inside c.args.self.now c.shard.result c.args.key.now c.in-Some.shard.now c.free-freed.new.self c.free-freed.result c.self.view_is c.self.invariant
+    subst (λ b. IsSoundStep c.args.self.now (Free c.args.key.now) (Freed b) (state_of (with_shard_at c.self.inside c.args.key.now.span.shard c.free-freed.new.self))) (sym c.was_done.ensures)
+    (IsStep-free_home c.self.inside c.args.self.now c.args.key.now.span.shard c.args.key.now c.in-Some.shard.now c.free-freed.new.self c.free-freed.result c.self.view_is c.self.invariant
     (record { within = c.in-Some.ensures.variant.0 refl; value = c.in-Some.ensures.value })
     (elim c.match-matches.branch [
       | in-NotHere w ↦ (λ e. let both : true ≡ false = sym w.matches-is ∙ c.if-matches.false in cc)

@@ -3,7 +3,7 @@ use Rattle.shard.specs.Calls.{was_freed}
 use Rattle.arena_core.specs.declared.event.Event.TheVariants.{Free}
 use Rattle.arena_core.specs.declared.reply.Reply.TheVariants.{Freed}
 use Rattle.arena_core.specs.Kept.{state_of}
-use Rattle.arena_core.specs.Owner.{IsNowhere, StandsAt}
+use Rattle.arena_core.specs.Owner.{StandsAt}
 use Rattle.arena_core.specs.Sound.{IsSound}
 use Rattle.arena_core.specs.State.{CoreState, with_pool}
 use Rattle.arena_core.proofs.Fields.{state_of-with_shard_at, with_shard_at}
@@ -14,7 +14,7 @@ use Rattle.arena_core.proofs.machine.Core.free_moved.Goals as goal
 
 owned : (g : _) (c : goal.After-was_done g) → IsSoundStep c.args.self.now (Free c.args.key.now) (Freed c.was_done.result) (state_of (with_shard_at c.self.inside c.in-Some-Shard.number c.free.new.self))
 owned g c =
-    let there = shard-there (state_of c.self.inside) c.args.key.now c.span.result c.in-Some-Shard.field-0 c.self.invariant.groups (subst (λ (s : CoreState). StandsAt s c.span.result c.in-Some-Shard.field-0) (sym c.self.view_is) c.in-Some-Shard.ensures) c.span.ensures
+    let there = shard-there (state_of c.self.inside) c.args.key.now c.in-Some-Shard.field-0 c.self.invariant.groups (subst (λ (s : CoreState). StandsAt s c.args.key.now.span c.in-Some-Shard.field-0) (sym c.self.view_is) c.in-Some-Shard.ensures)
     c.in-Some-Shard.number c.index_mut.result.now c.in-Some-Shard.field-0-is c.index_mut.ensures.value in
     subst (λ old. IsSoundStep old (Free c.args.key.now) (Freed c.was_done.result) (state_of (with_shard_at c.self.inside c.in-Some-Shard.number c.free.new.self))) c.self.view_is
     (subst (λ b. IsSoundStep (state_of c.self.inside) (Free c.args.key.now) (Freed b) (state_of (with_shard_at c.self.inside c.in-Some-Shard.number c.free.new.self))) (sym c.was_done.ensures)
@@ -24,7 +24,7 @@ owned g c =
 
 pooled : (g : _) (c : goal.After-was_done-in-Some-Pool g) → IsSoundStep c.args.self.now (Free c.args.key.now) (Freed c.was_done-in-Some-Pool.result) (with_pool (state_of c.self.inside) c.free-in-Some-Pool.new.self)
 pooled g c =
-    let some = pooled-there (state_of c.self.inside) c.args.key.now c.span.result c.in-Some-Pool.field-0 c.self.invariant.groups (subst (λ (s : CoreState). StandsAt s c.span.result c.in-Some-Pool.field-0) (sym c.self.view_is) c.in-Some-Pool.ensures) c.span.ensures c.in-Some-Pool.field-0-is in
+    let some = pooled-there (state_of c.self.inside) c.args.key.now c.in-Some-Pool.field-0 c.self.invariant.groups (subst (λ (s : CoreState). StandsAt s c.args.key.now.span c.in-Some-Pool.field-0) (sym c.self.view_is) c.in-Some-Pool.ensures) c.in-Some-Pool.field-0-is in
     subst (λ old. IsSoundStep old (Free c.args.key.now) (Freed c.was_done-in-Some-Pool.result) (with_pool (state_of c.self.inside) c.free-in-Some-Pool.new.self)) c.self.view_is
     (subst (λ b. IsSoundStep (state_of c.self.inside) (Free c.args.key.now) (Freed b) (with_pool (state_of c.self.inside) c.free-in-Some-Pool.new.self)) (sym c.was_done-in-Some-Pool.ensures)
     (IsSoundStep-FreesPooled (state_of c.self.inside) c.args.key.now c.free-in-Some-Pool.new.self c.free-in-Some-Pool.result c.self.invariant some
@@ -57,7 +57,7 @@ returns-in-Some-Pool-clause-sound g c = (pooled g c).kept
 nowhere : (g : _) (c : goal.In-None g) → IsSoundStep c.args.self.now (Free c.args.key.now) (Freed false) c.args.self.now
 nowhere g c =
     IsSoundStep-dead c.args.self.now c.args.key.now (subst IsSound c.self.view_is c.self.invariant)
-    (value-nowhere c.args.self.now (subst IsSound c.self.view_is c.self.invariant).groups c.args.key.now (subst (IsNowhere c.args.self.now) c.span.ensures c.in-None.ensures))
+    (value-nowhere c.args.self.now (subst IsSound c.self.view_is c.self.invariant).groups c.args.key.now c.in-None.ensures)
 
 pub returns-in-None-clause-exact : goal.returns-in-None-clause-exact
 returns-in-None-clause-exact g c = (nowhere g c).exact

@@ -1,6 +1,5 @@
 use Rattle.std.proofs.Common.{ap, sym, subst, slice_get, ◌∙◌}
 use Rattle.std.proofs.lemmas.Option.{slice_get_past}
-use Rattle.span.specs.declared.id.SpanId.{SpanId}
 use Rattle.shard.specs.declared.shard.Found.TheVariants as found
 use Rattle.arena_core.specs.Sound.{IsSound}
 use Rattle.arena_core.specs.State.{CoreState}
@@ -13,20 +12,19 @@ pub returns-in_default-clause-value : goal.returns-in_default-clause-value
 returns-in_default-clause-value g c =
     sym (value-no_home c.args.self.now (subst IsSound c.self.view_is c.self.invariant).groups c.args.key.now
     (ap (λ (s : CoreState). slice_get s.shards c.args.key.now.span.shard) (sym c.self.view_is)
-    ∙ ap (slice_get c.self.inside.shards.items) (sym (c.shard.ensures.value ∙ ap (λ (id : SpanId). id.shard) c.span.ensures))
-    ∙ ap (λ xs. slice_get xs c.shard.result) (sym c.deref.ensures.value)
-    ∙ slice_get_past c.deref.result.now c.shard.result c.in_default.ensures.lookup.3))
+    ∙ ap (λ xs. slice_get xs c.args.key.now.span.shard) (sym c.deref.ensures.value)
+    ∙ slice_get_past c.deref.result.now c.args.key.now.span.shard c.in_default.ensures.lookup.3))
 
 pub returns-in-Value-clause-value : goal.returns-in-Value-clause-value
 returns-in-Value-clause-value g c =
-    value-Gets c.args.self.now c.args.key.now c.shard.result c.in-Some.shard.now (found.Value c.in-Value.value _) (subst IsSound c.self.view_is c.self.invariant).groups
-    (ap (λ (s : CoreState). slice_get s.shards c.shard.result) (sym c.self.view_is) ∙ ap (λ xs. slice_get xs c.shard.result) (sym c.deref.ensures.value)
-    ∙ shard-found c.deref.result.now c.shard.result c.in-Some.shard c.in-Some.ensures.lookup)
+    value-Gets c.args.self.now c.args.key.now c.args.key.now.span.shard c.in-Some.shard.now (found.Value c.in-Value.value _) (subst IsSound c.self.view_is c.self.invariant).groups
+    (ap (λ (s : CoreState). slice_get s.shards c.args.key.now.span.shard) (sym c.self.view_is) ∙ ap (λ xs. slice_get xs c.args.key.now.span.shard) (sym c.deref.ensures.value)
+    ∙ shard-found c.deref.result.now c.args.key.now.span.shard c.in-Some.shard c.in-Some.ensures.lookup)
     (λ e. absurd cc) c.in-Value.ensures.found c.in-Value.ensures.plain
 
 pub returns-in-Gone-clause-value : goal.returns-in-Gone-clause-value
 returns-in-Gone-clause-value g c =
-    value-Gets c.args.self.now c.args.key.now c.shard.result c.in-Some.shard.now (found.Gone c.in-Gone.field-0) (subst IsSound c.self.view_is c.self.invariant).groups
-    (ap (λ (s : CoreState). slice_get s.shards c.shard.result) (sym c.self.view_is) ∙ ap (λ xs. slice_get xs c.shard.result) (sym c.deref.ensures.value)
-    ∙ shard-found c.deref.result.now c.shard.result c.in-Some.shard c.in-Some.ensures.lookup)
+    value-Gets c.args.self.now c.args.key.now c.args.key.now.span.shard c.in-Some.shard.now (found.Gone c.in-Gone.field-0) (subst IsSound c.self.view_is c.self.invariant).groups
+    (ap (λ (s : CoreState). slice_get s.shards c.args.key.now.span.shard) (sym c.self.view_is) ∙ ap (λ xs. slice_get xs c.args.key.now.span.shard) (sym c.deref.ensures.value)
+    ∙ shard-found c.deref.result.now c.args.key.now.span.shard c.in-Some.shard c.in-Some.ensures.lookup)
     (λ e. absurd cc) c.in-Gone.ensures.found c.in-Gone.ensures.plain

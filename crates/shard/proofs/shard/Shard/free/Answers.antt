@@ -8,7 +8,7 @@ use Rattle.shard.specs.Kept.{KnowsGuests, state_of}
 use Rattle.shard.specs.Moves.{HasGuestRoom}
 use Rattle.shard.specs.Rooms.{HasRooms}
 use Rattle.shard.specs.Sound.{IsSound}
-use Rattle.shard.specs.State.{ShardState, IsElsewhere, IsHere}
+use Rattle.shard.specs.State.{ShardState, IsHere}
 use Rattle.shard.specs.declared.shard.Freed.TheVariants.{No, NotHere, Yes}
 use Rattle.shard.proofs.FreeHere.{IsSound-free_here}
 use Rattle.shard.proofs.GuestRoom.{HasGuestRoom-span}
@@ -20,21 +20,21 @@ use Rattle.shard.proofs.KnownGuests.{KnowsGuests-span}
 use Rattle.shard.proofs.shard.Shard.free.Goals as goal
 
 pub returns-in_default-clause-step : goal.returns-in_default-clause-step
-returns-in_default-clause-step g c = (subst (IsElsewhere c.args.self.now.groups) c.span.ensures c.in_default.ensures.place, refl)
+returns-in_default-clause-step g c = (c.in_default.ensures.place, refl)
 
 pub returns-in_default-clause-found : goal.returns-in_default-clause-found
-returns-in_default-clause-found g c = was_freed-Frees c.args.self.now c.args.self.now c.args.key.now NotHere c.find.ensures.sound (subst (IsElsewhere c.args.self.now.groups) c.span.ensures c.in_default.ensures.place, refl)
+returns-in_default-clause-found g c = was_freed-Frees c.args.self.now c.args.self.now c.args.key.now NotHere c.find.ensures.sound (c.in_default.ensures.place, refl)
 
 -- the span stands where it was found
 here_now : (g : _) (c : goal.After-insert g) → IsHere c.self.inside.groups.items c.args.key.now.span c.in-Some.index c.in-Some.place c.index_mut-group.result.now c.span_at.result.now
 here_now g c =
-    let found = found_in c.args.self.now.groups c.self.inside.groups.items _ c.args.key.now.span c.in-Some.index c.in-Some.place (ap (λ (s : ShardState). s.groups) (sym c.self.view_is)) c.span.ensures c.in-Some.ensures.place in
+    let found = found_in c.args.self.now.groups c.self.inside.groups.items c.args.key.now.span c.in-Some.index c.in-Some.place (ap (λ (s : ShardState). s.groups) (sym c.self.view_is)) c.in-Some.ensures.place in
     here_read _ _ _ _ found.0 found.1 found.2 c.index_mut-group.result.now c.index_mut-group.ensures.value c.span_at.result.now c.span_at.ensures
 
 -- a key that is not live leaves the groups as they were
 groups_same : (g : _) (c : goal.Then-not-free g) → set c.self.inside.groups.items c.in-Some.index c.free.new.self ≡ c.self.inside.groups.items
 groups_same g c =
-    let found = found_in c.args.self.now.groups c.self.inside.groups.items _ c.args.key.now.span c.in-Some.index c.in-Some.place (ap (λ (s : ShardState). s.groups) (sym c.self.view_is)) c.span.ensures c.in-Some.ensures.place in
+    let found = found_in c.args.self.now.groups c.self.inside.groups.items c.args.key.now.span c.in-Some.index c.in-Some.place (ap (λ (s : ShardState). s.groups) (sym c.self.view_is)) c.in-Some.ensures.place in
     let read = read_is _ _ _ _ found.0 found.1 found.2 c.index_mut-group.result.now c.index_mut-group.ensures.value in
     ap (set c.self.inside.groups.items c.in-Some.index) (c.if-not-free.ensures {u = tt}).unknown ∙ set-same c.self.inside.groups.items c.in-Some.index c.index_mut-group.result.now read
 
@@ -57,7 +57,7 @@ invariant_of-self g c =
 
 pub returns-then-not-free-clause-step : goal.returns-then-not-free-clause-step
 returns-then-not-free-clause-step g c =
-    let found = found_in c.args.self.now.groups c.self.inside.groups.items _ c.args.key.now.span c.in-Some.index c.in-Some.place (ap (λ (s : ShardState). s.groups) (sym c.self.view_is)) c.span.ensures c.in-Some.ensures.place in
+    let found = found_in c.args.self.now.groups c.self.inside.groups.items c.args.key.now.span c.in-Some.index c.in-Some.place (ap (λ (s : ShardState). s.groups) (sym c.self.view_is)) c.in-Some.ensures.place in
     let here = here_read _ _ _ _ found.0 found.1 found.2 c.index_mut-group.result.now c.index_mut-group.ensures.value c.span_at.result.now c.span_at.ensures in (
       c.in-Some.index,
       c.in-Some.place,
@@ -74,7 +74,7 @@ returns-then-not-free-clause-found g c = was_freed-Frees c.args.self.now _ c.arg
 
 pub insert-requires : goal.insert-requires
 insert-requires g c =
-    let found = found_in c.args.self.now.groups c.self.inside.groups.items _ c.args.key.now.span c.in-Some.index c.in-Some.place (ap (λ (s : ShardState). s.groups) (sym c.self.view_is)) c.span.ensures c.in-Some.ensures.place in
+    let found = found_in c.args.self.now.groups c.self.inside.groups.items c.args.key.now.span c.in-Some.index c.in-Some.place (ap (λ (s : ShardState). s.groups) (sym c.self.view_is)) c.in-Some.ensures.place in
     let here = here_read _ _ _ _ found.0 found.1 found.2 c.index_mut-group.result.now c.index_mut-group.ensures.value c.span_at.result.now c.span_at.ensures in
     let low = slice_get_within c.self.inside.groups.items c.in-Some.index c.index_mut-group.result.now here.group_is in
     omega (arith, low, c.self.invariant.sound.limit, c.self.invariant.pages_fit)

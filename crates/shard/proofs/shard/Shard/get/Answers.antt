@@ -1,26 +1,26 @@
 use Rattle.std.proofs.Common.{◌∙◌, ap, refl, subst, sym}
 use Rattle.std.proofs.lemmas.Bool.{true≢false}
 use Rattle.page_table.specs.State.{word_at}
-use Rattle.shard.specs.State.{ShardState, IsElsewhere, IsHere}
+use Rattle.shard.specs.State.{ShardState, IsHere}
 use Rattle.shard.specs.declared.shard.Found.TheVariants.{Gone, NotHere, Value}
 use Rattle.shard.proofs.Here.{found_in, here_read, read_is}
 use Rattle.shard.proofs.ShownLogs.{value_found-Gets}
 use Rattle.shard.proofs.shard.Shard.get.Goals as goal
 
 pub returns-in_default-clause-found : goal.returns-in_default-clause-found
-returns-in_default-clause-found g c = subst (IsElsewhere c.args.self.now.groups) c.span.ensures c.in_default.ensures.place
+returns-in_default-clause-found g c = c.in_default.ensures.place
 
 pub returns-in_default-clause-plain : goal.returns-in_default-clause-plain
-returns-in_default-clause-plain g c = value_found-Gets c.args.self.now c.find.ensures.sound c.args.key.now NotHere (subst (IsElsewhere c.args.self.now.groups) c.span.ensures c.in_default.ensures.place)
+returns-in_default-clause-plain g c = value_found-Gets c.args.self.now c.find.ensures.sound c.args.key.now NotHere c.in_default.ensures.place
 
 pub value_at-requires : goal.value_at-requires
 value_at-requires g c =
-    let found = found_in c.args.self.now.groups c.self.inside.groups.items _ c.args.key.now.span c.in-Some.index c.in-Some.place (ap (λ (s : ShardState). s.groups) (sym c.self.view_is)) c.span.ensures c.in-Some.ensures.place in
+    let found = found_in c.args.self.now.groups c.self.inside.groups.items c.args.key.now.span c.in-Some.index c.in-Some.place (ap (λ (s : ShardState). s.groups) (sym c.self.view_is)) c.in-Some.ensures.place in
     rw c.page.ensures (c.self.invariant.sound.groups c.in-Some.index c.index-group.result.now (read_is _ _ _ _ found.0 found.1 found.2 c.index-group.result.now c.index-group.ensures)).has_page
 
 pub returns-then-find-clause-found : goal.returns-then-find-clause-found
 returns-then-find-clause-found g c =
-    let found = found_in c.args.self.now.groups c.self.inside.groups.items _ c.args.key.now.span c.in-Some.index c.in-Some.place (ap (λ (s : ShardState). s.groups) (sym c.self.view_is)) c.span.ensures c.in-Some.ensures.place in
+    let found = found_in c.args.self.now.groups c.self.inside.groups.items c.args.key.now.span c.in-Some.index c.in-Some.place (ap (λ (s : ShardState). s.groups) (sym c.self.view_is)) c.in-Some.ensures.place in
     let here = here_read _ _ _ _ found.0 found.1 found.2 c.index-group.result.now c.index-group.ensures c.span_at-span.result.now c.span_at-span.ensures in (
       c.in-Some.index,
       c.in-Some.place,
@@ -28,7 +28,7 @@ returns-then-find-clause-found g c =
       c.span_at-span.result.now,
       subst (λ (s : ShardState). IsHere s.groups c.args.key.now.span c.in-Some.index c.in-Some.place c.index-group.result.now c.span_at-span.result.now) c.self.view_is here,
       (c.if-find.ensures.0 refl).1,
-      c.value_at.ensures ∙ rw (c.page.ensures, c.slot.ensures) (ap (λ (s : ShardState). word_at s.table c.index-group.result.now.page c.args.key.now.slot) c.self.view_is),
+      c.value_at.ensures ∙ rw (c.page.ensures) (ap (λ (s : ShardState). word_at s.table c.index-group.result.now.page c.args.key.now.slot) c.self.view_is),
       c.changes-at.ensures,
     )
 
@@ -37,7 +37,7 @@ returns-then-find-clause-plain g c = value_found-Gets c.args.self.now c.find.ens
 
 pub returns-else-find-clause-found : goal.returns-else-find-clause-found
 returns-else-find-clause-found g c =
-    let found = found_in c.args.self.now.groups c.self.inside.groups.items _ c.args.key.now.span c.in-Some.index c.in-Some.place (ap (λ (s : ShardState). s.groups) (sym c.self.view_is)) c.span.ensures c.in-Some.ensures.place in
+    let found = found_in c.args.self.now.groups c.self.inside.groups.items c.args.key.now.span c.in-Some.index c.in-Some.place (ap (λ (s : ShardState). s.groups) (sym c.self.view_is)) c.in-Some.ensures.place in
     let here = here_read _ _ _ _ found.0 found.1 found.2 c.index-group.result.now c.index-group.ensures c.span_at-span.result.now c.span_at-span.ensures in (
       c.in-Some.index,
       c.in-Some.place,

@@ -1,4 +1,4 @@
-use Rattle.std.proofs.Common.{ℕ, ◌≡◌, ◌+◌, ◌≤◌, ◌<◌, true, arith, sym, subst, refl, List, Vec, length, length-append, ◌*◌, ◌++◌, ◌∷◌, []}
+use Rattle.std.proofs.Common.{ℕ, ◌≡◌, ◌+◌, ◌≤◌, ◌<◌, true, arith, sym, subst, List, Vec, length, length-append, ◌*◌, ◌++◌, ◌∷◌, []}
 use Rattle.std.specs.FinSet as set
 use Rattle.span.specs.Log.{Holds, all_puts}
 use Rattle.span.specs.State.{SpanState}
@@ -9,7 +9,7 @@ use Rattle.span.specs.declared.change.Change.{Change}
 use Rattle.span.specs.declared.change.Change.TheVariants.{Free}
 use Rattle.span.proofs.Counting.{all_puts-free, all_puts-le}
 use Rattle.span.proofs.Keeping.{Holds-kept, Follows-free, len-remove_member, some_member}
-use Rattle.span.proofs.span.Span.free.Goals as goal
+use Rattle.span.proofs.span.Span.free_at.Goals as goal
 
 -- what the room kept for a live key's free comes to
 module _ {gens : ℕ} {live worn : SlotSet} {generations : Vec ℕ Global} {log : List Change} {room : ℕ} (kept : IsKept gens live worn generations log room) (slot generation : ℕ) (within : slot < 256) (holds : Holds log slot generation) where
@@ -32,24 +32,23 @@ push_reserved-requires-clause-in_range g c =
 
 pub push_reserved-requires-clause-room : goal.push_reserved-requires-clause-room
 push_reserved-requires-clause-room g c =
-    let holds = subst (λ (s : SpanState). Holds s.log c.args.key.now.slot c.args.key.now.generation) (sym c.self.view_is) (c.if-not-find.ensures.0 refl).1 in
-    room_for_free c.self.invariant c.args.key.now.slot c.args.key.now.generation (rw (← c.slot-slot.ensures) c.slot-slot.type_inv) holds
+    room_for_free c.self.invariant c.args.slot c.args.generation c.ranges.slot.fits
+    (subst (λ (s : SpanState). Holds s.log c.args.slot c.args.generation) (sym c.self.view_is) c.requires)
 
 pub invariant_of-self : goal.invariant_of-self
 invariant_of-self g c =
-    let holds = subst (λ (s : SpanState). Holds s.log c.args.key.now.slot c.args.key.now.generation) (sym c.self.view_is) (c.if-not-find.ensures.0 refl).1 in
-    let small : c.args.key.now.slot < 256 = rw (← c.slot-slot.ensures) c.slot-slot.type_inv in
     let inside = c.self.inside in
+    let holds : Holds (g.L.Log.changes inside.log) c.args.slot c.args.generation = subst (λ (s : SpanState). Holds s.log c.args.slot c.args.generation) (sym c.self.view_is) c.requires in
     record {
       some_generation = c.self.invariant.some_generation;
-      follows = rw (c.push_reserved.ensures.changes, c.remove.ensures, c.slot-slot.ensures, c.generation.ensures.value)
-          (Follows-free inside.gens (g.L.Log.changes inside.log) inside.live inside.worn inside.generations.items c.self.invariant.follows c.args.key.now.slot small c.args.key.now.generation holds);
+      follows = rw (c.push_reserved.ensures.changes, c.remove.ensures)
+          (Follows-free inside.gens (g.L.Log.changes inside.log) inside.live inside.worn inside.generations.items c.self.invariant.follows c.args.slot c.ranges.slot.fits c.args.generation holds);
       at_most_all = c.self.invariant.at_most_all;
       gens_fit = c.self.invariant.gens_fit;
-      freed_once = rw (c.push_reserved.ensures.changes, c.remove.ensures, c.slot-slot.ensures, c.generation.ensures.value)
-          (count_after_free c.self.invariant c.args.key.now.slot c.args.key.now.generation small holds);
-      room_for_frees = rw (c.remove.ensures, c.slot-slot.ensures)
-          (omega (arith, c.push_reserved.ensures.room, room_after_free c.self.invariant c.args.key.now.slot c.args.key.now.generation small holds));
+      freed_once = rw (c.push_reserved.ensures.changes, c.remove.ensures)
+          (count_after_free c.self.invariant c.args.slot c.args.generation c.ranges.slot.fits holds);
+      room_for_frees = rw c.remove.ensures
+          (omega (arith, c.push_reserved.ensures.room, room_after_free c.self.invariant c.args.slot c.args.generation c.ranges.slot.fits holds));
     }
 
 pub returns-clause-legal : goal.returns-clause-legal
