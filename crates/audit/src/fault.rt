@@ -30,6 +30,11 @@ pub enum AuditCause {
 
 /// `log`, `change`, `reply`, `order` or `barrier`.
 impl fmt::Display for AuditCause {
+    ghost use Rattle.std.specs.Prelude.{Some};
+    ghost use Rattle.audit.specs.Faults.{word_of};
+
+    ghost output = { λ cause. Some (word_of cause) };
+
     fn fmt<W: fmt::Write>(&self, f: &mut fmt::Formatter<W>) -> fmt::Result {
         f.write_str(match self {
             AuditCause::Log => "log",
