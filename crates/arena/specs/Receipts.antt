@@ -1,0 +1,79 @@
+-- The receipts of single calls on a shard, on the pool, or on a span that was never opened.
+use Rattle.std.specs.Prelude.{◌≡◌, ℕ, Bool, true, false, Option, Some, None}
+use Rattle.span.specs.Log.{Value as Word}
+use Rattle.span.specs.declared.key.Key.{Key}
+use Rattle.span.specs.declared.receipt.Call.{Call}
+use Rattle.span.specs.declared.receipt.Call.TheVariants as call
+use Rattle.span.specs.declared.receipt.Receipt.{Receipt}
+use Rattle.span.specs.Receipts.{free, look_up}
+use Rattle.shard.specs.Calls.{Frees, Gets}
+use Rattle.shard.specs.State.{ShardState}
+use Rattle.shard.specs.declared.shard.Found.{Found}
+use Rattle.shard.specs.declared.shard.Found.TheVariants as found
+use Rattle.shard.specs.declared.shard.Freed.{Freed}
+use Rattle.shard.specs.declared.shard.Freed.TheVariants as freed
+use Rattle.abandoned.specs.Calls.{Frees as FreesPooled, Gets as GetsPooled}
+use Rattle.abandoned.specs.State.{PoolState}
+
+-- the receipt of a put of the value, which gave the key out after so many changes
+abbrev pub put_receipt : ℕ → ℕ → Word → Key → ℕ → Receipt
+put_receipt worker section value key at = record { worker = worker; section = section; key = key; at = at; call = call.Put value }
+
+-- the receipt of a look-up of the key that found this after so many changes
+abbrev pub get_receipt : ℕ → ℕ → Key → Option Word → ℕ → Receipt
+get_receipt worker section key value at = record { worker = worker; section = section; key = key; at = at; call = look_up value }
+
+-- the receipt of a free of the key after so many changes, which was done or was not
+abbrev pub free_receipt : ℕ → ℕ → Key → Bool → ℕ → Receipt
+free_receipt worker section key done at = record { worker = worker; section = section; key = key; at = at; call = free done }
+
+-- what a look-up found
+abbrev pub found_by : Call → Option Word
+found_by (call.Found value) = Some value
+found_by _ = None
+
+-- a free was done
+abbrev pub done_by : Call → Bool
+done_by call.Freed = true
+done_by _ = false
+
+-- there is a receipt, and it is that of a free that was done
+abbrev pub was_done : Option Receipt → Bool
+was_done None = false
+was_done (Some receipt) = done_by receipt.call
+
+-- the receipt of a look-up that came to this; none where the span is not there
+abbrev pub told_of_get : ℕ → ℕ → Key → Found → Option Receipt
+told_of_get worker section key (found.Value value at) = Some (get_receipt worker section key (Some value) at)
+told_of_get worker section key (found.Gone at) = Some (get_receipt worker section key None at)
+told_of_get worker section key found.NotHere = None
+
+-- the receipt of a free that came to this; none where the span is not there
+abbrev pub told_of_free : ℕ → ℕ → Key → Freed → Option Receipt
+told_of_free worker section key (freed.Yes at) = Some (free_receipt worker section key true at)
+told_of_free worker section key (freed.No at) = Some (free_receipt worker section key false at)
+told_of_free worker section key freed.NotHere = None
+
+-- the receipt tells what a look-up of the key in the shard comes to
+abbrev pub TellsGet : ShardState → ℕ → ℕ → Key → Option Receipt → Type 0
+TellsGet shard worker section key told = (what : Found) × Gets shard key what × (told ≡ told_of_get worker section key what)
+
+-- the receipt tells what a free of the key in the shard does
+abbrev pub TellsFree : ShardState → ℕ → ℕ → Key → Option Receipt → ShardState → Type 0
+TellsFree old worker section key told new = (what : Freed) × Frees old key what new × (told ≡ told_of_free worker section key what)
+
+-- the receipt tells what a look-up of the key in the pool comes to
+abbrev pub TellsGetPooled : PoolState → ℕ → ℕ → Key → Option Receipt → Type 0
+TellsGetPooled pool worker section key told = (what : Found) × GetsPooled pool key what × (told ≡ told_of_get worker section key what)
+
+-- the receipt tells what a free of the key in the pool does
+abbrev pub TellsFreePooled : PoolState → ℕ → ℕ → Key → Option Receipt → PoolState → Type 0
+TellsFreePooled old worker section key told new = (what : Freed) × FreesPooled old key what new × (told ≡ told_of_free worker section key what)
+
+-- the receipt is of a look-up of the key by the worker in the section
+abbrev pub IsGetBy : ℕ → ℕ → Key → Receipt → Type 0
+IsGetBy worker section key receipt = receipt ≡ get_receipt worker section key (found_by receipt.call) receipt.at
+
+-- the receipt is of a free of the key by the worker in the section
+abbrev pub IsFreeBy : ℕ → ℕ → Key → Receipt → Type 0
+IsFreeBy worker section key receipt = receipt ≡ free_receipt worker section key (done_by receipt.call) receipt.at

@@ -1,0 +1,50 @@
+//! Shards behind locks, worked on by threads.
+//!
+//! An [`Arena`] keeps each shard in a lock of its own, and the pool in another. Each worker has a
+//! [`Seat`], which puts into the shard of its number and looks keys up, and frees them, wherever
+//! their spans are. A [`Steward`] keeps the open plan of folds, which a mark makes, and takes its
+//! steps beside the workers.
+//!
+//! ```text
+//!   word of a span      not opened     the pool       shard s
+//!                           │             │             │
+//!   locks, in the order   (none)         pool    <   shard 0  <  shard 1  <  ..
+//!   they are taken in
+//!                       put, get, free of one span     one lock
+//!                       end, adopt, step               the pool's and one shard's
+//!                       mark, close, totals            all of them
+//! ```
+//!
+//! What is done under a lock is done by one call of a shard, of the pool, `fold_one` or `mark_in` on
+//! what the lock lends ([`sections`]), so the contracts of those calls hold of it, and each look-up,
+//! put and free makes its receipt there. A word is only a hint of where a span is: an answer stands
+//! on what was found under the lock.
+//!
+//! No contract speaks of what a lock guards at a moment that no caller can name. So a seat's contract
+//! says that its answer is its receipt's, and the receipts are held against the logs when the run is
+//! over (the crate `audit`): each call then has its place in one history of its span.
+//!
+//! The logs are kept, or only counted, as the arena's type says. With `Counted` it is the arena of a
+//! service that runs for months; its receipts are the caller's to keep or to drop, and it can't be
+//! audited.
+#![tactic(auto)]
+
+mod arena;
+mod error;
+mod gate;
+mod limits;
+mod locks;
+mod opening;
+mod seat;
+pub mod sections;
+mod steward;
+#[cfg(test)]
+mod tests;
+mod words;
+
+pub use arena::{Arena, Stepped};
+pub use error::OpenError;
+pub use gate::{Gate, NoGate};
+pub use limits::Limits;
+pub use seat::Seat;
+pub use steward::Steward;

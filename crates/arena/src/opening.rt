@@ -1,0 +1,117 @@
+// A new arena, with its seats and its steward.
+ghost use Rattle.std.specs.Prelude.{◌≡◌, ◌≤◌, ◌↔◌, IfOk, IsErrOf, None, map, vec_len};
+ghost use Rattle.std.specs.List.{range_with_len};
+ghost use Rattle.arena_core.specs.State.{AreWithin, limits_of};
+ghost use Rattle.arena.specs.Seats.{first_seat};
+
+use crate::arena::Arena;
+use crate::error::OpenError;
+use crate::gate::Gate;
+use crate::limits::Limits;
+use crate::seat::Seat;
+use crate::steward::Steward;
+use crate::words::Words;
+use abandoned::Pool;
+use shard::Shard;
+use span::{Kept, Log};
+use std::alloc::{AllocError, Global};
+use std::sync::Mutex;
+
+impl<G: Gate> Arena<G, Kept> {
+    /// An arena of so many new shards and an empty pool, with a seat for each worker, by number, and its steward. A shard may
+    /// have `page_limit` pages of 256 slots, a ring holds `ring_capacity` keys, and a slot is given the generations from 1
+    /// to `gens`.
+    ///
+    /// # Errors
+    ///
+    /// `Config` exactly where a number is out of its range, which is 1 to 64 shards, 1 to 1,024 pages, 1 to 1,024 keys, and from 1
+    /// generation on; `OutOfMemory` only where each is within it.
+    pub fn open(
+        alloc: Global,
+        shards: u32,
+        page_limit: usize,
+        ring_capacity: usize,
+        gens: u32,
+        gate: G,
+    ) -> Result<(Arena<G>, Vec<Seat>, Steward), OpenError>
+        ensures config { IsErrOf result OpenError.Config ↔ (AreWithin (limits_of shards page_limit ring_capacity gens) → ⊥) }
+        ensures memory { IsErrOf result OpenError.OutOfMemory → AreWithin (limits_of shards page_limit ring_capacity gens) }
+        ensures numbers { IfOk result (λ opened. opened.0.limits ≡ limits_of shards page_limit ring_capacity gens) }
+        ensures seats { IfOk result (λ opened. opened.1.items ≡ map (first_seat opened.0.limits) (range_with_len 0 shards)) }
+        ensures steward { IfOk result (λ opened. opened.2 ≡ record { limits = opened.0.limits; plan = None }) }
+    {
+        Arena::open_with_log(alloc, shards, page_limit, ring_capacity, gens, gate)
+    }
+}
+
+impl<G: Gate, L: Log> Arena<G, L> {
+    /// An arena of new shards, whose logs are kept or counted as its type says, with its seats and its steward: as
+    /// [`Arena::open`], and refused as that is.
+    pub fn open_with_log(
+        alloc: Global,
+        shards: u32,
+        page_limit: usize,
+        ring_capacity: usize,
+        gens: u32,
+        gate: G,
+    ) -> Result<(Arena<G, L>, Vec<Seat>, Steward), OpenError>
+        ensures config { IsErrOf result OpenError.Config ↔ (AreWithin (limits_of shards page_limit ring_capacity gens) → ⊥) }
+        ensures memory { IsErrOf result OpenError.OutOfMemory → AreWithin (limits_of shards page_limit ring_capacity gens) }
+        ensures numbers { IfOk result (λ opened. opened.0.limits ≡ limits_of shards page_limit ring_capacity gens) }
+        ensures seats { IfOk result (λ opened. opened.1.items ≡ map (first_seat opened.0.limits) (range_with_len 0 shards)) }
+        ensures steward { IfOk result (λ opened. opened.2 ≡ record { limits = opened.0.limits; plan = None }) }
+    {
+        let Some(limits) = Limits::new(shards, page_limit, ring_capacity, gens) else {
+            return Err(OpenError::Config);
+        };
+        let seats = seats_of(alloc, limits)?;
+        let steward = Steward::new(alloc, limits)?;
+        let arena = arena_of(alloc, limits, gate)?;
+        Ok((arena, seats, steward))
+    }
+}
+
+// A seat for each worker, by number.
+fn seats_of(alloc: Global, limits: Limits) -> Result<Vec<Seat>, AllocError>
+    ensures { IfOk result (λ seats. seats.items ≡ map (first_seat limits) (range_with_len 0 limits.shards)) }
+{
+    let mut seats = Vec::with_capacity(alloc, limits.shards() as usize)?;
+    for worker in 0..limits.shards() {
+        seats.push_reserved(Seat::new(worker, limits));
+    }
+    Ok(seats)
+}
+
+// New shards and an empty pool behind locks, and the words of spans of which none is opened.
+fn arena_of<G: Gate, L: Log>(
+    alloc: Global,
+    limits: Limits,
+    gate: G,
+) -> Result<Arena<G, L>, AllocError>
+    ensures { IfOk result (λ arena. arena.limits ≡ limits) }
+{
+    let words = Words::new(alloc, limits.shards())?;
+    let shards = locked_shards(alloc, limits)?;
+    Ok(Arena {
+        alloc,
+        limits,
+        pool: Mutex::new(Pool::with_log(alloc)),
+        shards,
+        words,
+        gate,
+    })
+}
+
+// A new shard for each number, behind a lock.
+fn locked_shards<L: Log>(alloc: Global, limits: Limits) -> Result<Vec<Mutex<Shard<L>>>, AllocError>
+    ensures { IfOk result (λ shards. vec_len shards ≡ limits.shards) }
+{
+    let mut shards = Vec::with_capacity(alloc, limits.shards() as usize)?;
+    for number in 0..limits.shards() {
+        let Ok(shard) = Shard::with_log(alloc, number, limits.page_limit(), limits.gens()) else {
+            unreachable!();
+        };
+        shards.push_reserved(Mutex::new(shard));
+    }
+    Ok(shards)
+}

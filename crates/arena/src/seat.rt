@@ -1,0 +1,277 @@
+// A worker's place at the arena.
+ghost use Rattle.std.specs.Prelude.{◌≡◌, ◌+◌, ◌-◌, ◌<◌, ◌^◌, ◌↔◌, IfOk, IfSome, IsTrue};
+ghost use Rattle.arena.specs.Receipts.{IsFreeBy, IsGetBy, done_by, found_by, free_receipt, get_receipt, put_receipt};
+
+use crate::arena::Arena;
+use crate::gate::Gate;
+use crate::limits::Limits;
+use crate::sections::{free_in, free_pool, get_in, get_pool, put_in, unopened_free, unopened_get};
+use crate::words::Place;
+use abandoned::{AdoptError, ReceiveError};
+use shard::PutError;
+use span::{Call, Key, Log, Receipt, SpanId};
+use std::marker::Model;
+use std::sync::Wait;
+
+/// A worker's place: it puts into the shard of its number, and its receipts carry that number and the section of the run that
+/// it is in.
+#[derive(Drop)]
+pub struct Seat {
+    worker: u32,
+    section: u64,
+    limits: Limits,
+    ghost worker_has_shard: { worker < limits.shards },
+    ghost worker_in_range: { worker < 64 },
+}
+
+impl Model for Seat {
+    ghost use Rattle.std.specs.Prelude.{◌<◌};
+    ghost use Rattle.arena.specs.Seats.{SeatState};
+
+    ghost Value = { SeatState };
+
+    ghost view = { λ seat. record { worker = seat.worker; section = seat.section; limits = seat.limits } };
+}
+
+impl Seat {
+    // A worker's seat at an arena of these numbers, in section 0.
+    pub(crate) fn new(worker: u32, limits: Limits) -> Seat
+        requires has_shard { worker < limits.shards }
+        requires in_range { worker < 64 }
+        ensures { result ≡ record { worker = worker; section = 0; limits = limits } }
+    {
+        Seat {
+            worker,
+            section: 0,
+            limits,
+        }
+    }
+
+    /// The worker's number, which is that of its shard.
+    pub fn worker(&self) -> u32
+        ensures worker { result ≡ self.now.worker }
+        ensures fits { result < self.now.limits.shards }
+    {
+        self.worker
+    }
+
+    /// Whether its numbers are those of the arena, as each call asks that is lent both.
+    pub fn fits<G: Gate, L: Log>(&self, arena: &Arena<G, L>) -> bool
+        ensures { IsTrue result ↔ (self.now.limits ≡ arena.now.limits) }
+    {
+        self.limits == arena.limits
+    }
+
+    /// The section that its receipts carry.
+    pub fn section(&self) -> u64
+        ensures { result ≡ self.now.section }
+    {
+        self.section
+    }
+
+    /// From now on its receipts carry the next section. That all workers go on together, at a barrier, is the callers' own
+    /// affair. It waits for nobody and takes no memory.
+    pub fn next_section(&mut self)
+        requires { self.old.section < 2 ^ 64 - 1 }
+        ensures { self.new ≡ record self.old { section = self.old.section + 1 } }
+    {
+        self.section += 1;
+    }
+
+    /// Puts the value into the worker's shard, under that shard's lock, and gives the key and the receipt.
+    ///
+    /// # Errors
+    ///
+    /// As those of [`put_in`] on the shard as it then is: `Ended`, `PagesSpent` and `OutOfMemory`.
+    pub fn put<G: Gate, L: Log, R: Wait>(
+        &mut self,
+        rt: &R,
+        arena: &Arena<G, L>,
+        value: u128,
+    ) -> Result<(Key, Receipt), PutError>
+        requires { self.old.limits ≡ arena.now.limits }
+        ensures receipt { IfOk result (λ put. put.1 ≡ put_receipt self.old.worker self.old.section value put.0 put.1.at) }
+        ensures seat { self.new ≡ self.old }
+    {
+        let mut shard = arena.shards[self.worker as usize].lock(rt);
+        arena.gate.inside(self.worker);
+        let receipt = put_in(&mut *shard, self.worker, self.section, value)?;
+        if receipt.at == 0 {
+            // The span is new: whoever is handed its key finds it from now on.
+            arena.words.set(receipt.key.span, Place::Shard(self.worker));
+        }
+        Ok((receipt.key, receipt))
+    }
+
+    /// Looks the key up, under the lock of whoever has its span, and gives what was found and the receipt. A span that was
+    /// never opened takes no lock: nothing is found, before its log's first change.
+    pub fn get<G: Gate, L: Log, R: Wait>(
+        &mut self,
+        rt: &R,
+        arena: &Arena<G, L>,
+        key: &Key,
+    ) -> (Option<u128>, Receipt)
+        requires { self.old.limits ≡ arena.now.limits }
+        ensures receipt { result.1 ≡ get_receipt self.old.worker self.old.section key.now result.0 result.1.at }
+        ensures seat { self.new ≡ self.old }
+    {
+        for _ in rt.forever() {
+            match arena.words.place_of(key.span) {
+                Place::Unopened => {
+                    return (None, unopened_get(self.worker, self.section, key));
+                }
+                place => {
+                    if let Some(receipt) = self.get_at(rt, arena, place, key) {
+                        return (value_in(&receipt), receipt);
+                    }
+                }
+            }
+        }
+        unreachable!()
+    }
+
+    /// Frees the key, under the lock of whoever has its span, and gives whether it was live and the receipt. A span that
+    /// was never opened takes no lock: nothing is freed, before its log's first change.
+    pub fn free<G: Gate, L: Log, R: Wait>(
+        &mut self,
+        rt: &R,
+        arena: &Arena<G, L>,
+        key: &Key,
+    ) -> (bool, Receipt)
+        requires { self.old.limits ≡ arena.now.limits }
+        ensures receipt { result.1 ≡ free_receipt self.old.worker self.old.section key.now result.0 result.1.at }
+        ensures seat { self.new ≡ self.old }
+    {
+        for _ in rt.forever() {
+            match arena.words.place_of(key.span) {
+                Place::Unopened => {
+                    return (false, unopened_free(self.worker, self.section, key));
+                }
+                place => {
+                    if let Some(receipt) = self.free_at(rt, arena, place, key) {
+                        return (done_in(&receipt), receipt);
+                    }
+                }
+            }
+        }
+        unreachable!()
+    }
+
+    /// The end of the worker's shard, under the pool's lock and the shard's: all its groups go to the pool.
+    ///
+    /// # Errors
+    ///
+    /// As those of [`Pool::receive`](abandoned::Pool::receive) on pool and shard as they then are: `Ended`, `Doubled`, `PlanOpen`
+    /// where a group of the shard is closed, and `OutOfMemory`. Nothing has moved then.
+    pub fn end<G: Gate, L: Log, R: Wait>(
+        &mut self,
+        rt: &R,
+        arena: &Arena<G, L>,
+    ) -> Result<(), ReceiveError>
+        requires { self.old.limits ≡ arena.now.limits }
+        ensures seat { self.new ≡ self.old }
+    {
+        let mut pool = arena.pool.lock(rt);
+        let mut shard = arena.shards[self.worker as usize].lock(rt);
+        arena.words.set_all(&*shard, Place::Pool);
+        let received = pool.receive(&mut *shard);
+        // Where it was refused, the spans are still in the shard.
+        arena.words.set_all(&*shard, Place::Shard(self.worker));
+        received
+    }
+
+    /// The worker's shard adopts the pool's group of lowest head that has a page, under the pool's lock and the shard's,
+    /// and gives its head.
+    ///
+    /// # Errors
+    ///
+    /// As those of [`Pool::adopt`](abandoned::Pool::adopt) on pool and shard as they then are: `PagesSpent`, `Ended`, `Doubled`,
+    /// `PlanOpen`, `NothingToAdopt` and `OutOfMemory`. Nothing has moved then.
+    pub fn adopt<G: Gate, L: Log, R: Wait>(
+        &mut self,
+        rt: &R,
+        arena: &Arena<G, L>,
+    ) -> Result<SpanId, AdoptError>
+        requires { self.old.limits ≡ arena.now.limits }
+        ensures seat { self.new ≡ self.old }
+    {
+        let mut pool = arena.pool.lock(rt);
+        let mut shard = arena.shards[self.worker as usize].lock(rt);
+        let head = pool.adopt(&mut *shard)?;
+        arena
+            .words
+            .set_group(&*shard, head, Place::Shard(self.worker));
+        Ok(head)
+    }
+
+    // Looks the key up in this place, if its span is there.
+    fn get_at<G: Gate, L: Log, R: Wait>(
+        &self,
+        rt: &R,
+        arena: &Arena<G, L>,
+        place: Place,
+        key: &Key,
+    ) -> Option<Receipt>
+        ensures { IfSome result (IsGetBy self.now.worker self.now.section key.now) }
+    {
+        match place {
+            Place::Unopened => None,
+            Place::Pool => {
+                let pool = arena.pool.lock(rt);
+                get_pool(&*pool, self.worker, self.section, key)
+            }
+            Place::Shard(number) => {
+                let Some(lock) = arena.shards.get(number as usize) else {
+                    return None;
+                };
+                let shard = lock.lock(rt);
+                arena.gate.inside(number);
+                get_in(&*shard, self.worker, self.section, key)
+            }
+        }
+    }
+
+    // Frees the key in this place, if its span is there.
+    fn free_at<G: Gate, L: Log, R: Wait>(
+        &self,
+        rt: &R,
+        arena: &Arena<G, L>,
+        place: Place,
+        key: &Key,
+    ) -> Option<Receipt>
+        ensures { IfSome result (IsFreeBy self.now.worker self.now.section key.now) }
+    {
+        match place {
+            Place::Unopened => None,
+            Place::Pool => {
+                let mut pool = arena.pool.lock(rt);
+                free_pool(&mut *pool, self.worker, self.section, key)
+            }
+            Place::Shard(number) => {
+                let Some(lock) = arena.shards.get(number as usize) else {
+                    return None;
+                };
+                let mut shard = lock.lock(rt);
+                arena.gate.inside(number);
+                free_in(&mut *shard, self.worker, self.section, key)
+            }
+        }
+    }
+}
+
+// What the look-up of a receipt found.
+fn value_in(receipt: &Receipt) -> Option<u128>
+    ensures { result ≡ found_by receipt.now.call }
+{
+    match receipt.call {
+        Call::Found { value } => Some(value),
+        _ => None,
+    }
+}
+
+// Whether the free of a receipt was done.
+fn done_in(receipt: &Receipt) -> bool
+    ensures { result ≡ done_by receipt.now.call }
+{
+    matches!(receipt.call, Call::Freed)
+}

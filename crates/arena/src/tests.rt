@@ -1,0 +1,385 @@
+//! What no clause says: that calls succeed, what they leave behind the locks, that two threads are in their shards at the same
+//! time, and that a call that was refused memory may be made again.
+//!
+//! What is called stands in helpers that promise nothing, and the answers are compared at once: a test carries no clauses then,
+//! and has one exit.
+ghost use Rattle.std.specs.Prelude.{◌≡◌};
+
+use crate::arena::{Arena, Stepped};
+use crate::error::OpenError;
+use crate::gate::{Gate, NoGate};
+use crate::seat::Seat;
+use crate::steward::Steward;
+use abandoned::AdoptError;
+use arena_core::{MarkError, Totals};
+use fold::Step;
+use shard::PutError;
+use span::{Counted, Kept, Key, Log, SpanId};
+use std::alloc::Global;
+use std::sync::Wait;
+use std::sync::atomic::AtomicU64;
+use std::sync::atomic::Ordering::SeqCst;
+use std::test::Fail;
+use std::thread;
+use std::thread::Threads;
+
+// An arena of two shards of at most 4 pages each, with its seats and its steward.
+#[derive(Drop)]
+struct Two<G: Gate, L: Log> {
+    arena: Arena<G, L>,
+    first: Seat,
+    second: Seat,
+    steward: Steward,
+    ghost first_fits: { first.limits ≡ arena.limits },
+    ghost second_fits: { second.limits ≡ arena.limits },
+    ghost steward_fits: { steward.limits ≡ arena.limits },
+}
+
+fn make_two<G: Gate, L: Log>(alloc: Global, gate: G) -> Option<Two<G, L>> {
+    let Ok((arena, mut seats, steward)) = Arena::open_with_log(alloc, 2, 4, 4, 9, gate) else {
+        return None;
+    };
+    let second = seats.pop()?;
+    let first = seats.pop()?;
+    Some(Two {
+        arena,
+        first,
+        second,
+        steward,
+    })
+}
+
+// Opened again where memory was refused.
+fn make_again<L: Log>(alloc: Global) -> Option<Two<NoGate, L>> {
+    match make_two(alloc, NoGate) {
+        Some(two) => Some(two),
+        None => make_two(alloc, NoGate),
+    }
+}
+
+// The calls that may be refused memory, made again where they were. No contract speaks of them here, so that the tests hold no
+// clauses.
+
+fn put<G: Gate, L: Log, R: Wait>(
+    rt: &R,
+    arena: &Arena<G, L>,
+    seat: &mut Seat,
+    value: u128,
+) -> Option<Key>
+    requires { seat.old.limits ≡ arena.now.limits }
+    ensures { seat.new ≡ seat.old }
+{
+    let put = match seat.put(rt, arena, value) {
+        Err(PutError::OutOfMemory) => seat.put(rt, arena, value),
+        put => put,
+    };
+    match put {
+        Ok((key, _)) => Some(key),
+        Err(_) => None,
+    }
+}
+
+fn end<G: Gate, L: Log, R: Wait>(rt: &R, arena: &Arena<G, L>, seat: &mut Seat) -> bool
+    requires { seat.old.limits ≡ arena.now.limits }
+    ensures { seat.new ≡ seat.old }
+{
+    seat.end(rt, arena).is_ok() || seat.end(rt, arena).is_ok()
+}
+
+fn adopt<G: Gate, L: Log, R: Wait>(
+    rt: &R,
+    arena: &Arena<G, L>,
+    seat: &mut Seat,
+) -> Result<SpanId, AdoptError>
+    requires { seat.old.limits ≡ arena.now.limits }
+    ensures { seat.new ≡ seat.old }
+{
+    match seat.adopt(rt, arena) {
+        Err(AdoptError::OutOfMemory) => seat.adopt(rt, arena),
+        adopted => adopted,
+    }
+}
+
+// How many folds are planned.
+fn mark<G: Gate, L: Log, R: Wait>(
+    rt: &R,
+    arena: &Arena<G, L>,
+    steward: &mut Steward,
+) -> Result<usize, MarkError>
+    requires { steward.old.limits ≡ arena.now.limits }
+    ensures { steward.new.limits ≡ steward.old.limits }
+{
+    let marked = match arena.mark(rt, steward) {
+        Err(MarkError::OutOfMemory) => arena.mark(rt, steward),
+        marked => marked,
+    };
+    match marked {
+        Ok(found) => Ok(found.plan.pairs().len()),
+        Err(error) => Err(error),
+    }
+}
+
+fn step<G: Gate, L: Log, R: Wait>(
+    rt: &R,
+    arena: &Arena<G, L>,
+    steward: &mut Steward,
+) -> Option<Stepped>
+    requires { steward.old.limits ≡ arena.now.limits }
+    ensures { steward.new.limits ≡ steward.old.limits }
+{
+    match arena.step(rt, steward) {
+        Ok(stepped) => Some(stepped),
+        Err(_) => arena.step(rt, steward).ok(),
+    }
+}
+
+// What the look-up of a key answers, and how many changes stood in its span's log.
+fn get<G: Gate, L: Log, R: Wait>(
+    rt: &R,
+    arena: &Arena<G, L>,
+    seat: &mut Seat,
+    key: &Key,
+) -> (Option<u128>, usize)
+    requires { seat.old.limits ≡ arena.now.limits }
+    ensures { seat.new ≡ seat.old }
+{
+    let (value, receipt) = seat.get(rt, arena, key);
+    (value, receipt.at)
+}
+
+fn free<G: Gate, L: Log, R: Wait>(
+    rt: &R,
+    arena: &Arena<G, L>,
+    seat: &mut Seat,
+    key: &Key,
+) -> (bool, usize)
+    requires { seat.old.limits ≡ arena.now.limits }
+    ensures { seat.new ≡ seat.old }
+{
+    let (done, receipt) = seat.free(rt, arena, key);
+    (done, receipt.at)
+}
+
+// The group of the first shard, which has ended, is folded onto that of the second.
+fn is_folded<G: Gate, L: Log, R: Wait>(
+    rt: &R,
+    arena: &Arena<G, L>,
+    first: &mut Seat,
+    second: &mut Seat,
+    steward: &mut Steward,
+) -> Option<bool>
+    requires first { first.old.limits ≡ arena.now.limits }
+    requires second { second.old.limits ≡ arena.now.limits }
+    requires steward { steward.old.limits ≡ arena.now.limits }
+{
+    let gone = put(rt, arena, first, 10)?;
+    let kept = put(rt, arena, first, 11)?;
+    let freed = free(rt, arena, first, &gone);
+    let ended = end(rt, arena, first);
+    let own = put(rt, arena, second, 7)?;
+    let planned = mark(rt, arena, steward);
+    let again = mark(rt, arena, steward);
+    let adopted = adopt(rt, arena, second);
+    let stepped = step(rt, arena, steward);
+    let last = step(rt, arena, steward);
+    let closed = arena.close(rt, steward);
+    let none = step(rt, arena, steward);
+    let found = get(rt, arena, second, &kept);
+    let totals = arena.totals(rt);
+    Some(
+        freed == (true, 2)
+            && ended
+            && planned == Ok(1)
+            && again == Err(MarkError::PlanOpen)
+            && adopted == Err(AdoptError::PlanOpen)
+            && stepped == Some(Stepped::Taken(kept.span, own.span, Step::Folded))
+            && last == Some(Stepped::NoPairLeft)
+            && closed
+            && none == Some(Stepped::NoPlan)
+            && found == (Some(11), 3)
+            && totals == (Totals { pages: 1, live: 2 }),
+    )
+}
+
+#[test]
+fn folds_beside_locks(rt: HostRuntime) -> Result<(), Fail> {
+    let Some(two) = make_again::<Kept>(rt.alloc()) else {
+        return Err("no arena".into());
+    };
+    let Two {
+        arena,
+        mut first,
+        mut second,
+        mut steward,
+    } = two;
+    let folded = is_folded(&rt, &arena, &mut first, &mut second, &mut steward);
+    assert_eq!(rt; folded, Some(true));
+    Ok(())
+}
+
+// A key that no put has given out: of the last span of the second shard.
+fn stranger() -> Option<Key> {
+    let id = SpanId::new(1, 1023)?;
+    Key::new(id, 0, 1)
+}
+
+// A key is found where its span is: nowhere, in its shard, in the pool, and in the shard that adopts it.
+fn is_followed<G: Gate, L: Log, R: Wait>(
+    rt: &R,
+    arena: &Arena<G, L>,
+    first: &mut Seat,
+    second: &mut Seat,
+) -> Option<bool>
+    requires first { first.old.limits ≡ arena.now.limits }
+    requires second { second.old.limits ≡ arena.now.limits }
+{
+    let stranger = stranger()?;
+    let none = get(rt, arena, first, &stranger);
+    let missed = free(rt, arena, first, &stranger);
+    let key = put(rt, arena, first, 5)?;
+    let other = put(rt, arena, first, 6)?;
+    let shared = get(rt, arena, second, &key);
+    let ended = end(rt, arena, first);
+    let again = first.end(rt, arena).is_err();
+    let refused = put(rt, arena, first, 6);
+    let pooled = get(rt, arena, second, &key);
+    let freed = free(rt, arena, second, &other);
+    let head = adopt(rt, arena, second);
+    let adopted = get(rt, arena, first, &key);
+    let empty = adopt(rt, arena, second);
+    let last = free(rt, arena, first, &key);
+    let totals = arena.totals(rt);
+    Some(
+        none == (None, 0)
+            && missed == (false, 0)
+            && shared == (Some(5), 2)
+            && ended
+            && again
+            && refused.is_none()
+            && pooled == (Some(5), 2)
+            && freed == (true, 2)
+            && head == Ok(key.span)
+            && adopted == (Some(5), 3)
+            && empty == Err(AdoptError::NothingToAdopt)
+            && last == (true, 3)
+            && totals == (Totals { pages: 1, live: 0 }),
+    )
+}
+
+#[test]
+fn follows_a_span(rt: HostRuntime) -> Result<(), Fail> {
+    let Some(two) = make_again::<Counted>(rt.alloc()) else {
+        return Err("no arena".into());
+    };
+    let Two {
+        arena,
+        mut first,
+        mut second,
+        ..
+    } = two;
+    let followed = is_followed(&rt, &arena, &mut first, &mut second);
+    assert_eq!(rt; followed, Some(true));
+    Ok(())
+}
+
+// Whether an arena is opened of shards of this number, with as many seats.
+fn opens(alloc: Global, shards: u32) -> Result<bool, OpenError> {
+    let (arena, seats, steward) = Arena::open(alloc, shards, 4, 4, 9, NoGate)?;
+    Ok(arena.limits.shards() == shards && seats.len() == shards as usize && steward.fits(&arena))
+}
+
+#[test]
+fn opens_within_limits(rt: HostRuntime) -> Result<(), Fail> {
+    let opened = (opens(rt.alloc(), 3), opens(rt.alloc(), 65));
+    assert_eq!(rt; opened, (Ok(true), Err(OpenError::Config)));
+    Ok(())
+}
+
+// A gate that holds a thread inside of shard 0 until a put in another shard has answered, for at most 1,000,000 turns.
+#[derive(Drop)]
+struct Held {
+    // 1 once the thread came to the gate.
+    came: AtomicU64,
+    // 1 once the other put has answered.
+    answered: AtomicU64,
+    // 1 where the thread went on without that.
+    missed: AtomicU64,
+}
+
+impl Gate for Held {
+    fn inside(&self, shard: u32) {
+        if shard != 0 {
+            return;
+        }
+        self.came.store(1, SeqCst);
+        if !is_set_in_time(&self.answered) {
+            self.missed.store(1, SeqCst);
+        }
+    }
+}
+
+// Waits for the word to be 1, for at most 1,000,000 turns, and says whether it is.
+fn is_set_in_time(word: &AtomicU64) -> bool {
+    for _ in 0..1_000_000 {
+        if word.load(SeqCst) == 1 {
+            return true;
+        }
+        thread::yield_now();
+    }
+    false
+}
+
+fn put_once<G: Gate, R: Wait>(rt: &R, arena: &Arena<G>, seat: &mut Seat) -> bool
+    requires { seat.old.limits ≡ arena.now.limits }
+{
+    seat.put(rt, arena, 1).is_ok()
+}
+
+// A put that begins once another thread is held in its shard, and whether it answered.
+fn put_beside<R: Wait>(rt: &R, arena: &Arena<Held>, seat: &mut Seat) -> bool
+    requires { seat.old.limits ≡ arena.now.limits }
+{
+    let came = is_set_in_time(&arena.gate.came);
+    let put = put_once(rt, arena, seat);
+    arena.gate.answered.store(1, SeqCst);
+    came && put
+}
+
+// Both put, each in a thread of its own, and whether the first was held until the second's put had answered.
+fn meet<R: Threads + Wait + Sync>(
+    rt: &R,
+    arena: &Arena<Held>,
+    first: &mut Seat,
+    second: &mut Seat,
+) -> bool
+    requires first { first.old.limits ≡ arena.now.limits }
+    requires second { second.old.limits ≡ arena.now.limits }
+{
+    let (held, beside) = thread::join(
+        rt,
+        || put_once(rt, arena, first),
+        || put_beside(rt, arena, second),
+    );
+    held && beside && arena.gate.missed.load(SeqCst) == 0
+}
+
+#[test]
+fn puts_beside_a_thread_that_is_held(rt: HostRuntime) -> Result<(), Fail> {
+    let gate = Held {
+        came: AtomicU64::new(0),
+        answered: AtomicU64::new(0),
+        missed: AtomicU64::new(0),
+    };
+    let Some(two) = make_two::<Held, Kept>(rt.alloc(), gate) else {
+        return Err("no arena".into());
+    };
+    let Two {
+        arena,
+        mut first,
+        mut second,
+        ..
+    } = two;
+    let met = meet(&rt, &arena, &mut first, &mut second);
+    assert!(rt; met);
+    Ok(())
+}
