@@ -15,7 +15,6 @@ pub mod Received
 pub mod Released
 pub mod Searches
 pub mod ShownLogs
-pub mod SpanCounts
 pub mod Standing
 pub mod Started
 pub mod Tables

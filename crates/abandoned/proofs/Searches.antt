@@ -1,10 +1,7 @@
 -- What a walk over a list knows of the places that it has passed.
-use Rattle.std.proofs.Common.{◌≡◌, ℕ, ◌+◌, ◌<◌, ◌≤◌, List, [], ◌∷◌, ◌++◌, length, Some, take, slice_get, zero, suc, ap, sym, subst, ◌∙◌, inl, inr, arith}
+use Rattle.std.proofs.Common.{◌≡◌, ℕ, ◌+◌, ◌<◌, ◌≤◌, List, length, Some, slice_get, ap, sym, subst, ◌∙◌, inl, inr, arith}
 use Rattle.std.proofs.lemmas.Bool.{cases_eq}
-use Rattle.std.proofs.lemmas.List.{length-append}
 use Rattle.std.proofs.lemmas.Option.{slice_get_within}
-use Rattle.shard.specs.Group.{GroupState, spans_of}
-use Rattle.shard.specs.State.{spans_in}
 use Rattle.shard.proofs.Lists.{same_some}
 
 module _ {X : Type 0} (P : X → Type 0) where
@@ -17,14 +14,3 @@ module _ {X : Type 0} (P : X → Type 0) where
 
   pub not_there : (xs : List X) (at : ℕ) → length xs ≤ at → ((other : ℕ) (y : X) → other < at → slice_get xs other ≡ Some y → P y → ⊥) → ((place : ℕ) × (x : X) × (slice_get xs place ≡ Some x) × P x) → ⊥
   not_there xs at past before (place, x, there, p) = before place x (let low = slice_get_within xs place x there in omega arith) there p
-
--- the spans of one group more
-pub length-more : (groups : List GroupState) (at : ℕ) (group : GroupState) → slice_get groups at ≡ Some group → length (spans_in (take (at + 1) groups)) ≡ length (spans_in (take at groups)) + length (spans_of group)
-length-more [] at group here = absurd cc
-length-more (first ∷ groups) zero group here =
-    ap (λ g. length (spans_of g ++ [])) (same_some here) ∙ length-append (spans_of group) [] ∙ omega arith
-length-more (first ∷ groups) (suc at) group here =
-    let rest = length-more groups at group here in
-    let next : suc at + 1 ≡ suc (at + 1) = omega arith in
-    ap (λ n. length (spans_in (take n (first ∷ groups)))) next ∙ length-append (spans_of first) (spans_in (take (at + 1) groups))
-    ∙ omega (arith, length-append (spans_of first) (spans_in (take at groups)))

@@ -21,6 +21,7 @@ use std::alloc::{AllocError, Global};
 use std::marker::Model;
 
 mod handover;
+mod logs;
 mod moves;
 #[cfg(test)]
 mod tests;

@@ -46,6 +46,13 @@ impl<L: Log> Pooled<L> {
         (self.spans, self.page)
     }
 
+    /// The spans, without their page.
+    pub(crate) fn into_spans(self) -> Spans<L>
+        ensures { result ≡ record { head = self.head; guests = self.guests } }
+    {
+        self.spans
+    }
+
     /// The head and its guests.
     pub(crate) fn spans(&self) -> &Spans<L>
         ensures { result.now ≡ record { head = self.now.head; guests = self.now.guests } }

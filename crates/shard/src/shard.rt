@@ -24,6 +24,7 @@ use std::alloc::{AllocError, Global};
 use std::marker::Model;
 
 mod folds;
+mod logs;
 mod moves;
 
 pub use moves::map_all;

@@ -1,15 +1,16 @@
 // A head and its guests, whose live slots differ.
-ghost use Rattle.std.specs.Prelude.{[], ◌∷◌, ◌++◌, ◌≡◌, ◌<◌, ◌≤◌, ◌+◌, ℕ, IfOk, IfSome, OnOk, OnErr, MatchOption, Some, IsTrue, ◌↔◌, slice_get, slice_set, length, false, vec_len, vec_capacity};
+ghost use Rattle.std.specs.Prelude.{[], ◌∷◌, ◌++◌, ◌≡◌, ◌<◌, ◌≤◌, ◌+◌, ℕ, IfOk, IfSome, OnOk, OnErr, MatchOption, Some, IsTrue, ◌↔◌, slice_get, slice_set, length, map, false, vec_len, vec_capacity};
 ghost use Rattle.std.specs.Bool.{OnTrue, OnFalse};
 ghost use Rattle.std.specs.FinSet as set;
 ghost use Rattle.bitmap.specs.Slots.{AreDisjoint, HasAllBelow, IsLowestOutside};
 ghost use Rattle.span.specs.Log.{live_slots, puts_of, Holds};
+ghost use Rattle.span.specs.SpanLogs.{AreLegal, room_for_logs, span_of_log};
 ghost use Rattle.span.specs.State.{SpanState};
 ghost use Rattle.shard.specs.Group.{all_spans, taken, union_of, IsSpanAt, HasNoSpan, with_put, with_free, with_span_at};
 ghost use Rattle.shard.specs.State.{live_count};
 
 use bitmap::Bits256;
-use span::{Kept, Key, Log, Span, SpanId};
+use span::{Kept, Key, Log, Span, SpanId, SpanLog};
 use std::alloc::{AllocError, Global};
 use std::marker::Model;
 use std::mem::swap;
@@ -188,6 +189,31 @@ impl<L: Log> Spans<L> {
         self.occupied.remove(key.slot);
         true
     }
+}
+
+impl Spans<Kept> {
+    /// Moves the log of each of them, the head's first, to the end of a list with room for them. It takes no memory.
+    pub fn into_logs(self, logs: &mut Vec<SpanLog>)
+        requires room { length (all_spans self) ≤ room_for_logs logs.old }
+        ensures logs { map span_of_log logs.new.items ≡ map span_of_log logs.old.items ++ all_spans self }
+        ensures legal { AreLegal logs.old.items → AreLegal logs.new.items }
+        ensures room { room_for_logs logs.old ≡ room_for_logs logs.new + length (all_spans self) }
+    {
+        push_log(logs, self.head);
+        for guest in self.guests {
+            push_log(logs, guest);
+        }
+    }
+}
+
+// Moves the span's log to the end of the list, in room that it has.
+fn push_log(logs: &mut Vec<SpanLog>, span: Span<Kept>)
+    requires { 1 ≤ room_for_logs logs.old }
+    ensures logs { map span_of_log logs.new.items ≡ map span_of_log logs.old.items ++ span ∷ [] }
+    ensures legal { AreLegal logs.old.items → AreLegal logs.new.items }
+    ensures room { room_for_logs logs.old ≡ room_for_logs logs.new + 1 }
+{
+    logs.push_reserved(span.into_log());
 }
 
 // Moves the head and the others after the guests, all of them into the list with room for them. The lists change

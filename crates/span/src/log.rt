@@ -55,6 +55,12 @@ impl Kept {
     {
         self.changes.as_slice()
     }
+
+    pub(crate) fn into_changes(self) -> Vec<Change>
+        ensures { result ≡ self.changes }
+    {
+        self.changes
+    }
 }
 
 impl Log for Kept {

@@ -9,6 +9,7 @@ use crate::generations::{generation_of, give_next, reserve_all};
 use crate::id::SpanId;
 use crate::key::Key;
 use crate::log::{Kept, Log};
+use crate::span_log::SpanLog;
 use bitmap::Bits256;
 use std::alloc::{AllocError, Global};
 use std::marker::Model;
@@ -183,6 +184,7 @@ impl<L: Log> Span<L> {
 
 impl Span<Kept> {
     ghost use Rattle.span.specs.Log.{IsLegal};
+    ghost use Rattle.span.specs.SpanLogs.{span_of_log};
 
     /// A span to which nothing was done yet. A slot is put at most `gens` times. Takes no memory.
     pub fn new(alloc: Global, id: SpanId, gens: u32) -> Self
@@ -198,6 +200,20 @@ impl Span<Kept> {
         ensures legal { IsLegal self.now.gens self.now.log }
     {
         self.log.as_slice()
+    }
+
+    /// Its id, its greatest generation and all its changes, which are handed out by move, when its run is over. Takes
+    /// no memory.
+    pub fn into_log(self) -> SpanLog
+        ensures log { span_of_log result ≡ self }
+        ensures legal { IsLegal result.gens result.changes.items }
+    {
+        let Span { id, gens, log, .. } = self;
+        SpanLog {
+            span: id,
+            gens,
+            changes: log.into_changes(),
+        }
     }
 }
 

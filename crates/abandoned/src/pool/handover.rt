@@ -69,7 +69,7 @@ impl<L: Log> Pool<L> {
         ensures sound { IsSound self.new }
         ensures sound_shard { IsSoundShard shard.new }
     {
-        self.reserve(shard.pages(), count_spans(shard))?;
+        self.reserve(shard.pages(), shard.span_count())?;
         self.take_all(shard);
         shard.set_ended();
         Ok(())
@@ -223,18 +223,6 @@ impl<L: Log> Pool<L> {
         let group = &self.groups[index];
         (group.head_id(), group.len())
     }
-}
-
-// How many spans the shard has: no more than there are ids, since none stands twice.
-fn count_spans<L: Log>(shard: &Shard<L>) -> usize
-    requires { IsSoundShard shard.now }
-    ensures { result ≡ length (spans_in_shard shard.now.groups) }
-{
-    let mut spans = 0;
-    for index in 0..shard.pages() {
-        spans += shard.spans_at(index).len();
-    }
-    spans
 }
 
 // Whether one of the spans is in the shard already, or bears its number.

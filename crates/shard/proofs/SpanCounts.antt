@@ -1,7 +1,7 @@
--- A sound shard has no more spans than there are ids.
-use Rattle.std.proofs.Common.{zero, suc, ◌≡◌, ℕ, ◌<◌, ◌≤◌, ◌||◌, Bool, true, false, List, [], ◌∷◌, length, map, get_or, take, slice_get, Some, ap, subst, sym, ◌∙◌, refl, arith, eqb, eqb-true}
+-- How many spans groups have: no more than there are ids, where none stands twice.
+use Rattle.std.proofs.Common.{zero, suc, ◌≡◌, ℕ, ◌<◌, ◌≤◌, ◌+◌, ◌++◌, ◌||◌, Bool, true, false, List, [], ◌∷◌, length, map, get_or, take, slice_get, Some, ap, subst, sym, ◌∙◌, refl, arith, eqb, eqb-true}
 use Rattle.std.specs.Prelude.{count_by}
-use Rattle.std.specs.List.{list_any}
+use Rattle.std.specs.List.{flat_map, list_any}
 use Rattle.std.proofs.lemmas.List.{length-append}
 use Rattle.std.proofs.lemmas.Map.Keys.{IsDistinct-from_apart}
 use Rattle.std.proofs.lemmas.Map.Steps.{length-le_from_distinct_below}
@@ -9,9 +9,6 @@ use Rattle.span.specs.Ids.{rank, same_span}
 use Rattle.span.specs.State.{SpanState}
 use Rattle.span.specs.declared.id.SpanId.{SpanId}
 use Rattle.span.proofs.Ids.{test_from_same_id}
-use Rattle.shard.specs.Group.{GroupState, spans_of}
-use Rattle.shard.specs.Sound.{IsSound as IsSoundShard}
-use Rattle.shard.specs.State.{ShardState, spans_in}
 use Rattle.shard.proofs.Lists.{count-two}
 use Rattle.shard.proofs.Standing.{id_from_rank}
 
@@ -44,7 +41,7 @@ ranks_below (span ∷ spans) number among = by_test (eqb number (rank span.id)) 
     by_test false e rest any = rest any
 
 -- spans of which none stands twice are at most as many as there are ids
-at_most_ids : (spans : List SpanState) → ((id : SpanId) → count_by (λ span. same_span span.id id) spans ≤ 1) → length spans ≤ 65536
+pub at_most_ids : (spans : List SpanState) → ((id : SpanId) → count_by (λ span. same_span span.id id) spans ≤ 1) → length spans ≤ 65536
 at_most_ids spans once =
     let fewer = length-le_from_distinct_below (map span_rank spans) 65536 (IsDistinct-from_apart eqb (map span_rank spans) apart) (ranks_below spans) in
     omega (arith, length_ranks spans)
@@ -66,12 +63,21 @@ at_most_ids spans once =
             omega arith)
 
 -- the spans of the first groups are no more than those of all
-length-take : (groups : List GroupState) (count : ℕ) → length (spans_in (take count groups)) ≤ length (spans_in groups)
-length-take [] zero = omega arith
-length-take [] (suc count) = omega arith
-length-take (group ∷ groups) zero = omega arith
-length-take (group ∷ groups) (suc count) =
-    omega (arith, length-append (spans_of group) (spans_in (take count groups)), length-append (spans_of group) (spans_in groups), length-take groups count)
+pub length-take_spans : {G : Type 0} (spans_of : G → List SpanState) (groups : List G) (count : ℕ) → length (flat_map spans_of (take count groups)) ≤ length (flat_map spans_of groups)
+length-take_spans spans_of [] zero = omega arith
+length-take_spans spans_of [] (suc count) = omega arith
+length-take_spans spans_of (group ∷ groups) zero = omega arith
+length-take_spans spans_of (group ∷ groups) (suc count) =
+    omega (arith, length-append (spans_of group) (flat_map spans_of (take count groups)), length-append (spans_of group) (flat_map spans_of groups), length-take_spans spans_of groups count)
 
-pub spans_fit : (shard : ShardState) → IsSoundShard shard → (count : ℕ) → length (spans_in (take count shard.groups)) ≤ 65536
-spans_fit shard sound count = omega (arith, length-take shard.groups count, at_most_ids (spans_in shard.groups) sound.once)
+-- the spans of the first groups and one more
+pub length-spans_more : {G : Type 0} (spans_of : G → List SpanState) (groups : List G) (at : ℕ) (group : G) → at < length groups → group ≡ get_or groups at group
+    → length (flat_map spans_of (take (at + 1) groups)) ≡ length (flat_map spans_of (take at groups)) + length (spans_of group)
+length-spans_more spans_of [] at group low is = absurd (omega arith)
+length-spans_more spans_of (first ∷ groups) zero group low is =
+    ap (λ g. length (spans_of g ++ [])) (sym is) ∙ length-append (spans_of group) [] ∙ omega arith
+length-spans_more spans_of (first ∷ groups) (suc at) group low is =
+    let rest = length-spans_more spans_of groups at group (omega arith) is in
+    let next : suc at + 1 ≡ suc (at + 1) = omega arith in
+    ap (λ n. length (flat_map spans_of (take n (first ∷ groups)))) next ∙ length-append (spans_of first) (flat_map spans_of (take (at + 1) groups))
+    ∙ omega (arith, length-append (spans_of first) (flat_map spans_of (take at groups)))
