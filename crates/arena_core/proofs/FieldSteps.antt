@@ -1,5 +1,5 @@
 -- The steps of a core, said of its fields.
-use Rattle.std.proofs.Common.{◌≡◌, ◌≢◌, ℕ, true, false, cond, None, Some, ap, ◌∙◌, is_some, length, set, subst, sym}
+use Rattle.std.proofs.Common.{◌≡◌, ◌≢◌, ℕ, true, false, cond, List, None, Option, Some, ap, ◌∙◌, is_some, length, set, subst, sym}
 use Rattle.std.specs.Prelude.{Err, Result, ◌↔◌}
 use Rattle.std.proofs.lemmas.Bool.{false_from_ne_true}
 use Rattle.std.proofs.option.Match.{None-if_not_some}
@@ -24,7 +24,6 @@ use Rattle.abandoned.specs.declared.error.AdoptError.TheVariants as adopt_error
 use Rattle.abandoned.specs.declared.error.ReceiveError.{ReceiveError}
 use Rattle.abandoned.specs.declared.error.ReceiveError.TheVariants as receive_error
 use Rattle.arena_core.specs.declared.event.Event.TheVariants.{Put, Free, End, Adopt}
-use Rattle.arena_core.specs.declared.guesses.Guesses.{Guesses}
 use Rattle.arena_core.specs.declared.machine.Core.TheInside.{Inside}
 use Rattle.arena_core.specs.declared.reply.Refusal.{Refusal}
 use Rattle.arena_core.specs.declared.reply.Reply.TheVariants as reply
@@ -36,7 +35,7 @@ use Rattle.arena_core.specs.State.{CoreState, has_span}
 use Rattle.arena_core.specs.Step.{CoreStep, HasClosed}
 use Rattle.arena_core.proofs.Fields.{IsRead, shard-read, state_of-with_both_at, state_of-with_shard_at, with_both_at, with_shard_at}
 use Rattle.arena_core.proofs.Moves.{CoreStep-adopt_refused, CoreStep-end_refused}
-use Rattle.arena_core.proofs.Owner.{has_span-Frees}
+use Rattle.arena_core.proofs.Moved.{has_span-Frees}
 use Rattle.arena_core.proofs.PlanSteps.{IsSoundStep, IsSoundStep-Adopts, IsSoundStep-Frees, IsSoundStep-Puts, IsSoundStep-Receives}
 use Rattle.arena_core.proofs.Steps.{CoreStep-refused, not_doubled, not_in_pool}
 
@@ -47,8 +46,8 @@ state_of-same c number before after read same =
     λ i. record { limits = record { shards = length (shards i); page_limit = c.page_limit; ring_capacity = c.ring_capacity; gens = c.gens }; shards = shards i; pool = c.pool; plan = c.plan }
 
 -- a shard and a pool that are as they were leave the fields as they were
-pub state_of-both_same : {L : Type 0} (c : Inside L) (number : ℕ) (before after : ShardState) (pool : PoolState) (guesses : Guesses) → IsRead c number before → after ≡ before → pool ≡ c.pool → state_of (with_both_at c number after pool guesses) ≡ state_of c
-state_of-both_same c number before after pool guesses read same pool_is =
+pub state_of-both_same : {L : Type 0} (c : Inside L) (number : ℕ) (before after : ShardState) (pool : PoolState) (whereabouts : List (Option ℕ)) → IsRead c number before → after ≡ before → pool ≡ c.pool → state_of (with_both_at c number after pool whereabouts) ≡ state_of c
+state_of-both_same c number before after pool whereabouts read same pool_is =
     let shards : set c.shards.items number after ≡ c.shards.items = ap (set c.shards.items number) same ∙ set-same c.shards.items number before (shard-read c number before read) in
     λ i. record { limits = record { shards = length (shards i); page_limit = c.page_limit; ring_capacity = c.ring_capacity; gens = c.gens }; shards = shards i; pool = pool_is i; plan = c.plan }
 
@@ -83,27 +82,27 @@ IsStep-free_fields c number key before after answer kept read has frees found pl
     subst (IsSoundStep (state_of c) (Free key) (reply.Freed (was_freed answer))) (sym (state_of-with_shard_at c number after))
     (IsSoundStep-Frees (state_of c) key number before after answer kept (shard-read c number before read) has frees found plain sound)
 
-pub IsStep-end_fields : {L : Type 0} (c : Inside L) (number : ℕ) (before after : ShardState) (pool : PoolState) (guesses : Guesses) → IsSound (state_of c) → IsRead c number before → (HasClosed before.groups → ⊥) → Receives c.pool before pool after → IsSoundShard after → IsSoundPool pool
-    → IsSoundStep (state_of c) (End number) reply.ShardEnded (state_of (with_both_at c number after pool guesses))
-IsStep-end_fields c number before after pool guesses kept read unclosed receives sound sound_pool =
-    subst (IsSoundStep (state_of c) (End number) reply.ShardEnded) (sym (state_of-with_both_at c number after pool guesses))
+pub IsStep-end_fields : {L : Type 0} (c : Inside L) (number : ℕ) (before after : ShardState) (pool : PoolState) (whereabouts : List (Option ℕ)) → IsSound (state_of c) → IsRead c number before → (HasClosed before.groups → ⊥) → Receives c.pool before pool after → IsSoundShard after → IsSoundPool pool
+    → IsSoundStep (state_of c) (End number) reply.ShardEnded (state_of (with_both_at c number after pool whereabouts))
+IsStep-end_fields c number before after pool whereabouts kept read unclosed receives sound sound_pool =
+    subst (IsSoundStep (state_of c) (End number) reply.ShardEnded) (sym (state_of-with_both_at c number after pool whereabouts))
     (IsSoundStep-Receives (state_of c) number before after pool kept (shard-read c number before read) unclosed receives sound sound_pool)
 
 -- an end that the pool refuses leaves the fields as they were
-pub CoreStep-end_refused_fields : {L : Type 0} (c : Inside L) (number : ℕ) (before after : ShardState) (pool : PoolState) (guesses : Guesses) (error : ReceiveError) (cause : Refusal) → IsSound (state_of c) → IsRead c number before → refusal_of_end error ≡ Some cause
+pub CoreStep-end_refused_fields : {L : Type 0} (c : Inside L) (number : ℕ) (before after : ShardState) (pool : PoolState) (whereabouts : List (Option ℕ)) (error : ReceiveError) (cause : Refusal) → IsSound (state_of c) → IsRead c number before → refusal_of_end error ≡ Some cause
     → (◌≡◌ {A = Result (Unit {0}) ReceiveError} (Err error) (Err receive_error.Ended) ↔ (before.ended ≡ true))
     → (◌≡◌ {A = Result (Unit {0}) ReceiveError} (Err error) (Err receive_error.PlanOpen) ↔ ((before.ended ≡ false) × (IsInPool c.pool before → ⊥) × HasClosed before.groups))
     → after ≡ before → pool ≡ c.pool
-    → CoreStep (state_of c) (End number) (reply.Refused cause) (state_of (with_both_at c number after pool guesses))
-CoreStep-end_refused_fields c number before after pool guesses error cause kept read gives ended plan_open same pool_is =
-    subst (CoreStep (state_of c) (End number) (reply.Refused cause)) (sym (state_of-both_same c number before after pool guesses read same pool_is))
+    → CoreStep (state_of c) (End number) (reply.Refused cause) (state_of (with_both_at c number after pool whereabouts))
+CoreStep-end_refused_fields c number before after pool whereabouts error cause kept read gives ended plan_open same pool_is =
+    subst (CoreStep (state_of c) (End number) (reply.Refused cause)) (sym (state_of-both_same c number before after pool whereabouts read same pool_is))
     (CoreStep-end_refused (state_of c) number before error cause (shard-read c number before read) gives (not_in_pool (state_of c) kept.groups number before (shard-read c number before read)) (kept.plan.closed number before (shard-read c number before read))
     (λ e. ended.0 (ap Err e), λ p. let e = ended.1 p in cc) (λ e. plan_open.0 (ap Err e), λ p. let e = plan_open.1 p in cc))
 
-pub IsStep-adopt_fields : {L : Type 0} (c : Inside L) (number : ℕ) (head : SpanId) (before after : ShardState) (pool : PoolState) (guesses : Guesses) → IsSound (state_of c) → c.plan ≡ None → IsRead c number before → before.ended ≡ false → Adopts c.pool before head pool after → IsSoundShard after → IsSoundPool pool
-    → IsSoundStep (state_of c) (Adopt number) (reply.Adopted head) (state_of (with_both_at c number after pool guesses))
-IsStep-adopt_fields c number head before after pool guesses kept no_plan read running adopts sound sound_pool =
-    subst (IsSoundStep (state_of c) (Adopt number) (reply.Adopted head)) (sym (state_of-with_both_at c number after pool guesses))
+pub IsStep-adopt_fields : {L : Type 0} (c : Inside L) (number : ℕ) (head : SpanId) (before after : ShardState) (pool : PoolState) (whereabouts : List (Option ℕ)) → IsSound (state_of c) → c.plan ≡ None → IsRead c number before → before.ended ≡ false → Adopts c.pool before head pool after → IsSoundShard after → IsSoundPool pool
+    → IsSoundStep (state_of c) (Adopt number) (reply.Adopted head) (state_of (with_both_at c number after pool whereabouts))
+IsStep-adopt_fields c number head before after pool whereabouts kept no_plan read running adopts sound sound_pool =
+    subst (IsSoundStep (state_of c) (Adopt number) (reply.Adopted head)) (sym (state_of-with_both_at c number after pool whereabouts))
     (IsSoundStep-Adopts (state_of c) number head before after pool kept no_plan (shard-read c number before read) running adopts sound sound_pool)
 
 -- where the pool does not know of a plan, none is open
@@ -111,16 +110,16 @@ pub no_plan_if_adopted : {L : Type 0} (c : Inside L) → IsSound (state_of c) �
 no_plan_if_adopted c kept never = None-if_not_some c.plan (sym kept.plan.told ∙ false_from_ne_true c.pool.has_plan never)
 
 -- an adoption that the pool refuses leaves the fields as they were
-pub CoreStep-adopt_refused_fields : {L : Type 0} (c : Inside L) (number : ℕ) (before after : ShardState) (pool : PoolState) (guesses : Guesses) (error : AdoptError) (cause : Refusal) → IsSound (state_of c) → IsRead c number before → refusal_of_adoption error ≡ Some cause
+pub CoreStep-adopt_refused_fields : {L : Type 0} (c : Inside L) (number : ℕ) (before after : ShardState) (pool : PoolState) (whereabouts : List (Option ℕ)) (error : AdoptError) (cause : Refusal) → IsSound (state_of c) → IsRead c number before → refusal_of_adoption error ≡ Some cause
     → (◌≡◌ {A = Result SpanId AdoptError} (Err error) (Err adopt_error.PagesSpent) ↔ (before.page_limit ≡ length before.groups))
     → (◌≡◌ {A = Result SpanId AdoptError} (Err error) (Err adopt_error.Ended) ↔ ((before.page_limit ≢ length before.groups) × (before.ended ≡ true)))
     → (◌≡◌ {A = Result SpanId AdoptError} (Err error) (Err adopt_error.PlanOpen) ↔ ((before.page_limit ≢ length before.groups) × (before.ended ≡ false) × (IsDoubled c.pool before → ⊥) × (c.pool.has_plan ≡ true)))
     → (◌≡◌ {A = Result SpanId AdoptError} (Err error) (Err adopt_error.NothingToAdopt) ↔ ((before.page_limit ≢ length before.groups) × (before.ended ≡ false) × (c.pool.has_plan ≡ false) × HasNothingToAdopt c.pool))
     → after ≡ before → pool ≡ c.pool
-    → CoreStep (state_of c) (Adopt number) (reply.Refused cause) (state_of (with_both_at c number after pool guesses))
-CoreStep-adopt_refused_fields c number before after pool guesses error cause kept read gives spent ended plan_open nothing same pool_is =
+    → CoreStep (state_of c) (Adopt number) (reply.Refused cause) (state_of (with_both_at c number after pool whereabouts))
+CoreStep-adopt_refused_fields c number before after pool whereabouts error cause kept read gives spent ended plan_open nothing same pool_is =
     let here = shard-read c number before read in
-    subst (CoreStep (state_of c) (Adopt number) (reply.Refused cause)) (sym (state_of-both_same c number before after pool guesses read same pool_is))
+    subst (CoreStep (state_of c) (Adopt number) (reply.Refused cause)) (sym (state_of-both_same c number before after pool whereabouts read same pool_is))
     (CoreStep-adopt_refused (state_of c) number before error cause kept.plan.told (not_doubled (state_of c) kept.groups number before here) (kept.groups.shards number before here).sound here gives
     (record { spent = at_error adopt_error.PagesSpent _ spent; ended = at_error adopt_error.Ended _ ended; plan_open = at_error adopt_error.PlanOpen _ plan_open; nothing = at_error adopt_error.NothingToAdopt _ nothing }))
   where

@@ -1,5 +1,5 @@
 -- The steps of a core whose shards and pool stand in its fields.
-use Rattle.std.proofs.Common.{◌≡◌, ℕ, ◌<◌, true, false, ◌⊎◌, inl, inr, arith, List, Some, ◌≤◌, Bor, get_or, ap, ◌∙◌, length, refl, set, slice_get, sym}
+use Rattle.std.proofs.Common.{◌≡◌, ℕ, ◌<◌, true, false, ◌⊎◌, inl, inr, arith, List, Option, Some, ◌≤◌, Bor, get_or, ap, ◌∙◌, length, refl, set, slice_get, sym}
 use Rattle.std.specs.Prelude.{vec_len}
 use Rattle.std.proofs.Math.ListN.{length-set}
 use Rattle.std.proofs.lemmas.Bool.{cases_lt}
@@ -8,7 +8,6 @@ use Rattle.std.specs.Slice.{IsItemAt}
 use Rattle.std.specs.Vec.{with_item}
 use Rattle.shard.specs.State.{ShardState}
 use Rattle.abandoned.specs.State.{PoolState}
-use Rattle.arena_core.specs.declared.guesses.Guesses.{Guesses}
 use Rattle.arena_core.specs.declared.machine.Core.TheInside.{Inside}
 use Rattle.arena_core.specs.Kept.{state_of}
 use Rattle.arena_core.specs.Sound.{HasSoundGroups, IsSoundAt}
@@ -18,9 +17,9 @@ use Rattle.arena_core.specs.State.{with_pool, with_shard}
 abbrev pub with_shard_at : {L : Type 0} → Inside L → ℕ → ShardState → Inside L
 with_shard_at c number after = record c { shards = with_item c.shards number after }
 
--- the fields with another shard at this number, another pool and other guesses
-abbrev pub with_both_at : {L : Type 0} → Inside L → ℕ → ShardState → PoolState → Guesses → Inside L
-with_both_at c number after pool guesses = record c { shards = with_item c.shards number after; pool = pool; guesses = guesses }
+-- the fields with another shard at this number, another pool and other whereabouts
+abbrev pub with_both_at : {L : Type 0} → Inside L → ℕ → ShardState → PoolState → List (Option ℕ) → Inside L
+with_both_at c number after pool whereabouts = record c { shards = with_item c.shards number after; pool = pool; whereabouts = whereabouts }
 
 pub state_of-with_shard_at : {L : Type 0} (c : Inside L) (number : ℕ) (after : ShardState) → state_of (with_shard_at c number after) ≡ with_shard (state_of c) number after
 state_of-with_shard_at c number after = λ i. record {
@@ -30,8 +29,8 @@ state_of-with_shard_at c number after = λ i. record {
   plan = c.plan;
 }
 
-pub state_of-with_both_at : {L : Type 0} (c : Inside L) (number : ℕ) (after : ShardState) (pool : PoolState) (guesses : Guesses) → state_of (with_both_at c number after pool guesses) ≡ with_pool (with_shard (state_of c) number after) pool
-state_of-with_both_at c number after pool guesses = λ i. record {
+pub state_of-with_both_at : {L : Type 0} (c : Inside L) (number : ℕ) (after : ShardState) (pool : PoolState) (whereabouts : List (Option ℕ)) → state_of (with_both_at c number after pool whereabouts) ≡ with_pool (with_shard (state_of c) number after) pool
+state_of-with_both_at c number after pool whereabouts = λ i. record {
   limits = record { shards = length-set c.shards.items number after i; page_limit = c.page_limit; ring_capacity = c.ring_capacity; gens = c.gens };
   shards = set c.shards.items number after;
   pool = pool;

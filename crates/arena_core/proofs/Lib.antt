@@ -2,6 +2,7 @@ pub mod Changes
 pub mod Closings
 pub mod FieldSteps
 pub mod Fields
+pub mod FieldsKept
 pub mod Flagged
 pub mod Groups
 pub mod Lists
@@ -10,8 +11,9 @@ pub mod LiveKeysShown
 pub mod Logged
 pub mod MarkSteps
 pub mod Marks
+pub mod Moved
 pub mod Moves
-pub mod Owner
+pub mod Noted
 pub mod Owners
 pub mod PlanFolds
 pub mod PlanKept

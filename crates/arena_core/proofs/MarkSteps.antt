@@ -1,5 +1,5 @@
 -- What a mark and a close leave: a sound core, which shows the same map.
-use Rattle.std.proofs.Common.{◌≡◌, ℕ, ◌<◌, ◌≤◌, Bool, true, false, refl, sym, ap, subst, ◌∙◌, arith, Option, Some, None, slice_get, set, length, map, get_or}
+use Rattle.std.proofs.Common.{◌≡◌, ℕ, ◌<◌, ◌≤◌, Bool, true, false, refl, sym, ap, subst, ◌∙◌, arith, List, Option, Some, None, slice_get, set, length, map, get_or}
 use Rattle.std.proofs.Math.ListN.{length-set}
 use Rattle.std.proofs.lemmas.Option.{get_or_from_slice_get, slice_get_within}
 use Rattle.std.specs.Vec.{with_item}
@@ -18,15 +18,13 @@ use Rattle.certificate.specs.declared.certificate.Certificate.{Certificate}
 use Rattle.arena_core.specs.Closings.{AreOpen, closed_as_planned, closed_onto, reopened}
 use Rattle.arena_core.specs.Kept.{state_of}
 use Rattle.arena_core.specs.Marks.{IsLargest, advanced, next_pair, with_plan_told}
-use Rattle.arena_core.specs.Owner.{IsNowhere, StandsAt}
+use Rattle.arena_core.specs.Moved.{StandsIn}
 use Rattle.arena_core.specs.Plan.{IsNext, IsOwned, plans_onto}
 use Rattle.arena_core.specs.Sound.{HasSoundGroups, IsSound}
 use Rattle.arena_core.specs.State.{CoreState, OpenPlan, has_span, shown, with_plan, with_pool, with_shard}
 use Rattle.arena_core.specs.Step.{with_plan_closed}
 use Rattle.arena_core.specs.declared.event.Event.TheVariants.{Step}
-use Rattle.arena_core.specs.declared.guesses.Guesses.{Guesses}
 use Rattle.arena_core.specs.declared.machine.Core.TheInside.{Inside}
-use Rattle.arena_core.specs.declared.machine.Owner.TheVariants as owner
 use Rattle.arena_core.specs.declared.reply.Reply.TheVariants.{Stepped}
 use Rattle.arena_core.proofs.Changes.{at_most_once}
 use Rattle.arena_core.proofs.Flagged.{HasSoundGroups-flagged, map_back, shown-flagged, with_all_flags}
@@ -134,61 +132,48 @@ next-IsNext core pair e = by_plan core.plan refl e
 
 -- the group of the next pair's owned head
 
--- the shard that was named has the span
-pub shard-named : (core : CoreState) (id : SpanId) (number : ℕ) (shard : ShardState) → HasSoundGroups core → StandsAt core id (owner.Shard number) → shard ≡ get_or core.shards number shard → (slice_get core.shards number ≡ Some shard) × (has_span id shard ≡ true)
-shard-named core id number shard sound (other, here, some) read =
+-- the shard of this number has the span
+pub shard-named : (core : CoreState) (id : SpanId) (number : ℕ) (shard : ShardState) → StandsIn core.shards id number → shard ≡ get_or core.shards number shard → (slice_get core.shards number ≡ Some shard) × (has_span id shard ≡ true)
+shard-named core id number shard (other, here, has) read =
     let same : other ≡ shard = sym (get_or_from_slice_get core.shards number other shard here) ∙ sym read in
-    subst (λ s. (slice_get core.shards number ≡ Some s) × (has_span id s ≡ true)) same (here, has_span-elsewhere other id (sound.shards number other here).sound some)
+    subst (λ s. (slice_get core.shards number ≡ Some s) × (has_span id s ≡ true)) same (here, has)
 
--- a shard that was named is one of 64
-pub number-named : (core : CoreState) (id : SpanId) (number : ℕ) → HasSoundGroups core → StandsAt core id (owner.Shard number) → number < 64
-number-named core id number sound (other, here, some) = let within = slice_get_within core.shards number other here in omega (arith, sound.within.shards.1, sound.count)
+-- it is one of 64
+pub number-named : (core : CoreState) (id : SpanId) (number : ℕ) → HasSoundGroups core → StandsIn core.shards id number → number < 64
+number-named core id number sound (other, here, has) = let within = slice_get_within core.shards number other here in omega (arith, sound.within.shards.1, sound.count)
 
 -- the next pair's owned group is in a shard
-module _ (core : CoreState) (sound : IsSound core) (plan : OpenPlan) (pair : SpanId × SpanId) (next : IsNext core plan pair) where
-  owned_group : IsOwned core pair.1 (waits core sound plan pair next).owned
-  owned_group = (waits core sound plan pair next).is_owned
-
-  times_here : 1 ≤ times_owned pair.1 core.shards
-  times_here =
-      let there = owned_group in
-      let fine = sound.groups.shards there.number there.shard there.shard_is in
-      let has = has_span-here there.shard pair.1 there.index 0 (waits core sound plan pair next).owned (waits core sound plan pair next).owned.head fine.sound (record { group_is = there.head_of.here; span_is = refl; id_is = there.head_of.head_is }) in
-      omega (arith, times_in-found pair.1 there.shard has, times_in-le pair.1 core.shards there.number there.shard there.shard_is)
-
-  pub not-pooled : StandsAt core pair.1 owner.Pool → ⊥
-  not-pooled some = omega (arith, pooled-somewhere core.pool pair.1 some, times_here, times-parts pair.1 core, at_most_once core sound.groups pair.1)
-
-  pub not-nowhere : IsNowhere core pair.1 → ⊥
-  not-nowhere nowhere =
-      let there = owned_group in
-      nowhere.shards there.number there.shard there.shard_is there.index (waits core sound plan pair next).owned there.head_of.here 0 ((waits core sound plan pair next).owned.head, refl, there.head_of.head_is)
+pub owned-stands : (core : CoreState) (sound : IsSound core) (plan : OpenPlan) (pair : SpanId × SpanId) → IsNext core plan pair → (number : ℕ) × StandsIn core.shards pair.1 number
+owned-stands core sound plan pair next =
+    let there = (waits core sound plan pair next).is_owned in
+    let fine = sound.groups.shards there.number there.shard there.shard_is in
+    (there.number, (there.shard, there.shard_is, has_span-here there.shard pair.1 there.index 0 (waits core sound plan pair next).owned (waits core sound plan pair next).owned.head fine.sound (record { group_is = there.head_of.here; span_is = refl; id_is = there.head_of.head_is })))
 
 -- the fields after a step
-abbrev pub with_step_at : {L : Type 0} → Inside L → ℕ → ShardState → PoolState → Option OpenPlan → Guesses → Inside L
-with_step_at c number after pool plan guesses = record c { shards = with_item c.shards number after; pool = pool; plan = plan; guesses = guesses }
+abbrev pub with_step_at : {L : Type 0} → Inside L → ℕ → ShardState → PoolState → Option OpenPlan → List (Option ℕ) → Inside L
+with_step_at c number after pool plan whereabouts = record c { shards = with_item c.shards number after; pool = pool; plan = plan; whereabouts = whereabouts }
 
-state_of-with_step_at : {L : Type 0} (c : Inside L) (number : ℕ) (after : ShardState) (pool : PoolState) (plan : Option OpenPlan) (guesses : Guesses) → state_of (with_step_at c number after pool plan guesses) ≡ with_plan (with_pool (with_shard (state_of c) number after) pool) plan
-state_of-with_step_at c number after pool plan guesses = λ i. record {
+state_of-with_step_at : {L : Type 0} (c : Inside L) (number : ℕ) (after : ShardState) (pool : PoolState) (plan : Option OpenPlan) (whereabouts : List (Option ℕ)) → state_of (with_step_at c number after pool plan whereabouts) ≡ with_plan (with_pool (with_shard (state_of c) number after) pool) plan
+state_of-with_step_at c number after pool plan whereabouts = λ i. record {
   limits = record { shards = length-set c.shards.items number after i; page_limit = c.page_limit; ring_capacity = c.ring_capacity; gens = c.gens };
   shards = set c.shards.items number after;
   pool = pool;
   plan = plan;
 }
 
-pub IsSoundStep-fold_fields : {L : Type 0} (c : Inside L) (plan : OpenPlan) (pair : SpanId × SpanId) (number : ℕ) (before after : ShardState) (pool : PoolState) (current : Option OpenPlan) (guesses : Guesses) (step : Outcome) → IsSound (state_of c) → IsNext (state_of c) plan pair
-    → StandsAt (state_of c) pair.1 (owner.Shard number) → before ≡ get_or c.shards.items number before → Steps c.pool before pair.0 pair.1 step pool after → IsSoundShard after → IsSoundPool pool → current ≡ advanced c.plan
-    → IsSoundStep (state_of c) Step (Stepped pair.0 pair.1 step) (state_of (with_step_at c number after pool current guesses))
-IsSoundStep-fold_fields c plan pair number before after pool current guesses step sound next there read steps sound_after sound_pool current_is =
-    let named = shard-named (state_of c) pair.1 number before sound.groups there read in
-    subst (IsSoundStep (state_of c) Step (Stepped pair.0 pair.1 step)) (sym (state_of-with_step_at c number after pool current guesses))
+pub IsSoundStep-fold_fields : {L : Type 0} (c : Inside L) (plan : OpenPlan) (pair : SpanId × SpanId) (number : ℕ) (before after : ShardState) (pool : PoolState) (current : Option OpenPlan) (whereabouts : List (Option ℕ)) (step : Outcome) → IsSound (state_of c) → IsNext (state_of c) plan pair
+    → StandsIn c.shards.items pair.1 number → before ≡ get_or c.shards.items number before → Steps c.pool before pair.0 pair.1 step pool after → IsSoundShard after → IsSoundPool pool → current ≡ advanced c.plan
+    → IsSoundStep (state_of c) Step (Stepped pair.0 pair.1 step) (state_of (with_step_at c number after pool current whereabouts))
+IsSoundStep-fold_fields c plan pair number before after pool current whereabouts step sound next there read steps sound_after sound_pool current_is =
+    let named = shard-named (state_of c) pair.1 number before there read in
+    subst (IsSoundStep (state_of c) Step (Stepped pair.0 pair.1 step)) (sym (state_of-with_step_at c number after pool current whereabouts))
     (subst (λ p. IsSoundStep (state_of c) Step (Stepped pair.0 pair.1 step) (with_plan (with_pool (with_shard (state_of c) number after) pool) p)) (sym (current_is ∙ ap advanced next.plan_is))
     (IsSoundStep-Steps (state_of c) sound plan pair next number before named.0 named.1 step after pool steps sound_after sound_pool))
 
 -- a step that wants memory leaves the fields as they were
-pub state_of-refused : {L : Type 0} (c : Inside L) (id : SpanId) (number : ℕ) (before after : ShardState) (pool : PoolState) → IsSound (state_of c) → StandsAt (state_of c) id (owner.Shard number) → before ≡ get_or c.shards.items number before → after ≡ before → pool ≡ c.pool
-    → state_of (with_step_at c number after pool c.plan c.guesses) ≡ state_of c
-state_of-refused c id number before after pool sound there read same pool_is =
-    let named = shard-named (state_of c) id number before sound.groups there read in
+pub state_of-refused : {L : Type 0} (c : Inside L) (id : SpanId) (number : ℕ) (before after : ShardState) (pool : PoolState) → StandsIn c.shards.items id number → before ≡ get_or c.shards.items number before → after ≡ before → pool ≡ c.pool
+    → state_of (with_step_at c number after pool c.plan c.whereabouts) ≡ state_of c
+state_of-refused c id number before after pool there read same pool_is =
+    let named = shard-named (state_of c) id number before there read in
     let shards : set c.shards.items number after ≡ c.shards.items = ap (set c.shards.items number) same ∙ set-same c.shards.items number before named.0 in
     λ i. record { limits = record { shards = length (shards i); page_limit = c.page_limit; ring_capacity = c.ring_capacity; gens = c.gens }; shards = shards i; pool = pool_is i; plan = c.plan }

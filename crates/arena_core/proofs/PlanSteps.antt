@@ -204,11 +204,11 @@ IsSoundStep-Frees old key number before after answer sound here has frees found 
     by_answer (freed.No at) (index, place, group, span, there, dead, at_is, is) = same is
     by_answer freed.NotHere (elsewhere, is) = same is
 
-pub IsSoundStep-FreesPooled : (old : CoreState) (key : Key) (pool : PoolState) (answer : Freed) → IsSound old → 1 ≤ times_pooled key.span old.pool → FreesPooled old.pool key answer pool
+pub IsSoundStep-FreesPooled : (old : CoreState) (key : Key) (pool : PoolState) (answer : Freed) → IsSound old → (shown old).value_of key ≡ (shown_by_pool old.pool).value_of key → FreesPooled old.pool key answer pool
     → was_freed answer ≡ is_some ((shown_by_pool old.pool).value_of key) → shown_by_pool pool ≡ cond (was_freed answer) (without (shown_by_pool old.pool) key) (shown_by_pool old.pool) → IsSoundPool pool
     → IsSoundStep old (Free key) (reply.Freed (was_freed answer)) (with_pool old pool)
-IsSoundStep-FreesPooled old key pool answer sound some frees found plain sound_pool =
-    with_plan_kept old (Free key) (reply.Freed (was_freed answer)) (with_pool old pool) (IsStep-FreesPooled old key pool answer sound.groups some frees found plain sound_pool) (by_answer answer frees)
+IsSoundStep-FreesPooled old key pool answer sound pooled frees found plain sound_pool =
+    with_plan_kept old (Free key) (reply.Freed (was_freed answer)) (with_pool old pool) (IsStep-FreesPooled old key pool answer sound.groups pooled frees found plain sound_pool) (by_answer answer frees)
   where
     same : pool ≡ old.pool → KeepsPlan (with_pool old pool)
     same is = subst KeepsPlan (sym (with_pool-same old pool is)) sound.plan

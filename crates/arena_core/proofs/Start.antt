@@ -35,7 +35,7 @@ opened_by-new limits [] number = refl
 opened_by-new limits (first ∷ numbers) zero = refl
 opened_by-new limits (first ∷ numbers) (suc number) = opened_by-new limits numbers number
 
-slice_get-range : (limits : Limits) (from count number : ℕ) (shard : ShardState) → slice_get (map (new_shard limits.page_limit limits.gens) (range_with_len from count)) number ≡ Some shard
+pub slice_get-range : (limits : Limits) (from count number : ℕ) (shard : ShardState) → slice_get (map (new_shard limits.page_limit limits.gens) (range_with_len from count)) number ≡ Some shard
     → (number < count) × (new_shard limits.page_limit limits.gens (from + number) ≡ shard)
 slice_get-range limits from zero number shard here = absurd cc
 slice_get-range limits from (suc count) zero shard here =

@@ -27,7 +27,6 @@ use Rattle.arena_core.specs.declared.event.Event.{Event}
 use Rattle.arena_core.specs.declared.event.Event.TheVariants.{Put, Free}
 use Rattle.arena_core.specs.declared.reply.Reply.{Reply}
 use Rattle.arena_core.specs.declared.reply.Reply.TheVariants as reply
-use Rattle.arena_core.specs.Owner.{IsNowhere}
 use Rattle.arena_core.specs.Plain.{ErasedStep}
 use Rattle.arena_core.specs.Refusals.{refusal_of}
 use Rattle.arena_core.specs.Sound.{HasSoundGroups}
@@ -80,15 +79,6 @@ module _ (core : CoreState) (sound : HasSoundGroups core) where
   -- the shard that has the key's span answers for the key
   pub value-shard : (key : Key) (number : ℕ) (shard : ShardState) → slice_get core.shards number ≡ Some shard → has_span key.span shard ≡ true → (shown core).value_of key ≡ (shown_by shard).value_of key
   value-shard key number shard here has = ap (λ o. (shown_at core.pool o).value_of key) (shard_with-here key.span core.shards number shard here has (owned-once key.span))
-
-  pub value-pool : (key : Key) → 1 ≤ times_pooled key.span core.pool → (shown core).value_of key ≡ (shown_by_pool core.pool).value_of key
-  value-pool key some =
-      ap (λ o. (shown_at core.pool o).value_of key) (shard_with-nowhere key.span core.shards (omega (arith, times-parts key.span core, at_most_once core sound key.span)))
-
-  pub value-nowhere : (key : Key) → IsNowhere core key.span → (shown core).value_of key ≡ None
-  value-nowhere key nowhere =
-      ap (λ o. (shown_at core.pool o).value_of key) (find-none (has_span key.span) core.shards (count-none (has_span key.span) core.shards (λ number shard here. has_span-not shard key.span (sound.shards number shard here).sound (nowhere.shards number shard here))))
-      ∙ value-unpooled core.pool key (times-elsewhere pooled_spans_of core.pool.groups key.span nowhere.pool)
 
   -- a span of a shard that the core does not have was never opened
   pub value-no_home : (key : Key) → slice_get core.shards key.span.shard ≡ None → (shown core).value_of key ≡ None
@@ -192,15 +182,18 @@ IsStep-Frees old key number before after freed.NotHere sound here has frees foun
 pub with_pool-same : (old : CoreState) (pool : PoolState) → pool ≡ old.pool → with_pool old pool ≡ old
 with_pool-same old pool same = λ i. record { limits = old.limits; shards = old.shards; pool = same i; plan = old.plan }
 
-IsStep-unfreed_pooled : (old : CoreState) (key : Key) (pool : PoolState) → HasSoundGroups old → 1 ≤ times_pooled key.span old.pool → false ≡ is_some ((shown_by_pool old.pool).value_of key) → pool ≡ old.pool → IsStep old (Free key) (reply.Freed false) (with_pool old pool)
-IsStep-unfreed_pooled old key pool sound some found same =
+IsStep-unfreed_pooled : (old : CoreState) (key : Key) (pool : PoolState) → HasSoundGroups old → (shown old).value_of key ≡ (shown_by_pool old.pool).value_of key → false ≡ is_some ((shown_by_pool old.pool).value_of key) → pool ≡ old.pool → IsStep old (Free key) (reply.Freed false) (with_pool old pool)
+IsStep-unfreed_pooled old key pool sound pooled found same =
     subst (IsStep old (Free key) (reply.Freed false)) (sym (with_pool-same old pool same))
-    (IsStep-dead old key sound (value-pool old sound key some ∙ None-if_not_some _ (sym found)))
+    (IsStep-dead old key sound (pooled ∙ None-if_not_some _ (sym found)))
 
-pub IsStep-FreesPooled : (old : CoreState) (key : Key) (pool : PoolState) (answer : Freed) → HasSoundGroups old → 1 ≤ times_pooled key.span old.pool → FreesPooled old.pool key answer pool
+-- a free that the pool answers, where the core shows under the key what the pool shows
+pub IsStep-FreesPooled : (old : CoreState) (key : Key) (pool : PoolState) (answer : Freed) → HasSoundGroups old → (shown old).value_of key ≡ (shown_by_pool old.pool).value_of key → FreesPooled old.pool key answer pool
     → was_freed answer ≡ is_some ((shown_by_pool old.pool).value_of key) → shown_by_pool pool ≡ cond (was_freed answer) (without (shown_by_pool old.pool) key) (shown_by_pool old.pool) → IsSoundPool pool
     → IsStep old (Free key) (reply.Freed (was_freed answer)) (with_pool old pool)
-IsStep-FreesPooled old key pool (freed.Yes at) sound some frees found plain sound_pool =
+IsStep-FreesPooled old key pool (freed.Yes at) sound pooled frees found plain sound_pool =
+    let (index, place, group, span, there, holds, at_is, leaves) = frees in
+    let some = pooled-somewhere old.pool key.span (λ away. away index group there.group_is place (span, there.span_is, there.id_is)) in
     let call = IsPoolCall-Frees old.pool pool key at sound.pool frees in
     let new = with_pool old pool in
     let sound_new = HasSoundGroups-with_pool old sound pool call sound_pool in
@@ -214,5 +207,5 @@ IsStep-FreesPooled old key pool (freed.Yes at) sound some frees found plain soun
         shown-free old new (shown_by_pool old.pool) (shown_by_pool pool) (λ id. has_pooled id pool) local key still plain,
       );
     }
-IsStep-FreesPooled old key pool (freed.No at) sound some (index, place, group, span, there, dead, at_is, same) found plain sound_pool = IsStep-unfreed_pooled old key pool sound some found same
-IsStep-FreesPooled old key pool freed.NotHere sound some frees found plain sound_pool = IsStep-unfreed_pooled old key pool sound some found frees.1
+IsStep-FreesPooled old key pool (freed.No at) sound pooled (index, place, group, span, there, dead, at_is, same) found plain sound_pool = IsStep-unfreed_pooled old key pool sound pooled found same
+IsStep-FreesPooled old key pool freed.NotHere sound pooled frees found plain sound_pool = IsStep-unfreed_pooled old key pool sound pooled found frees.1

@@ -1,8 +1,16 @@
 -- How a core's fields show, and what they keep.
-use Rattle.std.specs.Prelude.{length}
+use Rattle.std.specs.Prelude.{◌≡◌, ◌*◌, length}
 use Rattle.arena_core.specs.declared.machine.Core.TheInside.{Inside}
+use Rattle.arena_core.specs.Moved.{KnowsMoved}
+use Rattle.arena_core.specs.Sound.{IsSound}
 use Rattle.arena_core.specs.State.{CoreState}
 
 -- what contracts see of the fields
 abbrev pub state_of : {L : Type 0} → Inside L → CoreState
 state_of c = record { limits = record { shards = length c.shards.items; page_limit = c.page_limit; ring_capacity = c.ring_capacity; gens = c.gens }; shards = c.shards.items; pool = c.pool; plan = c.plan }
+
+pub record IsKept {L : Type 0} (c : Inside L) : Type 0 where
+  pub sound : IsSound (state_of c)
+  -- the whereabouts have an entry for each span that a shard may open, and say where each of them is that left its shard
+  pub entries : length c.whereabouts ≡ 1024 * length c.shards.items
+  pub moved : KnowsMoved c.shards.items c.whereabouts

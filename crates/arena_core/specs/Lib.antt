@@ -1,7 +1,7 @@
 pub mod Closings
 pub mod Kept
 pub mod Marks
-pub mod Owner
+pub mod Moved
 pub mod Plain
 pub mod Plan
 pub mod Refusals

@@ -35,7 +35,6 @@ mod closing;
 mod current_plan;
 mod error;
 mod event;
-mod guesses;
 mod lends_shard;
 mod machine;
 mod marking;
@@ -43,6 +42,7 @@ mod reply;
 #[cfg(test)]
 mod tests;
 mod totals;
+mod whereabouts;
 
 pub use current_plan::CurrentPlan;
 pub use error::{CoreError, MarkError};

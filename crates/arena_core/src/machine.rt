@@ -1,14 +1,13 @@
 // The core: all shards as one value that takes events.
-ghost use Rattle.std.specs.Prelude.{◌≡◌, ◌↔◌, ◌⊎◌, ◌<◌, ◌≤◌, ℕ, IfOk, OnOk, OnErr, IsErrOf, IsTrue, MatchOption, MatchResult, Some, None, true, false, map, length, slice_get, slice_set};
+ghost use Rattle.std.specs.Prelude.{◌≡◌, ◌≢◌, ◌↔◌, ◌⊎◌, ◌<◌, ◌≤◌, ℕ, IfOk, OnOk, OnErr, IsErrOf, IsTrue, MatchResult, Some, None, true, false, map, length, slice_get, slice_set};
 ghost use Rattle.std.specs.List.{range_with_len};
 ghost use Rattle.shard.specs.Calls.{value_found, was_freed};
 ghost use Rattle.shard.specs.Sound.{IsSound as IsSoundShard};
-ghost use Rattle.shard.specs.State.{IsElsewhere, ShardState};
 ghost use Rattle.span.specs.PlainMap.{empty_map};
 ghost use Rattle.abandoned.specs.Calls.{Adopts, HasNothingToAdopt, IsDoubled, IsInPool, Receives};
 ghost use Rattle.abandoned.specs.Sound.{IsSound as IsSoundPool};
 ghost use Rattle.abandoned.specs.State.{PoolState};
-ghost use Rattle.arena_core.specs.Owner.{IsNowhere, StandsAt};
+ghost use Rattle.arena_core.specs.Moved.{StandsIn, StandsInNoOther};
 ghost use Rattle.arena_core.specs.Sound.{IsSound};
 ghost use Rattle.arena_core.specs.State.{AreWithin, HasKeys, limits_of, live_keys, new_core, new_shard, pages, shown};
 ghost use Rattle.arena_core.specs.Step.{Answers, CoreStep};
@@ -19,9 +18,9 @@ ghost use Rattle.arena_core.specs.declared.reply.Reply.TheVariants as reply;
 use crate::current_plan::CurrentPlan;
 use crate::error::CoreError;
 use crate::event::Event;
-use crate::guesses::Guesses;
 use crate::reply::{Refusal, Reply, adopt_refusal, end_refusal};
 use crate::totals::Totals;
+use crate::whereabouts::Whereabouts;
 use abandoned::Pool;
 use shard::{Found, Freed, Shard};
 use span::{Kept, Key, Log, SpanId};
@@ -33,8 +32,9 @@ mod marks;
 /// All shards and the pool as one value, which takes events one after another and answers replies.
 ///
 /// A put costs what the shard's own put costs. A look-up and a free ask the shard that opened the span first, which has
-/// it until it ends: they then cost what that shard's own call costs. A span whose shard has ended is asked for where it
-/// was adopted last, then in the pool, and at last in every shard.
+/// it until it ends: they then cost what that shard's own call costs. A span that it does not have is asked for in the
+/// shard that took it in last, and then in the pool: where neither has it, it stands nowhere. So none is asked twice, and
+/// a key of a span that was never opened costs three look-ups at most.
 #[derive(Drop)]
 pub struct Core<L: Log = Kept> {
     alloc: Global,
@@ -44,7 +44,7 @@ pub struct Core<L: Log = Kept> {
     shards: Vec<Shard<L>>,
     pool: Pool<L>,
     plan: CurrentPlan,
-    guesses: Guesses,
+    whereabouts: Whereabouts,
 }
 
 impl<L: Log> Model for Core<L> {
@@ -56,19 +56,11 @@ impl<L: Log> Model for Core<L> {
 
     ghost coded = { Prim.hlevel (codes, table_code) };
 
-    ghost use Rattle.arena_core.specs.Kept.{state_of};
-    ghost use Rattle.arena_core.specs.Sound.{IsSound};
+    ghost use Rattle.arena_core.specs.Kept.{IsKept, state_of};
 
     ghost view = { state_of };
 
-    ghost invariant = { λ c. IsSound (state_of c) };
-}
-
-/// Who has a span.
-#[derive(Clone, Copy)]
-enum Owner {
-    Shard(usize),
-    Pool,
+    ghost invariant = { IsKept };
 }
 
 impl Core<Kept> {
@@ -118,7 +110,7 @@ impl<L: Log> Core<L> {
         if !are_within(shards, page_limit, ring_capacity, gens) {
             return Err(CoreError::Config);
         }
-        let guesses = Guesses::new(alloc, shards)?;
+        let whereabouts = Whereabouts::new(alloc, shards)?;
         let plan = CurrentPlan::new(alloc)?;
         let shards = new_shards(alloc, shards, page_limit, gens)?;
         Ok(Core {
@@ -129,7 +121,7 @@ impl<L: Log> Core<L> {
             shards,
             pool: Pool::with_log(alloc),
             plan,
-            guesses,
+            whereabouts,
         })
     }
 
@@ -257,15 +249,30 @@ impl<L: Log> Core<L> {
         }
     }
 
-    // The word of the key, where it is live, whoever has its span.
+    // The word of the key, where it is live, and the shard that opened its span does not have the span.
     fn get_moved(&self, key: &Key) -> Option<u128>
+        requires { StandsIn self.now.shards key.now.span key.now.span.shard → ⊥ }
         ensures value { result ≡ (shown self.now).value_of key.now }
     {
-        match self.owner_of(key.span) {
-            Some(Owner::Shard(number)) => value_of(self.shards[number].get(key)),
-            Some(Owner::Pool) => value_of(self.pool.get(key)),
-            None => None,
+        match self.get_taken_in(key) {
+            Found::Value(value, _) => Some(value),
+            Found::Gone(_) => None,
+            Found::NotHere => value_of(self.pool.get(key)),
         }
+    }
+
+    // What the shard finds that took the key's span in last, if one did.
+    fn get_taken_in(&self, key: &Key) -> Found
+        ensures value { result ≢ Found.NotHere → value_found result ≡ (shown self.now).value_of key.now }
+        ensures not_here { result ≡ Found.NotHere → StandsInNoOther self.now.shards key.now.span }
+    {
+        let Some(number) = self.whereabouts.shard_of(key.span) else {
+            return Found::NotHere;
+        };
+        let Some(shard) = self.shards.get(number) else {
+            return Found::NotHere;
+        };
+        shard.get(key)
     }
 
     // Frees the key, where it is live.
@@ -285,35 +292,49 @@ impl<L: Log> Core<L> {
         was_done(freed)
     }
 
-    // Frees the key, where it is live, whoever has its span.
+    // Frees the key, where it is live, and the shard that opened its span does not have the span.
     fn free_moved(&mut self, key: &Key) -> bool
+        requires { StandsIn self.old.shards key.now.span key.now.span.shard → ⊥ }
         ensures exact { CoreStep self.old (event.Free key.now) (reply.Freed result) self.new }
         ensures plain { PlainStep (shown self.old) (event.Free key.now) (reply.Freed result) (shown self.new) }
         ensures sound { IsSound self.new }
     {
-        match self.owner_of(key.span) {
-            Some(Owner::Shard(number)) => was_done(self.shards[number].free(key)),
-            Some(Owner::Pool) => was_done(self.pool.free(key)),
-            None => false,
+        let freed = self.free_taken_in(key);
+        if matches!(freed, Freed::NotHere) {
+            return was_done(self.pool.free(key));
         }
+        was_done(freed)
     }
 
-    // Who has the span: asked are the shard that is guessed, the pool, and then every shard.
-    fn owner_of(&self, id: SpanId) -> Option<Owner>
-        ensures { MatchOption result (IsNowhere self.now id) (StandsAt self.now id) }
+    // Frees the key in the shard that took its span in last, if one did.
+    fn free_taken_in(&mut self, key: &Key) -> Freed
+        ensures exact { result ≢ Freed.NotHere → CoreStep self.old (event.Free key.now) (reply.Freed (was_freed result)) self.new }
+        ensures plain { result ≢ Freed.NotHere → PlainStep (shown self.old) (event.Free key.now) (reply.Freed (was_freed result)) (shown self.new) }
+        ensures sound { IsSound self.new }
+        ensures not_here { result ≡ Freed.NotHere → StandsInNoOther self.old.shards key.now.span × (self.new ≡ self.old) }
     {
-        if let Some(number) = self.guesses.shard_of(id) {
-            if has_at(self.shards.as_slice(), number, id) {
-                return Some(Owner::Shard(number));
-            }
+        let Some(number) = self.whereabouts.shard_of(key.span) else {
+            return Freed::NotHere;
+        };
+        let Some(shard) = self.shards.get_mut(number) else {
+            return Freed::NotHere;
+        };
+        shard.free(key)
+    }
+
+    // The number of the shard that has the span.
+    fn number_of(&self, id: SpanId) -> usize
+        requires { (number : ℕ) × StandsIn self.now.shards id number }
+        ensures { StandsIn self.now.shards id result }
+    {
+        let home = id.shard as usize;
+        if self.shards[home].has(id) {
+            return home;
         }
-        if self.pool.has(id) {
-            return Some(Owner::Pool);
-        }
-        match position(self.shards.as_slice(), id) {
-            Some(number) => Some(Owner::Shard(number)),
-            None => None,
-        }
+        let Some(number) = self.whereabouts.shard_of(id) else {
+            unreachable!();
+        };
+        number
     }
 
     // Ends the shard of this number: its groups go to the pool.
@@ -348,8 +369,8 @@ impl<L: Log> Core<L> {
         Refusal::Config
     }
 
-    // Moves the pool's group of lowest head that has a page to the shard of this number, and guesses from now on that its
-    // spans are there.
+    // Moves the pool's group of lowest head that has a page to the shard of this number, and notes that its spans are
+    // there.
     fn adopt(&mut self, number: u32) -> Result<SpanId, Refusal>
         ensures exact { MatchResult result
             (λ head. CoreStep self.old (event.Adopt number) (reply.Adopted head) self.new)
@@ -364,19 +385,8 @@ impl<L: Log> Core<L> {
             Ok(head) => head,
             Err(error) => return Err(adopt_refusal(error)),
         };
-        guess(&mut self.guesses, number as u8, shard, head);
+        self.whereabouts.note(number as u8, shard, head, 0);
         Ok(head)
-    }
-}
-
-// Guesses that the shard of this number has the spans of the group of this head.
-fn guess<L: Log>(guesses: &mut Guesses, number: u8, shard: &Shard<L>, head: SpanId) {
-    if let Some(brief) = shard.brief(head) {
-        for place in 0..brief.spans {
-            if let Some(id) = shard.span_at(head, place) {
-                guesses.set(id, number);
-            }
-        }
     }
 }
 
@@ -398,30 +408,6 @@ fn was_done(freed: Freed) -> bool
         Freed::Yes(_) => true,
         Freed::No(_) | Freed::NotHere => false,
     }
-}
-
-// Whether there is a shard of this number, and it has the span.
-fn has_at<L: Log>(shards: &[Shard<L>], number: usize, id: SpanId) -> bool
-    ensures { IsTrue result ↔ ((shard : ShardState) × (slice_get shards.now number ≡ Some shard) × (IsElsewhere shard.groups id → ⊥)) }
-{
-    match shards.get(number) {
-        Some(shard) => shard.has(id),
-        None => false,
-    }
-}
-
-// The number of the first shard that has the span.
-fn position<L: Log>(shards: &[Shard<L>], id: SpanId) -> Option<usize>
-    ensures { MatchOption result
-        ((number : ℕ) (shard : ShardState) → slice_get shards.now number ≡ Some shard → IsElsewhere shard.groups id)
-        (λ number. (shard : ShardState) × (slice_get shards.now number ≡ Some shard) × (IsElsewhere shard.groups id → ⊥)) }
-{
-    for (number, shard) in shards.iter().enumerate() {
-        if shard.has(id) {
-            return Some(number);
-        }
-    }
-    None
 }
 
 // Whether each number of the product is within its range.

@@ -1,21 +1,24 @@
 // Marks, the steps of their plans, and closes.
-ghost use Rattle.std.specs.Prelude.{◌≡◌, ◌<◌, MatchResult};
-ghost use Rattle.arena_core.specs.Owner.{StandsAt};
+ghost use Rattle.std.specs.Prelude.{◌≡◌, ◌<◌, ℕ, MatchResult, length};
+ghost use Rattle.shard.specs.Group.{GroupState, spans_of};
+ghost use Rattle.shard.specs.Moves.{IsHeadOf};
+ghost use Rattle.shard.specs.Sound.{IsSound as IsSoundShard};
+ghost use Rattle.arena_core.specs.Moved.{StandsIn};
 ghost use Rattle.arena_core.specs.Plan.{IsNext};
 ghost use Rattle.arena_core.specs.Sound.{IsSound};
 ghost use Rattle.arena_core.specs.State.{OpenPlan, shown};
 ghost use Rattle.arena_core.specs.Step.{CoreStep};
 ghost use Rattle.arena_core.specs.declared.event.Event.TheVariants as event;
-ghost use Rattle.arena_core.specs.declared.machine.Owner.TheVariants as owner;
 ghost use Rattle.arena_core.specs.declared.reply.Refusal.TheVariants as refusal;
 ghost use Rattle.arena_core.specs.declared.reply.Reply.TheVariants as reply;
 
-use super::{Core, Owner, guess};
+use super::Core;
 use crate::closing::reopen_all;
 use crate::marking::mark_in;
 use crate::reply::{Refusal, Reply, mark_refusal};
 use certificate::Certificate;
 use fold::{Step, fold_one};
+use shard::Shard;
 use span::{Log, SpanId};
 use std::alloc::AllocError;
 
@@ -49,19 +52,15 @@ impl<L: Log> Core<L> {
         let Some((abandoned, owned)) = self.plan.next() else {
             return Reply::NoPairLeft;
         };
-        let number = match self.owner_of(owned) {
-            Some(Owner::Shard(number)) => number,
-            Some(Owner::Pool) => unreachable!(),
-            None => unreachable!(),
-        };
+        let number = self.number_of(owned);
         match self.fold_next(number, abandoned, owned) {
             Ok(step) => Reply::Stepped(abandoned, owned, step),
             Err(_) => Reply::Refused(Refusal::OutOfMemory),
         }
     }
 
-    // Folds the next pair, whose owned group stands in the shard of this number, and guesses from now on that the
-    // spans that came are there.
+    // Folds the next pair, whose owned group stands in the shard of this number, and notes that the spans that came are
+    // there.
     fn fold_next(
         &mut self,
         number: usize,
@@ -69,7 +68,7 @@ impl<L: Log> Core<L> {
         owned: SpanId,
     ) -> Result<Step, AllocError>
         requires next { (plan : OpenPlan) × IsNext self.old plan (abandoned, owned) }
-        requires there { StandsAt self.old owned (owner.Shard number) }
+        requires there { StandsIn self.old.shards owned number }
         ensures exact { MatchResult result
             (λ step. CoreStep self.old event.Step (reply.Stepped abandoned owned step) self.new)
             (λ _. CoreStep self.old event.Step (reply.Refused refusal.OutOfMemory) self.new) }
@@ -77,8 +76,9 @@ impl<L: Log> Core<L> {
         ensures sound { IsSound self.new }
     {
         let shard = &mut self.shards[number];
+        let before = span_count(shard, owned);
         let step = fold_one(&mut self.pool, shard, abandoned, owned)?;
-        guess(&mut self.guesses, number as u8, shard, owned);
+        self.whereabouts.note(number as u8, shard, owned, before);
         self.plan.advance();
         Ok(step)
     }
@@ -96,5 +96,16 @@ impl<L: Log> Core<L> {
         self.pool.plan_closed();
         self.plan.end();
         Reply::Closed
+    }
+}
+
+// How many spans the group of the head has, if the shard has it.
+fn span_count<L: Log>(shard: &Shard<L>, head: SpanId) -> usize
+    requires { IsSoundShard shard.now }
+    ensures { (index : ℕ) (group : GroupState) → IsHeadOf shard.now.groups head index group → result ≡ length (spans_of group) }
+{
+    match shard.brief(head) {
+        Some(brief) => brief.spans,
+        None => 0,
     }
 }

@@ -8,7 +8,7 @@ use Rattle.arena_core.proofs.machine.Core.no_adopter.Goals as goal
 
 pub returns-then-pages-eq0 : goal.returns-then-pages-eq0
 returns-then-pages-eq0 g c = (
-  may_take-nowhere c.args.self.now c.args.number (past_last c.args.self.now c.args.number (subst IsSound c.self.view_is c.self.invariant) c.requires),
+  may_take-nowhere c.args.self.now c.args.number (past_last c.args.self.now c.args.number (subst IsSound c.self.view_is c.self.invariant.sound) c.requires),
   ap (λ (s : CoreState). s.plan) (sym c.self.view_is) ∙ None-if_not_some c.self.inside.plan (sym c.is_open.ensures ∙ c.if-is_open.false),
   subst (λ (s : CoreState). HasNothingToAdopt s.pool) c.self.view_is (HasNothingToAdopt-unpaged c.self.inside.pool (sym c.pages.ensures ∙ c.if-pages-eq0.true)),
   refl,

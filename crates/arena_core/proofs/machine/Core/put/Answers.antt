@@ -7,7 +7,8 @@ use Rattle.arena_core.specs.Refusals.{refusal_of}
 use Rattle.arena_core.specs.State.{shown}
 use Rattle.arena_core.specs.Step.{CoreStep}
 use Rattle.arena_core.proofs.FieldSteps.{CoreStep-refused_fields, IsStep-put_fields, PlainStep-refused, state_of-same}
-use Rattle.arena_core.proofs.Fields.{with_shard_at}
+use Rattle.arena_core.proofs.Fields.{IsRead, with_shard_at}
+use Rattle.arena_core.proofs.FieldsKept.{GetsNone-Puts, IsKept-same, IsKept-with_shard_at}
 use Rattle.arena_core.proofs.PlanSteps.{IsSoundStep}
 use Rattle.arena_core.proofs.machine.Core.put.Goals as goal
 
@@ -15,7 +16,7 @@ issued : (g : _) (c : goal.After-key-1 g) → IsSoundStep c.args.self.now (Put c
 issued g c =
     subst (λ old. IsSoundStep old (Put c.args.number c.args.value) (Issued c.in_ok-key.key) (state_of (with_shard_at c.self.inside c.args.number c.put.new.self))) c.self.view_is
     (IsStep-put_fields c.self.inside c.args.number c.args.value c.in_ok-key.key c.in_ok-key.field-0-1 c.in-Some.shard.now c.put.new.self
-    c.self.invariant (record { within = c.in-Some.ensures.variant.0 refl; value = c.in-Some.ensures.value })
+    c.self.invariant.sound (record { within = c.in-Some.ensures.variant.0 refl; value = c.in-Some.ensures.value })
     c.in_ok-key.ensures.ok c.in_ok-key.ensures.fresh c.in_ok-key.ensures.plain c.put.ensures.sound)
 
 pub returns-in_err-key-clause-exact : goal.returns-in_err-key-clause-exact
@@ -34,8 +35,14 @@ returns-in_err-key-clause-plain g c =
     let step = PlainStep-refused (shown c.args.self.now) (shown (state_of (with_shard_at c.self.inside c.args.number c.put.new.self))) c.args.number c.args.value c.in_err-key.field-0.0 (ap shown (same ∙ c.self.view_is)) in
     rw (refused.1, refused.2) step
 
+pub invariant_of-self-in_err-key : goal.invariant_of-self-in_err-key
+invariant_of-self-in_err-key g c = IsKept-same c.self.inside c.self.invariant c.args.number c.in-Some.shard.now (record { within = c.in-Some.ensures.variant.0 refl; value = c.in-Some.ensures.value }) c.put.new.self c.in_err-key.ensures.err
+
 pub invariant_of-self-2 : goal.invariant_of-self-2
-invariant_of-self-2 g c = (issued g c).kept
+invariant_of-self-2 g c =
+    let read : IsRead c.self.inside c.args.number c.in-Some.shard.now = record { within = c.in-Some.ensures.variant.0 refl; value = c.in-Some.ensures.value } in
+    IsKept-with_shard_at c.self.inside c.self.invariant c.args.number c.in-Some.shard.now read c.put.new.self
+    (GetsNone-Puts c.self.inside c.self.invariant c.args.number c.in-Some.shard.now read c.args.value c.in_ok-key.key c.in_ok-key.field-0-1 c.put.new.self c.in_ok-key.ensures.ok) (issued g c).kept
 
 pub returns-clause-exact : goal.returns-clause-exact
 returns-clause-exact g c = (issued g c).exact

@@ -13,17 +13,17 @@ use Rattle.arena_core.proofs.machine.Core.totals.Goals as goal
 
 pub overflow_add-totals : goal.overflow_add-totals
 overflow_add-totals g c =
-    let few : IsFew c.loop-shard.shard-index c.shard-item.result = IsFew-fields c.self.inside c.deref-shard-items.result.now c.loop-shard.shard-index c.shard-item.result c.self.invariant.groups c.deref-shard-items.ensures.value c.loop-shard-test.true c.shard-item.is in
+    let few : IsFew c.loop-shard.shard-index c.shard-item.result = IsFew-fields c.self.inside c.deref-shard-items.result.now c.loop-shard.shard-index c.shard-item.result c.self.invariant.sound.groups c.deref-shard-items.ensures.value c.loop-shard-test.true c.shard-item.is in
     omega (arith, few.shards, few.pages, c.pages.ensures, c.live.ensures.groups, length-filter_most (λ (group : PooledState). is_some group.page) c.self.inside.pool.groups)
 
 pub overflow_add-totals-in-loop-shard : goal.overflow_add-totals-in-loop-shard
 overflow_add-totals-in-loop-shard g c =
-    let few : IsFew c.loop-shard.shard-index c.shard-item.result = IsFew-fields c.self.inside c.deref-shard-items.result.now c.loop-shard.shard-index c.shard-item.result c.self.invariant.groups c.deref-shard-items.ensures.value c.loop-shard-test.true c.shard-item.is in
+    let few : IsFew c.loop-shard.shard-index c.shard-item.result = IsFew-fields c.self.inside c.deref-shard-items.result.now c.loop-shard.shard-index c.shard-item.result c.self.invariant.sound.groups c.deref-shard-items.ensures.value c.loop-shard-test.true c.shard-item.is in
     omega (arith, few.shards, few.pages, c.live-in-loop-shard.ensures.at_most, c.live.ensures.at_most, c.live.ensures.groups, c.loop-shard.invariant.few_keys)
 
 pub loop-shard-preserved : goal.loop-shard-preserved
 loop-shard-preserved g c =
-    let few : IsFew c.loop-shard.shard-index c.shard-item.result = IsFew-fields c.self.inside c.deref-shard-items.result.now c.loop-shard.shard-index c.shard-item.result c.self.invariant.groups c.deref-shard-items.ensures.value c.loop-shard-test.true c.shard-item.is in
+    let few : IsFew c.loop-shard.shard-index c.shard-item.result = IsFew-fields c.self.inside c.deref-shard-items.result.now c.loop-shard.shard-index c.shard-item.result c.self.invariant.sound.groups c.deref-shard-items.ensures.value c.loop-shard-test.true c.shard-item.is in
     record {
       pages = omega (arith, sum_by_more (λ (shard : ShardState). length shard.groups) c.deref-shard-items.result.now c.loop-shard.shard-index c.shard-item.result c.loop-shard-test.true, ap (λ (shard : ShardState). length shard.groups) c.shard-item.is);
       live = omega (arith, sum_by_more live_keys c.deref-shard-items.result.now c.loop-shard.shard-index c.shard-item.result c.loop-shard-test.true, ap live_keys c.shard-item.is);
@@ -37,4 +37,4 @@ returns-clause-shown g c =
     let all : take c.loop-shard.shard-index shards ≡ shards = take_all c.loop-shard.shard-index shards (omega arith) in
     let owned : sum_by live_keys (take c.loop-shard.shard-index shards) ≡ sum_by live_keys c.self.inside.shards.items = ap (sum_by live_keys) (all ∙ c.deref-shard-items.ensures.value) in
     let live : c.loop-shard.totals.live ≡ core_keys c.args.self.now = omega (arith, c.loop-shard.invariant.live, owned, c.live.ensures.live) ∙ ap core_keys c.self.view_is in
-    subst (HasKeys (shown c.args.self.now)) (sym live) (HasKeys-live_keys c.args.self.now (subst IsSound c.self.view_is c.self.invariant).groups)
+    subst (HasKeys (shown c.args.self.now)) (sym live) (HasKeys-live_keys c.args.self.now (subst IsSound c.self.view_is c.self.invariant.sound).groups)

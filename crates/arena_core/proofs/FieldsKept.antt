@@ -1,0 +1,129 @@
+-- What the fields of a core keep, where a shard, the pool and the whereabouts change.
+use Rattle.std.proofs.Common.{◌≡◌, ◌≢◌, ◌*◌, ℕ, Bool, List, Option, Some, true, false, cond, ap, arith, is_some, length, map, refl, slice_get, subst, sym, ◌∙◌}
+use Rattle.std.proofs.Math.ListN.{length-set}
+use Rattle.std.proofs.lemmas.List.{length-map}
+use Rattle.std.proofs.lemmas.Option.{get_or_from_slice_get, slice_get_within}
+use Rattle.span.specs.declared.id.SpanId.{SpanId}
+use Rattle.span.specs.declared.key.Key.{Key}
+use Rattle.span.specs.Log.{Value as Word}
+use Rattle.span.specs.PlainMap.{without}
+use Rattle.shard.specs.Calls.{Frees, Puts, was_freed}
+use Rattle.shard.specs.Group.{GroupState}
+use Rattle.shard.specs.Shown.{shown as shown_by}
+use Rattle.shard.specs.Sound.{IsSound as IsSoundShard}
+use Rattle.shard.specs.State.{ShardState}
+use Rattle.shard.specs.declared.shard.Freed.{Freed}
+use Rattle.shard.specs.declared.shard.Freed.TheVariants as freed
+use Rattle.abandoned.specs.Calls.{Receives}
+use Rattle.abandoned.specs.State.{PoolState}
+use Rattle.arena_core.specs.declared.machine.Core.TheInside.{Inside}
+use Rattle.arena_core.specs.Kept.{IsKept, state_of}
+use Rattle.arena_core.specs.Moved.{KnowsMoved, Notes}
+use Rattle.arena_core.specs.Sound.{IsSound}
+use Rattle.arena_core.specs.State.{Limits, OpenPlan, has_span, new_core}
+use Rattle.arena_core.proofs.FieldSteps.{IsStep-free_home, state_of-both_same, state_of-same}
+use Rattle.arena_core.proofs.Fields.{IsRead, shard-read, with_both_at, with_shard_at}
+use Rattle.arena_core.proofs.Flagged.{with_flags}
+use Rattle.arena_core.proofs.Groups.{IsCall-Frees, IsCall-Puts}
+use Rattle.arena_core.proofs.MarkSteps.{with_step_at}
+use Rattle.arena_core.proofs.Noted.{Comes, KnowsMoved-map, KnowsMoved-noted, KnowsMoved-set, has_span-flagged, kept-IsCall, kept-emptied}
+use Rattle.arena_core.proofs.Start.{slice_get-range}
+
+-- a shard that stands at this number was read there
+pub read-at : {L : Type 0} (c : Inside L) (number : ℕ) (shard : ShardState) → slice_get c.shards.items number ≡ Some shard → IsRead c number shard
+read-at c number shard here = record {
+  within = omega (arith, slice_get_within c.shards.items number shard here, c.shards.ok.0);
+  value = sym (get_or_from_slice_get c.shards.items number shard shard here);
+}
+
+-- the shard gets no span that it did not open
+abbrev pub GetsNone : ℕ → ShardState → ShardState → Type 0
+GetsNone number before after = (id : SpanId) → number ≢ id.shard → has_span id after ≡ true → has_span id before ≡ true
+
+module _ {L : Type 0} (c : Inside L) (kept : IsKept c) (number : ℕ) (before : ShardState) (read : IsRead c number before) where
+  number_is : before.number ≡ number
+  number_is = (kept.sound.groups.shards number before (shard-read c number before read)).number_is
+
+  pub GetsNone-Puts : (value : Word) (key : Key) (at : ℕ) (after : ShardState) → Puts before value key at after → GetsNone number before after
+  GetsNone-Puts value key at after puts = kept-IsCall before after number number_is (IsCall-Puts before after value key at puts)
+
+  pub GetsNone-same : (after : ShardState) → after ≡ before → GetsNone number before after
+  GetsNone-same after same id foreign has = ap (has_span id) (sym same) ∙ has
+
+  pub GetsNone-Frees : (key : Key) (answer : Freed) (after : ShardState) → Frees before key answer after → GetsNone number before after
+  GetsNone-Frees key (freed.Yes at) after frees = kept-IsCall before after number number_is (IsCall-Frees before after key at frees)
+  GetsNone-Frees key (freed.No at) after (index, place, group, span, there, dead, at_is, same) = GetsNone-same after same
+  GetsNone-Frees key freed.NotHere after frees = GetsNone-same after frees.1
+
+  pub GetsNone-Receives : (pool_before pool_after : PoolState) (after : ShardState) → Receives pool_before before pool_after after → GetsNone number before after
+  GetsNone-Receives pool_before pool_after after receives id foreign has = kept-emptied before after (ap (λ (s : ShardState). s.groups) receives.after) id has
+
+  pub IsKept-with_both_at : (after : ShardState) (pool : PoolState) → GetsNone number before after → IsSound (state_of (with_both_at c number after pool c.whereabouts)) → IsKept (with_both_at c number after pool c.whereabouts)
+  IsKept-with_both_at after pool none sound = record {
+    sound = sound;
+    entries = kept.entries ∙ ap (λ n. 1024 * n) (sym (length-set c.shards.items number after));
+    moved = KnowsMoved-set c.shards.items c.whereabouts kept.moved number before after (shard-read c number before read) none;
+  }
+
+  pub IsKept-with_shard_at : (after : ShardState) → GetsNone number before after → IsSound (state_of (with_shard_at c number after)) → IsKept (with_shard_at c number after)
+  IsKept-with_shard_at after none sound = record {
+    sound = sound;
+    entries = kept.entries ∙ ap (λ n. 1024 * n) (sym (length-set c.shards.items number after));
+    moved = KnowsMoved-set c.shards.items c.whereabouts kept.moved number before after (shard-read c number before read) none;
+  }
+
+  -- a shard and a pool that are as they were
+  pub IsKept-both_same : (after : ShardState) (pool : PoolState) → after ≡ before → pool ≡ c.pool → IsKept (with_both_at c number after pool c.whereabouts)
+  IsKept-both_same after pool same pool_is = IsKept-with_both_at after pool (GetsNone-same after same) (subst IsSound (sym (state_of-both_same c number before after pool c.whereabouts read same pool_is)) kept.sound)
+
+  pub IsKept-same : (after : ShardState) → after ≡ before → IsKept (with_shard_at c number after)
+  IsKept-same after same = IsKept-with_shard_at after (GetsNone-same after same) (subst IsSound (sym (state_of-same c number before after read same)) kept.sound)
+
+  -- a free, whatever it answers
+  pub IsKept-free : (key : Key) (answer : Freed) (after : ShardState) → Frees before key answer after → was_freed answer ≡ is_some ((shown_by before).value_of key) → shown_by after ≡ cond (was_freed answer) (without (shown_by before) key) (shown_by before) → IsSoundShard after
+      → IsKept (with_shard_at c number after)
+  IsKept-free key (freed.Yes at) after frees found plain sound =
+      IsKept-with_shard_at after (GetsNone-Frees key (freed.Yes at) after frees) (IsStep-free_home c (state_of c) number key before after (freed.Yes at) refl kept.sound read (λ e. absurd cc) frees found plain sound).kept
+  IsKept-free key (freed.No at) after frees found plain sound =
+      IsKept-with_shard_at after (GetsNone-Frees key (freed.No at) after frees) (IsStep-free_home c (state_of c) number key before after (freed.No at) refl kept.sound read (λ e. absurd cc) frees found plain sound).kept
+  IsKept-free key freed.NotHere after frees found plain sound = IsKept-same after frees.1
+
+  -- spans come in, and are noted
+  pub IsKept-noted : (after : ShardState) (pool : PoolState) (plan : Option OpenPlan) (noted : List (Option ℕ)) (head : SpanId) (first : ℕ) → Comes before after head first → Notes c.whereabouts noted after.groups head first number
+      → IsSound (state_of (with_step_at c number after pool plan noted)) → IsKept (with_step_at c number after pool plan noted)
+  IsKept-noted after pool plan noted head first comes notes sound = record {
+    sound = sound;
+    entries = notes.same_length ∙ kept.entries ∙ ap (λ n. 1024 * n) (sym (length-set c.shards.items number after));
+    moved = KnowsMoved-noted (state_of c) (state_of (with_step_at c number after pool plan noted)) sound.groups number before after (shard-read c number before read) refl c.whereabouts noted head first kept.entries kept.moved comes notes;
+  }
+
+-- each shard has the spans that it had
+pub IsKept-mapped : {L : Type 0} (c now : Inside L) → IsKept c → now.whereabouts ≡ c.whereabouts → (closed : GroupState → Bool) → now.shards.items ≡ map (with_flags closed) c.shards.items → IsSound (state_of now) → IsKept now
+IsKept-mapped c now kept whereabouts closed items sound = record {
+  sound = sound;
+  entries = ap length whereabouts ∙ kept.entries ∙ ap (λ n. 1024 * n) (sym (ap length items ∙ length-map c.shards.items (with_flags closed)));
+  moved =
+      subst (KnowsMoved now.shards.items) (sym whereabouts)
+      (subst (λ shards. KnowsMoved shards c.whereabouts) (sym items) (KnowsMoved-map c.shards.items c.whereabouts kept.moved (with_flags closed) (has_span-flagged closed)));
+}
+
+-- fields that are as they were
+pub IsKept-unchanged : {L : Type 0} (c now : Inside L) → IsKept c → now.page_limit ≡ c.page_limit → now.ring_capacity ≡ c.ring_capacity → now.gens ≡ c.gens → now.plan ≡ c.plan → now.whereabouts ≡ c.whereabouts → now.shards.items ≡ c.shards.items → now.pool ≡ c.pool → IsKept now
+IsKept-unchanged c now kept pages ring gens plan whereabouts items pool =
+    let same : state_of now ≡ state_of c = λ i. record {
+      limits = record { shards = length (items i); page_limit = pages i; ring_capacity = ring i; gens = gens i };
+      shards = items i;
+      pool = pool i;
+      plan = plan i;
+    } in
+    record {
+      sound = subst IsSound (sym same) kept.sound;
+      entries = ap length whereabouts ∙ kept.entries ∙ ap (λ n. 1024 * n) (sym (ap length items));
+      moved = subst (KnowsMoved now.shards.items) (sym whereabouts) (subst (λ shards. KnowsMoved shards c.whereabouts) (sym items) kept.moved);
+    }
+
+-- no shard has a span
+pub KnowsMoved-new : (limits : Limits) (entries : List (Option ℕ)) → KnowsMoved (new_core limits).shards entries
+KnowsMoved-new limits entries id number foreign (shard, at, has) =
+    let is = slice_get-range limits 0 limits.shards number shard at in
+    absurd (let never : false ≡ true = ap (has_span id) is.1 ∙ has in cc)

@@ -1,0 +1,104 @@
+-- Where spans stand that left the shard which opened them.
+use Rattle.std.proofs.Common.{◌≡◌, ◌≢◌, ◌⊎◌, ◌<◌, ◌∷◌, [], ℕ, zero, suc, Bool, true, false, List, Option, None, Some, inl, inr, refl, sym, ap, subst, ◌∙◌, arith, length, set, slice_get}
+use Rattle.std.proofs.lemmas.Bool.{cases_eq}
+use Rattle.std.proofs.lemmas.Option.{none-some}
+use Rattle.span.specs.declared.id.SpanId.{SpanId}
+use Rattle.span.specs.declared.key.Key.{Key}
+use Rattle.span.specs.Ids.{rank}
+use Rattle.shard.specs.Calls.{Frees, Gets, value_found}
+use Rattle.shard.specs.Shown.{shown as shown_by}
+use Rattle.shard.specs.Sound.{IsSound as IsSoundShard}
+use Rattle.shard.specs.State.{IsElsewhere, ShardState}
+use Rattle.shard.specs.declared.shard.Found.{Found}
+use Rattle.shard.specs.declared.shard.Found.TheVariants as found
+use Rattle.shard.specs.declared.shard.Freed.{Freed}
+use Rattle.shard.specs.declared.shard.Freed.TheVariants as freed
+use Rattle.shard.proofs.Lists.{count-none, find-none, same_some}
+use Rattle.shard.proofs.Standing.{id_from_rank}
+use Rattle.abandoned.specs.Shown.{shown as shown_by_pool}
+use Rattle.arena_core.specs.Moved.{KnowsMoved, StandsIn, StandsInNoOther, named, named_by}
+use Rattle.arena_core.specs.Sound.{HasSoundGroups}
+use Rattle.arena_core.specs.State.{CoreState, has_span, shard_with, shown, shown_at}
+use Rattle.arena_core.proofs.Steps.{has_span-elsewhere, has_span-here, has_span-not, value-shard}
+
+-- a look-up or a free that finds the span
+
+pub has_span-Gets : (shard : ShardState) (key : Key) (answer : Found) → IsSoundShard shard → (answer ≡ found.NotHere → ⊥) → Gets shard key answer → has_span key.span shard ≡ true
+has_span-Gets shard key (found.Value value at) sound here (index, place, group, span, its, holds, word, at_is) = has_span-here shard key.span index place group span sound its
+has_span-Gets shard key (found.Gone at) sound here (index, place, group, span, its, gone, at_is) = has_span-here shard key.span index place group span sound its
+has_span-Gets shard key found.NotHere sound here away = absurd (here refl)
+
+pub has_span-Frees : (before after : ShardState) (key : Key) (answer : Freed) → IsSoundShard before → (answer ≡ freed.NotHere → ⊥) → Frees before key answer after → has_span key.span before ≡ true
+has_span-Frees before after key (freed.Yes at) sound here (index, place, group, span, its, holds, at_is, rest) = has_span-here before key.span index place group span sound its
+has_span-Frees before after key (freed.No at) sound here (index, place, group, span, its, gone, at_is, same) = has_span-here before key.span index place group span sound its
+has_span-Frees before after key freed.NotHere sound here away = absurd (here refl)
+
+-- where the shard has the key's span, its answer is that of the core
+pub value-Gets : (core : CoreState) (key : Key) (number : ℕ) (shard : ShardState) (answer : Found) → HasSoundGroups core → slice_get core.shards number ≡ Some shard → (answer ≡ found.NotHere → ⊥) → Gets shard key answer
+    → value_found answer ≡ (shown_by shard).value_of key → value_found answer ≡ (shown core).value_of key
+value-Gets core key number shard answer sound here found_here gets plain =
+    plain ∙ sym (value-shard core sound key number shard here (has_span-Gets shard key answer (sound.shards number shard here).sound found_here gets))
+
+-- the shard was asked, and does not have the span
+pub not-standing : (core : CoreState) → HasSoundGroups core → (id : SpanId) (number : ℕ) (shard : ShardState) → slice_get core.shards number ≡ Some shard → IsElsewhere shard.groups id → StandsIn core.shards id number → ⊥
+not-standing core sound id number shard here away (other, there, has) =
+    let same : other ≡ shard = same_some (sym there ∙ here) in
+    let never : true ≡ false = sym has ∙ ap (has_span id) same ∙ has_span-not shard id (sound.shards number shard here).sound away in
+    cc
+
+pub standing : (core : CoreState) → HasSoundGroups core → (id : SpanId) (number : ℕ) (shard : ShardState) → slice_get core.shards number ≡ Some shard → (IsElsewhere shard.groups id → ⊥) → StandsIn core.shards id number
+standing core sound id number shard here some = (shard, here, has_span-elsewhere shard id (sound.shards number shard here).sound some)
+
+-- a span that is in no shard
+
+module _ (core : CoreState) (key : Key) (not_home : StandsIn core.shards key.span key.span.shard → ⊥) (no_other : StandsInNoOther core.shards key.span) where
+  shard_with-no_other : shard_with core.shards key.span ≡ None
+  shard_with-no_other = find-none (has_span key.span) core.shards (count-none (has_span key.span) core.shards (λ number shard here. by_test number shard here (has_span key.span shard) refl))
+    where
+      by_home : (number : ℕ) (shard : ShardState) → slice_get core.shards number ≡ Some shard → has_span key.span shard ≡ true → (number ≡ key.span.shard) ⊎ (number ≢ key.span.shard) → ⊥
+      by_home number shard here has (inl same) = not_home (shard, ap (slice_get core.shards) (sym same) ∙ here, has)
+      by_home number shard here has (inr other) = no_other number other (shard, here, has)
+
+      by_test : (number : ℕ) (shard : ShardState) → slice_get core.shards number ≡ Some shard → (b : Bool) → has_span key.span shard ≡ b → b ≡ false
+      by_test number shard here true has = absurd (by_home number shard here has (cases_eq number key.span.shard))
+      by_test number shard here false has = refl
+
+  pub value-no_other : (shown core).value_of key ≡ (shown_by_pool core.pool).value_of key
+  value-no_other = ap (λ o. (shown_at core.pool o).value_of key) shard_with-no_other
+
+-- what the entries say of a span
+
+module _ (shards : List ShardState) (entries : List (Option ℕ)) (knows : KnowsMoved shards entries) (id : SpanId) where
+  pub no_other-unnamed : named entries id ≡ None → StandsInNoOther shards id
+  no_other-unnamed none number foreign stands = none-some _ (sym none ∙ knows id number foreign stands)
+
+  pub no_other-named : (number : ℕ) → named entries id ≡ Some number → (StandsIn shards id number → ⊥) → StandsInNoOther shards id
+  no_other-named number is never other foreign stands =
+      let same : other ≡ number = same_some (sym (knows id other foreign stands) ∙ is) in
+      never (subst (StandsIn shards id) same stands)
+
+-- entries that are set
+
+set_or_same : {X : Type 0} (xs : List X) (i j : ℕ) (y : X) → (slice_get (set xs i y) j ≡ slice_get xs j) ⊎ ((slice_get (set xs i y) j ≡ Some y) × (j ≡ i))
+set_or_same [] i j y = inl refl
+set_or_same (x ∷ xs) zero zero y = inr (refl, refl)
+set_or_same (x ∷ xs) zero (suc j) y = inl refl
+set_or_same (x ∷ xs) (suc i) zero y = inl refl
+set_or_same (x ∷ xs) (suc i) (suc j) y = elim (set_or_same xs i j y) [
+  | inl same ↦ inl same
+  | inr here ↦ inr (here.0, ap suc here.1)
+]
+
+set_here : {X : Type 0} (xs : List X) (i : ℕ) (y : X) → i < length xs → slice_get (set xs i y) i ≡ Some y
+set_here [] i y within = absurd (omega arith)
+set_here (x ∷ xs) zero y within = refl
+set_here (x ∷ xs) (suc i) y within = set_here xs i y (omega arith)
+
+pub named-set : (entries : List (Option ℕ)) (id other : SpanId) (number : ℕ) → (named (set entries (rank id) (Some number)) other ≡ named entries other) ⊎ ((named (set entries (rank id) (Some number)) other ≡ Some number) × (other ≡ id))
+named-set entries id other number = elim (set_or_same entries (rank id) (rank other) (Some number)) [
+  | inl same ↦ inl (ap named_by same)
+  | inr here ↦ inr (ap named_by here.0, id_from_rank other id here.1)
+]
+
+pub named-set_here : (entries : List (Option ℕ)) (id : SpanId) (number : ℕ) → rank id < length entries → named (set entries (rank id) (Some number)) id ≡ Some number
+named-set_here entries id number within = ap named_by (set_here entries (rank id) (Some number) within)

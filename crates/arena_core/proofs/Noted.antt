@@ -1,0 +1,284 @@
+-- What the core keeps of the whereabouts where a shard gets or loses spans.
+use Rattle.std.proofs.Common.{◌≡◌, ◌≢◌, ◌⊎◌, ◌+◌, ◌*◌, ◌<◌, ◌≤◌, ◌++◌, ◌∷◌, [], ℕ, zero, suc, Bool, true, false, List, Option, None, Some, inl, inr, refl, sym, ap, subst, ◌∙◌, arith, eqb, is_some, length, map, set, slice_get}
+use Rattle.std.specs.Prelude.{count_by, find}
+use Rattle.std.proofs.Math.ListN.{length-set}
+use Rattle.std.proofs.lemmas.Bool.{cases_eq, cases_lt, ne_eqb}
+use Rattle.std.proofs.lemmas.Option.{slice_get_past, slice_get_within}
+use Rattle.span.specs.declared.id.SpanId.{SpanId}
+use Rattle.span.specs.Ids.{rank}
+use Rattle.span.specs.State.{SpanState}
+use Rattle.span.proofs.Ids.{same_id_from_test}
+use Rattle.shard.specs.Calls.{Ascend}
+use Rattle.shard.specs.Group.{GroupState, IsSpanAt, spans_of}
+use Rattle.shard.specs.Moves.{HasNoHead, HasNoMember, IsBriefHere, IsHeadOf, IsMemberAt, WholeState, spans_moved, with_guests, with_room}
+use Rattle.shard.specs.Shown.{span_named}
+use Rattle.shard.specs.State.{ShardState, spans_in}
+use Rattle.shard.specs.declared.brief.Brief.{Brief}
+use Rattle.shard.proofs.HeadsHere.{same_group}
+use Rattle.shard.proofs.Lists.{cases-set, found_at, get-insert, get-set, same_some}
+use Rattle.abandoned.specs.Calls.{Adopts}
+use Rattle.abandoned.specs.State.{PoolState}
+use Rattle.fold.specs.Folds.{Folds, Steps}
+use Rattle.fold.specs.declared.step.Step.{Step as Outcome}
+use Rattle.fold.specs.declared.step.Step.TheVariants.{Absent, Clash, Emptied, Folded}
+use Rattle.fold.proofs.Sums.{sum_by-Folds_shard}
+use Rattle.arena_core.specs.Moved.{KnowsMoved, Notes, StandsIn, named}
+use Rattle.arena_core.specs.Sound.{HasSoundGroups}
+use Rattle.arena_core.specs.State.{CoreState, has_span, opened_by, opened_of}
+use Rattle.arena_core.proofs.Changes.{at_most_once, opened-somewhere}
+use Rattle.arena_core.proofs.Flagged.{map_back, spans_in-flagged, with_flags}
+use Rattle.arena_core.proofs.Groups.{IsCall, own, sum_in-TakesIn}
+use Rattle.arena_core.proofs.Lists.{find-counted, slice_get-set_other, slice_get-set_same}
+use Rattle.arena_core.proofs.Moved.{named-set, named-set_here}
+use Rattle.arena_core.proofs.Spans.{has_span-counted, is_named, named as count_named, shard_with-here, times-parts, times_in, times_in-found, times_in-le, times_owned}
+use Rattle.arena_core.proofs.Steps.{has_span-here}
+
+-- the spans of a group, noted one after another
+
+-- the entries after the spans of the head's group at these places were noted
+pub record NotesBelow (old new : List (Option ℕ)) (groups : List GroupState) (head : SpanId) (first past number : ℕ) : Type 0 where
+  pub same_length : length new ≡ length old
+  pub noted : (place : ℕ) (id : SpanId) → first ≤ place → place < past → IsMemberAt groups head place id → rank id < length old → named new id ≡ Some number
+  pub others : (id : SpanId) → (named new id ≡ named old id) ⊎ ((named new id ≡ Some number) × (place : ℕ) × IsMemberAt groups head place id)
+
+module _ (groups : List GroupState) (ascend : Ascend groups) (head : SpanId) where
+  -- one span stands at a place
+  same_member : (place : ℕ) (a b : SpanId) → IsMemberAt groups head place a → IsMemberAt groups head place b → a ≡ b
+  same_member place a b (i, group, here, (span, at, is)) (j, other, there, (span_too, at_too, is_too)) =
+      let one : group ≡ other = same_group groups ascend head i j group other here there in
+      let same : span ≡ span_too = same_some (sym at ∙ ap (λ (g : GroupState). slice_get (spans_of g) place) one ∙ at_too) in
+      sym is ∙ ap (λ (s : SpanState). s.id) same ∙ is_too
+
+  no_member : (place : ℕ) (id : SpanId) → HasNoMember groups head place → IsMemberAt groups head place id → ⊥
+  no_member place id past (index, group, here, (span, at, is)) = omega (arith, past index group here, slice_get_within (spans_of group) place span at)
+
+  pub NotesBelow-none : (old : List (Option ℕ)) (first number : ℕ) → NotesBelow old old groups head first first number
+  NotesBelow-none old first number = record {
+    same_length = refl;
+    noted = λ place id from below member within. absurd (omega arith);
+    others = λ id. inl refl;
+  }
+
+  pub NotesBelow-set : (old now new : List (Option ℕ)) (first past number : ℕ) (id : SpanId) → IsMemberAt groups head past id → new ≡ set now (rank id) (Some number) → NotesBelow old now groups head first past number → NotesBelow old new groups head first (past + 1) number
+  NotesBelow-set old now new first past number id member is before = record {
+    same_length = ap length is ∙ length-set now (rank id) (Some number) ∙ before.same_length;
+    noted = λ place other from below its within. by_order place other from below its within (cases_lt place past);
+    others = λ other. elim (named-set now id other number) [
+      | inl same ↦ elim (before.others other) [
+        | inl still ↦ inl (ap (λ xs. named xs other) is ∙ same ∙ still)
+        | inr noted ↦ inr (ap (λ xs. named xs other) is ∙ same ∙ noted.0, noted.1, noted.2)
+      ]
+      | inr here ↦ inr (ap (λ xs. named xs other) is ∙ here.0, past, subst (IsMemberAt groups head past) (sym here.1) member)
+    ];
+  }
+    where
+      by_order : (place : ℕ) (other : SpanId) → first ≤ place → place < past + 1 → IsMemberAt groups head place other → rank other < length old → (place < past) ⊎ (past ≤ place) → named new other ≡ Some number
+      by_order place other from below its within (inl earlier) = elim (named-set now id other number) [
+        | inl same ↦ ap (λ xs. named xs other) is ∙ same ∙ before.noted place other from earlier its within
+        | inr here ↦ ap (λ xs. named xs other) is ∙ here.0
+      ]
+      by_order place other from below its within (inr last) =
+          let at : place ≡ past = omega arith in
+          let one : other ≡ id = same_member past other id (subst (λ k. IsMemberAt groups head k other) at its) member in
+          ap (λ xs. named xs other) is ∙ ap (named (set now (rank id) (Some number))) one
+          ∙ named-set_here now id number (subst (λ (i : SpanId). rank i < length now) one (subst (λ n. rank other < n) (sym before.same_length) within))
+
+  pub NotesBelow-past : (old now : List (Option ℕ)) (first past number : ℕ) → HasNoMember groups head past → NotesBelow old now groups head first past number → NotesBelow old now groups head first (past + 1) number
+  NotesBelow-past old now first past number none before = record {
+    same_length = before.same_length;
+    noted = λ place other from below its within. by_order place other from below its within (cases_lt place past);
+    others = before.others;
+  }
+    where
+      by_order : (place : ℕ) (other : SpanId) → first ≤ place → place < past + 1 → IsMemberAt groups head place other → rank other < length old → (place < past) ⊎ (past ≤ place) → named now other ≡ Some number
+      by_order place other from below its within (inl earlier) = before.noted place other from earlier its within
+      by_order place other from below its within (inr last) =
+          let at : place ≡ past = omega arith in
+          absurd (no_member past other none (subst (λ k. IsMemberAt groups head k other) at its))
+
+  pub Notes-all : (old new : List (Option ℕ)) (first past number : ℕ) (brief : Brief) → IsBriefHere groups head brief → brief.spans ≤ past → NotesBelow old new groups head first past number → Notes old new groups head first number
+  Notes-all old new first past number brief (index, group, here, told) all below = record {
+    same_length = below.same_length;
+    noted = λ place id from member within. below.noted place id from (last place id member) member within;
+    others = below.others;
+  }
+    where
+      last : (place : ℕ) (id : SpanId) → IsMemberAt groups head place id → place < past
+      last place id (other, its, there, (span, at, is)) =
+          let one : its ≡ group = same_group groups ascend head other index its group there here in
+          omega (arith, told.spans_is, ap (λ (g : GroupState). length (spans_of g)) one, slice_get_within (spans_of its) place span at)
+
+  pub span_count-brief : (brief : Brief) → IsBriefHere groups head brief → (index : ℕ) (group : GroupState) → IsHeadOf groups head index group → brief.spans ≡ length (spans_of group)
+  span_count-brief brief (other, its, there, told) index group here =
+      told.spans_is ∙ ap (λ (g : GroupState). length (spans_of g)) (same_group groups ascend head other index its group there here)
+
+pub Notes-nowhere : (entries : List (Option ℕ)) (groups : List GroupState) (head : SpanId) (first number : ℕ) → HasNoHead groups head → Notes entries entries groups head first number
+Notes-nowhere entries groups head first number none = record {
+  same_length = refl;
+  noted = λ place id from member within. let (index, group, here, its) = member in absurd (none index group here);
+  others = λ id. inl refl;
+}
+
+-- a shard changes
+
+module _ (shards : List ShardState) (entries : List (Option ℕ)) (knows : KnowsMoved shards entries) where
+  -- it gets no span that it did not open
+  pub KnowsMoved-set : (number : ℕ) (before after : ShardState) → slice_get shards number ≡ Some before → ((id : SpanId) → number ≢ id.shard → has_span id after ≡ true → has_span id before ≡ true) → KnowsMoved (set shards number after) entries
+  KnowsMoved-set number before after here kept id k foreign (shard, at, has) = elim (cases-set shards number after k shard at) [
+    | inl same ↦
+        let was = kept id (λ e. foreign (same.0 ∙ e)) (ap (has_span id) same.1 ∙ has) in
+        subst (λ n. named entries id ≡ Some n) (sym same.0) (knows id number (λ e. foreign (same.0 ∙ e)) (before, here, was))
+    | inr old ↦ knows id k foreign (shard, old.1, has)
+  ]
+
+  -- each shard has the spans that it had
+  pub KnowsMoved-map : (change : ShardState → ShardState) → ((shard : ShardState) (id : SpanId) → has_span id (change shard) ≡ has_span id shard) → KnowsMoved (map change shards) entries
+  KnowsMoved-map change same id k foreign (shard, at, has) =
+      let (was, there, is) = map_back change shards k shard at in
+      knows id k foreign (was, there, sym (same was id) ∙ ap (has_span id) is ∙ has)
+
+pub has_span-flagged : (closed : GroupState → Bool) (shard : ShardState) (id : SpanId) → has_span id (with_flags closed shard) ≡ has_span id shard
+has_span-flagged closed shard id = ap (λ spans. is_some (span_named spans id)) (spans_in-flagged closed shard.groups)
+
+-- a put or a free
+
+pub kept-IsCall : (before after : ShardState) (number : ℕ) → before.number ≡ number → IsCall before after → (id : SpanId) → number ≢ id.shard → has_span id after ≡ true → has_span id before ≡ true
+kept-IsCall before after number number_is call id foreign has =
+    let not_before : eqb id.shard before.number ≡ false = ne_eqb id.shard before.number (λ e. foreign (sym number_is ∙ sym e)) in
+    let not_after : eqb id.shard after.number ≡ false = ne_eqb id.shard after.number (λ e. foreign (sym number_is ∙ sym call.number_is ∙ sym e)) in
+    let none_before : own id before ≡ 0 = rw not_before refl in
+    let none_after : own id after ≡ 0 = rw not_after refl in
+    has_span-counted id before (omega (arith, times_in-found id after has, call.spans id, none_before, none_after))
+
+-- an end
+
+pub kept-emptied : (before after : ShardState) → after.groups ≡ [] → (id : SpanId) → has_span id after ≡ true → has_span id before ≡ true
+kept-emptied before after none id has = absurd (let never : false ≡ true = sym (ap (λ groups. is_some (span_named (spans_in groups) id)) none) ∙ has in cc)
+
+-- spans that come in
+
+-- where one is counted, it stands somewhere
+counted_at : (id : SpanId) (spans : List SpanState) → 1 ≤ count_by (is_named id) spans → (place : ℕ) × IsSpanAt spans id place
+counted_at id spans some = by_find (find (is_named id) spans) refl
+  where
+    by_find : (o : Option SpanState) → find (is_named id) spans ≡ o → (place : ℕ) × IsSpanAt spans id place
+    by_find None e = absurd (let never : true ≡ false = sym (find-counted (is_named id) spans some) ∙ ap is_some e in cc)
+    by_find (Some span) e =
+        let there = found_at (is_named id) spans span e in
+        (there.0.0, (span, there.0.1, same_id_from_test span.id id there.1))
+
+-- each span that the shard has now it had before, or it stands at a place of the head's group from the first on
+abbrev pub Comes : ShardState → ShardState → SpanId → ℕ → Type 0
+Comes before after head first = (id : SpanId) → has_span id after ≡ true → (has_span id before ≡ true) ⊎ ((place : ℕ) × (first ≤ place) × IsMemberAt after.groups head place id)
+
+came_or_was : (id : SpanId) (before after : ShardState) (spans : List SpanState) → times_in id after ≡ times_in id before + count_by (is_named id) spans → has_span id after ≡ true
+    → (has_span id before ≡ true) ⊎ ((place : ℕ) × IsSpanAt spans id place)
+came_or_was id before after spans came has = by_count (times_in id before) refl
+  where
+    by_count : (n : ℕ) → times_in id before ≡ n → (has_span id before ≡ true) ⊎ ((place : ℕ) × IsSpanAt spans id place)
+    by_count zero e = inr (counted_at id spans (omega (arith, times_in-found id after has)))
+    by_count (suc n) e = inl (has_span-counted id before (omega arith))
+
+pub Comes-Adopts : (before after : ShardState) (pool_before pool_after : PoolState) (head : SpanId) → Adopts pool_before before head pool_after after → Comes before after head 0
+Comes-Adopts before after pool_before pool_after head adopts id has = elim (came_or_was id before after (spans_moved adopts.whole) came has) [
+  | inl was ↦ inl was
+  | inr new ↦ inr (new.0, omega arith, (adopts.takes_in.index, _, record { here = here; head_is = head_is }, new.1))
+]
+  where
+    came : times_in id after ≡ times_in id before + count_by (is_named id) (spans_moved adopts.whole)
+    came = sum_in-TakesIn (count_named id) (with_room before None (length (spans_moved adopts.whole))) after adopts.whole adopts.takes_in
+
+    adopted : GroupState
+    adopted = record { head = adopts.whole.head; guests = adopts.whole.guests; page = adopts.takes_in.page; closed = false }
+
+    here : slice_get after.groups adopts.takes_in.index ≡ Some adopted
+    here = ap (λ (s : ShardState). slice_get s.groups adopts.takes_in.index) adopts.takes_in.after ∙ get-insert before.groups adopts.takes_in.index adopted adopts.takes_in.place.within
+
+    head_is : adopts.whole.head.id ≡ head
+    head_is = let (index, group, head_of, whole_is, after_is) = adopts.lifts in ap (λ (m : WholeState). m.head.id) whole_is ∙ head_of.head_is
+
+-- a place of the second list in both
+in_second : {X : Type 0} (xs ys : List X) (at : ℕ) (y : X) → slice_get ys at ≡ Some y → (there : ℕ) × (length xs ≤ there) × (slice_get (xs ++ ys) there ≡ Some y)
+in_second [] ys at y here = (at, omega arith, here)
+in_second (x ∷ xs) ys at y here = let (there, past, is) = in_second xs ys at y here in (suc there, omega arith, is)
+
+pub Comes-Folds : (pool : PoolState) (before : ShardState) (a b : SpanId) (pool_after : PoolState) (after : ShardState) (first : ℕ) → Folds pool before a b pool_after after
+    → ((index : ℕ) (group : GroupState) → IsHeadOf before.groups b index group → first ≡ length (spans_of group)) → Comes before after b first
+Comes-Folds pool before a b pool_after after first folds count id has = elim (came_or_was id before after (spans_moved folds.whole) (sum_by-Folds_shard pool before a b pool_after after folds (count_named id)) has) [
+  | inl was ↦ inl was
+  | inr new ↦
+      let (place, (span, at, is)) = new in
+      let (there, past, stands) = in_second folds.grafts.group.guests (spans_moved folds.whole) place span at in
+      inr (suc there, omega (arith, count folds.grafts.index folds.grafts.group (record { here = folds.grafts.here.here; head_is = folds.grafts.here.head_is })), (folds.grafts.index, with_guests folds.grafts.group (spans_moved folds.whole), record { here = here; head_is = folds.grafts.here.head_is }, (span, stands, is)))
+]
+  where
+    here : slice_get after.groups folds.grafts.index ≡ Some (with_guests folds.grafts.group (spans_moved folds.whole))
+    here = ap (λ (s : ShardState). slice_get s.groups folds.grafts.index) folds.grafts.after ∙ get-set before.groups folds.grafts.index folds.grafts.group (with_guests folds.grafts.group (spans_moved folds.whole)) folds.grafts.here.here
+
+pub Comes-Steps : (pool : PoolState) (before : ShardState) (a b : SpanId) (pool_after : PoolState) (after : ShardState) (first : ℕ) (step : Outcome) → Steps pool before a b step pool_after after
+    → ((index : ℕ) (group : GroupState) → IsHeadOf before.groups b index group → first ≡ length (spans_of group)) → Comes before after b first
+Comes-Steps pool before a b pool_after after first Absent steps count id has = inl (ap (has_span id) (sym steps.2) ∙ has)
+Comes-Steps pool before a b pool_after after first Emptied steps count id has = inl (ap (has_span id) (sym steps.2) ∙ has)
+Comes-Steps pool before a b pool_after after first Clash steps count id has = inl (ap (has_span id) (sym steps.2) ∙ has)
+Comes-Steps pool before a b pool_after after first Folded steps count id has = Comes-Folds pool before a b pool_after after first steps.1 count id has
+
+-- the shard of this number gets spans, which are noted
+
+-- a span that stands in a shard was opened, so that it has an entry
+pub home-within : (core : CoreState) → HasSoundGroups core → (id : SpanId) (number : ℕ) → StandsIn core.shards id number → id.shard < length core.shards
+home-within core sound id number (shard, at, has) = by_order (cases_lt id.shard (length core.shards))
+  where
+    opened : id.serial < opened_by core.shards id.shard
+    opened = opened-somewhere core sound id (omega (arith, times_in-found id shard has, times_in-le id core.shards number shard at, times-parts id core))
+
+    by_order : (id.shard < length core.shards) ⊎ (length core.shards ≤ id.shard) → id.shard < length core.shards
+    by_order (inl within) = within
+    by_order (inr past) = absurd (omega (arith, opened, ap opened_of (slice_get_past core.shards id.shard past)))
+
+module _ (core : CoreState) (sound : HasSoundGroups core) where
+  -- a span stands in one shard
+  one_shard : (id : SpanId) (number other : ℕ) → StandsIn core.shards id number → StandsIn core.shards id other → number ≡ other
+  one_shard id number other (shard, at, has) (shard_too, at_too, has_too) =
+      let once : times_owned id core.shards ≤ 1 = omega (arith, times-parts id core, at_most_once core sound id) in
+      let same : shard ≡ shard_too = same_some (sym (shard_with-here id core.shards number shard at has once) ∙ shard_with-here id core.shards other shard_too at_too has_too once) in
+      sym (sound.shards number shard at).number_is ∙ ap (λ (s : ShardState). s.number) same ∙ (sound.shards other shard_too at_too).number_is
+
+  standing_member : (id head : SpanId) (number place : ℕ) (shard : ShardState) → slice_get core.shards number ≡ Some shard → IsMemberAt shard.groups head place id → StandsIn core.shards id number
+  standing_member id head number place shard at (index, group, here, (span, there, is)) =
+      (shard, at, has_span-here shard id index place group span (sound.shards number shard at).sound (record { group_is = here.here; span_is = there; id_is = is }))
+
+pub KnowsMoved-noted : (old core : CoreState) → HasSoundGroups core → (number : ℕ) (before after : ShardState) → slice_get old.shards number ≡ Some before → core.shards ≡ set old.shards number after
+    → (entries noted : List (Option ℕ)) (head : SpanId) (first : ℕ) → length entries ≡ 1024 * length old.shards → KnowsMoved old.shards entries → Comes before after head first → Notes entries noted after.groups head first number → KnowsMoved core.shards noted
+KnowsMoved-noted old core sound number before after here shards_are entries noted head first room knows comes notes id k foreign stands = by_number (cases_eq k number)
+  where
+    there : slice_get core.shards number ≡ Some after
+    there = ap (λ shards. slice_get shards number) shards_are ∙ slice_get-set_same old.shards number before after here
+
+    within : rank id < length entries
+    within =
+        let low : id.shard < length core.shards = home-within core sound id k stands in
+        omega (arith, room, ap length shards_are, length-set old.shards number after, id.serial_in_range)
+
+    -- what was named before is named still
+    still : named entries id ≡ Some number → named noted id ≡ Some number
+    still was = elim (notes.others id) [
+      | inl same ↦ same ∙ was
+      | inr new ↦ new.0
+    ]
+
+    by_number : (k ≡ number) ⊎ (k ≢ number) → named noted id ≡ Some k
+    by_number (inl same) =
+        let (shard, at, has) = stands in
+        let is : after ≡ shard = same_some (sym there ∙ ap (slice_get core.shards) (sym same) ∙ at) in
+        let abroad : number ≢ id.shard = λ e. foreign (same ∙ e) in
+        subst (λ n. named noted id ≡ Some n) (sym same) (elim (comes id (ap (has_span id) is ∙ has)) [
+          | inl was ↦ still (knows id number abroad (before, here, was))
+          | inr new ↦ notes.noted new.0 id new.1 new.2 within
+        ])
+    by_number (inr other) =
+        let (shard, at, has) = stands in
+        let at_before : slice_get old.shards k ≡ Some shard = sym (ap (λ shards. slice_get shards k) shards_are ∙ slice_get-set_other old.shards number k after other) ∙ at in
+        elim (notes.others id) [
+          | inl same ↦ same ∙ knows id k foreign (shard, at_before, has)
+          | inr new ↦ absurd (other (one_shard core sound id k number stands (standing_member core sound id head number new.1 after there new.2)))
+        ]
