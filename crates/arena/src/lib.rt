@@ -21,8 +21,9 @@
 //! on what was found under the lock.
 //!
 //! No contract speaks of what a lock guards at a moment that no caller can name. So a seat's contract
-//! says that its answer is its receipt's, and the receipts are held against the logs when the run is
-//! over (the crate `audit`): each call then has its place in one history of its span.
+//! says that its answer is its receipt's, and when the run is over the receipts are held against the
+//! logs that [`finish`] hands out (the crate `audit`): each call then has its place in one history of
+//! its span.
 //!
 //! The logs are kept, or only counted, as the arena's type says. With `Counted` it is the arena of a
 //! service that runs for months; its receipts are the caller's to keep or to drop, and it can't be
@@ -30,6 +31,7 @@
 #![tactic(auto)]
 
 mod arena;
+mod ending;
 mod error;
 mod gate;
 mod limits;
@@ -43,6 +45,7 @@ mod tests;
 mod words;
 
 pub use arena::{Arena, Stepped};
+pub use ending::{Finished, Unfinished, finish};
 pub use error::OpenError;
 pub use gate::{Gate, NoGate};
 pub use limits::Limits;

@@ -6,6 +6,7 @@
 ghost use Rattle.std.specs.Prelude.{◌≡◌};
 
 use crate::arena::{Arena, Stepped};
+use crate::ending::finish;
 use crate::error::OpenError;
 use crate::gate::{Gate, NoGate};
 use crate::seat::Seat;
@@ -381,5 +382,42 @@ fn puts_beside_a_thread_that_is_held(rt: HostRuntime) -> Result<(), Fail> {
     } = two;
     let met = meet(&rt, &arena, &mut first, &mut second);
     assert!(rt; met);
+    Ok(())
+}
+
+// How many logs and how many changes an arena leaves: of a span whose group came to the pool and was emptied there, and of one
+// that stands in a shard. Where memory was refused, arena and seats are ended again, as they were handed back.
+fn logs_left<R: Wait>(rt: &R, alloc: Global, two: Two<NoGate, Kept>) -> Option<(usize, usize)> {
+    let Two {
+        arena,
+        mut first,
+        mut second,
+        ..
+    } = two;
+    let key = put(rt, &arena, &mut first, 5)?;
+    put(rt, &arena, &mut second, 6)?;
+    if !end(rt, &arena, &mut first) || !first.free(rt, &arena, &key).0 {
+        return None;
+    }
+    let mut seats = Vec::new(alloc);
+    seats.push(first).ok()?;
+    let finished = match finish(arena, seats) {
+        Ok(finished) => finished,
+        Err(back) => finish(back.arena, back.seats).ok()?,
+    };
+    let mut changes: usize = 0;
+    for log in &finished.logs {
+        changes = changes.saturating_add(log.changes.len());
+    }
+    Some((finished.logs.len(), changes))
+}
+
+#[test]
+fn leaves_all_logs(rt: HostRuntime) -> Result<(), Fail> {
+    let Some(two) = make_again(rt.alloc()) else {
+        return Err("no arena".into());
+    };
+    let left = logs_left(&rt, rt.alloc(), two);
+    assert_eq!(rt; left, Some((2, 3)));
     Ok(())
 }
