@@ -1,0 +1,183 @@
+// A whole run: the sections of all workers, the steward's marks, and the audit.
+use crate::steward::{Keeper, Marks};
+use crate::worker::{Trouble, Worker};
+use arena::{Arena, NoGate, Seat, finish};
+use audit::{AuditError, audit};
+use span::{Key, Receipt};
+use std::alloc::{AllocError, Global};
+use std::sync::Wait;
+use std::thread;
+use std::thread::Threads;
+
+/// How many workers a run has, each with a shard.
+pub const WORKERS: u32 = 8;
+
+/// How many sections a run has.
+pub const SECTIONS: usize = 10;
+
+/// When the steward marks.
+#[derive(Clone, Copy, PartialEq, Eq, Debug)]
+pub enum Turn {
+    /// After each section, while no worker runs.
+    Between,
+    /// All the while, beside the workers.
+    Beside,
+}
+
+/// What a run came to.
+#[derive(Clone, Copy, PartialEq, Eq, Debug)]
+pub struct Told {
+    /// What a worker met that no call may come to, if any did.
+    pub trouble: Option<Trouble>,
+    /// What came of the marks.
+    pub marks: Marks,
+    /// How many shards were ended.
+    pub ended: usize,
+    /// How many groups were adopted.
+    pub adopted: usize,
+    /// What the audit says of the receipts.
+    pub verdict: Result<(), AuditError>,
+}
+
+// A worker for each seat.
+fn workers_of<'a>(
+    alloc: Global,
+    arena: &'a Arena<NoGate>,
+    seats: Vec<Seat>,
+) -> Result<Vec<Worker<'a>>, AllocError> {
+    let mut workers = Vec::new(alloc);
+    for seat in seats {
+        if let Some(worker) = Worker::new(alloc, arena, seat) {
+            workers.push(worker)?;
+        }
+    }
+    Ok(workers)
+}
+
+// All keys that the workers have.
+fn keys_of(alloc: Global, workers: &[Worker<'_>]) -> Result<Vec<Key>, AllocError> {
+    let mut keys = Vec::new(alloc);
+    for worker in workers {
+        keys.extend_from_slice(worker.keys.as_slice())?;
+    }
+    Ok(keys)
+}
+
+// The calls of a section of one worker.
+fn work_one<'a, R: Wait>(rt: &R, worker: Worker<'a>, old: &[Key]) -> Worker<'a> {
+    let mut worker = worker;
+    worker.go_on();
+    worker.work(rt, old);
+    worker
+}
+
+// The calls of a section, each worker's in a thread of its own.
+fn work<'a, R: Threads + Wait + Sync>(
+    rt: &R,
+    workers: Vec<Worker<'a>>,
+    old: &[Key],
+) -> Result<Vec<Worker<'a>>, AllocError> {
+    thread::map_vec(rt, workers, &|worker| work_one(rt, worker, old))
+}
+
+// Marks all the while.
+fn keep<'a, R: Wait>(rt: &R, keeper: Keeper<'a>) -> Keeper<'a> {
+    let mut keeper = keeper;
+    keeper.mark_beside(rt, 20);
+    keeper
+}
+
+// One section, with a mark after it or with marks all the while.
+fn section<'a, R: Threads + Wait + Sync>(
+    rt: &R,
+    workers: Vec<Worker<'a>>,
+    keeper: Keeper<'a>,
+    old: &[Key],
+    turn: Turn,
+    takes_steps: bool,
+) -> (Result<Vec<Worker<'a>>, AllocError>, Keeper<'a>) {
+    match turn {
+        Turn::Between => {
+            let workers = work(rt, workers, old);
+            let mut keeper = keeper;
+            keeper.mark_alone(rt, takes_steps);
+            (workers, keeper)
+        }
+        Turn::Beside => thread::join(rt, move || work(rt, workers, old), move || keep(rt, keeper)),
+    }
+}
+
+// How many shards were ended, and how many groups adopted.
+fn moves_of(workers: &[Worker<'_>]) -> (usize, usize) {
+    let mut ended = 0usize;
+    let mut adopted = 0usize;
+    for worker in workers {
+        ended = ended.saturating_add(usize::from(worker.has_ended));
+        adopted = adopted.saturating_add(worker.adopted);
+    }
+    (ended, adopted)
+}
+
+// The workers' seats, and their receipts, a list for each.
+fn taken_apart(
+    alloc: Global,
+    workers: Vec<Worker<'_>>,
+) -> Result<(Vec<Seat>, Vec<Vec<Receipt>>), AllocError> {
+    let mut seats = Vec::with_capacity(alloc, workers.len())?;
+    let mut lists = Vec::with_capacity(alloc, workers.len())?;
+    for worker in workers {
+        let Worker { seat, receipts, .. } = worker;
+        seats.push(seat)?;
+        lists.push(receipts)?;
+    }
+    Ok((seats, lists))
+}
+
+// What a worker met that no call may come to, if any did.
+fn trouble_of(workers: &[Worker<'_>]) -> Option<Trouble> {
+    for worker in workers {
+        if worker.trouble.is_some() {
+            return worker.trouble;
+        }
+    }
+    None
+}
+
+/// A run in which the steward marks then.
+pub fn run<R: Threads + Wait + Sync>(
+    rt: &R,
+    alloc: Global,
+    turn: Turn,
+) -> Result<Told, AllocError> {
+    let Ok((arena, seats, steward)) = Arena::open(alloc, WORKERS, 16, 1, 9, NoGate) else {
+        return Err(AllocError);
+    };
+    let mut workers = workers_of(alloc, &arena, seats)?;
+    let Some(mut keeper) = Keeper::new(&arena, steward) else {
+        return Err(AllocError);
+    };
+    for number in 0..SECTIONS {
+        let old = keys_of(alloc, workers.as_slice())?;
+        // A plan that is closed at once leaves groups in the pool, to be adopted.
+        let takes_steps = number % 4 != 2;
+        let (worked, kept) = section(rt, workers, keeper, old.as_slice(), turn, takes_steps);
+        workers = worked?;
+        keeper = kept;
+    }
+    let marks = keeper.marks;
+    let trouble = trouble_of(workers.as_slice());
+    let (ended, adopted) = moves_of(workers.as_slice());
+    let (seats, lists) = taken_apart(alloc, workers)?;
+    drop(keeper);
+    let Ok(finished) = finish(arena, seats) else {
+        return Err(AllocError);
+    };
+    let verdict = audit(alloc, finished.logs.as_slice(), lists.as_slice());
+    Ok(Told {
+        trouble,
+        marks,
+        ended,
+        adopted,
+        verdict,
+    })
+}

@@ -1,0 +1,36 @@
+//! That a run of many threads comes to what it ought to.
+use crate::{Told, Trouble, Turn, run};
+use audit::AuditError;
+use std::test::Fail;
+
+// What a run must come to: no call met what none may, the audit is passed, so many marks were made, none of them was refused or
+// told other groups than there were, and no step missed its groups.
+fn wanted(made: usize) -> (Option<Trouble>, Result<(), AuditError>, [usize; 4]) {
+    (None, Ok(()), [made, 0, 0, 0])
+}
+
+// What it came to.
+fn summary(told: &Told) -> (Option<Trouble>, Result<(), AuditError>, [usize; 4]) {
+    let marks = told.marks;
+    (
+        told.trouble,
+        told.verdict,
+        [marks.made, marks.refused, marks.miscounted, marks.missed],
+    )
+}
+
+#[test]
+fn marks_between_sections(rt: HostRuntime) -> Result<(), Fail> {
+    let told = run(&rt, rt.alloc(), Turn::Between)?;
+    assert_eq!(rt; summary(&told), wanted(10));
+    // Nobody is in the way of an end, and the first plan always finds groups that fit.
+    assert_eq!(rt; (told.ended, told.marks.folded > 0), (4, true));
+    Ok(())
+}
+
+#[test]
+fn marks_beside_sections(rt: HostRuntime) -> Result<(), Fail> {
+    let told = run(&rt, rt.alloc(), Turn::Beside)?;
+    assert_eq!(rt; summary(&told), wanted(200));
+    Ok(())
+}

@@ -1,0 +1,193 @@
+// A worker of a run.
+ghost use Rattle.std.specs.Prelude.{◌≡◌};
+
+use abandoned::{AdoptError, ReceiveError};
+use arena::{Arena, NoGate, Seat};
+use rand_core::utils::NextWord;
+use rand_pcg::Pcg32;
+use shard::PutError;
+use span::{Key, Receipt};
+use std::alloc::{AllocError, Global};
+use std::sync::Wait;
+
+/// How many calls a worker makes in a section.
+pub const CALLS: usize = 1000;
+
+/// What no call of a run may come to.
+#[derive(Clone, Copy, PartialEq, Eq, Debug)]
+pub enum Trouble {
+    /// A span that would move was in the receiver already.
+    Doubled,
+    /// Memory ran out.
+    OutOfMemory,
+}
+
+impl From<AllocError> for Trouble {
+    fn from(_: AllocError) -> Trouble {
+        Trouble::OutOfMemory
+    }
+}
+
+/// A worker at its arena.
+#[derive(Drop)]
+pub struct Worker<'a> {
+    pub arena: &'a Arena<NoGate>,
+    pub seat: Seat,
+    pub random: Pcg32,
+    /// The keys that it was given in this section, and has not freed itself.
+    pub keys: Vec<Key>,
+    /// The receipts of all its calls, in order.
+    pub receipts: Vec<Receipt>,
+    /// Whether it ended its shard.
+    pub has_ended: bool,
+    /// How many groups it adopted.
+    pub adopted: usize,
+    /// What it met first of what no call may come to.
+    pub trouble: Option<Trouble>,
+    ghost fits: { seat.limits ≡ arena.now.limits },
+}
+
+impl<'a> Worker<'a> {
+    /// A worker in this seat, or `None` where the seat is that of an arena of other numbers.
+    pub fn new(alloc: Global, arena: &'a Arena<NoGate>, seat: Seat) -> Option<Worker<'a>> {
+        if !seat.fits(arena) {
+            return None;
+        }
+        let random = Pcg32::new(42, seat.worker() as u64);
+        Some(Worker {
+            arena,
+            seat,
+            random,
+            keys: Vec::new(alloc),
+            receipts: Vec::new(alloc),
+            has_ended: false,
+            adopted: 0,
+            trouble: None,
+        })
+    }
+
+    /// From now on its receipts carry the next section, and its keys are those of the section before.
+    pub fn go_on(&mut self) {
+        if self.seat.section() < u64::MAX {
+            self.seat.next_section();
+        }
+        self.keys.clear();
+    }
+
+    /// The calls of a section. `old` are keys that workers were given in the section before.
+    pub fn work<R: Wait>(&mut self, rt: &R, old: &[Key]) {
+        for turn in 0..CALLS {
+            if let Err(trouble) = self.call(rt, old, turn) {
+                self.trouble = Some(trouble);
+                return;
+            }
+        }
+    }
+
+    // One call: mostly puts at first, and then frees until few keys are left. Workers of even number adopt near the start of each
+    // section, and each other worker ends its shard late in the section of its number.
+    fn call<R: Wait>(&mut self, rt: &R, old: &[Key], turn: usize) -> Result<(), Trouble> {
+        let is_even = self.seat.worker() % 2 == 0;
+        if turn == 10 && is_even {
+            return self.adopt(rt);
+        }
+        if turn == 900 && !is_even && self.seat.section() == self.seat.worker() as u64 {
+            return self.end(rt);
+        }
+        let word = self.random.next_word();
+        match word % 16 {
+            0 | 1 => self.get(rt, old, word / 16),
+            2 => self.free(rt, old, word / 16),
+            _ if turn < 300 => self.put(rt, word),
+            _ => self.free(rt, old, word / 16),
+        }
+    }
+
+    // A key of its own, at random, which is then its own no more.
+    fn own_key(&mut self, word: u32) -> Option<Key> {
+        if self.keys.is_empty() {
+            return None;
+        }
+        let place = word as usize % self.keys.len();
+        Some(self.keys.swap_remove(place))
+    }
+
+    fn put<R: Wait>(&mut self, rt: &R, word: u32) -> Result<(), Trouble> {
+        self.keys.reserve(1)?;
+        self.receipts.reserve(1)?;
+        match self.seat.put(rt, self.arena, word as u128) {
+            Ok((key, receipt)) => {
+                self.keys.push_reserved(key);
+                self.receipts.push_reserved(receipt);
+                Ok(())
+            }
+            Err(PutError::OutOfMemory) => Err(Trouble::OutOfMemory),
+            Err(PutError::PagesSpent | PutError::Ended) => Ok(()),
+        }
+    }
+
+    // Looks up a key of the section before, or the last of its own.
+    fn get<R: Wait>(&mut self, rt: &R, old: &[Key], word: u32) -> Result<(), Trouble> {
+        let last = self.keys.last().copied();
+        let key = if word % 2 == 0 {
+            last
+        } else {
+            old_key(old, word / 2)
+        };
+        let Some(key) = key else {
+            return Ok(());
+        };
+        self.receipts.reserve(1)?;
+        let (_, receipt) = self.seat.get(rt, self.arena, &key);
+        self.receipts.push_reserved(receipt);
+        Ok(())
+    }
+
+    // Frees a key of its own, or one of the section before, whoever was given it.
+    fn free<R: Wait>(&mut self, rt: &R, old: &[Key], word: u32) -> Result<(), Trouble> {
+        let key = if word % 16 < 6 {
+            self.own_key(word / 16)
+        } else {
+            old_key(old, word / 16)
+        };
+        let Some(key) = key else {
+            return Ok(());
+        };
+        self.receipts.reserve(1)?;
+        let (_, receipt) = self.seat.free(rt, self.arena, &key);
+        self.receipts.push_reserved(receipt);
+        Ok(())
+    }
+
+    fn end<R: Wait>(&mut self, rt: &R) -> Result<(), Trouble> {
+        match self.seat.end(rt, self.arena) {
+            Err(ReceiveError::OutOfMemory) => Err(Trouble::OutOfMemory),
+            Err(ReceiveError::Doubled) => Err(Trouble::Doubled),
+            Err(ReceiveError::Ended | ReceiveError::PlanOpen) => Ok(()),
+            Ok(()) => {
+                self.has_ended = true;
+                Ok(())
+            }
+        }
+    }
+
+    fn adopt<R: Wait>(&mut self, rt: &R) -> Result<(), Trouble> {
+        match self.seat.adopt(rt, self.arena) {
+            Err(AdoptError::OutOfMemory) => Err(Trouble::OutOfMemory),
+            Err(AdoptError::Doubled) => Err(Trouble::Doubled),
+            Err(_) => Ok(()),
+            Ok(_) => {
+                self.adopted = self.adopted.saturating_add(1);
+                Ok(())
+            }
+        }
+    }
+}
+
+// A key of those that all were given in the section before, at random.
+fn old_key(old: &[Key], word: u32) -> Option<Key> {
+    if old.is_empty() {
+        return None;
+    }
+    Some(old[word as usize % old.len()])
+}
