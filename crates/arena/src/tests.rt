@@ -185,8 +185,10 @@ fn is_folded<G: Gate, L: Log, R: Wait>(
     let last = step(rt, arena, steward);
     let closed = arena.close(rt, steward);
     let none = step(rt, arena, steward);
+    let more = put(rt, arena, second, 8)?;
     let found = get(rt, arena, second, &kept);
     let totals = arena.totals(rt);
+    let anew = mark(rt, arena, steward);
     Some(
         freed == (true, 2)
             && ended
@@ -197,8 +199,10 @@ fn is_folded<G: Gate, L: Log, R: Wait>(
             && last == Some(Stepped::NoPairLeft)
             && closed
             && none == Some(Stepped::NoPlan)
+            && more.span == own.span
             && found == (Some(11), 3)
-            && totals == (Totals { pages: 1, live: 2 }),
+            && totals == (Totals { pages: 1, live: 3 })
+            && anew == Ok(0),
     )
 }
 
