@@ -10,14 +10,6 @@ use Rattle.abandoned.specs.Calls.{IsPlaceFor}
 use Rattle.abandoned.specs.State.{Ascend, IsElsewhere, PooledState}
 use Rattle.abandoned.proofs.Heads.{head_id}
 
--- a head that is elsewhere has its place at the index below which the heads are lower
-pub IsPlaceFor-lower : (groups : List PooledState) (id : SpanId) (index : ℕ) → IsLower head_id groups (rank id) index → IsElsewhere groups id → IsPlaceFor groups id index
-IsPlaceFor-lower groups id index is elsewhere = record {
-  within = is.within;
-  before = is.lower;
-  after = higher-lower head_id groups id index is (λ other group there same. elsewhere other group there 0 (group.head, refl, same));
-}
-
 -- heads that ascend are at most as many as there are ids
 pub at_most_ids : (groups : List PooledState) → Ascend groups → length groups ≤ 65536
 at_most_ids groups ascend = elim (cases_lt 65536 (length groups)) [

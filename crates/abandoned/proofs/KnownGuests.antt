@@ -13,11 +13,11 @@ use Rattle.shard.proofs.FoundGuests.{IsDirectory-come, IsDirectory-gone, found_n
 use Rattle.shard.proofs.GuestDirectory.{HaveSameIds, HaveSameIds-same, HaveSameIds-set, IsDirectory-set}
 use Rattle.shard.proofs.Lists.{same_some}
 use Rattle.abandoned.specs.Calls.{GivesUp}
+use Rattle.abandoned.specs.Groups.{HasHeadAt}
 use Rattle.abandoned.specs.Kept.{KnowsGuests}
 use Rattle.abandoned.specs.State.{Ascend, HasNoHead, IsElsewhere, PooledState, spans_of, with_span}
-use Rattle.abandoned.proofs.HeadsHere.{IsHeadAt}
 use Rattle.abandoned.proofs.Heads.{head_id}
-use Rattle.abandoned.proofs.Here.{Somewhere}
+use Rattle.abandoned.proofs.Here.{HasSpanAt}
 use Rattle.abandoned.proofs.TakenIn.{empty_or_not}
 
 abbrev head_in : PooledState → SpanState
@@ -27,7 +27,7 @@ abbrev guests_in : PooledState → List SpanState
 guests_in group = group.guests
 
 -- a group that gives its page up keeps its spans
-same_spans : (group now : PooledState) (table after : TableState) → GivesUp group table now after → (now.head ≡ group.head) × (now.guests ≡ group.guests)
+pub same_spans : (group now : PooledState) (table after : TableState) → GivesUp group table now after → (now.head ≡ group.head) × (now.guests ≡ group.guests)
 same_spans group now table after gives = elim (empty_or_not (union_of (spans_of group))) [
   | inl none ↦ let is = (gives.emptied none).0 in (ap (λ (g : PooledState). g.head) is, ap (λ (g : PooledState). g.guests) is)
   | inr live ↦ let is = (gives.live live).0 in (ap (λ (g : PooledState). g.head) is, ap (λ (g : PooledState). g.guests) is)
@@ -59,10 +59,11 @@ module _ (groups : List PooledState) (entries : Entries) (knows : KnowsGuests gr
 
   -- a look-up
   module _ (id : SpanId) (entry : Option Place) (is : entry ≡ map.get entries (rank id)) (at : Place) (at_is : at ≡ place_or_head entry id) where
-    pub Somewhere-guest : Ascend groups → (index : ℕ) → IsHeadAt groups at.head index → Somewhere groups id index at.place
-    Somewhere-guest ascend index (group, here) =
+    pub HasSpanAt-guest : Ascend groups → (group : PooledState) → HasHeadAt groups at.head group → HasSpanAt groups id at.place group
+    HasSpanAt-guest ascend group (index, here) =
         let found = found_there head_in guests_in groups entries knows id entry is at at_is ascend index group (here.here, here.head_is) in
-        (found.0, found.1, record { group_is = found.2; span_is = found.3; id_is = found.4 })
+        let same : found.0 ≡ group = same_some (sym found.2 ∙ here.here) in
+        (index, found.1, record { group_is = here.here; span_is = subst (λ (g : PooledState). slice_get (spans_of g) at.place ≡ Some found.1) same found.3; id_is = found.4 })
 
     pub IsElsewhere-guest : HasNoHead groups at.head → IsElsewhere groups id
     IsElsewhere-guest none = found_nowhere head_in guests_in groups entries knows id entry is at at_is (λ index group here. none index group (record { here = here.0; head_is = here.1 }))

@@ -156,6 +156,10 @@ pub record IsLowestPaged (pool : PoolState) (index : ℕ) (group : PooledState) 
   pub paged : IsSome group.page
   pub lowest : (other : ℕ) (paged : PooledState) → slice_get pool.groups other ≡ Some paged → IsSome paged.page → rank group.head.id ≤ rank paged.head.id
 
+-- the head of that group
+abbrev pub IsHeadOfLowest : PoolState → SpanId → Type 0
+IsHeadOfLowest pool head = (index : ℕ) × (group : PooledState) × IsLowestPaged pool index group × (group.head.id ≡ head)
+
 -- none of the groups has a page
 abbrev pub HasNoPage : List PooledState → Type 0
 HasNoPage groups = (index : ℕ) (group : PooledState) → slice_get groups index ≡ Some group → group.page ≡ None

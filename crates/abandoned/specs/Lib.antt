@@ -1,6 +1,9 @@
 pub mod Calls
+pub mod Groups
+pub mod GroupsKept
 pub mod Handover
 pub mod Kept
+pub mod Numbers
 pub mod Shown
 pub mod Sound
 pub mod State

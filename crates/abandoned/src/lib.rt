@@ -22,15 +22,19 @@
 //! While a plan of folds is open, nothing is adopted, and no shard with a closed group ends: the pool
 //! is told of the plan, and keeps that (`PlanOpen`).
 //!
+//! No call walks the pool: each group stands at the rank of its head, and a bit for each head says which
+//! of them have a page.
+//!
 //! The public fact of the crate is that a pool is a plain map of keys: [`Pool::get`] and
 //! [`Pool::free`] answer and do what a map would (`shown` in `specs/Shown.antt`), and
 //! [`Pool::receive`] and [`Pool::adopt`] change nothing of what pool and shard show together.
 #![tactic(auto)]
 
 mod error;
+mod groups;
+mod numbers;
 mod pool;
 mod pooled;
-mod search;
 
 pub use error::{AdoptError, ReceiveError};
 pub use pool::Pool;

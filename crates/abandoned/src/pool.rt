@@ -1,5 +1,5 @@
 // The pool and its calls on keys.
-ghost use Rattle.std.specs.Prelude.{◌≡◌, ◌<◌, ◌≤◌, ◌*◌, ◌↔◌, ℕ, [], map, length, IsTrue, IfOk, IfSome, MatchOption, false, true, if◌then◌else◌, is_some};
+ghost use Rattle.std.specs.Prelude.{◌≡◌, ◌<◌, ◌≤◌, ◌*◌, ◌↔◌, ℕ, [], map, length, IsTrue, IfOk, MatchOption, false, true, if◌then◌else◌, is_some};
 ghost use Rattle.std.specs.List.Sorted.{IsStrictlyIncreasing};
 ghost use Rattle.span.specs.Ids.{rank};
 ghost use Rattle.span.specs.PlainMap as plain;
@@ -9,10 +9,10 @@ ghost use Rattle.shard.specs.State.{no_pages};
 ghost use Rattle.abandoned.specs.Calls.{Frees, Gets};
 ghost use Rattle.abandoned.specs.Shown.{shown};
 ghost use Rattle.abandoned.specs.Sound.{IsSound};
-ghost use Rattle.abandoned.specs.State.{HasNoHead, IsElsewhere, IsHeadOf, IsHere, PooledState, live_keys, paged_groups, summary};
+ghost use Rattle.abandoned.specs.State.{IsElsewhere, IsHere, live_keys, paged_groups, summary};
 
+use crate::groups::Groups;
 use crate::pooled::Pooled;
-use crate::search::lower_heads;
 use bitmap::Bits256;
 use page_table::Table;
 use shard::{Directory, Found, Freed, Place};
@@ -33,7 +33,7 @@ mod tests;
 #[derive(Drop)]
 pub struct Pool<L: Log = Kept> {
     alloc: Global,
-    groups: Vec<Pooled<L>>,
+    groups: Groups<L>,
     directory: Directory,
     table: Table,
     page_room: usize,
@@ -75,7 +75,7 @@ impl<L: Log> Pool<L> {
     {
         Pool {
             alloc,
-            groups: Vec::new(alloc),
+            groups: Groups::new(alloc),
             directory: Directory::new(alloc),
             table: Table::new(alloc),
             page_room: 0,
@@ -120,11 +120,7 @@ impl<L: Log> Pool<L> {
         ensures at_most { result ≤ 256 * length self.now.groups }
         ensures groups { length self.now.groups ≤ 65536 }
     {
-        let mut live = 0;
-        for group in &self.groups {
-            live += group.live();
-        }
-        live
+        self.groups.live()
     }
 
     /// The head of each group that has a page and the slots that are live in one of its spans, by ascending head.
@@ -136,13 +132,7 @@ impl<L: Log> Pool<L> {
         ensures items { IfOk result (λ groups. groups.items ≡ map summary (paged_groups self.now)) }
         ensures ascending { IsStrictlyIncreasing (map (λ group. rank group.head.id) (paged_groups self.now)) }
     {
-        let mut groups = Vec::new(self.alloc);
-        for group in &self.groups {
-            if group.is_paged() {
-                groups.push((group.head_id(), group.occupied()))?;
-            }
-        }
-        Ok(groups)
+        self.groups.summaries(self.alloc)
     }
 
     /// Whether it has a span of this id.
@@ -158,10 +148,9 @@ impl<L: Log> Pool<L> {
         ensures plain { value_found result ≡ (shown self.now).value_of key.now }
         ensures sound { IsSound self.now }
     {
-        let Some((index, place)) = self.find(key.span) else {
+        let Some((group, place)) = self.find(key.span) else {
             return Found::NotHere;
         };
-        let group = &self.groups[index];
         let span = group.span_at(place);
         let at = span.changes();
         if !span.find(key) {
@@ -180,44 +169,27 @@ impl<L: Log> Pool<L> {
         ensures plain { shown self.new ≡ (if was_freed result then plain.without (shown self.old) key.now else shown self.old) }
         ensures sound { IsSound self.new }
     {
-        let Some((index, place)) = self.find(key.span) else {
+        let Some((group, place)) = self.find(key.span) else {
             return Freed::NotHere;
         };
-        let group = &mut self.groups[index];
+        let head = group.head_id();
         let at = group.span_at(place).changes();
-        if !group.free(place, key, &mut self.table) {
+        if !self.groups.free(head, place, key, &mut self.table) {
             return Freed::No(at);
         }
         Freed::Yes(at)
     }
 
-    // Where the span of the id stands: its group, and its place there.
-    fn find(&self, id: SpanId) -> Option<(usize, usize)>
+    // The group that the span of the id stands in, and its place there.
+    fn find(&self, id: SpanId) -> Option<(&Pooled<L>, usize)>
         ensures sound { IsSound self.now }
-        ensures place { MatchOption result (IsElsewhere self.now.groups id) (λ at. (group : PooledState) × (span : SpanState) × IsHere self.now.groups id at.0 at.1 group span) }
+        ensures place { MatchOption result (IsElsewhere self.now.groups id) (λ at. (index : ℕ) × (span : SpanState) × IsHere self.now.groups id index at.1 at.0.now span) }
     {
         let head = Place { head: id, place: 0 };
         let at = self.directory.place_of(id).unwrap_or(head);
-        let Some(index) = self.find_head(at.head) else {
+        let Some(group) = self.groups.get(at.head) else {
             return None;
         };
-        Some((index, at.place))
-    }
-
-    // Where the group of the head stands.
-    fn find_head(&self, head: SpanId) -> Option<usize>
-        ensures head { MatchOption result (HasNoHead self.now.groups head) (λ index. (group : PooledState) × IsHeadOf self.now.groups head index group) }
-        ensures within { IfSome result (λ index. index < length self.now.groups) }
-        ensures sound { IsSound self.now }
-    {
-        let index = lower_heads(self.groups.as_slice(), head.rank());
-        if index >= self.groups.len() {
-            return None;
-        }
-        if self.groups[index].head_id() == head {
-            Some(index)
-        } else {
-            None
-        }
+        Some((group, at.place))
     }
 }

@@ -1,5 +1,5 @@
 // The end of a shard, and the adoption of a group by another.
-ghost use Rattle.std.specs.Prelude.{◌≡◌, ◌≢◌, ◌<◌, ◌+◌, ◌≤◌, ◌↔◌, ℕ, Err, IfOk, IfSome, IsOkUnless, IsTrue, if◌then◌else◌, MatchOption, OnErr, OnOk, false, length, map, slice_get, true};
+ghost use Rattle.std.specs.Prelude.{◌≡◌, ◌≢◌, ◌<◌, ◌+◌, ◌≤◌, ◌↔◌, ℕ, Err, IfOk, IsOkUnless, IsTrue, if◌then◌else◌, MatchOption, OnErr, OnOk, false, length, map, true};
 ghost use Rattle.std.specs.List.{list_any};
 ghost use Rattle.span.specs.declared.id.SpanId.{SpanId};
 ghost use Rattle.span.specs.State.{SpanState};
@@ -8,15 +8,14 @@ ghost use Rattle.shard.specs.Moves.{whole_of};
 ghost use Rattle.shard.specs.Shown.{shown as shown_by_shard};
 ghost use Rattle.shard.specs.Sound.{IsSound as IsSoundShard};
 ghost use Rattle.shard.specs.State.{spans_in as spans_in_shard};
-ghost use Rattle.abandoned.specs.Calls.{Adopts, HasAny, HasDoubled, HasNothingToAdopt, HasReceived, IsDoubled, IsInPool, IsLowestPaged, Receives, TakesAll};
+ghost use Rattle.abandoned.specs.Calls.{Adopts, HasAny, HasDoubled, HasNothingToAdopt, HasReceived, IsDoubled, IsHeadOfLowest, IsInPool, Receives, TakesAll};
 ghost use Rattle.abandoned.specs.Handover.{AreApart, HasRoomFor, IsEmptied};
 ghost use Rattle.abandoned.specs.Shown.{shown, together};
 ghost use Rattle.abandoned.specs.Sound.{IsSound};
-ghost use Rattle.abandoned.specs.State.{PooledState, spans_of};
+ghost use Rattle.abandoned.specs.State.{IsHeadOf, PooledState, spans_of};
 
 use super::Pool;
 use crate::error::{AdoptError, ReceiveError};
-use crate::search::first_paged;
 use shard::{Shard, Spans};
 use span::{Log, SpanId};
 
@@ -148,16 +147,16 @@ impl<L: Log> Pool<L> {
         if ended {
             return Err(AdoptError::Ended);
         }
-        let Some(index) = lowest else {
+        let Some(head) = lowest else {
             return Err(self.nothing_to_adopt());
         };
-        if self.would_double(shard, index) {
+        if self.would_double(shard, head) {
             return Err(AdoptError::Doubled);
         }
         if self.has_plan {
             return Err(AdoptError::PlanOpen);
         }
-        self.move_to(shard, index)
+        self.move_to(shard, head)
     }
 
     // Why no group is adopted where none has a page.
@@ -171,28 +170,32 @@ impl<L: Log> Pool<L> {
         }
     }
 
-    // Where the group of lowest head that has a page stands.
-    fn lowest_paged(&self) -> Option<usize>
-        ensures lowest { MatchOption result (HasNothingToAdopt self.now) (λ index. (group : PooledState) × IsLowestPaged self.now index group) }
-        ensures within { IfSome result (λ index. index < length self.now.groups) }
+    // The head of the group of lowest head that has a page.
+    fn lowest_paged(&self) -> Option<SpanId>
+        ensures lowest { MatchOption result (HasNothingToAdopt self.now) (IsHeadOfLowest self.now) }
         ensures sound { IsSound self.now }
     {
-        first_paged(self.groups.as_slice())
+        let Some(group) = self.groups.lowest_paged() else {
+            return None;
+        };
+        Some(group.head_id())
     }
 
-    // Whether a span of the lowest group that has a page is in the shard already, or bears its number.
-    fn would_double(&self, shard: &Shard<L>, index: usize) -> bool
-        requires lowest { (group : PooledState) × IsLowestPaged self.now index group }
-        requires within { index < length self.now.groups }
+    // Whether a span of the lowest group that has a page, which has the head, is in the shard already, or bears its
+    // number.
+    fn would_double(&self, shard: &Shard<L>, head: SpanId) -> bool
+        requires { IsHeadOfLowest self.now head }
         ensures { IsTrue result ↔ IsDoubled self.now shard.now }
     {
-        is_doubled(shard, self.groups[index].spans())
+        let Some(group) = self.groups.get(head) else {
+            unreachable!();
+        };
+        is_doubled(shard, group.spans())
     }
 
-    // Makes room in the shard and moves the group at the index there.
-    fn move_to(&mut self, shard: &mut Shard<L>, index: usize) -> Result<SpanId, AdoptError>
-        requires lowest { (group : PooledState) × IsLowestPaged self.old index group }
-        requires within { index < length self.old.groups }
+    // Makes room in the shard and moves the lowest group that has a page there.
+    fn move_to(&mut self, shard: &mut Shard<L>, head: SpanId) -> Result<SpanId, AdoptError>
+        requires lowest { IsHeadOfLowest self.old head }
         requires apart { IsDoubled self.old shard.old → ⊥ }
         requires pages { shard.old.page_limit ≢ length shard.old.groups }
         requires running { shard.old.ended ≡ false }
@@ -205,7 +208,7 @@ impl<L: Log> Pool<L> {
         ensures sound { IsSound self.new }
         ensures sound_shard { IsSoundShard shard.new }
     {
-        let (head, spans) = self.named_at(index);
+        let spans = self.len_of(head);
         shard.reserve_for(None, spans)?;
         let Some(whole) = self.lift(head) else {
             unreachable!();
@@ -214,14 +217,16 @@ impl<L: Log> Pool<L> {
         Ok(head)
     }
 
-    // The head of the group at the index, and how many spans it has.
-    fn named_at(&self, index: usize) -> (SpanId, usize)
-        requires { index < length self.now.groups }
-        ensures named { (group : PooledState) → slice_get self.now.groups index ≡ Some group → (result.0 ≡ group.head.id) × (result.1 ≡ length (spans_of group)) }
+    // How many spans the group of the head has.
+    fn len_of(&self, head: SpanId) -> usize
+        requires { IsHeadOfLowest self.now head }
+        ensures len { (index : ℕ) (group : PooledState) → IsHeadOf self.now.groups head index group → result ≡ length (spans_of group) }
         ensures sound { IsSound self.now }
     {
-        let group = &self.groups[index];
-        (group.head_id(), group.len())
+        let Some(group) = self.groups.get(head) else {
+            unreachable!();
+        };
+        group.len()
     }
 }
 

@@ -12,11 +12,7 @@ impl<L: Log> Pool<L> {
         ensures count { result ≡ length (spans_in self.now.groups) }
         ensures at_most { result ≤ 65536 }
     {
-        let mut count = 0;
-        for group in &self.groups {
-            count += group.len();
-        }
-        count
+        self.groups.span_count()
     }
 }
 
@@ -29,8 +25,6 @@ impl Pool<Kept> {
         ensures legal { AreLegal logs.old.items → AreLegal logs.new.items }
         ensures room { room_for_logs logs.old ≡ room_for_logs logs.new + length (spans_in self.groups) }
     {
-        for group in self.groups {
-            group.into_spans().into_logs(logs);
-        }
+        self.groups.into_logs(logs);
     }
 }

@@ -1,5 +1,5 @@
 // Groups that come and go whole.
-ghost use Rattle.std.specs.Prelude.{◌≡◌, ◌≢◌, ◌+◌, ◌<◌, ◌≤◌, ℕ, List, None, Some, IfSome, IsSome, MatchOption, OnErr, OnOk, insert, length, option_map, vec_capacity, vec_len};
+ghost use Rattle.std.specs.Prelude.{◌≡◌, ◌≢◌, ◌+◌, ◌<◌, ◌≤◌, ℕ, List, None, Some, IfSome, IsSome, MatchOption, OnErr, OnOk, length, option_map};
 ghost use Rattle.std.specs.FinMap as map;
 ghost use Rattle.std.specs.FinSet as set;
 ghost use Rattle.page_table.specs.State.{HasPage, words_of};
@@ -11,7 +11,6 @@ ghost use Rattle.abandoned.specs.State.{HasNoHead};
 
 use super::Pool;
 use crate::pooled::Pooled;
-use crate::search::lower_heads;
 use page_table::{Page, PageWords, Table};
 use shard::{Brief, Spans, Whole, map_all};
 use span::{Log, SpanId};
@@ -23,10 +22,10 @@ impl<L: Log> Pool<L> {
         ensures brief { MatchOption result (HasNoHead self.now.groups head) (IsBriefHere self.now.groups head) }
         ensures sound { IsSound self.now }
     {
-        let Some(index) = self.find_head(head) else {
+        let Some(group) = self.groups.get(head) else {
             return None;
         };
-        Some(self.groups[index].brief())
+        Some(group.brief())
     }
 
     /// The span at the place of the head's group, 0 being the head. `None` is past the last span, and for a
@@ -34,10 +33,9 @@ impl<L: Log> Pool<L> {
     pub fn span_at(&self, head: SpanId, place: usize) -> Option<SpanId>
         ensures { MatchOption result (HasNoMember self.now.groups head place) (IsMemberAt self.now.groups head place) }
     {
-        let Some(index) = self.find_head(head) else {
+        let Some(group) = self.groups.get(head) else {
             return None;
         };
-        let group = &self.groups[index];
         if place >= group.len() {
             return None;
         }
@@ -50,10 +48,9 @@ impl<L: Log> Pool<L> {
         ensures lifts { Lifts self.old head result self.new }
         ensures sound { IsSound self.new }
     {
-        let Some(index) = self.find_head(head) else {
+        let Some(group) = self.groups.remove(head) else {
             return None;
         };
-        let group = self.groups.remove(index);
         let (spans, page) = group.into_parts();
         self.directory.strike_all(spans.guests());
         let words = take_page(&mut self.table, page);
@@ -99,10 +96,9 @@ impl<L: Log> Pool<L> {
         let (spans, words) = whole.into_parts();
         let count = spans.len();
         let head = spans.head_id();
-        let index = lower_heads(self.groups.as_slice(), head.rank());
         let page = house(&mut self.table, &spans, words);
         self.directory.enter_from(0, spans.guests(), head);
-        insert_reserved(&mut self.groups, index, Pooled::new(spans, page));
+        self.groups.insert(Pooled::new(spans, page));
         self.page_room -= 1;
         self.span_room -= count;
     }
@@ -138,18 +134,4 @@ fn house<L: Log>(table: &mut Table, spans: &Spans<L>, words: Option<PageWords>) 
     let page = table.give_page(words);
     map_all(table, spans, page);
     Some(page)
-}
-
-// Inserts where there is room, which needs no memory.
-fn insert_reserved<L: Log>(groups: &mut Vec<Pooled<L>>, index: usize, group: Pooled<L>)
-    requires within { index ≤ vec_len groups.old }
-    requires room { vec_len groups.old < vec_capacity groups.old }
-    ensures items { groups.new.items ≡ insert groups.old.items index group }
-    ensures len { vec_len groups.new ≡ vec_len groups.old + 1 }
-    ensures capacity { vec_capacity groups.new ≡ vec_capacity groups.old }
-{
-    match groups.insert(index, group) {
-        Ok(()) => {}
-        Err(_) => unreachable!(),
-    }
 }

@@ -16,7 +16,7 @@ pub returns-clause-nothing : goal.returns-clause-nothing
 returns-clause-nothing g c =
     let lowest = c.in-Some.ensures.lowest in (
       (λ nothing. absurd (found_some c.move_to.result c.move_to.ensures.only nothing)),
-      (λ causes. let paged : IsSome {T = ℕ} None = subst IsSome (causes.3 c.in-Some.index lowest.0 lowest.1.here) lowest.1.paged in absurd cc),
+      (λ causes. let paged : IsSome {T = ℕ} None = subst IsSome (causes.3 lowest.0 lowest.1 lowest.2.here) lowest.2.paged in absurd cc),
     )
 
 pub returns-then-would_double-clause-doubled : goal.returns-then-would_double-clause-doubled
@@ -29,5 +29,5 @@ pub returns-then-would_double-clause-nothing : goal.returns-then-would_double-cl
 returns-then-would_double-clause-nothing g c =
     let lowest = c.in-Some.ensures.lowest in (
       (λ said. absurd cc),
-      (λ causes. let paged : IsSome {T = ℕ} None = subst IsSome (causes.3 c.in-Some.index lowest.0 lowest.1.here) lowest.1.paged in absurd cc),
+      (λ causes. let paged : IsSome {T = ℕ} None = subst IsSome (causes.3 lowest.0 lowest.1 lowest.2.here) lowest.2.paged in absurd cc),
     )

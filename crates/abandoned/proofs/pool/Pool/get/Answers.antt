@@ -1,11 +1,11 @@
-use Rattle.std.proofs.Common.{◌∙◌, ap, refl, subst, sym, arith}
+use Rattle.std.proofs.Common.{◌∙◌, ap, refl, slice_get, sym}
 use Rattle.std.specs.Prelude.{slice_index}
 use Rattle.std.proofs.lemmas.Bool.{true≢false}
 use Rattle.page_table.specs.State.{words_of}
 use Rattle.shard.specs.declared.shard.Found.TheVariants.{Gone, NotHere, Value}
 use Rattle.abandoned.specs.Kept.{state_of}
-use Rattle.abandoned.specs.State.{IsHere, PoolState}
-use Rattle.abandoned.proofs.Here.{found_in, here_read, index_within, place_within}
+use Rattle.abandoned.specs.State.{PoolState}
+use Rattle.abandoned.proofs.Here.{IsHere-read, place_within}
 use Rattle.abandoned.proofs.Pages.{sound_paged}
 use Rattle.abandoned.proofs.Released.{has_page_if_held}
 use Rattle.abandoned.proofs.ShownLogs.{value_found-Gets}
@@ -17,56 +17,40 @@ returns-in_default-clause-found g c = c.in_default.ensures.place
 pub returns-in_default-clause-plain : goal.returns-in_default-clause-plain
 returns-in_default-clause-plain g c = value_found-Gets c.args.self.now c.find.ensures.sound c.args.key.now NotHere c.in_default.ensures.place
 
-pub index-group-requires : goal.index-group-requires
-index-group-requires g c =
-    let found = found_in c.args.self.now.groups c.self.inside.groups.items c.args.key.now.span c.in-Some.index c.in-Some.place (ap (λ (s : PoolState). s.groups) (sym c.self.view_is)) c.in-Some.ensures.place in
-    let low = index_within _ _ _ _ found.0 found.1 found.2 in
-    omega (arith, c.self.inside.groups.ok.0)
-
 pub span_at-span-requires : goal.span_at-span-requires
-span_at-span-requires g c =
-    let found = found_in c.args.self.now.groups c.self.inside.groups.items c.args.key.now.span c.in-Some.index c.in-Some.place (ap (λ (s : PoolState). s.groups) (sym c.self.view_is)) c.in-Some.ensures.place in
-    place_within _ _ _ _ found.0 found.1 found.2 c.index-group.result.now c.index-group.ensures
+span_at-span-requires g c = let at = c.in-Some.ensures.place in place_within _ _ _ _ _ _ at.2
 
 pub returns-then-not-find-clause-found : goal.returns-then-not-find-clause-found
 returns-then-not-find-clause-found g c =
-    let found = found_in c.args.self.now.groups c.self.inside.groups.items c.args.key.now.span c.in-Some.index c.in-Some.place (ap (λ (s : PoolState). s.groups) (sym c.self.view_is)) c.in-Some.ensures.place in
-    let here = here_read _ _ _ _ found.0 found.1 found.2 c.index-group.result.now c.index-group.ensures c.span_at-span.result.now c.span_at-span.ensures in (
-      c.in-Some.index,
-      c.in-Some.place,
-      c.index-group.result.now,
-      c.span_at-span.result.now,
-      subst (λ (s : PoolState). IsHere s.groups c.args.key.now.span c.in-Some.index c.in-Some.place c.index-group.result.now c.span_at-span.result.now) c.self.view_is here,
-      (λ holds. true≢false (sym (c.if-not-find.ensures.1 (sym here.id_is, holds)))),
-      c.changes-at.ensures,
-    )
+    let at = c.in-Some.ensures.place in
+    let here = IsHere-read _ _ _ _ _ _ at.2 c.span_at-span.result.now c.span_at-span.ensures in
+    (at.0, c.in-Some.place, c.in-Some.group.now, c.span_at-span.result.now, here, (λ holds. true≢false (sym (c.if-not-find.ensures.1 (sym here.id_is, holds)))), c.changes-at.ensures)
 
 pub returns-then-not-find-clause-plain : goal.returns-then-not-find-clause-plain
 returns-then-not-find-clause-plain g c = value_found-Gets c.args.self.now c.find.ensures.sound c.args.key.now (Gone c.changes-at.result) (returns-then-not-find-clause-found g c)
 
 pub unreachable-requires : goal.unreachable-requires
 unreachable-requires g c =
-    let found = found_in c.args.self.now.groups c.self.inside.groups.items c.args.key.now.span c.in-Some.index c.in-Some.place (ap (λ (s : PoolState). s.groups) (sym c.self.view_is)) c.in-Some.ensures.place in
-    let here = here_read _ _ _ _ found.0 found.1 found.2 c.index-group.result.now c.index-group.ensures c.span_at-span.result.now c.span_at-span.ensures in
-    has_page_if_held (state_of c.self.inside) c.self.invariant.sound c.in-Some.index c.in-Some.place c.index-group.result.now c.span_at-span.result.now c.args.key.now.slot c.args.key.now.generation
+    let at = c.in-Some.ensures.place in
+    let here = IsHere-read _ _ _ _ _ _ at.2 c.span_at-span.result.now c.span_at-span.ensures in
+    has_page_if_held c.args.self.now c.find.ensures.sound at.0 c.in-Some.place c.in-Some.group.now c.span_at-span.result.now c.args.key.now.slot c.args.key.now.generation
     here.group_is here.span_is (c.if-not-find.ensures.0 refl).1 (sym c.page.ensures ∙ c.in_default-page.is)
 
 pub value_at-requires : goal.value_at-requires
 value_at-requires g c =
-    let found = found_in c.args.self.now.groups c.self.inside.groups.items c.args.key.now.span c.in-Some.index c.in-Some.place (ap (λ (s : PoolState). s.groups) (sym c.self.view_is)) c.in-Some.ensures.place in
-    let here = here_read _ _ _ _ found.0 found.1 found.2 c.index-group.result.now c.index-group.ensures c.span_at-span.result.now c.span_at-span.ensures in
-    (sound_paged (state_of c.self.inside) c.self.invariant.sound c.in-Some.index c.index-group.result.now here.group_is c.in-Some-page.page (sym c.page.ensures ∙ c.in-Some-page.is)).has_page
+    let at = c.in-Some.ensures.place in
+    (sound_paged (state_of c.self.inside) c.self.invariant.sound at.0 c.in-Some.group.now (ap (λ (s : PoolState). slice_get s.groups at.0) c.self.view_is ∙ at.2.group_is) c.in-Some-page.page (sym c.page.ensures ∙ c.in-Some-page.is)).has_page
 
 pub returns-clause-found : goal.returns-clause-found
 returns-clause-found g c =
-    let found = found_in c.args.self.now.groups c.self.inside.groups.items c.args.key.now.span c.in-Some.index c.in-Some.place (ap (λ (s : PoolState). s.groups) (sym c.self.view_is)) c.in-Some.ensures.place in
-    let here = here_read _ _ _ _ found.0 found.1 found.2 c.index-group.result.now c.index-group.ensures c.span_at-span.result.now c.span_at-span.ensures in (
-      c.in-Some.index,
+    let at = c.in-Some.ensures.place in
+    let here = IsHere-read _ _ _ _ _ _ at.2 c.span_at-span.result.now c.span_at-span.ensures in (
+      at.0,
       c.in-Some.place,
       c.in-Some-page.page,
-      c.index-group.result.now,
+      c.in-Some.group.now,
       c.span_at-span.result.now,
-      subst (λ (s : PoolState). IsHere s.groups c.args.key.now.span c.in-Some.index c.in-Some.place c.index-group.result.now c.span_at-span.result.now) c.self.view_is here,
+      here,
       sym c.page.ensures ∙ c.in-Some-page.is,
       (c.if-not-find.ensures.0 refl).1,
       c.value_at.ensures

@@ -7,8 +7,4 @@ use Rattle.abandoned.proofs.pool.Pool.groups.Goals as goal
 
 pub returns-clause-ascending : goal.returns-clause-ascending
 returns-clause-ascending g c =
-    rw (← c.self.view_is) (IsStrictlyIncreasing-heads head_id (paged_groups (state_of c.self.inside)) (Ascend-filter (λ (g : PooledState). is_some g.page) c.self.inside.groups.items c.self.invariant.sound.ascending))
-
-pub returns-in_err-push-clause-ascending : goal.returns-in_err-push-clause-ascending
-returns-in_err-push-clause-ascending g c =
-    rw (← c.self.view_is) (IsStrictlyIncreasing-heads head_id (paged_groups (state_of c.self.inside)) (Ascend-filter (λ (g : PooledState). is_some g.page) c.self.inside.groups.items c.self.invariant.sound.ascending))
+    rw (← c.self.view_is) (IsStrictlyIncreasing-heads head_id (paged_groups (state_of c.self.inside)) (Ascend-filter (λ (g : PooledState). is_some g.page) c.self.inside.groups.groups c.self.invariant.sound.ascending))

@@ -8,27 +8,27 @@ use Rattle.abandoned.proofs.Together.{together-Adopts}
 use Rattle.abandoned.proofs.pool.Pool.move_to.Goals as goal
 
 pub unreachable-requires : goal.unreachable-requires
-unreachable-requires g c =
-    let named = c.named_at-spans.ensures.named c.requires.lowest.0 c.requires.lowest.1.here in
-    (c.in_default.ensures {u = tt}).lifts.0 c.args.index c.requires.lowest.0 (record { here = c.requires.lowest.1.here; head_is = sym named.0 })
+unreachable-requires g c = (c.in_default.ensures {u = tt}).lifts.0 c.requires.lowest.0 c.requires.lowest.1 (record { here = c.requires.lowest.2.here; head_is = c.requires.lowest.3 })
 
 pub take_in-requires : goal.take_in-requires
 take_in-requires g c =
-    let named = c.named_at-spans.ensures.named c.requires.lowest.0 c.requires.lowest.1.here in
-    let lifts = subst (λ (head : SpanId). Lifts c.args.self.now head (Some c.in-Some.whole) c.lift.new.self) named.0 (c.in-Some.ensures {u = tt}).lifts in
-    subst (λ (s : ShardState). MayTakeIn s c.in-Some.whole) (sym ((c.in_ok-reserve_for.ensures {u = tt}).ok ∙ ap (with_room c.args.shard.now None) named.1))
-    (MayTakeIn-adopted c.args.self.now c.lift.new.self c.named_at-spans.ensures.sound c.args.shard.now c.requires.sound_shard c.args.index c.requires.lowest.0 c.requires.lowest.1 c.in-Some.whole lifts c.requires.apart c.requires.pages c.requires.running)
+    let lowest = c.requires.lowest in
+    let spans = c.len_of-spans.ensures.len lowest.0 lowest.1 (record { here = lowest.2.here; head_is = lowest.3 }) in
+    let lifts = subst (λ (head : SpanId). Lifts c.args.self.now head (Some c.in-Some.whole) c.lift.new.self) (sym lowest.3) (c.in-Some.ensures {u = tt}).lifts in
+    subst (λ (s : ShardState). MayTakeIn s c.in-Some.whole) (sym ((c.in_ok-reserve_for.ensures {u = tt}).ok ∙ ap (with_room c.args.shard.now None) spans))
+    (MayTakeIn-adopted c.args.self.now c.lift.new.self c.len_of-spans.ensures.sound c.args.shard.now c.requires.sound_shard lowest.0 lowest.1 lowest.2 c.in-Some.whole lifts c.requires.apart c.requires.pages c.requires.running)
 
 pub returns-clause-ok : goal.returns-clause-ok
 returns-clause-ok g c =
-    let named = c.named_at-spans.ensures.named c.requires.lowest.0 c.requires.lowest.1.here in
-    let lifts = subst (λ (head : SpanId). Lifts c.args.self.now head (Some c.in-Some.whole) c.lift.new.self) named.0 (c.in-Some.ensures {u = tt}).lifts in
-    let takes = subst (λ (s : ShardState). TakesIn s c.in-Some.whole c.take_in.new.self) ((c.in_ok-reserve_for.ensures {u = tt}).ok ∙ ap (with_room c.args.shard.now None) named.1) c.take_in.ensures.takes in
-    subst (λ (head : SpanId). Adopts c.args.self.now c.args.shard.now head c.lift.new.self c.take_in.new.self) (sym named.0)
-    (Adopts-taken c.args.self.now c.lift.new.self c.named_at-spans.ensures.sound c.args.shard.now c.requires.sound_shard c.args.index c.requires.lowest.0 c.requires.lowest.1 c.in-Some.whole lifts c.take_in.new.self takes)
+    let lowest = c.requires.lowest in
+    let spans = c.len_of-spans.ensures.len lowest.0 lowest.1 (record { here = lowest.2.here; head_is = lowest.3 }) in
+    let lifts = subst (λ (head : SpanId). Lifts c.args.self.now head (Some c.in-Some.whole) c.lift.new.self) (sym lowest.3) (c.in-Some.ensures {u = tt}).lifts in
+    let takes = subst (λ (s : ShardState). TakesIn s c.in-Some.whole c.take_in.new.self) ((c.in_ok-reserve_for.ensures {u = tt}).ok ∙ ap (with_room c.args.shard.now None) spans) c.take_in.ensures.takes in
+    subst (λ (head : SpanId). Adopts c.args.self.now c.args.shard.now head c.lift.new.self c.take_in.new.self) lowest.3
+    (Adopts-taken c.args.self.now c.lift.new.self c.len_of-spans.ensures.sound c.args.shard.now c.requires.sound_shard lowest.0 lowest.1 lowest.2 c.in-Some.whole lifts c.take_in.new.self takes)
 
 pub returns-clause-kept : goal.returns-clause-kept
 returns-clause-kept g c =
     let takes = subst (λ (s : ShardState). TakesIn s c.in-Some.whole c.take_in.new.self) (c.in_ok-reserve_for.ensures {u = tt}).ok c.take_in.ensures.takes in
-    together-Adopts c.args.self.now c.lift.new.self c.args.shard.now c.take_in.new.self c.named_at-spans.result.0 c.in-Some.whole c.named_at-spans.result.1
-    c.named_at-spans.ensures.sound c.lift.ensures.sound c.requires.sound_shard c.take_in.ensures.sound (c.in-Some.ensures {u = tt}).lifts takes
+    together-Adopts c.args.self.now c.lift.new.self c.args.shard.now c.take_in.new.self c.args.head c.in-Some.whole c.len_of-spans.result
+    c.len_of-spans.ensures.sound c.lift.ensures.sound c.requires.sound_shard c.take_in.ensures.sound (c.in-Some.ensures {u = tt}).lifts takes

@@ -7,11 +7,11 @@ use Rattle.abandoned.proofs.pool.Pool.reserve.Goals as goal
 
 pub invariant_of-self-2 : goal.invariant_of-self-2
 invariant_of-self-2 g c = record {
-  sound = rw (c.in_ok-reserve.ensures.items, c.in_ok-reserve-3.ensures.ok) (IsSound-with_rooms (state_of c.self.inside) c.args.groups c.args.spans c.self.invariant.sound);
+  sound = rw (c.in_ok-reserve.ensures.ok, c.in_ok-reserve-3.ensures.ok) (IsSound-with_rooms (state_of c.self.inside) c.args.groups c.args.spans c.self.invariant.sound);
   room_for_pages = omega (arith, ap (λ (t : TableState). t.page_room) c.in_ok-reserve-3.ensures.ok);
   room_for_spans = omega (arith, ap (λ (t : TableState). t.span_room) c.in_ok-reserve-3.ensures.ok);
-  room_for_groups = omega (arith, c.in_ok-reserve.ensures.len, c.in_ok-reserve.ensures.ok);
-  guests_known = rw (c.in_ok-reserve.ensures.items, c.in_ok-reserve-2.ensures.ok) c.self.invariant.guests_known;
+  room_for_groups = rw c.in_ok-reserve.ensures.ok (le-max_right c.self.inside.groups.room c.args.groups);
+  guests_known = rw (c.in_ok-reserve.ensures.ok, c.in_ok-reserve-2.ensures.ok) c.self.invariant.guests_known;
   room_for_entries = rw c.in_ok-reserve-2.ensures.ok (le-max_right c.self.inside.directory.room c.args.spans);
 }
 

@@ -1,16 +1,13 @@
-use Rattle.std.proofs.Common.{◌+◌, ◌≤◌, List, arith, length, refl, subst, sym}
-use Rattle.abandoned.specs.State.{PooledState, spans_in, spans_of}
-use Rattle.shard.proofs.SpanCounts.{at_most_ids, length-spans_more, length-take_spans}
+use Rattle.std.proofs.Common.{◌∙◌, ap, arith, length}
+use Rattle.shard.proofs.SpanCounts.{at_most_ids}
+use Rattle.abandoned.specs.State.{PoolState, spans_in}
 use Rattle.abandoned.proofs.pool.Pool.span_count.Goals as goal
 
-pub loop-group-init : goal.loop-group-init
-loop-group-init g c =
-    (refl, subst (λ (groups : List PooledState). length (spans_in groups) ≤ 65536) (sym c.deref-group-items.ensures.value) (at_most_ids (spans_in c.self.inside.groups.items) c.self.invariant.sound.once))
+pub span_count-requires : goal.span_count-requires
+span_count-requires g c = at_most_ids (spans_in c.self.inside.groups.groups) c.self.invariant.sound.once
 
-pub overflow_add-count : goal.overflow_add-count
-overflow_add-count g c =
-    let groups = c.deref-group-items.result.now in
-    let before = c.loop-group.invariant in
-    let more = length-spans_more spans_of groups c.loop-group.group-index c.group-item.result c.loop-group-test.true c.group-item.is in
-    let fewer = length-take_spans spans_of groups (c.loop-group.group-index + 1) in
-    omega (arith, c.len-count.ensures)
+pub returns-clause-count : goal.returns-clause-count
+returns-clause-count g c = c.span_count.ensures ∙ ap (λ (p : PoolState). length (spans_in p.groups)) c.self.view_is
+
+pub returns-clause-at_most : goal.returns-clause-at_most
+returns-clause-at_most g c = let most = at_most_ids (spans_in c.self.inside.groups.groups) c.self.invariant.sound.once in omega (arith, c.span_count.ensures)

@@ -1,0 +1,52 @@
+-- The groups of the pool, each at the place of its head.
+use Rattle.std.specs.Prelude.{◌≡◌, ◌⊎◌, ◌*◌, ℕ, Bool, false, List, Option, None, Some, filter_map, is_some, length, remove, slice_get, slice_set}
+use Rattle.bitmap.specs.Slots.{SlotSet}
+use Rattle.span.specs.declared.id.SpanId.{SpanId}
+use Rattle.span.specs.State.{SpanState}
+use Rattle.page_table.specs.State.{TableState}
+use Rattle.shard.specs.Rooms.{has_index}
+use Rattle.abandoned.specs.Calls.{GivesUp}
+use Rattle.abandoned.specs.State.{HasNoHead, IsHeadOf, PooledState, with_span}
+
+-- groups by ascending head, and for how many more there is reserved room
+pub record GroupsState : Type 0 where
+  pub groups : List PooledState
+  pub room : ℕ
+
+-- what stands at the places, in order
+abbrev pub standing : {A : Type 0} → List (Option A) → List A
+standing places = filter_map (λ place. place) places
+
+-- whether the place has a group with a page
+abbrev pub has_page : Option (Option PooledState) → Bool
+has_page None = false
+has_page (Some None) = false
+has_page (Some (Some group)) = is_some group.page
+
+-- the group has this head, and is one of these
+abbrev pub HasHeadAt : List PooledState → SpanId → PooledState → Type 0
+HasHeadAt groups head group = (index : ℕ) × IsHeadOf groups head index group
+
+-- the group of the head goes, where it is here, and all else stays
+abbrev pub Removes : GroupsState → SpanId → Option PooledState → GroupsState → Type 0
+Removes old head None new = HasNoHead old.groups head × (new ≡ old)
+Removes old head (Some group) new = (index : ℕ) × IsHeadOf old.groups head index group × (new ≡ record old { groups = remove old.groups index })
+
+-- the group has another span at the place, and has given its page up where no slot is live
+abbrev pub FreesIn : GroupsState → ℕ → PooledState → ℕ → SpanState → TableState → GroupsState → TableState → Type 0
+FreesIn old index group place span table new table_now =
+    (now : PooledState) × GivesUp (with_span group place span) table now table_now × (new ≡ record old { groups = slice_set old.groups index now })
+
+-- there are places for all heads, or none, and 256 of them for each part of the set
+pub record HaveSize (places : List (Option PooledState)) (parts : List SlotSet) : Type 0 where
+  pub size : (length places ≡ 0) ⊎ (length places ≡ 65536)
+  pub parts_fit : length places ≡ 256 * length parts
+
+-- there are places for all heads, on which stands what stood before
+pub record AreReady (places : List (Option PooledState)) (parts : List SlotSet) (new : List (Option PooledState)) (new_parts : List SlotSet) : Type 0 where
+  pub standing_is : standing new ≡ standing places
+  pub was_there : (at : ℕ) (group : PooledState) → slice_get new at ≡ Some (Some group) → slice_get places at ≡ Some (Some group)
+  pub same_page : (at : ℕ) → has_page (slice_get new at) ≡ has_page (slice_get places at)
+  pub same_index : (at : ℕ) → has_index new_parts at ≡ has_index parts at
+  pub count : length new ≡ 65536
+  pub parts_fit : length new ≡ 256 * length new_parts

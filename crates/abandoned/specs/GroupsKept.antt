@@ -1,0 +1,20 @@
+-- What the pool's groups keep of their places.
+use Rattle.std.specs.Prelude.{◌≡◌, ℕ, ◌<◌, Some, length, slice_get}
+use Rattle.span.specs.Ids.{rank}
+use Rattle.shard.specs.Rooms.{has_index}
+use Rattle.abandoned.specs.Groups.{GroupsState, HaveSize, has_page, standing}
+use Rattle.abandoned.specs.State.{PooledState}
+use Rattle.abandoned.specs.declared.groups.Groups.TheInside.{Inside}
+
+-- what contracts see of the fields
+abbrev pub state_of : {L : Type 0} → Inside L → GroupsState
+state_of g = record { groups = standing g.places.items; room = g.room }
+
+pub record IsKept {L : Type 0} (g : Inside L) : Type 0 where
+  -- each group stands at the rank of its head
+  pub at_rank : (at : ℕ) (group : PooledState) → slice_get g.places.items at ≡ Some (Some group) → rank group.head.id ≡ at
+  -- a bit is on where the place has a group with a page, and nowhere else
+  pub paged_known : (at : ℕ) → has_index g.paged.items at ≡ has_page (slice_get g.places.items at)
+  -- there are places for all heads where room is reserved
+  pub sized : HaveSize g.places.items g.paged.items
+  pub room_for_heads : 0 < g.room → length g.places.items ≡ 65536
