@@ -84,11 +84,12 @@ impl<'a> Worker<'a> {
         }
     }
 
-    // One call: mostly puts at first, and then frees until few keys are left. Workers of even number adopt near the start of each
-    // section, and each other worker ends its shard late in the section of its number.
+    // One call: mostly puts at first, and then frees until few keys are left. From the second section on, workers of even number
+    // adopt near its start; each other worker ends its shard late in the section of its number. So what the first mark finds is
+    // the same in each run: the groups of the shard that ended, in the pool.
     fn call<R: Wait>(&mut self, rt: &R, old: &[Key], turn: usize) -> Result<(), Trouble> {
         let is_even = self.seat.worker() % 2 == 0;
-        if turn == 10 && is_even {
+        if turn == 10 && is_even && self.seat.section() > 1 {
             return self.adopt(rt);
         }
         if turn == 900 && !is_even && self.seat.section() == self.seat.worker() as u64 {
