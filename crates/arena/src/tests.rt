@@ -389,6 +389,14 @@ fn puts_beside_a_thread_that_is_held(rt: HostRuntime) -> Result<(), Fail> {
     Ok(())
 }
 
+// Room for a seat, asked for again where memory was refused.
+fn room_for_seat(alloc: Global) -> Option<Vec<Seat>> {
+    match Vec::with_capacity(alloc, 1) {
+        Ok(seats) => Some(seats),
+        Err(_) => Vec::with_capacity(alloc, 1).ok(),
+    }
+}
+
 // How many logs and how many changes an arena leaves: of a span whose group came to the pool and was emptied there, and of one
 // that stands in a shard. Where memory was refused, arena and seats are ended again, as they were handed back.
 fn logs_left<R: Wait>(rt: &R, alloc: Global, two: Two<NoGate, Kept>) -> Option<(usize, usize)> {
@@ -403,7 +411,7 @@ fn logs_left<R: Wait>(rt: &R, alloc: Global, two: Two<NoGate, Kept>) -> Option<(
     if !end(rt, &arena, &mut first) || !first.free(rt, &arena, &key).0 {
         return None;
     }
-    let mut seats = Vec::new(alloc);
+    let mut seats = room_for_seat(alloc)?;
     seats.push(first).ok()?;
     let finished = match finish(arena, seats) {
         Ok(finished) => finished,
