@@ -37,6 +37,25 @@ fn is_answered(call: Call, value: Option<u128>) -> bool
     }
 }
 
+// Whether the call was answered as the changes before the place say. What a put answers is its own key, so its value is not looked
+// for.
+fn is_answered_after(
+    changes: &[Change],
+    order: &[SlotChange],
+    at: usize,
+    key: &Key,
+    call: Call,
+) -> bool
+    requires order { IsBySlot changes.now order.now }
+    requires inside { at ≤ length changes.now }
+    ensures { IsTrue result ↔ IsAnswered call (value_after (take at changes.now) key.now) }
+{
+    match call {
+        Call::Put { .. } => true,
+        _ => is_answered(call, value_after(changes, order, at, key)),
+    }
+}
+
 // Whether the call stands at a place of its span's log and was answered as the changes before it say.
 fn is_right_reply(
     logs: &[SpanLog],
@@ -56,8 +75,13 @@ fn is_right_reply(
     if changes.len() < receipt.at {
         return false;
     }
-    let value = value_after(changes, orders[j].as_slice(), receipt.at, &receipt.key);
-    is_answered(receipt.call, value)
+    is_answered_after(
+        changes,
+        orders[j].as_slice(),
+        receipt.at,
+        &receipt.key,
+        receipt.call,
+    )
 }
 
 // Whether each call of a worker was answered as its span's log says.

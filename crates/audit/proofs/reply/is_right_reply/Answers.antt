@@ -27,8 +27,8 @@ returns-then-changes-receipt c =
       λ right. absurd (let fits = right.0 in omega (arith, c.if-changes-receipt.true)),
     )
 
-pub value_after-value-requires-clause-order : goal.value_after-value-requires-clause-order
-value_after-value-requires-clause-order c =
+pub is_answered_after-requires-clause-order : goal.is_answered_after-requires-clause-order
+is_answered_after-requires-clause-order c =
     let there = (c.in-Some.ensures {u = tt}).found in
     let within = (c.in-Some.ensures {u = tt}).within in
     let order = c.index-orders-j.result in
@@ -41,8 +41,7 @@ returns c =
     let r = c.args.receipt.now in
     let there = (c.in-Some.ensures {u = tt}).found in
     let items : c.as_slice-changes.result.now ≡ log_of c.args.logs.now r.key.span =
-    c.as_slice-changes.ensures.value ∙ log_items c.args.logs.now c.in-Some.j c.index-logs-j.result there.0 there.1 ∙ sym there.3 in
-    let value : c.value_after-value.result ≡ value_after (take r.at (log_of c.args.logs.now r.key.span)) r.key = c.value_after-value.ensures ∙ ap (λ l. value_after (take r.at l) r.key) items in (
-      λ so. (rw (← items) c.if-changes-receipt.false, subst (IsAnswered r.call) value (c.is_answered-2.ensures.0 so)),
-      λ right. c.is_answered-2.ensures.1 (subst (IsAnswered r.call) (sym value) right.1),
+    c.as_slice-changes.ensures.value ∙ log_items c.args.logs.now c.in-Some.j c.index-logs-j.result there.0 there.1 ∙ sym there.3 in (
+      λ so. (rw (← items) c.if-changes-receipt.false, subst (λ (l : List Change). IsAnswered r.call (value_after (take r.at l) r.key)) items (c.is_answered_after.ensures.0 so)),
+      λ right. c.is_answered_after.ensures.1 (subst (λ (l : List Change). IsAnswered r.call (value_after (take r.at l) r.key)) (sym items) right.1),
     )
