@@ -7,6 +7,7 @@ use Rattle.std.proofs.lemmas.List.Edits.{length-insert}
 use Rattle.std.proofs.lemmas.Option.{slice_get-map}
 use Rattle.std.proofs.lemmas.List.{length-map}
 use Rattle.page_table.specs.State.{TableState, words_of}
+use Rattle.page_table.specs.Words.{Words, blank_page}
 use Rattle.shard.specs.Group.{union_of}
 use Rattle.shard.specs.Moves.{IsSoundWhole, WholeState, spans_moved, whole_of as whole_of_shard}
 use Rattle.shard.specs.State.{ShardState, spans_in as spans_in_shard}
@@ -21,7 +22,7 @@ use Rattle.abandoned.proofs.Together.{flat_map-whole_of}
 -- the words of a group are the same in two tables that have the same page for it
 words-same : (old new : TableState) (page : Option ℕ) → ((q : ℕ) → page ≡ Some q → finite.get new.pages q ≡ finite.get old.pages q) → option_map (words_of new) page ≡ option_map (words_of old) page
 words-same old new None same = refl
-words-same old new (Some q) same = ap (λ (o : Option (List ℕ)). Some (unwrap_or o [])) (same q refl)
+words-same old new (Some q) same = ap (λ (o : Option Words). Some (unwrap_or o blank_page)) (same q refl)
 
 -- one group more
 

@@ -186,7 +186,7 @@ module _ (old : PoolState) (sound : IsSound old) (index place : ℕ) (group : Po
       here = record {
         apart = subst AreApart spans_now less_live;
         legal = legal_now;
-        page = subst (λ o. MatchOption o (union_of (spans_of (with_span group place changed)) ≡ set_of.empty) (IsSoundPaged old.table (now o))) (sym is) (record { has_page = paged.has_page; whole = paged.whole; spans = span_now page paged; live = live });
+        page = subst (λ o. MatchOption o (union_of (spans_of (with_span group place changed)) ≡ set_of.empty) (IsSoundPaged old.table (now o))) (sym is) (record { has_page = paged.has_page; spans = span_now page paged; live = live });
       };
       others = others_now;
       own_page = λ q its.

@@ -4,6 +4,7 @@ use Rattle.std.specs.Prelude.{◌≢◌, insert}
 use Rattle.std.specs.FinMap as map
 use Rattle.std.specs.FinSet as set
 use Rattle.page_table.specs.State.{TableState}
+use Rattle.page_table.specs.Words.{Words}
 use Rattle.shard.specs.Group.{union_of}
 use Rattle.shard.specs.Moves.{WholeState, spans_moved, with_page}
 use Rattle.abandoned.specs.Calls.{IsPlaceFor, TakesIn}
@@ -12,7 +13,7 @@ use Rattle.abandoned.proofs.TakenIn.{empty_or_not, pooled}
 
 module _ (groups : List PooledState) (table after : TableState) (pages spans : ℕ) (told : Bool) (whole : WholeState) (page : Option ℕ) (index : ℕ)
     (emptied : union_of (spans_moved whole) ≡ set.empty → (page ≡ None) × (after ≡ table))
-    (live : union_of (spans_moved whole) ≢ set.empty → (p : ℕ) × (content : List ℕ) × (page ≡ Some p) × (whole.words ≡ Some content) × (map.get table.pages p ≡ None) × (after ≡ with_page table (spans_moved whole) p content)) where
+    (live : union_of (spans_moved whole) ≢ set.empty → (p : ℕ) × (content : Words) × (page ≡ Some p) × (whole.words ≡ Some content) × (map.get table.pages p ≡ None) × (after ≡ with_page table (spans_moved whole) p content)) where
   pub TakesIn-housed : IsPlaceFor groups whole.head.id index
       → TakesIn (record { groups = groups; table = record table { page_room = pages; span_room = spans }; has_plan = told }) whole
       (record { groups = insert groups index (pooled whole page); table = record after { page_room = pages - 1; span_room = spans - length (spans_moved whole) }; has_plan = told })

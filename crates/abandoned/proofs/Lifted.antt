@@ -1,5 +1,5 @@
 -- A pool stays sound where a group leaves it, and what leaves is sound.
-use Rattle.std.proofs.Common.{◌≡◌, ℕ, ◌<◌, ◌≤◌, true, false, length, Option, Some, None, MatchOption, is_some, slice_get, ap, sym, subst, ◌∙◌, refl, arith}
+use Rattle.std.proofs.Common.{◌≡◌, ℕ, ◌<◌, ◌≤◌, true, false, Option, Some, None, MatchOption, is_some, slice_get, ap, sym, subst, ◌∙◌, refl, arith}
 use Rattle.std.specs.Prelude.{count_by, option_map, remove}
 use Rattle.std.specs.FinMap as map
 use Rattle.std.specs.FinSet as set
@@ -87,9 +87,9 @@ module _ (old : PoolState) (sound : IsSound old) (index : ℕ) (group : PooledSt
 
       by_page : (o : Option ℕ) → MatchOption o (union_of (spans_of group) ≡ set.empty) (IsSoundPaged old.table group)
           → MatchOption (option_map (words_of old.table) o) (union_of (spans_of group) ≡ set.empty)
-          (λ words. (length words ≡ 256) × ((place : ℕ) (span : SpanState) → slice_get (spans_of group) place ≡ Some span → IsSoundMoved words span))
+          (λ words. (place : ℕ) (span : SpanState) → slice_get (spans_of group) place ≡ Some span → IsSoundMoved words span)
       by_page None m = m
-      by_page (Some page) m = (m.whole, λ place span at. (m.spans place span at).kept)
+      by_page (Some page) m = λ place span at. (m.spans place span at).kept
 
 pub IsSound-Lifts : (old new : PoolState) (head : SpanId) (answer : Option WholeState) → IsSound old → Lifts old head answer new → IsSound new
 IsSound-Lifts old new head None sound (none, new_is) = subst IsSound (sym new_is) sound

@@ -8,6 +8,7 @@ use Rattle.span.specs.Ids.{same_span}
 use Rattle.span.specs.State.{SpanState}
 use Rattle.span.specs.declared.id.SpanId.{SpanId}
 use Rattle.page_table.specs.State.{words_of}
+use Rattle.page_table.specs.Words.{Words, blank_page}
 use Rattle.page_table.proofs.Maps.{get-remove}
 use Rattle.std.proofs.lemmas.Bool.{ne_eqb}
 use Rattle.std.specs.FinMap as finite
@@ -86,7 +87,7 @@ rooms-TakesIn old new whole takes = elim (empty_or_not (union_of (spans_moved wh
   | inr live ↦ let is = (takes.live live).4 in (ap (λ (p : PoolState). p.table.page_room) is, ap (λ (p : PoolState). p.table.span_room) is)
 ]
 
-abbrev with_words : GroupState → List ℕ → WholeState
+abbrev with_words : GroupState → Words → WholeState
 with_words g ws = record { head = g.head; guests = g.guests; words = Some ws }
 
 module _ (pool₀ pool next : PoolState) (shard₀ shard left : ShardState) (whole : WholeState) (is : IsMoving pool₀ shard₀ pool shard) (lifted : LiftsLast shard (Some whole) left) (sound_left : IsSoundShard left) where
@@ -140,8 +141,8 @@ module _ (pool₀ pool next : PoolState) (shard₀ shard left : ShardState) (who
       let low = slice_get_within groups_left at group here in
       let apart = other_page shard is.sound_shard at (length groups_left) group last was last_at (λ e. omega arith) in
       let words : words_of (without_page shard.table last.page) group.page ≡ words_of shard.table group.page =
-      ap (λ (o : Option (List ℕ)). unwrap_or o []) (get-remove shard.table.pages last.page group.page ∙ ap (λ (b : Bool). cond b None (finite.get shard.table.pages group.page)) (ne_eqb group.page last.page apart)) in
-      ap (λ (s : ShardState). whole_of s.table group) lifted.4 ∙ ap (λ (ws : List ℕ). with_words group ws) words ∙ is.words at group was
+      ap (λ (o : Option Words). unwrap_or o blank_page) (get-remove shard.table.pages last.page group.page ∙ ap (λ (b : Bool). cond b None (finite.get shard.table.pages group.page)) (ne_eqb group.page last.page apart)) in
+      ap (λ (s : ShardState). whole_of s.table group) lifted.4 ∙ ap (λ (ws : Words). with_words group ws) words ∙ is.words at group was
 
   module _ (fits : IsSoundWhole whole) (takes : TakesIn pool whole next) (sound_next : IsSound next) where
     pub IsMoving-next : IsMoving pool₀ shard₀ next left

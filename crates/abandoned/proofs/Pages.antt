@@ -1,5 +1,5 @@
 -- The pages of a sound pool's groups, and when a group stays sound in another table.
-use Rattle.std.proofs.Common.{◌≡◌, ℕ, ◌<◌, ◌⊎◌, Bool, true, false, List, [], length, Option, Some, None, MatchOption, slice_get, ap, sym, subst, ◌∙◌, refl, inl, inr, arith, eq-eqb, eqb-true}
+use Rattle.std.proofs.Common.{◌≡◌, ℕ, ◌<◌, ◌⊎◌, Bool, true, false, Option, Some, None, MatchOption, slice_get, ap, sym, subst, ◌∙◌, refl, inl, inr, arith, eq-eqb, eqb-true}
 use Rattle.std.specs.Prelude.{unwrap_or, ◌≢◌}
 use Rattle.std.specs.FinMap as map
 use Rattle.std.specs.FinSet as set
@@ -8,6 +8,7 @@ use Rattle.std.proofs.lemmas.Bool.{cases_lt}
 use Rattle.span.specs.Ids.{rank}
 use Rattle.span.specs.State.{SpanState}
 use Rattle.page_table.specs.State.{TableState, is_page, words_of}
+use Rattle.page_table.specs.Words.{Words, blank_page}
 use Rattle.shard.specs.Group.{union_of}
 use Rattle.shard.specs.Moves.{IsSoundMoved}
 use Rattle.shard.proofs.Lists.{count-two, same_some}
@@ -76,10 +77,9 @@ IsSoundGroup-same old new group same was = record { apart = was.apart; legal = w
         → MatchOption o (union_of (spans_of group) ≡ set.empty) (IsSoundPaged old group) → MatchOption o (union_of (spans_of group) ≡ set.empty) (IsSoundPaged new group)
     by_page None pages spans m = m
     by_page (Some page) pages spans m =
-        let words : words_of new page ≡ words_of old page = ap (λ (o : Option (List ℕ)). unwrap_or o []) (pages page refl) in
+        let words : words_of new page ≡ words_of old page = ap (λ (o : Option Words). unwrap_or o blank_page) (pages page refl) in
         record {
           has_page = subst IsSome (sym (pages page refl)) m.has_page;
-          whole = ap length words ∙ m.whole;
           spans = λ place span here.
               let s = m.spans place span here in
               record { mapped = spans page refl place span here ∙ s.mapped; kept = subst (λ ws. IsSoundMoved ws span) (sym words) s.kept };

@@ -5,6 +5,7 @@ use Rattle.std.specs.FinMap as finite
 use Rattle.std.specs.Ordering.{nat_cmp}
 use Rattle.page_table.proofs.Maps.{get-remove-same, insert-remove, same_nat_map}
 use Rattle.page_table.specs.State.{Pages, Spans}
+use Rattle.page_table.specs.Words.{Words}
 use Rattle.span.specs.Ids.{same_span}
 use Rattle.span.specs.State.{SpanState}
 use Rattle.span.proofs.Ids.{same_id_from_test}
@@ -68,7 +69,7 @@ no_span spans none = same_nat_map spans finite.empty (λ q. by_get q (finite.get
 no_page : (pages : Pages) → finite.len pages ≡ 0 → pages ≡ finite.empty
 no_page pages none = same_nat_map pages finite.empty (λ q. by_get q (finite.get pages q) refl ∙ sym (finite.get-empty nat_cmp q))
   where
-    whole_again : (q : ℕ) (words : List ℕ) → finite.get pages q ≡ Some words → finite.insert (finite.remove pages q) q words ≡ pages
+    whole_again : (q : ℕ) (words : Words) → finite.get pages q ≡ Some words → finite.insert (finite.remove pages q) q words ≡ pages
     whole_again q words is = insert-remove pages q words ∙ same_nat_map _ _ (λ other. finite.get-insert nat_cmp_total pages q words other ∙ ap (λ b. cond b (Some words) (finite.get pages other)) (unsigned_tied other q) ∙ at other)
       where
         at : (other : ℕ) → cond (eqb other q) (Some words) (finite.get pages other) ≡ finite.get pages other
@@ -77,11 +78,11 @@ no_page pages none = same_nat_map pages finite.empty (λ q. by_get q (finite.get
           | inr differ ↦ ap (λ b. cond b (Some words) (finite.get pages other)) (ne_eqb other q differ)
         ]
 
-    by_get : (q : ℕ) (o : Option (List ℕ)) → finite.get pages q ≡ o → finite.get pages q ≡ None
+    by_get : (q : ℕ) (o : Option Words) → finite.get pages q ≡ o → finite.get pages q ≡ None
     by_get q None is = is
     by_get q (Some words) is = absurd (
         let long = ap (λ m. finite.len m) (whole_again q words is) in
-        let more = finite.len-insert nat_cmp_total (finite.remove pages q) q words ∙ ap (λ (o : Option (List ℕ)). cond (is_some o) (finite.len (finite.remove pages q)) (finite.len (finite.remove pages q) + 1)) (get-remove-same pages q) in
+        let more = finite.len-insert nat_cmp_total (finite.remove pages q) q words ∙ ap (λ (o : Option Words). cond (is_some o) (finite.len (finite.remove pages q)) (finite.len (finite.remove pages q) + 1)) (get-remove-same pages q) in
         omega arith)
 
 -- an ended shard has no span and no page

@@ -15,6 +15,7 @@ use Rattle.span.specs.State.{SpanState}
 use Rattle.span.specs.declared.id.SpanId.{SpanId}
 use Rattle.span.proofs.Ids.{test_from_same_id}
 use Rattle.page_table.specs.State.{TableState, is_page, words_of}
+use Rattle.page_table.specs.Words.{Words, blank_page}
 use Rattle.shard.specs.Group.{union_of}
 use Rattle.shard.specs.Moves.{IsSoundMoved, IsSoundWhole, WholeState, spans_moved, with_page}
 use Rattle.shard.proofs.GroupSpans.{count-spans_insert, elsewhere-times, times}
@@ -58,22 +59,22 @@ module _ (old : PoolState) (sound : IsSound old) (whole : WholeState) (fits : Is
   }
 
   -- where one is, on a page that no group has
-  module _ (live : union_of (spans_moved whole) ≢ set.empty) (words : List ℕ) (words_are : whole.words ≡ Some words) (page : ℕ) (fresh : map.get old.table.pages page ≡ None) where
+  module _ (live : union_of (spans_moved whole) ≢ set.empty) (words : Words) (words_are : whole.words ≡ Some words) (page : ℕ) (fresh : map.get old.table.pages page ≡ None) where
     abbrev table : TableState
     table = with_page old.table (spans_moved whole) page words
 
     -- no group had the page
     not_of_group : (index : ℕ) (g : PooledState) → slice_get old.groups index ≡ Some g → g.page ≡ Some page → ⊥
-    not_of_group index g there is = let e : is_some (map.get old.table.pages page) ≡ true = (sound_paged old sound index g there page is).has_page in let f : false ≡ true = ap (λ (o : Option (List ℕ)). is_some o) (sym fresh) ∙ e in cc
+    not_of_group index g there is = let e : is_some (map.get old.table.pages page) ≡ true = (sound_paged old sound index g there page is).has_page in let f : false ≡ true = ap (λ (o : Option Words). is_some o) (sym fresh) ∙ e in cc
 
-    words_here : (length words ≡ 256) × ((place : ℕ) (span : SpanState) → slice_get (spans_moved whole) place ≡ Some span → IsSoundMoved words span)
-    words_here = subst (λ (o : Option (List ℕ)). MatchOption o (union_of (spans_moved whole) ≡ set.empty) (λ ws. (length ws ≡ 256) × ((place : ℕ) (span : SpanState) → slice_get (spans_moved whole) place ≡ Some span → IsSoundMoved ws span))) words_are fits.words
+    words_here : (place : ℕ) (span : SpanState) → slice_get (spans_moved whole) place ≡ Some span → IsSoundMoved words span
+    words_here = subst (λ (o : Option Words). MatchOption o (union_of (spans_moved whole) ≡ set.empty) (λ ws. (place : ℕ) (span : SpanState) → slice_get (spans_moved whole) place ≡ Some span → IsSoundMoved ws span)) words_are fits.words
 
     get_page : map.get table.pages page ≡ Some words
     get_page = get-insert_same old.table.pages page words
 
     pub words_now : words_of table page ≡ words
-    words_now = ap (λ (o : Option (List ℕ)). unwrap_or o []) get_page
+    words_now = ap (λ (o : Option Words). unwrap_or o blank_page) get_page
 
     pub table_with : IsTableWith old (pooled whole (Some page)) table
     table_with = record {
@@ -82,8 +83,7 @@ module _ (old : PoolState) (sound : IsSound old) (whole : WholeState) (fits : Is
         legal = fits.legal;
         page = record {
           has_page = subst IsSome (sym get_page) refl;
-          whole = ap length words_now ∙ words_here.0;
-          spans = λ place span at. record { mapped = get-with_mapped_in (spans_moved whole) old.table.spans page place span at; kept = subst (λ ws. IsSoundMoved ws span) (sym words_now) (words_here.1 place span at) };
+          spans = λ place span at. record { mapped = get-with_mapped_in (spans_moved whole) old.table.spans page place span at; kept = subst (λ ws. IsSoundMoved ws span) (sym words_now) (words_here place span at) };
           live = live;
         };
       };
@@ -97,7 +97,7 @@ module _ (old : PoolState) (sound : IsSound old) (whole : WholeState) (fits : Is
         | inl before ↦ inl before
         | inr (same, place, span, at, named) ↦ inr (ap Some same, place, span, at, named)
       ];
-      pages = map.len-insert nat_cmp_total old.table.pages page words ∙ ap (λ (o : Option (List ℕ)). cond (is_some o) (map.len old.table.pages) (map.len old.table.pages + 1)) fresh ∙ omega arith;
+      pages = map.len-insert nat_cmp_total old.table.pages page words ∙ ap (λ (o : Option Words). cond (is_some o) (map.len old.table.pages) (map.len old.table.pages + 1)) fresh ∙ omega arith;
     }
 
   -- the group stands in the pool as one with a page or without
@@ -152,7 +152,7 @@ IsSound-with_rooms pool pages spans sound = record {
       where
         by_page : (o : Option ℕ) → MatchOption o (union_of (spans_of group) ≡ set.empty) (IsSoundPaged pool.table group) → MatchOption o (union_of (spans_of group) ≡ set.empty) (IsSoundPaged (with_rooms pool pages spans).table group)
         by_page None m = m
-        by_page (Some page) m = record { has_page = m.has_page; whole = m.whole; spans = λ place span here. let s = m.spans place span here in record { mapped = s.mapped; kept = s.kept }; live = m.live }
+        by_page (Some page) m = record { has_page = m.has_page; spans = λ place span here. let s = m.spans place span here in record { mapped = s.mapped; kept = s.kept }; live = m.live }
 
 -- several groups, one after another
 
@@ -202,6 +202,6 @@ HasAll-TakesAll (whole ∷ wholes) old new sound fits once (mid, rest, takes) =
 pub words_if_live : (whole : WholeState) → IsSoundWhole whole → union_of (spans_moved whole) ≢ set.empty → IsSome whole.words
 words_if_live whole fits live = by_words whole.words fits.words
   where
-    by_words : (o : Option (List ℕ)) → MatchOption o (union_of (spans_moved whole) ≡ set.empty) (λ words. (length words ≡ 256) × ((place : ℕ) (span : SpanState) → slice_get (spans_moved whole) place ≡ Some span → IsSoundMoved words span)) → IsSome o
+    by_words : (o : Option Words) → MatchOption o (union_of (spans_moved whole) ≡ set.empty) (λ words. (place : ℕ) (span : SpanState) → slice_get (spans_moved whole) place ≡ Some span → IsSoundMoved words span) → IsSome o
     by_words None none = absurd (live none)
     by_words (Some words) its = refl

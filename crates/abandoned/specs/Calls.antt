@@ -8,6 +8,7 @@ use Rattle.span.specs.Ids.{rank}
 use Rattle.span.specs.Log.{Holds}
 use Rattle.span.specs.State.{SpanState}
 use Rattle.page_table.specs.State.{TableState, word_at, words_of}
+use Rattle.page_table.specs.Words.{Words}
 use Rattle.shard.specs.Group.{GroupState, IsSpanAt, spans_of as spans_in_shard, union_of, with_free}
 use Rattle.shard.specs.Moves.{IsBriefOf, WholeState, TakesIn as TakesInShard, spans_moved, whole_of as whole_of_shard, with_page, with_room as with_room_in, without_page}
 use Rattle.shard.specs.State.{ShardState, IsElsewhere as IsElsewhereInShard}
@@ -100,7 +101,7 @@ pub record TakesIn (old : PoolState) (whole : WholeState) (new : PoolState) : Ty
   pub place : IsPlaceFor old.groups whole.head.id index
   pub emptied : union_of (spans_moved whole) ≡ set.empty
       → new ≡ record old { groups = insert old.groups index (record { head = whole.head; guests = whole.guests; page = None }); table = less_room old.table (length (spans_moved whole)) }
-  pub live : union_of (spans_moved whole) ≢ set.empty → (page : ℕ) × (words : List ℕ) × (finite.get old.table.pages page ≡ None) × (whole.words ≡ Some words)
+  pub live : union_of (spans_moved whole) ≢ set.empty → (page : ℕ) × (words : Words) × (finite.get old.table.pages page ≡ None) × (whole.words ≡ Some words)
       × (new ≡ record old { groups = insert old.groups index (record { head = whole.head; guests = whole.guests; page = Some page }); table = with_page old.table (spans_moved whole) page words })
 
 -- the groups come into the pool, one after another, the last of them first

@@ -16,10 +16,9 @@ pub record IsSoundSpan (table : TableState) (page : ℕ) (span : SpanState) : Ty
   pub mapped : map.get table.spans (rank span.id) ≡ Some page
   pub kept : IsSoundMoved (words_of table page) span
 
--- the page is one of the table, of 256 words, its spans are sound on it, and some slot is live
+-- the page is one of the table, its spans are sound on it, and some slot is live
 pub record IsSoundPaged (table : TableState) (group : PooledState) (page : ℕ) : Type 0 where
   pub has_page : HasPage table page
-  pub whole : length (words_of table page) ≡ 256
   pub spans : (place : ℕ) (span : SpanState) → slice_get (spans_of group) place ≡ Some span → IsSoundSpan table page span
   pub live : union_of (spans_of group) ≢ set.empty
 

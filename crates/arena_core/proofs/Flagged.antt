@@ -65,7 +65,6 @@ module _ (closed : GroupState → Bool) where
         subst (IsSoundGroup shard.table) is (record {
           apart = fine.apart;
           has_page = fine.has_page;
-          whole = fine.whole;
           spans = λ place span there. let its = fine.spans place span there in record { legal = its.legal; mapped = its.mapped; stored = its.stored };
         });
     once = λ id. subst (λ spans. count_by (λ (s : SpanState). same_span s.id id) spans ≤ 1) (sym (spans_in-flagged shard.groups)) (sound.once id);

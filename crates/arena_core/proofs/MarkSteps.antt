@@ -1,5 +1,5 @@
 -- What a mark and a close leave: a sound core, which shows the same map.
-use Rattle.std.proofs.Common.{◌≡◌, ℕ, ◌<◌, ◌≤◌, Bool, true, false, refl, sym, ap, subst, ◌∙◌, arith, List, Option, Some, None, slice_get, set, length, map, get_or}
+use Rattle.std.proofs.Common.{◌≡◌, ℕ, ◌<◌, Bool, true, false, refl, sym, ap, subst, ◌∙◌, arith, List, Option, Some, None, slice_get, set, length, map, get_or}
 use Rattle.std.proofs.Math.ListN.{length-set}
 use Rattle.std.proofs.lemmas.Option.{get_or_from_slice_get, slice_get_within}
 use Rattle.std.specs.Vec.{with_item}
@@ -26,14 +26,12 @@ use Rattle.arena_core.specs.Step.{with_plan_closed}
 use Rattle.arena_core.specs.declared.event.Event.TheVariants.{Step}
 use Rattle.arena_core.specs.declared.machine.Core.TheInside.{Inside}
 use Rattle.arena_core.specs.declared.reply.Reply.TheVariants.{Stepped}
-use Rattle.arena_core.proofs.Changes.{at_most_once}
 use Rattle.arena_core.proofs.Flagged.{HasSoundGroups-flagged, map_back, shown-flagged, with_all_flags}
 use Rattle.arena_core.proofs.Lists.{slice_get-map_at}
 use Rattle.arena_core.proofs.PlanMarks.{IsUnderWay-marked}
 use Rattle.arena_core.proofs.PlanSteps.{AreAllClosedAsPlanned, IsSoundStep, KeepsPlan-none}
-use Rattle.arena_core.proofs.Spans.{times-parts, times_in-found, times_in-le, times_owned}
 use Rattle.arena_core.proofs.Stepping.{IsSoundStep-Steps, waits}
-use Rattle.arena_core.proofs.Steps.{has_span-elsewhere, has_span-here, pooled-somewhere}
+use Rattle.arena_core.proofs.Steps.{has_span-here}
 
 -- the core with another flag of its pool and another plan
 abbrev retold : CoreState → Bool → Option OpenPlan → CoreState

@@ -34,7 +34,7 @@ use Rattle.arena_core.proofs.Changes.{opened-somewhere}
 use Rattle.arena_core.proofs.Lists.{each-set}
 use Rattle.arena_core.proofs.PlanKept.{IsFewer-freed, IsUnderWay-kept, KeepsAllClosed, KeepsAllClosed-same, KeepsAllClosed-set, KeepsClosed-Frees, KeepsClosed-Puts, KeepsPooled, KeepsPooled-Frees, KeepsPooled-Receives, KeepsPooled-same, has_plan-Frees, has_plan-Receives, plans_onto-pair}
 use Rattle.arena_core.proofs.Moves.{IsStep-Adopts, IsStep-Receives, unclosed}
-use Rattle.arena_core.proofs.Spans.{times-parts, times_in-found, times_in-le, times_pooled}
+use Rattle.arena_core.proofs.Spans.{times-parts, times_in-found, times_in-le}
 use Rattle.arena_core.proofs.Steps.{IsStep, IsStep-Frees, IsStep-FreesPooled, IsStep-Puts, IsStep-dead, has_span-here, with_pool-same, with_shard-same}
 
 -- what the core keeps, its own step, and that of the plain map, if the plain map knows the event

@@ -6,6 +6,7 @@ use Rattle.std.proofs.lemmas.List.Sums.{length-filter, sum_by-append}
 use Rattle.span.specs.State.{SpanState}
 use Rattle.span.specs.declared.id.SpanId.{SpanId}
 use Rattle.page_table.specs.State.{words_of}
+use Rattle.page_table.specs.Words.{Words}
 use Rattle.shard.specs.Group.{spans_of}
 use Rattle.shard.specs.Moves.{Grafts, WholeState, spans_moved, with_guests, with_room}
 use Rattle.shard.specs.Sound.{IsSound as IsSoundShard}
@@ -118,6 +119,6 @@ module _ (pool : PoolState) (shard : ShardState) (a b : SpanId) (pool_new : Pool
       is_paged : PooledState → Bool
       is_paged group = is_some group.page
 
-      has_page : (o : Option ℕ) {words : List ℕ} → option_map (words_of pool.table) o ≡ Some words → is_some o ≡ true
+      has_page : (o : Option ℕ) {words : Words} → option_map (words_of pool.table) o ≡ Some words → is_some o ≡ true
       has_page None e = absurd cc
       has_page (Some page) e = refl

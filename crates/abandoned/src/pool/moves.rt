@@ -3,6 +3,7 @@ ghost use Rattle.std.specs.Prelude.{◌≡◌, ◌≢◌, ◌+◌, ◌<◌, ◌�
 ghost use Rattle.std.specs.FinMap as map;
 ghost use Rattle.std.specs.FinSet as set;
 ghost use Rattle.page_table.specs.State.{HasPage, words_of};
+ghost use Rattle.page_table.specs.Words.{Words};
 ghost use Rattle.shard.specs.Group.{all_spans, union_of};
 ghost use Rattle.shard.specs.Moves.{with_page};
 ghost use Rattle.abandoned.specs.Calls.{HasNoMember, IsBriefHere, IsMemberAt, Lifts, MayTakeIn, TakesIn, with_room, with_rooms, without_page_of};
@@ -122,7 +123,7 @@ fn house<L: Log>(table: &mut Table, spans: &Spans<L>, words: Option<PageWords>) 
     requires spans { length (all_spans spans.now) ≤ table.old.span_room }
     requires words { union_of (all_spans spans.now) ≢ set.empty → IsSome words }
     ensures emptied { union_of (all_spans spans.now) ≡ set.empty → (result ≡ None) × (table.new ≡ table.old) }
-    ensures live { union_of (all_spans spans.now) ≢ set.empty → (page : ℕ) × (content : List ℕ) × (result ≡ Some page) × (words ≡ Some content)
+    ensures live { union_of (all_spans spans.now) ≢ set.empty → (page : ℕ) × (content : Words) × (result ≡ Some page) × (words ≡ Some content)
         × (map.get table.old.pages page ≡ None) × (table.new ≡ with_page table.old (all_spans spans.now) page content) }
 {
     if spans.occupied().lowest().is_none() {

@@ -1,7 +1,6 @@
 use Rattle.std.proofs.Common.{◌∙◌, ap, refl, slice_get, sym}
-use Rattle.std.specs.Prelude.{slice_index}
 use Rattle.std.proofs.lemmas.Bool.{true≢false}
-use Rattle.page_table.specs.State.{words_of}
+use Rattle.page_table.specs.State.{word_at}
 use Rattle.shard.specs.declared.shard.Found.TheVariants.{Gone, NotHere, Value}
 use Rattle.abandoned.specs.Kept.{state_of}
 use Rattle.abandoned.specs.State.{PoolState}
@@ -54,7 +53,7 @@ returns-clause-found g c =
       sym c.page.ensures ∙ c.in-Some-page.is,
       (c.if-not-find.ensures.0 refl).1,
       c.value_at.ensures
-          ∙ ap (λ (s : PoolState). slice_index (words_of s.table c.in-Some-page.page) c.args.key.now.slot) c.self.view_is,
+          ∙ ap (λ (s : PoolState). word_at s.table c.in-Some-page.page c.args.key.now.slot) c.self.view_is,
       c.changes-at.ensures,
     )
 

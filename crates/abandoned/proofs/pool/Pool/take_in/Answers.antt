@@ -7,6 +7,7 @@ use Rattle.shard.specs.Directory.{DirectoryState, entered}
 use Rattle.shard.specs.Moves.{IsSoundWhole, WholeState, spans_moved, whole_with, with_page}
 use Rattle.shard.specs.Group.{union_of}
 use Rattle.page_table.specs.State.{TableState}
+use Rattle.page_table.specs.Words.{Words}
 use Rattle.abandoned.specs.Calls.{IsPlaceFor, MayTakeIn, TakesIn}
 use Rattle.abandoned.specs.Groups.{GroupsState}
 use Rattle.abandoned.specs.Kept.{state_of}
@@ -19,7 +20,7 @@ use Rattle.abandoned.proofs.pool.Pool.take_in.Goals as goal
 -- the group was housed and came to its place
 taken : (groups new : List PooledState) (table after : TableState) (pages spans count index : ℕ) (told : Bool) (whole : WholeState) (page : Option ℕ) (group : PooledState)
     → (union_of (spans_moved whole) ≡ set.empty → (page ≡ None) × (after ≡ table))
-    → (union_of (spans_moved whole) ≢ set.empty → (p : ℕ) × (content : List ℕ) × (page ≡ Some p) × (whole.words ≡ Some content) × (map.get table.pages p ≡ None) × (after ≡ with_page table (spans_moved whole) p content))
+    → (union_of (spans_moved whole) ≢ set.empty → (p : ℕ) × (content : Words) × (page ≡ Some p) × (whole.words ≡ Some content) × (map.get table.pages p ≡ None) × (after ≡ with_page table (spans_moved whole) p content))
     → count ≡ length (spans_moved whole) → group ≡ pooled whole page → IsPlaceFor groups group.head.id index → new ≡ insert groups index group
     → TakesIn (record { groups = groups; table = record table { page_room = pages; span_room = spans }; has_plan = told }) whole (record { groups = new; table = record after { page_room = pages - 1; span_room = spans - count }; has_plan = told })
 taken groups new table after pages spans count index told whole page group emptied live count_is group_is place new_is =
