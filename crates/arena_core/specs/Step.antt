@@ -47,7 +47,7 @@ HasAllPages core number = (shard : ShardState) × (slice_get core.shards number 
 abbrev pub MayTake : CoreState → ℕ → Type 0
 MayTake core number = (shard : ShardState) → slice_get core.shards number ≡ Some shard → (shard.ended ≡ false) × (length shard.groups < shard.page_limit)
 
--- nothing but want of memory refuses a put there
+-- only a refused allocation refuses a put there
 abbrev pub MayPut : CoreState → ℕ → Type 0
 MayPut core number = (shard : ShardState) × IsRunning core number shard × (IsSpent shard → ⊥)
 
@@ -59,11 +59,11 @@ HasClosed groups = list_any (λ group. group.closed) groups ≡ true
 abbrev pub HasClosedGroup : CoreState → ℕ → Type 0
 HasClosedGroup core number = (shard : ShardState) × IsRunning core number shard × HasClosed shard.groups
 
--- nothing but want of memory refuses an end there
+-- only a refused allocation refuses an end there
 abbrev pub MayEnd : CoreState → ℕ → Type 0
 MayEnd core number = (shard : ShardState) × IsRunning core number shard × (HasClosed shard.groups → ⊥)
 
--- nothing but want of memory refuses an adoption there
+-- only a refused allocation refuses an adoption there
 abbrev pub MayAdopt : CoreState → ℕ → Type 0
 MayAdopt core number = (shard : ShardState) × IsRunning core number shard × (length shard.groups < shard.page_limit) × (core.plan ≡ None) × (HasNothingToAdopt core.pool → ⊥)
 
@@ -75,7 +75,7 @@ HasPlan core = is_some core.plan ≡ true
 abbrev pub HasTooMany : CoreState → Type 0
 HasTooMany core = AreTooMany core.pool core.shards
 
--- nothing but want of memory refuses a mark
+-- only a refused allocation refuses a mark
 abbrev pub MayMark : CoreState → Type 0
 MayMark core = (core.plan ≡ None) × (HasTooMany core → ⊥)
 

@@ -181,7 +181,7 @@ abbrev pub shown : {X Y E : Type 0} → (X → Y) → Result X E → Result Y E
 shown f (Ok x) = Ok (f x)
 shown f (Err e) = Err e
 
--- what is read is what the grammar says, and so is each refusal but for want of memory
+-- what is read is what the grammar says, and so is each refusal but that of an allocation
 abbrev pub Reads : {X Y : Type 0} → (X → Y) → Result X ReadError → Result Y ReadError → Type 0
 Reads f (Ok x) said = said ≡ Ok (f x)
 Reads f (Err OutOfMemory) said = Unit {0}

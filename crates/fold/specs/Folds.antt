@@ -32,7 +32,7 @@ AreClashing pool shard a b =
 abbrev pub IsClash : PoolState → ShardState → SpanId → SpanId → Type 0
 IsClash pool shard a b = (IsAbsent pool shard a b → ⊥) × (IsEmptied pool shard a b → ⊥) × AreClashing pool shard a b
 
--- nothing but want of memory may stand in the way of the fold
+-- only a refused allocation may stand in the way of the fold
 pub record MayFold (pool : PoolState) (shard : ShardState) (a b : SpanId) : Type 0 where
   pub present : IsAbsent pool shard a b → ⊥
   pub paged : IsEmptied pool shard a b → ⊥

@@ -34,7 +34,7 @@ module _ {D : Type 0} (held : D → List ℕ → Option (List ℕ)) where
   abbrev pub IsDone : (old new : Option (List ℕ)) → (before after : D) → (status : ℕ) → Type 0
   IsDone old new before after status = (words : List Text) × (job : Job) × IsJobOf words job × Does job old new before after status
 
--- where a check came to a halt: at a sink that failed, once, with a front of the verdict's line taken; or with nothing taken, where a text was
+-- where a check came to a halt: at a sink that failed, once, with a prefix of the verdict's line taken; or with nothing taken, where a text was
 -- at fault, memory ran out, or the file could not be read
 abbrev pub HaltsCheck : (failures_old failures_new : ℕ) → (old new : Option (List ℕ)) → Fault → Type 0
 HaltsCheck failures_old failures_new old new fault.SinkFailed = (failures_new ≡ failures_old + 1) × ((text : List ℕ) × WritesVerdictFront text old new)
@@ -60,8 +60,8 @@ module _ {D : Type 0} (held : D → List ℕ → Option (List ℕ)) (failures : 
   IsReplayedUnsaved replies certificate failures_old failures_new old new before after =
       (failures_new ≡ failures_old) × ((text : List ℕ) × (bytes : List ℕ) × WritesReport text replies old new bytes × IsUnsaved held certificate bytes before after) × (failures after ≡ failures before + 1)
 
-  -- where a run came to a halt: at a sink that failed, once, with a front of the report taken and no file written; at a file that
-  -- could not be read, or that of the certificate, which could not be written; or with nothing written at the fault of a text, or for want of memory
+  -- where a run came to a halt: at a sink that failed, once, with a prefix of the report taken and no file written; at a file that
+  -- could not be read, or that of the certificate, which could not be written; or with nothing written at the fault of a text, or where an allocation was refused
   abbrev pub HaltsRun : (replies : Bool) → (certificate : Option Text) → (failures_old failures_new : ℕ) → (old new : Option (List ℕ)) → (before after : D) → Fault → Type 0
   HaltsRun replies certificate failures_old failures_new old new before after fault.SinkFailed = (failures_new ≡ failures_old + 1) × ((text : List ℕ) × WritesFront text replies old new) × (after ≡ before)
   HaltsRun replies certificate failures_old failures_new old new before after fault.Io =

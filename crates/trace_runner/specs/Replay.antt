@@ -44,11 +44,11 @@ IsReport text replies bytes certificate = (trace : Trace) × IsTrace text trace 
 abbrev pub WritesReport : List ℕ → Bool → Option (List ℕ) → Option (List ℕ) → List ℕ → Type 0
 WritesReport text replies old new certificate = (report : List ℕ) × IsReport text replies report certificate × Appends old new report
 
--- a front of such a report was taken
+-- a prefix of such a report was taken
 abbrev pub WritesFront : List ℕ → Bool → Option (List ℕ) → Option (List ℕ) → Type 0
 WritesFront text replies old new = (report : List ℕ) × (certificate : List ℕ) × IsReport text replies report certificate × AppendsFront old new report
 
--- where a replay stopped: for want of memory or at the first line at fault, with nothing taken; or at a sink that failed, once, with a front of the report taken
+-- where a replay stopped: where an allocation was refused or at the first line at fault, with nothing taken; or at a sink that failed, once, with a prefix of the report taken
 abbrev pub Stops : List ℕ → Bool → (failures_old failures_new : ℕ) → (old new : Option (List ℕ)) → ReplayError → Type 0
 Stops text replies failures_old failures_new old new OutOfMemory = (failures_new ≡ failures_old) × (new ≡ old)
 Stops text replies failures_old failures_new old new (BadTrace line cause) = IsFaultAt text line cause × (failures_new ≡ failures_old) × (new ≡ old)

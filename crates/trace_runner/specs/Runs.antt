@@ -101,7 +101,7 @@ planning_at core _ = []
 
 -- ---- what a line did
 
--- no want of memory, no shard that is not there or has ended, and no plan that is missed or in the way: of the refusals, only those of a page, of an adoption that finds nothing and of a mark that sees too much come
+-- no refused allocation, no shard that is not there or has ended, and no plan that is missed or in the way: of the refusals, only those of a page, of an adoption that finds nothing and of a mark that sees too much come
 abbrev pub IsTold : Reply → Type 0
 IsTold (Refused PagesSpent) = Unit {0}
 IsTold (Refused TooMany) = Unit {0}

@@ -105,6 +105,6 @@ Says fault.Io text = text ≡ codes "io\n"
 abbrev pub TakesMessage : Fault → Option (List ℕ) → Option (List ℕ) → Type 0
 TakesMessage f old new = (text : List ℕ) × Says f text × Appends old new text
 
--- a front of such a text went in
+-- a prefix of such a text went in
 abbrev pub TakesFront : Fault → Option (List ℕ) → Option (List ℕ) → Type 0
 TakesFront f old new = (text : List ℕ) × Says f text × AppendsFront old new text

@@ -25,11 +25,11 @@ pub record IsVerdictOn (text : List ℕ) (c : Certificate) (accepted : Bool) : T
 abbrev pub WritesVerdict : List ℕ → Option (List ℕ) → Option (List ℕ) → Bool → Type 0
 WritesVerdict text old new accepted = (c : Certificate) × IsVerdictOn text c accepted × Appends old new (verdict_line c accepted)
 
--- a front of that line was taken
+-- a prefix of that line was taken
 abbrev pub WritesVerdictFront : List ℕ → Option (List ℕ) → Option (List ℕ) → Type 0
 WritesVerdictFront text old new = (c : Certificate) × (accepted : Bool) × IsVerdictOn text c accepted × AppendsFront old new (verdict_line c accepted)
 
--- where a check stopped: for want of memory, or at the first line at fault of a text that is no certificate, with nothing taken; or at a sink that failed, once, with a front of the line taken
+-- where a check stopped: where an allocation was refused, or at the first line at fault of a text that is no certificate, with nothing taken; or at a sink that failed, once, with a prefix of the line taken
 abbrev pub StopsCheck : List ℕ → (failures_old failures_new : ℕ) → (old new : Option (List ℕ)) → CheckError → Type 0
 StopsCheck text failures_old failures_new old new OutOfMemory = (failures_new ≡ failures_old) × (new ≡ old)
 StopsCheck text failures_old failures_new old new (BadCertificate line cause) = (certificate_in text ≡ Err (read_error.BadCertificate line cause)) × (failures_new ≡ failures_old) × (new ≡ old)

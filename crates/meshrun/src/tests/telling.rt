@@ -6,7 +6,7 @@ use trace_runner::{Cause, Fault, Job, Memory, ReplayError, TellError, tell};
 const NO_COMMAND: &[u8] =
     b"error: 'meshrun' requires a subcommand but one was not provided\n  [subcommands: run, check]\n\nUsage: meshrun <COMMAND>\n\nFor more information, try '--help'.\n";
 
-// What the fault is told as: the status, standard output and standard error.
+// What is printed for the fault: the status, standard output and standard error.
 fn told(alloc: Global, fault: &Fault) -> Result<(u8, Memory, Memory), TellError> {
     let mut out = Memory::new(alloc);
     let mut err = Memory::new(alloc);

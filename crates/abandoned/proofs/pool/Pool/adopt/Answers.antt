@@ -6,7 +6,7 @@ use Rattle.abandoned.specs.declared.error.AdoptError.{AdoptError}
 use Rattle.abandoned.specs.declared.error.AdoptError.TheVariants.{NothingToAdopt, OutOfMemory}
 use Rattle.abandoned.proofs.pool.Pool.adopt.Goals as goal
 
--- an answer that is no fault but want of memory does not say that there is nothing to adopt
+-- an answer that is no error, or says only that an allocation was refused, does not say that there is nothing to adopt
 found_some : (answer : Result SpanId AdoptError) → IsOkUnless answer OutOfMemory → answer ≡ Err NothingToAdopt → ⊥
 found_some answer only nothing =
     let same : NothingToAdopt ≡ OutOfMemory = subst (λ (r : Result SpanId AdoptError). IsOkUnless r OutOfMemory) nothing only in
