@@ -1,14 +1,10 @@
 -- Where a head would stand among the pool's groups, and how many there are.
-use Rattle.std.proofs.Common.{◌≡◌, ℕ, zero, suc, ◌<◌, ◌≤◌, List, length, Some, slice_get, refl, inl, inr, arith}
+use Rattle.std.proofs.Common.{◌≡◌, ℕ, zero, suc, ◌<◌, ◌≤◌, List, length, Some, slice_get, inl, inr, arith}
 use Rattle.std.proofs.lemmas.Bool.{cases_lt}
 use Rattle.std.proofs.lemmas.Option.{slice_get_within}
 use Rattle.span.specs.Ids.{rank}
-use Rattle.span.specs.declared.id.SpanId.{SpanId}
-use Rattle.shard.proofs.HeadPlaces.{IsLower, higher-lower}
 use Rattle.shard.proofs.Lists.{there_at}
-use Rattle.abandoned.specs.Calls.{IsPlaceFor}
-use Rattle.abandoned.specs.State.{Ascend, IsElsewhere, PooledState}
-use Rattle.abandoned.proofs.Heads.{head_id}
+use Rattle.abandoned.specs.State.{Ascend, PooledState}
 
 -- heads that ascend are at most as many as there are ids
 pub at_most_ids : (groups : List PooledState) → Ascend groups → length groups ≤ 65536

@@ -1,6 +1,7 @@
 pub mod Adopted
 pub mod Arrived
 pub mod Freed
+pub mod Filled
 pub mod FreedPlace
 pub mod GroupPlaces
 pub mod HeadPlaces

@@ -10,7 +10,7 @@ use Rattle.bitmap.specs.Slots.{SlotSet}
 use Rattle.shard.specs.Rooms.{has_index}
 
 -- an element that was read, whatever stands past the end
-read_part : (parts : List SlotSet) (at : ℕ) (past : SlotSet) → at < length parts → get_or parts at empty ≡ get_or parts at past
+pub read_part : (parts : List SlotSet) (at : ℕ) (past : SlotSet) → at < length parts → get_or parts at empty ≡ get_or parts at past
 read_part parts at past within = get_or_from_slice_get parts at (get_or parts at past) empty (slice_get-get_or parts at past within)
 
 module _ (parts : List SlotSet) (number : ℕ) (within : number < 256 * length parts) (part : SlotSet) (part_is : part ≡ get_or parts (number / 256) part) (new : SlotSet) (member : Bool)

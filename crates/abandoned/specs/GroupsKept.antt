@@ -3,6 +3,7 @@ use Rattle.std.specs.Prelude.{◌≡◌, ℕ, ◌<◌, Some, length, slice_get}
 use Rattle.span.specs.Ids.{rank}
 use Rattle.shard.specs.Rooms.{has_index}
 use Rattle.abandoned.specs.Groups.{GroupsState, HaveSize, has_page, standing}
+use Rattle.abandoned.specs.Numbers.{KnowsParts}
 use Rattle.abandoned.specs.State.{PooledState}
 use Rattle.abandoned.specs.declared.groups.Groups.TheInside.{Inside}
 
@@ -15,6 +16,8 @@ pub record IsKept {L : Type 0} (g : Inside L) : Type 0 where
   pub at_rank : (at : ℕ) (group : PooledState) → slice_get g.places.items at ≡ Some (Some group) → rank group.head.id ≡ at
   -- a bit is on where the place has a group with a page, and nowhere else
   pub paged_known : (at : ℕ) → has_index g.paged.items at ≡ has_page (slice_get g.places.items at)
+  -- the parts are known that have a bit on
+  pub filled_known : KnowsParts g.paged.items g.filled
   -- there are places for all heads where room is reserved
   pub sized : HaveSize g.places.items g.paged.items
   pub room_for_heads : 0 < g.room → length g.places.items ≡ 65536

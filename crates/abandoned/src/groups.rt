@@ -13,7 +13,7 @@ ghost use Rattle.abandoned.specs.Groups.{AreReady, FreesIn, HasHeadAt, HaveSize,
 ghost use Rattle.abandoned.specs.Numbers.{HasNoneFrom};
 ghost use Rattle.abandoned.specs.State.{HasNoHead, IsHeadOf, PooledState, spans_in, spans_of, summary};
 
-use crate::numbers::{mark, next};
+use crate::numbers::{lowest, mark, next};
 use crate::pooled::Pooled;
 use bitmap::Bits256;
 use page_table::Table;
@@ -29,14 +29,16 @@ const HEADS: usize = 65_536;
 ///
 /// The places are made with the first room that is reserved, for all heads that may come: one takes as much as a
 /// group without its heap, used or not, so all of them some 13 MB, where the pages of as many groups take 268 MB.
-/// Beside them it keeps a bit for each head, which says whether the group has a page, and so finds the lowest of
-/// these without a walk over the groups.
+/// Beside them it keeps a bit for each head, which says whether the group has a page, and one for each 256 of these
+/// bits, which says whether any is on: so it finds the lowest without a walk.
 #[derive(Drop)]
 pub(crate) struct Groups<L: Log> {
     // By the rank of the head.
     places: Vec<Option<Pooled<L>>>,
     // The ranks of the heads whose groups have a page.
     paged: Vec<Bits256>,
+    // The parts of `paged` that have a rank.
+    filled: Bits256,
     // For how many more groups room is reserved.
     room: usize,
 }
@@ -64,6 +66,7 @@ impl<L: Log> Groups<L> {
         Groups {
             places: Vec::new(alloc),
             paged: Vec::new(alloc),
+            filled: Bits256::empty(),
             room: 0,
         }
     }
@@ -100,7 +103,7 @@ impl<L: Log> Groups<L> {
         ensures { (index : ℕ) × IsPlaceFor self.old.groups group.head.id index × (self.new ≡ record { groups = insert self.old.groups index group; room = self.old.room - 1 }) }
     {
         let place = group.head_id().rank() as usize;
-        mark(&mut self.paged, place, group.is_paged());
+        mark(&mut self.paged, &mut self.filled, place, group.is_paged());
         self.places[place] = Some(group);
         self.room -= 1;
     }
@@ -113,7 +116,7 @@ impl<L: Log> Groups<L> {
         if rank >= self.places.len() {
             return None;
         }
-        mark(&mut self.paged, rank, false);
+        mark(&mut self.paged, &mut self.filled, rank, false);
         self.places[rank].take()
     }
 
@@ -131,15 +134,15 @@ impl<L: Log> Groups<L> {
             unreachable!();
         };
         let freed = group.free(place, key, table);
-        mark(&mut self.paged, rank, group.is_paged());
+        mark(&mut self.paged, &mut self.filled, rank, group.is_paged());
         freed
     }
 
-    /// The group of lowest head that has a page. It takes at most a step for each 256 ids.
+    /// The group of lowest head that has a page, in as many steps however many groups there are.
     pub(crate) fn lowest_paged(&self) -> Option<&Pooled<L>>
         ensures { MatchOption result (HasNoPage self.now.groups) (λ group. (index : ℕ) × IsFirstPaged self.now.groups index group.now) }
     {
-        let Some(rank) = next(self.paged.as_slice(), 0) else {
+        let Some(rank) = lowest(self.paged.as_slice(), &self.filled) else {
             return None;
         };
         self.places[rank].as_ref()

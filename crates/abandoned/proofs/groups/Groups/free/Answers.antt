@@ -32,8 +32,8 @@ free-freed-requires-clause-page g c =
     subst (λ (x : PooledState). IfSome x.page (HasPage c.args.table.now)) (same_some (sym (read_group c.self.inside.places.items c.self.invariant.at_rank c.args.head c.rank-rank.result c.rank-rank.ensures.value c.index_mut.result.now c.index_mut.ensures.value h.0 h.1) ∙ c.in-Some.is))
     (c.requires.pages h.1.0 h.0 (ap (λ (s : GroupsState). slice_get s.groups h.1.0) (sym c.self.view_is) ∙ h.1.1.here))
 
-pub mark-requires : goal.mark-requires
-mark-requires g c =
+pub mark-requires-clause-within : goal.mark-requires-clause-within
+mark-requires-clause-within g c =
     let h = seen (state_of c.self.inside) c.args.self.now c.self.view_is c.args.head c.args.place c.requires.here in
     (place_within c.self.inside.places.items c.self.inside.paged.items c.self.invariant.sized c.rank-rank.result (at_within c.self.inside.places.items c.self.invariant.at_rank c.args.head c.rank-rank.result c.rank-rank.ensures.value c.index_mut.result.now c.index_mut.ensures.value h.0 h.1)).0
 
@@ -50,6 +50,7 @@ invariant_of-self g c =
           (λ group is. ap (λ (x : PooledState). rank x.head.id) (sym (same_some is)) ∙ ap rank head ∙ c.self.invariant.at_rank c.rank-rank.result c.in-Some.group there);
       paged_known = KnowsPaged-set c.self.inside.paged.items c.mark.new.parts.items c.self.inside.places.items c.self.invariant.paged_known c.rank-rank.result (Some c.in-Some.group) (Some c.free-freed.new.self) there c.is_paged.result c.is_paged.ensures c.mark.ensures.has;
       sized = HaveSize-set c.self.inside.places.items c.self.inside.paged.items c.mark.new.parts.items c.self.invariant.sized c.rank-rank.result (Some c.free-freed.new.self) c.mark.ensures.len;
+      filled_known = c.mark.ensures.known;
       room_for_heads = λ some. length-set c.self.inside.places.items c.rank-rank.result (Some c.free-freed.new.self) ∙ c.self.invariant.room_for_heads some;
     }
 

@@ -22,6 +22,7 @@ invariant_of-self g c =
       at_rank = AtRank-set c.self.inside.places.items c.self.invariant.at_rank c.rank-place.result (Some c.args.group) (λ group is. ap (λ (x : PooledState). rank x.head.id) (sym (same_some is)) ∙ sym at);
       paged_known = KnowsPaged-set c.self.inside.paged.items c.mark.new.parts.items c.self.inside.places.items c.self.invariant.paged_known c.rank-place.result None (Some c.args.group) free c.is_paged.result c.is_paged.ensures c.mark.ensures.has;
       sized = HaveSize-set c.self.inside.places.items c.self.inside.paged.items c.mark.new.parts.items c.self.invariant.sized c.rank-place.result (Some c.args.group) c.mark.ensures.len;
+      filled_known = c.mark.ensures.known;
       room_for_heads = λ some. length-set c.self.inside.places.items c.rank-place.result (Some c.args.group) ∙ all;
     }
 

@@ -23,6 +23,7 @@ invariant_of-self g c =
       at_rank = AtRank-set c.self.inside.places.items c.self.invariant.at_rank c.rank-rank.result None (λ group is. absurd cc);
       paged_known = KnowsPaged-set c.self.inside.paged.items c.mark.new.parts.items c.self.inside.places.items c.self.invariant.paged_known c.rank-rank.result c.index_mut.result.now None here false refl c.mark.ensures.has;
       sized = HaveSize-set c.self.inside.places.items c.self.inside.paged.items c.mark.new.parts.items c.self.invariant.sized c.rank-rank.result None c.mark.ensures.len;
+      filled_known = c.mark.ensures.known;
       room_for_heads = λ some. length-set c.self.inside.places.items c.rank-rank.result None ∙ c.self.invariant.room_for_heads some;
     })
 

@@ -1,6 +1,7 @@
 use Rattle.std.proofs.Common.{◌≡◌, ◌∙◌, ◌<◌, ℕ, List, Option, length, sym, inr}
 use Rattle.bitmap.specs.Slots.{SlotSet}
 use Rattle.abandoned.specs.Groups.{AreReady, HaveSize}
+use Rattle.abandoned.specs.Numbers.{KnowsParts}
 use Rattle.abandoned.specs.State.{PooledState}
 use Rattle.abandoned.proofs.GroupPlaces.{AtRank, KnowsPaged}
 use Rattle.abandoned.proofs.groups.Groups.reserve.Goals as goal
@@ -17,6 +18,9 @@ module _ (places new : List (Option PooledState)) (parts new_parts : List SlotSe
     HaveSize-same : HaveSize places parts → HaveSize new new_parts
     HaveSize-same has = rw (same, same_parts) has
 
+    KnowsParts-same : (filled : SlotSet) → KnowsParts parts filled → KnowsParts new_parts filled
+    KnowsParts-same filled known = rw same_parts known
+
     all-same : {room : ℕ} → (0 < room → length places ≡ 65536) → 0 < room → length new ≡ 65536
     all-same all some = rw same (all some)
 
@@ -27,6 +31,12 @@ module _ (places new : List (Option PooledState)) (parts new_parts : List SlotSe
     KnowsPaged-ready : KnowsPaged parts places → KnowsPaged new_parts new
     KnowsPaged-ready known at = ready.same_index at ∙ known at ∙ sym (ready.same_page at)
 
+    KnowsParts-ready : (filled : SlotSet) → KnowsParts parts filled → KnowsParts new_parts filled
+    KnowsParts-ready filled known = record {
+      off = λ number off. ready.same_index number ∙ known.off number off;
+      on = λ part on. let had = known.on part on in (had.0, had.1, ready.same_index had.0 ∙ had.2);
+    }
+
     HaveSize-ready : HaveSize new new_parts
     HaveSize-ready = record { size = inr ready.count; parts_fit = ready.parts_fit }
 
@@ -36,6 +46,7 @@ invariant_of-self g c =
       at_rank = AtRank-same c.self.inside.places.items c.make_places.new.places.items c.self.inside.paged.items c.make_places.new.paged.items c.in_err-make_places.ensures.err.0 c.in_err-make_places.ensures.err.1 c.self.invariant.at_rank;
       paged_known = KnowsPaged-same c.self.inside.places.items c.make_places.new.places.items c.self.inside.paged.items c.make_places.new.paged.items c.in_err-make_places.ensures.err.0 c.in_err-make_places.ensures.err.1 c.self.invariant.paged_known;
       sized = HaveSize-same c.self.inside.places.items c.make_places.new.places.items c.self.inside.paged.items c.make_places.new.paged.items c.in_err-make_places.ensures.err.0 c.in_err-make_places.ensures.err.1 c.self.invariant.sized;
+      filled_known = KnowsParts-same c.self.inside.places.items c.make_places.new.places.items c.self.inside.paged.items c.make_places.new.paged.items c.in_err-make_places.ensures.err.0 c.in_err-make_places.ensures.err.1 c.self.inside.filled c.self.invariant.filled_known;
       room_for_heads = all-same c.self.inside.places.items c.make_places.new.places.items c.self.inside.paged.items c.make_places.new.paged.items c.in_err-make_places.ensures.err.0 c.in_err-make_places.ensures.err.1 c.self.invariant.room_for_heads;
     }
 
@@ -46,5 +57,6 @@ invariant_of-self-2 g c =
       at_rank = AtRank-ready c.self.inside.places.items c.make_places.new.places.items c.self.inside.paged.items c.make_places.new.paged.items ready c.self.invariant.at_rank;
       paged_known = KnowsPaged-ready c.self.inside.places.items c.make_places.new.places.items c.self.inside.paged.items c.make_places.new.paged.items ready c.self.invariant.paged_known;
       sized = HaveSize-ready c.self.inside.places.items c.make_places.new.places.items c.self.inside.paged.items c.make_places.new.paged.items ready;
+      filled_known = KnowsParts-ready c.self.inside.places.items c.make_places.new.places.items c.self.inside.paged.items c.make_places.new.paged.items ready c.self.inside.filled c.self.invariant.filled_known;
       room_for_heads = λ some. ready.count;
     }

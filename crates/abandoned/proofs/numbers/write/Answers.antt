@@ -1,7 +1,7 @@
 use Rattle.std.proofs.Common.{◌∙◌, ◌%◌, ap, sym}
 use Rattle.std.specs.FinSet.{contains}
 use Rattle.abandoned.proofs.Marked.{contains-insert_apart, contains-insert_same, contains-remove_apart, contains-remove_same, has_index-marked}
-use Rattle.abandoned.proofs.numbers.mark.Goals as goal
+use Rattle.abandoned.proofs.numbers.write.Goals as goal
 
 pub returns-then-member-clause-has : goal.returns-then-member-clause-has
 returns-then-member-clause-has c =
