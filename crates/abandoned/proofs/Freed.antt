@@ -24,7 +24,7 @@ use Rattle.shard.proofs.GroupSpans.{times}
 use Rattle.shard.proofs.Lists.{after-set, before-set, cases-set, count-set, same_some}
 use Rattle.shard.proofs.Logs.{was_held}
 use Rattle.shard.proofs.Removed.{before-remove, cases-remove, count-remove, set-insert}
-use Rattle.shard.proofs.Unions.{live_if_held, lose_key, member_of_union}
+use Rattle.shard.proofs.Unions.{live_if_held, lose_held, member_of_union}
 use Rattle.abandoned.specs.Calls.{Frees, IsPlaceFor, Leaves, without_page_of}
 use Rattle.abandoned.specs.Sound.{IsSound, IsSoundGroup, IsSoundPaged, IsSoundSpan}
 use Rattle.abandoned.specs.State.{IsElsewhere, PoolState, PooledState, Stands, spans_of, with_span}
@@ -71,7 +71,7 @@ module _ (old : PoolState) (sound : IsSound old) (index place : ℕ) (group : Po
   before = sound.groups index group here.0
 
   less_live : AreApart (set (spans_of group) place changed)
-  less_live = (lose_key (spans_of group) place span key here.1 holds before.apart).1
+  less_live = (lose_held (spans_of group) place span key.slot key.generation here.1 holds before.apart).1
 
   -- a span of the group after the free, and what it was
   was_span : (at : ℕ) (s : SpanState) → slice_get (spans_of (with_span group place changed)) at ≡ Some s → (then : SpanState) × (slice_get (spans_of group) at ≡ Some then) × SameId then s

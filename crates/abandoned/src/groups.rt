@@ -6,7 +6,7 @@ ghost use Rattle.span.specs.Log.{Holds};
 ghost use Rattle.span.specs.SpanLogs.{AreLegal, room_for_logs, span_of_log};
 ghost use Rattle.span.specs.State.{SpanState};
 ghost use Rattle.page_table.specs.State.{HasPage};
-ghost use Rattle.shard.specs.Group.{with_free};
+ghost use Rattle.shard.specs.Group.{with_free_at};
 ghost use Rattle.shard.specs.State.{live_count};
 ghost use Rattle.abandoned.specs.Calls.{HasNoPage, IsFirstPaged, IsPlaceFor};
 ghost use Rattle.abandoned.specs.Groups.{AreReady, FreesIn, HasHeadAt, HaveSize, Removes};
@@ -17,7 +17,7 @@ use crate::numbers::{lowest, mark, next};
 use crate::pooled::Pooled;
 use bitmap::Bits256;
 use page_table::Table;
-use span::{Kept, Key, Log, SpanId, SpanLog};
+use span::{Kept, Log, SpanId, SpanLog};
 use std::alloc::{AllocError, Global};
 use std::marker::Model;
 
@@ -120,20 +120,27 @@ impl<L: Log> Groups<L> {
         self.places[rank].take()
     }
 
-    /// Frees the key in the span at the place of the head's group, where it is live there, and gives up the page of
-    /// a group that it empties.
-    pub(crate) fn free(&mut self, head: SpanId, place: usize, key: &Key, table: &mut Table) -> bool
+    /// Frees the slot in the span at the place of the head's group, where it is live there at the generation, and
+    /// gives up the page of a group that it empties.
+    pub(crate) fn free(
+        &mut self,
+        head: SpanId,
+        place: usize,
+        slot: u8,
+        generation: u32,
+        table: &mut Table,
+    ) -> bool
         requires here { (group : PooledState) × HasHeadAt self.old.groups head group × (place < length (spans_of group)) }
         requires pages { (index : ℕ) (group : PooledState) → slice_get self.old.groups index ≡ Some group → IfSome group.page (HasPage table.old) }
-        ensures found { (index : ℕ) (group : PooledState) (span : SpanState) → IsHeadOf self.old.groups head index group → slice_get (spans_of group) place ≡ Some span → (IsTrue result ↔ ((key.now.span ≡ span.id) × Holds span.log key.now.slot key.now.generation)) }
-        ensures freed { (index : ℕ) (group : PooledState) (span : SpanState) → IsHeadOf self.old.groups head index group → slice_get (spans_of group) place ≡ Some span → OnTrue result (FreesIn self.old index group place (with_free span key.now) table.old self.new table.new) }
+        ensures found { (index : ℕ) (group : PooledState) (span : SpanState) → IsHeadOf self.old.groups head index group → slice_get (spans_of group) place ≡ Some span → (IsTrue result ↔ Holds span.log slot generation) }
+        ensures freed { (index : ℕ) (group : PooledState) (span : SpanState) → IsHeadOf self.old.groups head index group → slice_get (spans_of group) place ≡ Some span → OnTrue result (FreesIn self.old index group place (with_free_at span slot generation) table.old self.new table.new) }
         ensures unknown { OnFalse result ((self.new ≡ self.old) × (table.new ≡ table.old)) }
     {
         let rank = head.rank() as usize;
         let Some(group) = &mut self.places[rank] else {
             unreachable!();
         };
-        let freed = group.free(place, key, table);
+        let freed = group.free(place, slot, generation, table);
         mark(&mut self.paged, &mut self.filled, rank, group.is_paged());
         freed
     }

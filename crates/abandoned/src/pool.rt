@@ -153,7 +153,7 @@ impl<L: Log> Pool<L> {
         };
         let span = group.span_at(place);
         let at = span.changes();
-        if !span.find(key) {
+        if !span.holds(key.slot, key.generation) {
             return Found::Gone(at);
         }
         let Some(page) = group.page() else {
@@ -174,7 +174,10 @@ impl<L: Log> Pool<L> {
         };
         let head = group.head_id();
         let at = group.span_at(place).changes();
-        if !self.groups.free(head, place, key, &mut self.table) {
+        if !self
+            .groups
+            .free(head, place, key.slot, key.generation, &mut self.table)
+        {
             return Freed::No(at);
         }
         Freed::Yes(at)

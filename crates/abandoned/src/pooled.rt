@@ -4,7 +4,7 @@ ghost use Rattle.std.specs.Bool.{OnTrue, OnFalse};
 ghost use Rattle.span.specs.Log.{Holds};
 ghost use Rattle.span.specs.State.{SpanState};
 ghost use Rattle.page_table.specs.State.{HasPage};
-ghost use Rattle.shard.specs.Group.{HasNoSpan, IsSpanAt, union_of, with_free};
+ghost use Rattle.shard.specs.Group.{HasNoSpan, IsSpanAt, union_of, with_free_at};
 ghost use Rattle.shard.specs.Moves.{IsBriefOf};
 ghost use Rattle.shard.specs.State.{live_count};
 ghost use Rattle.abandoned.specs.Calls.{GivesUp};
@@ -13,7 +13,7 @@ ghost use Rattle.abandoned.specs.State.{group_of, spans_of, with_span};
 use bitmap::Bits256;
 use page_table::{Page, Table};
 use shard::{Brief, Spans};
-use span::{Key, Log, Span, SpanId};
+use span::{Log, Span, SpanId};
 use std::marker::Model;
 
 /// A head and its guests, and their page, which they have exactly while one of their slots is live.
@@ -123,16 +123,22 @@ impl<L: Log> Pooled<L> {
         self.spans.span_at(place)
     }
 
-    /// Frees the key in the span at the place, where it is live there, and gives the page up where it was the
-    /// last that was live.
-    pub(crate) fn free(&mut self, place: usize, key: &Key, table: &mut Table) -> bool
+    /// Frees the slot in the span at the place, where it is live there at the generation, and gives the page up where
+    /// it was the last that was live.
+    pub(crate) fn free(
+        &mut self,
+        place: usize,
+        slot: u8,
+        generation: u32,
+        table: &mut Table,
+    ) -> bool
         requires place { place < length (spans_of self.old) }
         requires page { IfSome self.old.page (HasPage table.old) }
-        ensures found { (span : SpanState) → slice_get (spans_of self.old) place ≡ Some span → (IsTrue result ↔ ((key.now.span ≡ span.id) × Holds span.log key.now.slot key.now.generation)) }
-        ensures freed { (span : SpanState) → slice_get (spans_of self.old) place ≡ Some span → OnTrue result (GivesUp (with_span self.old place (with_free span key.now)) table.old self.new table.new) }
+        ensures found { (span : SpanState) → slice_get (spans_of self.old) place ≡ Some span → (IsTrue result ↔ Holds span.log slot generation) }
+        ensures freed { (span : SpanState) → slice_get (spans_of self.old) place ≡ Some span → OnTrue result (GivesUp (with_span self.old place (with_free_at span slot generation)) table.old self.new table.new) }
         ensures unknown { OnFalse result ((self.new ≡ self.old) × (table.new ≡ table.old)) }
     {
-        if !self.spans.free(place, key) {
+        if !self.spans.free(place, slot, generation) {
             return false;
         }
         self.give_up_page(table);

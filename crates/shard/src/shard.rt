@@ -198,7 +198,7 @@ impl<L: Log> Shard<L> {
         let group = &self.groups[index];
         let span = group.span_at(place);
         let at = span.changes();
-        if span.find(key) {
+        if span.holds(key.slot, key.generation) {
             Found::Value(self.table.value_at(group.page(), key.slot), at)
         } else {
             Found::Gone(at)
@@ -217,7 +217,7 @@ impl<L: Log> Shard<L> {
         };
         let group = &mut self.groups[index];
         let at = group.span_at(place).changes();
-        if !group.free(place, key) {
+        if !group.free(place, key.slot, key.generation) {
             return Freed::No(at);
         }
         self.rooms.insert(index);
@@ -300,7 +300,9 @@ impl<L: Log> Shard<L> {
     }
 
     // Where the span of the id stands: its group, and its place there. Tried first is the index that a head has
-    // while the shard has all groups that it opened, and no other.
+    // while the shard has all groups that it opened, and no other. That much is inlined, so that the place stays
+    // in registers; a call would pass it through memory.
+    #[inline(always)]
     fn find(&self, id: SpanId) -> Option<(usize, usize)>
         ensures sound { IsSound self.now }
         ensures place { MatchOption result (IsElsewhere self.now.groups id) (λ at. (group : GroupState) × (span : SpanState) × IsHere self.now.groups id at.0 at.1 group span) }
@@ -309,6 +311,14 @@ impl<L: Log> Shard<L> {
         if first < self.groups.len() && self.groups[first].head_id() == id {
             return Some((first, 0));
         }
+        self.find_moved(id)
+    }
+
+    // The same, wherever its group stands.
+    #[inline(never)]
+    fn find_moved(&self, id: SpanId) -> Option<(usize, usize)>
+        ensures { MatchOption result (IsElsewhere self.now.groups id) (λ at. (group : GroupState) × (span : SpanState) × IsHere self.now.groups id at.0 at.1 group span) }
+    {
         let head = Place { head: id, place: 0 };
         let at = self.directory.place_of(id).unwrap_or(head);
         let Some(index) = self.find_head(at.head) else {

@@ -6,7 +6,7 @@ ghost use Rattle.bitmap.specs.Slots.{AreDisjoint, HasAllBelow, IsLowestOutside};
 ghost use Rattle.span.specs.Log.{live_slots, puts_of, Holds};
 ghost use Rattle.span.specs.SpanLogs.{AreLegal, room_for_logs, span_of_log};
 ghost use Rattle.span.specs.State.{SpanState};
-ghost use Rattle.shard.specs.Group.{all_spans, taken, union_of, IsSpanAt, HasNoSpan, with_put, with_free, with_span_at};
+ghost use Rattle.shard.specs.Group.{all_spans, taken, union_of, IsSpanAt, HasNoSpan, with_put, with_free_at, with_span_at};
 ghost use Rattle.shard.specs.State.{live_count};
 
 use bitmap::Bits256;
@@ -151,42 +151,42 @@ impl<L: Log> Spans<L> {
         Ok(key)
     }
 
-    /// Frees the key in the span at the place, where it is live there. It takes no memory.
-    pub fn free(&mut self, place: usize, key: &Key) -> bool
+    /// Frees the slot in the span at the place, where it is live there at the generation. It takes no memory.
+    pub fn free(&mut self, place: usize, slot: u8, generation: u32) -> bool
         requires { place < length (all_spans self.old) }
-        ensures found { (span : SpanState) → slice_get (all_spans self.old) place ≡ Some span → (IsTrue result ↔ ((key.now.span ≡ span.id) × Holds span.log key.now.slot key.now.generation)) }
-        ensures freed { (span : SpanState) → slice_get (all_spans self.old) place ≡ Some span → OnTrue result (self.new ≡ with_span_at self.old place (with_free span key.now)) }
+        ensures found { (span : SpanState) → slice_get (all_spans self.old) place ≡ Some span → (IsTrue result ↔ Holds span.log slot generation) }
+        ensures freed { (span : SpanState) → slice_get (all_spans self.old) place ≡ Some span → OnTrue result (self.new ≡ with_span_at self.old place (with_free_at span slot generation)) }
         ensures unknown { OnFalse result (self.new ≡ self.old) }
     {
         if place == 0 {
-            self.free_in_head(key)
+            self.free_in_head(slot, generation)
         } else {
-            self.free_in_guest(place - 1, key)
+            self.free_in_guest(place - 1, slot, generation)
         }
     }
 
-    fn free_in_head(&mut self, key: &Key) -> bool
-        ensures found { IsTrue result ↔ ((key.now.span ≡ self.old.head.id) × Holds self.old.head.log key.now.slot key.now.generation) }
-        ensures freed { OnTrue result (self.new ≡ record self.old { head = with_free self.old.head key.now }) }
+    fn free_in_head(&mut self, slot: u8, generation: u32) -> bool
+        ensures found { IsTrue result ↔ Holds self.old.head.log slot generation }
+        ensures freed { OnTrue result (self.new ≡ record self.old { head = with_free_at self.old.head slot generation }) }
         ensures unknown { OnFalse result (self.new ≡ self.old) }
     {
-        if !self.head.free(key) {
+        if !self.head.free_held(slot, generation) {
             return false;
         }
-        self.occupied.remove(key.slot);
+        self.occupied.remove(slot);
         true
     }
 
-    fn free_in_guest(&mut self, at: usize, key: &Key) -> bool
+    fn free_in_guest(&mut self, at: usize, slot: u8, generation: u32) -> bool
         requires { at < length self.old.guests }
-        ensures found { (span : SpanState) → slice_get self.old.guests at ≡ Some span → (IsTrue result ↔ ((key.now.span ≡ span.id) × Holds span.log key.now.slot key.now.generation)) }
-        ensures freed { (span : SpanState) → slice_get self.old.guests at ≡ Some span → OnTrue result (self.new ≡ record self.old { guests = slice_set self.old.guests at (with_free span key.now) }) }
+        ensures found { (span : SpanState) → slice_get self.old.guests at ≡ Some span → (IsTrue result ↔ Holds span.log slot generation) }
+        ensures freed { (span : SpanState) → slice_get self.old.guests at ≡ Some span → OnTrue result (self.new ≡ record self.old { guests = slice_set self.old.guests at (with_free_at span slot generation) }) }
         ensures unknown { OnFalse result (self.new ≡ self.old) }
     {
-        if !self.guests[at].free(key) {
+        if !self.guests[at].free_held(slot, generation) {
             return false;
         }
-        self.occupied.remove(key.slot);
+        self.occupied.remove(slot);
         true
     }
 }

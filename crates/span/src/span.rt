@@ -107,8 +107,8 @@ impl<L: Log> Span<L> {
         key.span == self.id && self.holds(key.slot, key.generation)
     }
 
-    // Whether the slot is live at the generation.
-    fn holds(&self, slot: u8, generation: u32) -> bool
+    /// Whether the slot is live at the generation: as [`Span::find`], for a caller that found the span by its id.
+    pub fn holds(&self, slot: u8, generation: u32) -> bool
         ensures { IsTrue result ↔ Holds self.now.log slot generation }
     {
         self.live.contains(slot) && generation_of(&self.generations, slot) == generation
@@ -129,6 +129,24 @@ impl<L: Log> Span<L> {
             return false;
         }
         self.free_at(key.slot, key.generation);
+        true
+    }
+
+    /// Frees the slot where it is live at the generation, and says whether it was: as [`Span::free`], for a caller
+    /// that found the span by its id. Takes no memory.
+    pub fn free_held(&mut self, slot: u8, generation: u32) -> bool
+        ensures found { IsTrue result ↔ Holds self.old.log slot generation }
+        ensures freed { OnTrue result (self.new ≡ record self.old {
+          log = self.old.log ++ Change.Free slot generation ∷ [];
+        }) }
+        ensures unknown { OnFalse result (self.new ≡ self.old) }
+        ensures legal { IsLegal self.new.gens self.new.log }
+    {
+        let _ = &self.log;
+        if !self.holds(slot, generation) {
+            return false;
+        }
+        self.free_at(slot, generation);
         true
     }
 

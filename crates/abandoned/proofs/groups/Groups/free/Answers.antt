@@ -2,7 +2,7 @@ use Rattle.std.proofs.Common.{◌≡◌, ◌∙◌, ◌<◌, ℕ, length, length
 use Rattle.span.specs.Ids.{rank}
 use Rattle.span.specs.declared.id.SpanId.{SpanId}
 use Rattle.page_table.specs.State.{HasPage}
-use Rattle.shard.specs.Group.{with_free}
+use Rattle.shard.specs.Group.{with_free_at}
 use Rattle.shard.proofs.Lists.{same_some, there_at}
 use Rattle.abandoned.specs.Groups.{FreesIn, GroupsState, HasHeadAt, standing}
 use Rattle.abandoned.specs.GroupsKept.{state_of}
@@ -44,7 +44,7 @@ invariant_of-self g c =
     let same = same_some (sym (read_group c.self.inside.places.items c.self.invariant.at_rank c.args.head c.rank-rank.result c.rank-rank.ensures.value c.index_mut.result.now c.index_mut.ensures.value h.0 h.1) ∙ c.in-Some.is) in
     let there = group_at c.self.inside.places.items c.self.invariant.at_rank c.args.head c.rank-rank.result c.rank-rank.ensures.value c.index_mut.result.now c.index_mut.ensures.value c.in-Some.group c.in-Some.is within in
     let span = there_at (spans_of c.in-Some.group) c.args.place (subst (λ (x : PooledState). c.args.place < length (spans_of x)) same h.2) in
-    let head = same_head c.free-freed.result c.in-Some.group c.free-freed.new.self c.args.place span.0 (with_free span.0 c.args.key.now) c.args.table.now c.free-freed.new.table span.1 refl (c.free-freed.ensures.freed span.0 span.1) c.free-freed.ensures.unknown in
+    let head = same_head c.free-freed.result c.in-Some.group c.free-freed.new.self c.args.place span.0 (with_free_at span.0 c.args.slot c.args.generation) c.args.table.now c.free-freed.new.table span.1 refl (c.free-freed.ensures.freed span.0 span.1) c.free-freed.ensures.unknown in
     record {
       at_rank = AtRank-set c.self.inside.places.items c.self.invariant.at_rank c.rank-rank.result (Some c.free-freed.new.self)
           (λ group is. ap (λ (x : PooledState). rank x.head.id) (sym (same_some is)) ∙ ap rank head ∙ c.self.invariant.at_rank c.rank-rank.result c.in-Some.group there);
@@ -68,8 +68,8 @@ returns-clause-freed g c index other span is there =
     let is_here = subst (λ (s : GroupsState). IsHeadOf s.groups c.args.head index other) (sym c.self.view_is) is in
     let same = one_group c.self.inside.places.items c.self.invariant.at_rank c.args.head c.rank-rank.result c.rank-rank.ensures.value c.index_mut.result.now c.index_mut.ensures.value c.in-Some.group c.in-Some.is within index other is_here in
     on_true c.free-freed.result (λ gives.
-    subst (λ (s : GroupsState). FreesIn s index other c.args.place (with_free span c.args.key.now) c.args.table.now (record { groups = standing (set c.self.inside.places.items c.rank-rank.result (Some c.free-freed.new.self)); room = c.self.inside.room }) c.free-freed.new.table) c.self.view_is
-    (FreesIn-places c.self.inside.places.items c.self.invariant.at_rank c.args.head c.rank-rank.result c.rank-rank.ensures.value c.index_mut.result.now c.index_mut.ensures.value c.in-Some.group c.in-Some.is within c.self.inside.room index c.args.place other c.free-freed.new.self (with_free span c.args.key.now) c.args.table.now c.free-freed.new.table is_here gives))
+    subst (λ (s : GroupsState). FreesIn s index other c.args.place (with_free_at span c.args.slot c.args.generation) c.args.table.now (record { groups = standing (set c.self.inside.places.items c.rank-rank.result (Some c.free-freed.new.self)); room = c.self.inside.room }) c.free-freed.new.table) c.self.view_is
+    (FreesIn-places c.self.inside.places.items c.self.invariant.at_rank c.args.head c.rank-rank.result c.rank-rank.ensures.value c.index_mut.result.now c.index_mut.ensures.value c.in-Some.group c.in-Some.is within c.self.inside.room index c.args.place other c.free-freed.new.self (with_free_at span c.args.slot c.args.generation) c.args.table.now c.free-freed.new.table is_here gives))
     (c.free-freed.ensures.freed span (subst (λ (x : PooledState). slice_get (spans_of x) c.args.place ≡ Some span) same there))
 
 pub returns-clause-unknown : goal.returns-clause-unknown

@@ -45,7 +45,7 @@ returns-then-not-free-clause-step g c =
       c.in-Some.group.now,
       c.span_at.result.now,
       here,
-      (λ holds. true≢false (sym ((facts.found at.0 c.in-Some.group.now c.span_at.result.now head c.span_at.ensures).1 (sym here.id_is, holds)))),
+      (λ holds. true≢false (sym ((facts.found at.0 c.in-Some.group.now c.span_at.result.now head c.span_at.ensures).1 holds))),
       c.changes-at.ensures,
       (λ i. record {
         groups = (facts.unknown.0 i).groups;
@@ -65,7 +65,7 @@ invariant_of-self-2 g c =
     let inside : slice_get c.self.inside.groups.groups at.0 ≡ Some c.in-Some.group.now = ap (λ (p : PoolState). slice_get p.groups at.0) c.self.view_is ∙ at.2.group_is in
     let head : IsHeadOf c.self.inside.groups.groups c.head_id-head.result at.0 c.in-Some.group.now = record { here = inside; head_is = sym c.head_id-head.ensures } in
     let facts = c.if-not-free.ensures {u = tt} in
-    let holds = ((facts.found at.0 c.in-Some.group.now c.span_at.result.now head c.span_at.ensures).0 refl).1 in
+    let holds = (facts.found at.0 c.in-Some.group.now c.span_at.result.now head c.span_at.ensures).0 refl in
     let freed = facts.freed at.0 c.in-Some.group.now c.span_at.result.now head c.span_at.ensures in
     let groups_are : c.free.new.self.groups ≡ set c.self.inside.groups.groups at.0 freed.0 = ap (λ (s : GroupsState). s.groups) freed.2 in
     let leaves = subst (λ (gs : List PooledState). Leaves (state_of c.self.inside) at.0 (with_span c.in-Some.group.now c.in-Some.place (with_free c.span_at.result.now c.args.key.now)) (record { groups = gs; table = record c.free.new.table { page_room = c.self.inside.page_room; span_room = c.self.inside.span_room }; has_plan = c.self.inside.has_plan })) (sym groups_are)
@@ -87,7 +87,7 @@ returns-clause-step g c =
     let inside : slice_get c.self.inside.groups.groups at.0 ≡ Some c.in-Some.group.now = ap (λ (p : PoolState). slice_get p.groups at.0) c.self.view_is ∙ at.2.group_is in
     let head : IsHeadOf c.self.inside.groups.groups c.head_id-head.result at.0 c.in-Some.group.now = record { here = inside; head_is = sym c.head_id-head.ensures } in
     let facts = c.if-not-free.ensures {u = tt} in
-    let holds = ((facts.found at.0 c.in-Some.group.now c.span_at.result.now head c.span_at.ensures).0 refl).1 in
+    let holds = (facts.found at.0 c.in-Some.group.now c.span_at.result.now head c.span_at.ensures).0 refl in
     let freed = facts.freed at.0 c.in-Some.group.now c.span_at.result.now head c.span_at.ensures in
     let groups_are : c.free.new.self.groups ≡ set c.self.inside.groups.groups at.0 freed.0 = ap (λ (s : GroupsState). s.groups) freed.2 in
     let leaves = subst (λ (gs : List PooledState). Leaves (state_of c.self.inside) at.0 (with_span c.in-Some.group.now c.in-Some.place (with_free c.span_at.result.now c.args.key.now)) (record { groups = gs; table = record c.free.new.table { page_room = c.self.inside.page_room; span_room = c.self.inside.span_room }; has_plan = c.self.inside.has_plan })) (sym groups_are)

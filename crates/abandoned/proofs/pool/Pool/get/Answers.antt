@@ -19,21 +19,21 @@ returns-in_default-clause-plain g c = value_found-Gets c.args.self.now c.find.en
 pub span_at-span-requires : goal.span_at-span-requires
 span_at-span-requires g c = let at = c.in-Some.ensures.place in place_within _ _ _ _ _ _ at.2
 
-pub returns-then-not-find-clause-found : goal.returns-then-not-find-clause-found
-returns-then-not-find-clause-found g c =
+pub returns-then-not-holds-clause-found : goal.returns-then-not-holds-clause-found
+returns-then-not-holds-clause-found g c =
     let at = c.in-Some.ensures.place in
     let here = IsHere-read _ _ _ _ _ _ at.2 c.span_at-span.result.now c.span_at-span.ensures in
-    (at.0, c.in-Some.place, c.in-Some.group.now, c.span_at-span.result.now, here, (λ holds. true≢false (sym (c.if-not-find.ensures.1 (sym here.id_is, holds)))), c.changes-at.ensures)
+    (at.0, c.in-Some.place, c.in-Some.group.now, c.span_at-span.result.now, here, (λ holds. true≢false (sym (c.if-not-holds.ensures.1 holds))), c.changes-at.ensures)
 
-pub returns-then-not-find-clause-plain : goal.returns-then-not-find-clause-plain
-returns-then-not-find-clause-plain g c = value_found-Gets c.args.self.now c.find.ensures.sound c.args.key.now (Gone c.changes-at.result) (returns-then-not-find-clause-found g c)
+pub returns-then-not-holds-clause-plain : goal.returns-then-not-holds-clause-plain
+returns-then-not-holds-clause-plain g c = value_found-Gets c.args.self.now c.find.ensures.sound c.args.key.now (Gone c.changes-at.result) (returns-then-not-holds-clause-found g c)
 
 pub unreachable-requires : goal.unreachable-requires
 unreachable-requires g c =
     let at = c.in-Some.ensures.place in
     let here = IsHere-read _ _ _ _ _ _ at.2 c.span_at-span.result.now c.span_at-span.ensures in
     has_page_if_held c.args.self.now c.find.ensures.sound at.0 c.in-Some.place c.in-Some.group.now c.span_at-span.result.now c.args.key.now.slot c.args.key.now.generation
-    here.group_is here.span_is (c.if-not-find.ensures.0 refl).1 (sym c.page.ensures ∙ c.in_default-page.is)
+    here.group_is here.span_is (c.if-not-holds.ensures.0 refl) (sym c.page.ensures ∙ c.in_default-page.is)
 
 pub value_at-requires : goal.value_at-requires
 value_at-requires g c =
@@ -51,7 +51,7 @@ returns-clause-found g c =
       c.span_at-span.result.now,
       here,
       sym c.page.ensures ∙ c.in-Some-page.is,
-      (c.if-not-find.ensures.0 refl).1,
+      (c.if-not-holds.ensures.0 refl),
       c.value_at.ensures
           ∙ ap (λ (s : PoolState). word_at s.table c.in-Some-page.page c.args.key.now.slot) c.self.view_is,
       c.changes-at.ensures,

@@ -8,5 +8,5 @@ use Rattle.abandoned.proofs.pooled.Pooled.free.Goals as goal
 pub returns-clause-found : goal.returns-clause-found
 returns-clause-found g c =
     subst
-    (λ (g : PooledState). (span : SpanState) → slice_get (spans_of g) c.args.place ≡ Some span → (IsTrue true ↔ ((c.args.key.now.span ≡ span.id) × Holds span.log c.args.key.now.slot c.args.key.now.generation)))
+    (λ (g : PooledState). (span : SpanState) → slice_get (spans_of g) c.args.place ≡ Some span → (IsTrue true ↔ Holds span.log c.args.slot c.args.generation))
     c.self.view_is (c.if-not-free.ensures {u = tt}).found

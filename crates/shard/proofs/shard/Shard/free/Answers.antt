@@ -64,7 +64,7 @@ returns-then-not-free-clause-step g c =
       c.index_mut-group.result.now,
       c.span_at.result.now,
       subst (λ (s : ShardState). IsHere s.groups c.args.key.now.span c.in-Some.index c.in-Some.place c.index_mut-group.result.now c.span_at.result.now) c.self.view_is here,
-      (λ holds. true≢false (sym (((c.if-not-free.ensures {u = tt}).found c.span_at.result.now c.span_at.ensures).1 (sym here.id_is, holds)))),
+      (λ holds. true≢false (sym (((c.if-not-free.ensures {u = tt}).found c.span_at.result.now c.span_at.ensures).1 holds))),
       c.changes-at.ensures,
       ap (λ (groups : List GroupState). record (state_of c.self.inside) { groups = groups }) (groups_same g c) ∙ c.self.view_is,
     )
@@ -84,7 +84,7 @@ freed_now g c = (c.if-not-free.ensures {u = tt}).freed c.span_at.result.now c.sp
 
 -- the key was live
 held : (g : _) (c : goal.After-insert g) → Holds c.span_at.result.now.log c.args.key.now.slot c.args.key.now.generation
-held g c = (((c.if-not-free.ensures {u = tt}).found c.span_at.result.now c.span_at.ensures).0 refl).1
+held g c = ((c.if-not-free.ensures {u = tt}).found c.span_at.result.now c.span_at.ensures).0 refl
 
 pub invariant_of-self-2 : goal.invariant_of-self-2
 invariant_of-self-2 g c =

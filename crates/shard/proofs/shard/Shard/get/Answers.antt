@@ -18,8 +18,8 @@ value_at-requires g c =
     let found = found_in c.args.self.now.groups c.self.inside.groups.items c.args.key.now.span c.in-Some.index c.in-Some.place (ap (λ (s : ShardState). s.groups) (sym c.self.view_is)) c.in-Some.ensures.place in
     rw c.page.ensures (c.self.invariant.sound.groups c.in-Some.index c.index-group.result.now (read_is _ _ _ _ found.0 found.1 found.2 c.index-group.result.now c.index-group.ensures)).has_page
 
-pub returns-then-find-clause-found : goal.returns-then-find-clause-found
-returns-then-find-clause-found g c =
+pub returns-then-holds-clause-found : goal.returns-then-holds-clause-found
+returns-then-holds-clause-found g c =
     let found = found_in c.args.self.now.groups c.self.inside.groups.items c.args.key.now.span c.in-Some.index c.in-Some.place (ap (λ (s : ShardState). s.groups) (sym c.self.view_is)) c.in-Some.ensures.place in
     let here = here_read _ _ _ _ found.0 found.1 found.2 c.index-group.result.now c.index-group.ensures c.span_at-span.result.now c.span_at-span.ensures in (
       c.in-Some.index,
@@ -27,16 +27,16 @@ returns-then-find-clause-found g c =
       c.index-group.result.now,
       c.span_at-span.result.now,
       subst (λ (s : ShardState). IsHere s.groups c.args.key.now.span c.in-Some.index c.in-Some.place c.index-group.result.now c.span_at-span.result.now) c.self.view_is here,
-      (c.if-find.ensures.0 refl).1,
+      c.if-holds.ensures.0 refl,
       c.value_at.ensures ∙ rw (c.page.ensures) (ap (λ (s : ShardState). word_at s.table c.index-group.result.now.page c.args.key.now.slot) c.self.view_is),
       c.changes-at.ensures,
     )
 
-pub returns-then-find-clause-plain : goal.returns-then-find-clause-plain
-returns-then-find-clause-plain g c = value_found-Gets c.args.self.now c.find.ensures.sound c.args.key.now (Value c.value_at.result c.changes-at.result) (returns-then-find-clause-found g c)
+pub returns-then-holds-clause-plain : goal.returns-then-holds-clause-plain
+returns-then-holds-clause-plain g c = value_found-Gets c.args.self.now c.find.ensures.sound c.args.key.now (Value c.value_at.result c.changes-at.result) (returns-then-holds-clause-found g c)
 
-pub returns-else-find-clause-found : goal.returns-else-find-clause-found
-returns-else-find-clause-found g c =
+pub returns-else-holds-clause-found : goal.returns-else-holds-clause-found
+returns-else-holds-clause-found g c =
     let found = found_in c.args.self.now.groups c.self.inside.groups.items c.args.key.now.span c.in-Some.index c.in-Some.place (ap (λ (s : ShardState). s.groups) (sym c.self.view_is)) c.in-Some.ensures.place in
     let here = here_read _ _ _ _ found.0 found.1 found.2 c.index-group.result.now c.index-group.ensures c.span_at-span.result.now c.span_at-span.ensures in (
       c.in-Some.index,
@@ -44,9 +44,9 @@ returns-else-find-clause-found g c =
       c.index-group.result.now,
       c.span_at-span.result.now,
       subst (λ (s : ShardState). IsHere s.groups c.args.key.now.span c.in-Some.index c.in-Some.place c.index-group.result.now c.span_at-span.result.now) c.self.view_is here,
-      (λ holds. true≢false (sym (c.if-find.ensures.1 (sym here.id_is, holds)))),
+      (λ holds. true≢false (sym (c.if-holds.ensures.1 holds))),
       c.changes-at.ensures,
     )
 
-pub returns-else-find-clause-plain : goal.returns-else-find-clause-plain
-returns-else-find-clause-plain g c = value_found-Gets c.args.self.now c.find.ensures.sound c.args.key.now (Gone c.changes-at.result) (returns-else-find-clause-found g c)
+pub returns-else-holds-clause-plain : goal.returns-else-holds-clause-plain
+returns-else-holds-clause-plain g c = value_found-Gets c.args.self.now c.find.ensures.sound c.args.key.now (Gone c.changes-at.result) (returns-else-holds-clause-found g c)

@@ -1,8 +1,13 @@
 use Rattle.std.proofs.Common.{◌≡◌, true, false, ◌∙◌, sym, subst, eqb-true, eq-eqb}
 use Rattle.span.specs.Log.{Holds}
 use Rattle.span.specs.State.{SpanState}
-use Rattle.span.proofs.Keeping.{Holds-kept, kept-Holds}
+use Rattle.span.proofs.Keeping.{Holds-kept, kept-Holds, live-within}
 use Rattle.span.proofs.span.Span.holds.Goals as goal
+
+pub generation_of-requires : goal.generation_of-requires
+generation_of-requires g c =
+    let inside = c.self.inside in
+    rw c.deref.ensures.value (live-within inside.gens (g.L.Log.changes inside.log) inside.live inside.worn inside.generations.items c.self.invariant.follows c.args.slot c.ranges.slot.fits (sym c.contains.ensures ∙ c.if-contains.true))
 
 pub returns-then-contains : goal.returns-then-contains
 returns-then-contains g c =

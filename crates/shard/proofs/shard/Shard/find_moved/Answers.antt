@@ -1,0 +1,19 @@
+use Rattle.std.proofs.Common.{subst, sym}
+use Rattle.shard.specs.Moves.{HasNoHead}
+use Rattle.shard.specs.State.{ShardState, IsElsewhere}
+use Rattle.shard.proofs.HeadsHere.{IsHeadAt}
+use Rattle.shard.proofs.Here.{Somewhere}
+use Rattle.shard.proofs.KnownGuests.{IsElsewhere-guest, Somewhere-guest}
+use Rattle.shard.proofs.shard.Shard.find_moved.Goals as goal
+
+pub returns-in_default : goal.returns-in_default
+returns-in_default g c =
+    subst (λ (s : ShardState). IsElsewhere s.groups c.args.id) c.self.view_is
+    (IsElsewhere-guest c.self.inside.groups.items c.self.inside.directory.entries c.self.invariant.guests_known c.args.id c.place_of.result c.place_of.ensures c.unwrap_or-at.result c.unwrap_or-at.ensures
+    (subst (λ (s : ShardState). HasNoHead s.groups c.unwrap_or-at.result.head) (sym c.self.view_is) (c.in_default.ensures {u = tt}).head))
+
+pub returns : goal.returns
+returns g c =
+    subst (λ (s : ShardState). Somewhere s.groups c.args.id c.in-Some.index c.unwrap_or-at.result.place) c.self.view_is
+    (Somewhere-guest c.self.inside.groups.items c.self.inside.directory.entries c.self.invariant.guests_known c.args.id c.place_of.result c.place_of.ensures c.unwrap_or-at.result c.unwrap_or-at.ensures c.self.invariant.sound.ascending c.in-Some.index
+    (subst (λ (s : ShardState). IsHeadAt s.groups c.unwrap_or-at.result.head c.in-Some.index) (sym c.self.view_is) c.in-Some.ensures.head))
