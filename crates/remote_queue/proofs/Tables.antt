@@ -1,0 +1,132 @@
+-- Tables by rows and by columns.
+use Rattle.std.proofs.Common.{All, ◌≡◌, ℕ, zero, suc, ◌+◌, ◌<◌, ◌≤◌, List, [], ◌∷◌, ◌++◌, length, map, slice_index_or, slice_set, Some, None, ap, sym, ◌∙◌, refl, arith, length-append, inl, inr, subst}
+use Rattle.std.specs.List.{slice_get}
+use Rattle.std.proofs.lemmas.List.{get_or_append_left, get_or_past, get_or-map, map-set, map-append}
+use Rattle.std.proofs.lemmas.Bool.{cases_order}
+use Rattle.std.proofs.Math.Seq.{get_or-append_seam}
+use Rattle.remote_queue.specs.Rings.{cell, with_row, AreLong}
+
+module _ {T : Type 0} where
+  pub with_no_row : (cs : List (List T)) → with_row cs [] ≡ cs
+  with_no_row [] = refl
+  with_no_row (c ∷ cs) = refl
+
+  -- the next column goes on by the row's next entry
+  pub with_next : (cs : List (List T)) (row : List T) (r : T) → length row < length cs
+      → slice_set (with_row cs row) (length row) (slice_index_or (with_row cs row) (length row) [] ++ r ∷ []) ≡ with_row cs (row ++ r ∷ [])
+  with_next [] row r short = absurd (omega arith)
+  with_next (c ∷ cs) [] r short = ap (λ t. (c ++ r ∷ []) ∷ t) (sym (with_no_row cs))
+  with_next (c ∷ cs) (q ∷ row) r short = ap (λ t. (c ++ q ∷ []) ∷ t) (with_next cs row r (omega arith))
+
+  pub length-with_row : (cs : List (List T)) (row : List T) → length (with_row cs row) ≡ length cs
+  length-with_row [] row = refl
+  length-with_row (c ∷ cs) [] = refl
+  length-with_row (c ∷ cs) (r ∷ row) = ap suc (length-with_row cs row)
+
+  -- within a list that goes on, its own entries
+  get_front : (xs ys : List T) (i : ℕ) → i < length xs → slice_get (xs ++ ys) i ≡ slice_get xs i
+  get_front [] ys i below = absurd (omega arith)
+  get_front (x ∷ xs) ys zero below = refl
+  get_front (x ∷ xs) ys (suc i) below = get_front xs ys i (omega arith)
+
+  get_last : (xs : List T) (x : T) → slice_get (xs ++ x ∷ []) (length xs) ≡ Some x
+  get_last [] x = refl
+  get_last (y ∷ xs) x = get_last xs x
+
+  get_past : (xs : List T) (i : ℕ) → length xs ≤ i → slice_get xs i ≡ None
+  get_past [] i past = refl
+  get_past (x ∷ xs) zero past = absurd (omega arith)
+  get_past (x ∷ xs) (suc i) past = get_past xs i (omega arith)
+
+  -- in the columns that go on by a row, an earlier place is as it was
+  pub earlier : (cs : List (List T)) (row : List T) (n s w : ℕ) → length row ≡ length cs → AreLong n cs → w < n → cell (with_row cs row) s w ≡ cell cs s w
+  earlier [] row n s w same all below = refl
+  earlier (c ∷ cs) [] n s w same all below = refl
+  earlier (c ∷ cs) (r ∷ row) n zero w same all below = get_front c (r ∷ []) w (omega (arith, all.0))
+  earlier (c ∷ cs) (r ∷ row) n (suc s) w same all below = earlier cs row n s w (omega arith) all.1 below
+
+  -- the new place has the row's entry
+  pub newest : (cs : List (List T)) (row : List T) (n s : ℕ) → length row ≡ length cs → AreLong n cs → cell (with_row cs row) s n ≡ slice_get row s
+  newest [] [] n s same all = refl
+  newest [] (r ∷ row) n s same all = absurd (omega arith)
+  newest (c ∷ cs) [] n s same all = absurd (omega arith)
+  newest (c ∷ cs) (r ∷ row) n zero same all = ap (slice_get (c ++ r ∷ [])) (sym all.0) ∙ get_last c r
+  newest (c ∷ cs) (r ∷ row) n (suc s) same all = newest cs row n s (omega arith) all.1
+
+  -- past the new place there is nothing
+  pub beyond : (cs : List (List T)) (row : List T) (n s w : ℕ) → length row ≡ length cs → AreLong n cs → n < w → cell (with_row cs row) s w ≡ None
+  beyond [] row n s w same all past = refl
+  beyond (c ∷ cs) [] n s w same all past = absurd (omega arith)
+  beyond (c ∷ cs) (r ∷ row) n zero w same all past = get_past (c ++ r ∷ []) w (omega (arith, all.0, length-append c (r ∷ [])))
+  beyond (c ∷ cs) (r ∷ row) n (suc s) w same all past = beyond cs row n s w (omega arith) all.1 past
+
+  -- the columns all have one more place
+  pub longer : (cs : List (List T)) (row : List T) (n : ℕ) → length row ≡ length cs → AreLong n cs → AreLong (n + 1) (with_row cs row)
+  longer [] row n same all = tt
+  longer (c ∷ cs) [] n same all = absurd (omega arith)
+  longer (c ∷ cs) (r ∷ row) n same all = (omega (arith, all.0, length-append c (r ∷ [])), longer cs row n (omega arith) all.1)
+
+  -- a table with one more row is still the other's transpose
+  pub one_more : (rows cs : List (List T)) (row : List T) → length row ≡ length cs → AreLong (length rows) cs
+      → ((w s : ℕ) → cell rows w s ≡ cell cs s w) → (w s : ℕ) → cell (rows ++ row ∷ []) w s ≡ cell (with_row cs row) s w
+  one_more rows cs row same all before w s =
+      elim (cases_order w (length rows)) [
+        | inl at ↦
+            ap (λ k. cell (rows ++ row ∷ []) k s) at ∙ ap (λ r. slice_get r s) (get_or-append_seam rows row [] []) ∙ sym (newest cs row (length rows) s same all)
+            ∙ ap (cell (with_row cs row) s) (sym at)
+        | inr (inl below) ↦ ap (λ r. slice_get r s) (get_or_append_left rows (row ∷ []) [] w below) ∙ before w s ∙ sym (earlier cs row (length rows) s w same all below)
+        | inr (inr past) ↦
+            let out : length (rows ++ row ∷ []) ≤ w = omega (arith, length-append rows (row ∷ [])) in
+            ap (λ r. slice_get r s) (get_or_past (rows ++ row ∷ []) w [] out) ∙ sym (beyond cs row (length rows) s w same all past)
+      ]
+
+  -- one more row of the same length
+  pub long_more : (n : ℕ) (cs : List (List T)) (c : List T) → AreLong n cs → length c ≡ n → AreLong n (cs ++ c ∷ [])
+  long_more n [] c all here = (here, tt)
+  long_more n (d ∷ cs) c all here = (all.0, long_more n cs c all.1 here)
+
+  -- a table with no place has no entry
+  pub nothing_in : (cs : List (List T)) (s w : ℕ) → AreLong 0 cs → cell cs s w ≡ None
+  nothing_in [] s w all = refl
+  nothing_in (c ∷ cs) zero w all = get_past c w (omega (arith, all.0))
+  nothing_in (c ∷ cs) (suc s) w all = nothing_in cs s w all.1
+
+-- of a list that goes on by one, what f makes of each
+pub mapped_more : {A B : Type 0} (f : A → B) (after before : List A) (x : A) → after ≡ before ++ x ∷ [] → map f after ≡ map f before ++ f x ∷ []
+mapped_more f after before x is = ap (map f) is ∙ map-append f before (x ∷ [])
+
+-- a list within a list goes on by one
+pub mapped_within : {V A B : Type 0} (items : V → List A) (f : A → B) (vs : List V) (i : ℕ) (v d : V) (x : A) → i < length vs → items v ≡ items (slice_index_or vs i d) ++ x ∷ []
+    → map (λ v. map f (items v)) (slice_set vs i v) ≡ slice_set (map (λ v. map f (items v)) vs) i (slice_index_or (map (λ v. map f (items v)) vs) i [] ++ f x ∷ [])
+mapped_within items f vs i v d x below is =
+    map-set (λ v. map f (items v)) vs i v
+    ∙ ap (slice_set (map (λ v. map f (items v)) vs) i) (mapped_more f (items v) (items (slice_index_or vs i d)) x is ∙ ap (λ l. l ++ f x ∷ []) (sym (get_or-map (λ v. map f (items v)) vs i d [] below)))
+
+module _ {T : Type 0} where
+  pub row_step : (x after old : List (List T)) (row more : List T) (s : ℕ) (r q : T) → old ≡ with_row x row → length row ≡ s → s < length x → q ≡ r
+      → after ≡ slice_set old s (slice_index_or old s [] ++ r ∷ []) → more ≡ row ++ q ∷ [] → after ≡ with_row x more
+  row_step x after old row more s r q was long below same now goes =
+      let P : ℕ → List (List T) → Type 0 = λ k t. after ≡ slice_set t k (slice_index_or t k [] ++ r ∷ []) in
+      let at : after ≡ slice_set (with_row x row) (length row) (slice_index_or (with_row x row) (length row) [] ++ r ∷ []) =
+      subst (λ k. P k (with_row x row)) (sym long) (subst (λ t. P s t) was now)
+      in
+      at ∙ with_next x row r (omega arith) ∙ ap (λ e. with_row x (row ++ e ∷ [])) (sym same) ∙ ap (with_row x) (sym goes)
+
+  pub none_linked : (rows cols : List (List T)) → rows ≡ [] → AreLong 0 cols → (w s : ℕ) → cell rows w s ≡ cell cols s w
+  none_linked rows cols none all w s = ap (λ t. cell t w s) none ∙ sym (nothing_in cols s w all)
+
+  pub link_step : (rows rows' cols cols' : List (List T)) (row : List T) (n : ℕ) → rows' ≡ rows ++ row ∷ [] → cols' ≡ with_row cols row → length row ≡ length cols → length rows ≡ n
+      → AreLong n cols → ((w s : ℕ) → cell rows w s ≡ cell cols s w) → AreLong (n + 1) cols' × ((w s : ℕ) → cell rows' w s ≡ cell cols' s w)
+  link_step rows rows' cols cols' row n more goes same count all before =
+      let long = subst (λ k. AreLong k cols) (sym count) all in (
+        subst (AreLong (n + 1)) (sym goes) (longer cols row n same all),
+        λ w s. ap (λ t. cell t w s) more ∙ one_more rows cols row same long before w s ∙ ap (λ t. cell t s w) (sym goes),
+      )
+
+-- where each row of a table has n entries, what is as long as its row has n
+pub all_long : {V T : Type 0} (row : V → List T) (long : V → ℕ) (vs : List V) (n : ℕ) → ((v : V) → length (row v) ≡ long v) → AreLong n (map row vs) → All (λ v. long v ≡ n) vs
+all_long row long [] n same all = λ k d h. absurd (omega arith)
+all_long row long (v ∷ vs) n same all = λ k d h. elim k as (λ k. k < length (v ∷ vs) → long (slice_index_or (v ∷ vs) k d) ≡ n) [
+  | zero ↦ λ h. sym (same v) ∙ all.0
+  | suc k ↦ λ h. all_long row long vs n same all.1 k d (omega arith)
+] h

@@ -1,0 +1,24 @@
+-- What contracts see of the ends of a ring of `rtrb`.
+use Rattle.rtrb.specs.Ring.{sent, received, known_free, known_items}
+use Rattle.std.specs.declared.alloc.Global.{Global}
+use Rattle.rtrb.specs.declared.producer.Producer.{Producer}
+use Rattle.rtrb.specs.declared.consumer.Consumer.{Consumer}
+use Rattle.span.specs.declared.key.Key.{Key}
+use Rattle.remote_queue.specs.declared.ends.KeysInRange.{KeysInRange}
+use Rattle.remote_queue.specs.Rings.{Sending, Taking}
+
+-- the sender's end of a ring
+abbrev pub sending : Producer Key Global KeysInRange → Sending
+sending producer = record {
+  ring = record { words = producer.end.words; slots = producer.end.slots; names = producer.end.names; heap = producer.end.heap };
+  sent = sent producer;
+  free = known_free producer;
+}
+
+-- the taker's end of a ring
+abbrev pub taking : Consumer Key Global KeysInRange → Taking
+taking consumer = record {
+  ring = record { words = consumer.end.words; slots = consumer.end.slots; names = consumer.end.names; heap = consumer.end.heap };
+  taken = received consumer;
+  known = known_items consumer;
+}

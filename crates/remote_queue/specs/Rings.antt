@@ -1,0 +1,70 @@
+-- What contracts see of the two ends of a ring, and of the rings from all workers to all shards.
+use Rattle.std.specs.Prelude.{◌≡◌, ◌<◌, ◌≤◌, ℕ, All, List, [], ◌∷◌, ◌++◌, Option, Vec, length, map, slice_get, slice_index_or}
+use denote.RawPtr.{Ptr}
+use Rattle.rtrb.specs.Shared.{Names}
+use Rattle.std.specs.declared.alloc.Global.{Global}
+use Rattle.span.specs.declared.key.Key.{Key}
+
+-- which ring it is
+pub record Ring : Type 0 where
+  pub words : Ptr
+  pub slots : Ptr
+  pub names : Names
+  pub heap : Global
+
+-- a sender's end: its ring, every key that was sent, oldest first, and how many places are known to be free
+pub record Sending : Type 0 where
+  pub ring : Ring
+  pub sent : List Key
+  pub free : ℕ
+
+-- a taker's end: its ring, every key that was taken, oldest first, and the keys that the next takes are known to give
+pub record Taking : Type 0 where
+  pub ring : Ring
+  pub taken : List Key
+  pub known : List Key
+
+-- every number of the key lies within its limits
+abbrev pub IsInRange : Key → Type 0
+IsInRange key = (key.span.shard < 64) × (key.span.serial < 1024) × (1 ≤ key.generation)
+
+-- numbers of workers, of shards and of keys in a ring that there may be
+pub record AreWithinLimits (workers shards capacity : ℕ) : Type 0 where
+  pub workers_in_range : (1 ≤ workers) × (workers ≤ 64)
+  pub shards_in_range : (1 ≤ shards) × (shards ≤ 64)
+  pub capacity_in_range : (1 ≤ capacity) × (capacity ≤ 1024)
+
+-- the rings of senders' ends, by row
+abbrev pub outbox_rings : List (Vec Sending Global) → List (List Ring)
+outbox_rings rows = map (λ row. map (λ outbox. outbox.ring) row.items) rows
+
+-- the rings of takers' ends, by column
+abbrev pub inbox_rings : List (Vec Taking Global) → List (List Ring)
+inbox_rings columns = map (λ column. map (λ inbox. inbox.ring) column.items) columns
+
+-- the entry of a table at a row and a place
+abbrev pub cell : {T : Type 0} → List (List T) → ℕ → ℕ → Option T
+cell rows i j = slice_get (slice_index_or rows i []) j
+
+-- the rows of one table are the columns of the other
+abbrev pub AreTransposed : List (List Ring) → List (List Ring) → Type 0
+AreTransposed rows columns = (worker shard : ℕ) → cell rows worker shard ≡ cell columns shard worker
+
+-- columns that each go on by the row's entry, as far as the row goes
+abbrev pub with_row : {T : Type 0} → List (List T) → List T → List (List T)
+with_row [] row = []
+with_row (column ∷ columns) [] = column ∷ columns
+with_row (column ∷ columns) (entry ∷ row) = (column ++ entry ∷ []) ∷ with_row columns row
+
+-- each row has n entries
+abbrev pub AreLong : {T : Type 0} → ℕ → List (List T) → Type 0
+AreLong n [] = Unit {0}
+AreLong n (row ∷ rows) = (length row ≡ n) × AreLong n rows
+
+-- senders' ends by which nothing was sent, with all places of their rings free
+abbrev pub AreFreshOutboxes : ℕ → List Sending → Type 0
+AreFreshOutboxes capacity = All (λ outbox. (outbox.sent ≡ []) × (outbox.free ≡ capacity))
+
+-- takers' ends by which nothing was taken
+abbrev pub AreFreshInboxes : List Taking → Type 0
+AreFreshInboxes = All (λ inbox. inbox.taken ≡ [])

@@ -1,0 +1,27 @@
+//! Deferred frees: a wait-free ring from each worker to each shard.
+//!
+//! A worker sends keys to a shard by its [`Outbox`], and the shard's thread takes them by its [`Inbox`]. Neither end
+//! waits, and neither takes memory: [`link`] makes each ring (of `rtrb`) with room for all the keys that it holds.
+//!
+//! ```text
+//!                    to shard 0    to shard 1
+//!      worker 0       ring           ring        ──► a row: the outboxes of worker 0
+//!      worker 1       ring           ring
+//!                      │
+//!                      ▼ a column: the inboxes of shard 0
+//! ```
+//!
+//! While the ends are in different hands, each knows its own side: what was sent, or what was taken. Once both are in one
+//! hand, [`finish`] says how many keys are left: so many takes then answer, and the keys taken are the keys sent, in order.
+//! (That frees by other threads are kept apart from the owner's and collected later is an idea of mimalloc.)
+#![tactic(auto)]
+
+mod ends;
+mod error;
+mod rings;
+#[cfg(test)]
+mod tests;
+
+pub use ends::{Inbox, KeysInRange, Outbox, finish};
+pub use error::LinkError;
+pub use rings::{Links, link};
