@@ -1,0 +1,4 @@
+mod Frees
+mod Made
+mod Sending
+mod TendedRings

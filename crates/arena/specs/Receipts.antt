@@ -1,5 +1,5 @@
 -- The receipts of single calls on a shard, on the pool, or on a span that was never opened.
-use Rattle.std.specs.Prelude.{◌≡◌, ℕ, Bool, true, false, Option, Some, None}
+use Rattle.std.specs.Prelude.{◌≡◌, ℕ, ◌++◌, All, Bool, true, false, List, Option, Some, None, flat_map, map}
 use Rattle.span.specs.Log.{Value as Word}
 use Rattle.span.specs.declared.key.Key.{Key}
 use Rattle.span.specs.declared.receipt.Call.{Call}
@@ -77,3 +77,14 @@ IsGetBy worker section key receipt = receipt ≡ get_receipt worker section key 
 -- the receipt is of a free of the key by the worker in the section
 abbrev pub IsFreeBy : ℕ → ℕ → Key → Receipt → Type 0
 IsFreeBy worker section key receipt = receipt ≡ free_receipt worker section key (done_by receipt.call) receipt.at
+
+-- to the receipts before, exactly one was added for each of the keys, in their order: that of a free of the key by the worker in the section
+pub record AddsFrees (worker section : ℕ) (keys : List Key) (before after : List Receipt) : Type 0 where
+  pub added : List Receipt
+  pub appended : after ≡ before ++ added
+  pub of_keys : map (λ receipt. receipt.key) added ≡ keys
+  pub are_frees : All (λ receipt. IsFreeBy worker section receipt.key receipt) added
+
+-- the keys of ring after ring
+abbrev pub joined : List (List Key) → List Key
+joined rings = flat_map (λ keys. keys) rings

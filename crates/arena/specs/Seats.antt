@@ -1,13 +1,78 @@
--- What contracts see of a seat.
-use Rattle.std.specs.Prelude.{ℕ}
+-- What contracts see of a seat, and of seats whose ends of rings belong together.
+use Rattle.std.specs.Prelude.{◌≡◌, ℕ, ◌<◌, All, List, [], length, map, slice_index_or}
+use Rattle.span.specs.declared.key.Key.{Key}
 use Rattle.arena_core.specs.State.{Limits}
+use Rattle.remote_queue.specs.Rings.{Ring, Sending, Taking, cell}
 
--- the worker's number, the section of the run that it is in, and the numbers of its arena
+-- the worker's number, the section of the run that it is in, the numbers of its arena, and its ends of rings: to each shard, and from each worker into its own shard
 pub record SeatState : Type 0 where
   pub worker : ℕ
   pub section : ℕ
   pub limits : Limits
+  pub outboxes : List Sending
+  pub inboxes : List Taking
 
--- a worker's seat in the first section
-abbrev pub first_seat : Limits → ℕ → SeatState
-first_seat limits worker = record { worker = worker; section = 0; limits = limits }
+-- who sits there, and in which section
+pub record Standing : Type 0 where
+  pub worker : ℕ
+  pub section : ℕ
+  pub limits : Limits
+
+abbrev pub standing : SeatState → Standing
+standing seat = record { worker = seat.worker; section = seat.section; limits = seat.limits }
+
+-- a worker in the first section
+abbrev pub first_standing : Limits → ℕ → Standing
+first_standing limits worker = record { worker = worker; section = 0; limits = limits }
+
+-- the rings that it sends by
+abbrev pub out_rings : SeatState → List Ring
+out_rings seat = map (λ outbox. outbox.ring) seat.outboxes
+
+-- the rings that it takes from
+abbrev pub in_rings : SeatState → List Ring
+in_rings seat = map (λ inbox. inbox.ring) seat.inboxes
+
+-- the keys sent by each end
+abbrev pub sent_lists : SeatState → List (List Key)
+sent_lists seat = map (λ outbox. outbox.sent) seat.outboxes
+
+-- the keys taken by each end
+abbrev pub taken_lists : List Taking → List (List Key)
+taken_lists inboxes = map (λ inbox. inbox.taken) inboxes
+
+-- the keys that the next takes are known to give, of each end
+abbrev pub known_lists : List Taking → List (List Key)
+known_lists inboxes = map (λ inbox. inbox.known) inboxes
+
+-- what a worker sent to a shard
+abbrev pub sent_on : List SeatState → ℕ → ℕ → List Key
+sent_on seats worker shard = slice_index_or (slice_index_or (map sent_lists seats) worker []) shard []
+
+-- what a shard's thread took of what a worker sent
+abbrev pub taken_on : List SeatState → ℕ → ℕ → List Key
+taken_on seats shard worker = slice_index_or (slice_index_or (map (λ seat. taken_lists seat.inboxes) seats) shard []) worker []
+
+-- the same worker, numbers and rings
+pub record KeepsEnds (old new : SeatState) : Type 0 where
+  pub worker_is : new.worker ≡ old.worker
+  pub limits_are : new.limits ≡ old.limits
+  pub outboxes_are : out_rings new ≡ out_rings old
+  pub inboxes_are : in_rings new ≡ in_rings old
+
+-- what a seat sends by: its worker, section, numbers and rings, and the keys sent by each
+pub record SendingSide : Type 0 where
+  pub worker : ℕ
+  pub section : ℕ
+  pub limits : Limits
+  pub rings : List Ring
+  pub sent : List (List Key)
+
+abbrev pub sending_side : SeatState → SendingSide
+sending_side seat = record { worker = seat.worker; section = seat.section; limits = seat.limits; rings = out_rings seat; sent = sent_lists seat }
+
+-- one seat a worker, in order, each with an end to each shard and from each worker; a worker's end to a shard and that shard's end from the worker are of one ring
+pub record AreLinked (seats : List SeatState) : Type 0 where
+  pub in_order : (worker : ℕ) (d : SeatState) → worker < length seats → (slice_index_or seats worker d).worker ≡ worker
+  pub wide : All (λ seat. (length seat.outboxes ≡ length seats) × (length seat.inboxes ≡ length seats)) seats
+  pub linked : (worker shard : ℕ) → cell (map out_rings seats) worker shard ≡ cell (map in_rings seats) shard worker

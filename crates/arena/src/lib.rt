@@ -15,6 +15,9 @@
 //!                       mark, close, totals            all of them
 //! ```
 //!
+//! A worker may leave a key to the thread of the shard that opened its span (`Seat::free_later`): it goes on a ring from
+//! that worker to that shard, without a lock or memory, and is freed when the shard's thread tends its rings (`Seat::tend`).
+//!
 //! What is done under a lock is done by one call of a shard, of the pool, `fold_one` or `mark_in` on
 //! what the lock lends ([`sections`]), so the contracts of those calls hold of it, and each look-up,
 //! put and free makes its receipt there. A word is only a hint of where a span is: an answer stands
@@ -33,6 +36,7 @@
 mod arena;
 mod ending;
 mod error;
+mod freeing;
 mod gate;
 mod limits;
 mod locks;
@@ -40,6 +44,7 @@ mod opening;
 mod seat;
 pub mod sections;
 mod steward;
+mod tending;
 #[cfg(test)]
 mod tests;
 mod words;

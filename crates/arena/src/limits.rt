@@ -64,7 +64,7 @@ impl Limits {
         self.page_limit
     }
 
-    /// How many keys a ring of deferred frees holds: 1 to 1,024. It is kept, and not used yet.
+    /// How many keys a ring of deferred frees holds: 1 to 1,024.
     pub fn ring_capacity(&self) -> usize
         ensures ring_capacity { result ≡ self.now.ring_capacity }
         ensures within { AreWithin self.now }

@@ -1,27 +1,38 @@
 // A worker's place at the arena.
-ghost use Rattle.std.specs.Prelude.{◌≡◌, ◌+◌, ◌-◌, ◌<◌, ◌^◌, ◌↔◌, IfOk, IfSome, IsTrue};
-ghost use Rattle.arena.specs.Receipts.{IsFreeBy, IsGetBy, done_by, found_by, free_receipt, get_receipt, put_receipt};
+ghost use Rattle.std.specs.Prelude.{◌≡◌, ◌+◌, ◌-◌, ◌<◌, ◌≤◌, ◌^◌, ◌↔◌, ◌∷◌, ◌++◌, [], IfOk, IfSome, IsOk, IsTrue, MatchResult, OnErr, map, slice_index_or, slice_set, vec_len};
+ghost use Rattle.arena.specs.Receipts.{IsGetBy, done_by, found_by, free_receipt, get_receipt, put_receipt};
+ghost use Rattle.arena.specs.Seats.{KeepsEnds, sending_side, sent_lists};
+ghost use Rattle.arena.specs.Tended.{IsTended};
 
 use crate::arena::Arena;
 use crate::gate::Gate;
 use crate::limits::Limits;
-use crate::sections::{free_in, free_pool, get_in, get_pool, put_in, unopened_free, unopened_get};
+use crate::sections::{get_in, get_pool, put_in, unopened_get};
+use crate::tending::tend_rings;
 use crate::words::Place;
 use abandoned::{AdoptError, ReceiveError};
+use remote_queue::{Inbox, Outbox};
 use shard::PutError;
 use span::{Call, Key, Log, Receipt, SpanId};
+use std::alloc::AllocError;
 use std::marker::Model;
 use std::sync::Wait;
 
 /// A worker's place: it puts into the shard of its number, and its receipts carry that number and the section of the run that
-/// it is in.
+/// it is in. It has an end of the worker's ring to each shard, and of each worker's ring to its own shard.
 #[derive(Drop)]
 pub struct Seat {
     worker: u32,
     section: u64,
     limits: Limits,
+    // By shard.
+    outboxes: Vec<Outbox>,
+    // By worker.
+    inboxes: Vec<Inbox>,
     ghost worker_has_shard: { worker < limits.shards },
     ghost worker_in_range: { worker < 64 },
+    ghost outbox_each: { vec_len outboxes ≡ limits.shards },
+    ghost inboxes_few: { vec_len inboxes ≤ 64 },
 }
 
 impl Model for Seat {
@@ -30,20 +41,29 @@ impl Model for Seat {
 
     ghost Value = { SeatState };
 
-    ghost view = { λ seat. record { worker = seat.worker; section = seat.section; limits = seat.limits } };
+    ghost view = { λ seat. record { worker = seat.worker; section = seat.section; limits = seat.limits; outboxes = seat.outboxes.items; inboxes = seat.inboxes.items } };
 }
 
 impl Seat {
-    // A worker's seat at an arena of these numbers, in section 0.
-    pub(crate) fn new(worker: u32, limits: Limits) -> Seat
+    // A worker's seat at an arena of these numbers, in section 0, with its ends of the rings.
+    pub(crate) fn new(
+        worker: u32,
+        limits: Limits,
+        outboxes: Vec<Outbox>,
+        inboxes: Vec<Inbox>,
+    ) -> Seat
         requires has_shard { worker < limits.shards }
         requires in_range { worker < 64 }
-        ensures { result ≡ record { worker = worker; section = 0; limits = limits } }
+        requires outbox_each { vec_len outboxes ≡ limits.shards }
+        requires inboxes_few { vec_len inboxes ≤ 64 }
+        ensures { result ≡ record { worker = worker; section = 0; limits = limits; outboxes = outboxes.items; inboxes = inboxes.items } }
     {
         Seat {
             worker,
             section: 0,
             limits,
+            outboxes,
+            inboxes,
         }
     }
 
@@ -142,19 +162,64 @@ impl Seat {
         ensures receipt { result.1 ≡ free_receipt self.old.worker self.old.section key.now result.0 result.1.at }
         ensures seat { self.new ≡ self.old }
     {
-        for _ in rt.forever() {
-            match arena.words.place_of(key.span) {
-                Place::Unopened => {
-                    return (false, unopened_free(self.worker, self.section, key));
-                }
-                place => {
-                    if let Some(receipt) = self.free_at(rt, arena, place, key) {
-                        return (done_in(&receipt), receipt);
-                    }
-                }
-            }
-        }
-        unreachable!()
+        let receipt = arena.free_wherever(rt, self.worker, self.section, key);
+        (done_in(&receipt), receipt)
+    }
+
+    /// Whether the shard that opened the key's span is one of the arena's, as [`Seat::free_later`] asks.
+    pub fn has_shard_of(&self, key: &Key) -> bool
+        ensures { IsTrue result ↔ (key.now.span.shard < self.now.limits.shards) }
+    {
+        key.span.shard < self.limits.shards()
+    }
+
+    /// Leaves the key to the thread of the shard that opened its span, which frees it when it next tends its rings, or when
+    /// the arena ends, wherever the span then is. It takes no lock and no memory, waits for nobody, and succeeds where a place
+    /// of the ring is known to be free.
+    ///
+    /// # Errors
+    ///
+    /// The key, handed back, where the ring took none: each of its places was seen to hold a key.
+    pub fn free_later(&mut self, key: Key) -> Result<(), Key>
+        requires { key.span.shard < self.old.limits.shards }
+        ensures sent { MatchResult result
+            (λ _. sent_lists self.new ≡ slice_set (sent_lists self.old) key.span.shard (slice_index_or (sent_lists self.old) key.span.shard [] ++ key ∷ []))
+            (λ back. (back ≡ key) × (sent_lists self.new ≡ sent_lists self.old)) }
+        ensures succeeds { 0 < slice_index_or (map (λ outbox. outbox.free) self.old.outboxes) key.span.shard 0 → IsOk result }
+        ensures seat { KeepsEnds self.old self.new × (self.new.section ≡ self.old.section) × (self.new.inboxes ≡ self.old.inboxes) }
+    {
+        send_on(&mut self.outboxes, key)
+    }
+
+    /// Takes the keys that have come in for its shard, ring after ring by worker, at most a ring's capacity from each, and frees
+    /// each, as [`Seat::free`] does. Each leaves one receipt, in the order in which they were taken. It gives how many there
+    /// were.
+    ///
+    /// # Errors
+    ///
+    /// `AllocError` where room for a full ring's receipts of each ring was refused. No key was taken then.
+    pub fn tend<G: Gate, L: Log, R: Wait>(
+        &mut self,
+        rt: &R,
+        arena: &Arena<G, L>,
+        receipts: &mut Vec<Receipt>,
+    ) -> Result<usize, AllocError>
+        requires { self.old.limits ≡ arena.now.limits }
+        ensures tended { IfOk result (λ count. IsTended self.old.limits.ring_capacity self.old self.new receipts.old.items receipts.new.items count) }
+        ensures seat { KeepsEnds self.old self.new × (sending_side self.new ≡ sending_side self.old) }
+        ensures err { OnErr result ((self.new ≡ self.old) × (receipts.new.items ≡ receipts.old.items)) }
+    {
+        let most = self.limits.ring_capacity();
+        receipts.reserve(self.inboxes.len() * most)?;
+        Ok(tend_rings(
+            rt,
+            arena,
+            &mut self.inboxes,
+            most,
+            self.worker,
+            self.section,
+            receipts,
+        ))
     }
 
     /// The end of the worker's shard, under the pool's lock and the shard's: all its groups go to the pool.
@@ -230,33 +295,19 @@ impl Seat {
             }
         }
     }
+}
 
-    // Frees the key in this place, if its span is there.
-    fn free_at<G: Gate, L: Log, R: Wait>(
-        &self,
-        rt: &R,
-        arena: &Arena<G, L>,
-        place: Place,
-        key: &Key,
-    ) -> Option<Receipt>
-        ensures { IfSome result (IsFreeBy self.now.worker self.now.section key.now) }
-    {
-        match place {
-            Place::Unopened => None,
-            Place::Pool => {
-                let mut pool = arena.pool.lock(rt);
-                free_pool(&mut *pool, self.worker, self.section, key)
-            }
-            Place::Shard(number) => {
-                let Some(lock) = arena.shards.get(number as usize) else {
-                    return None;
-                };
-                let mut shard = lock.lock(rt);
-                arena.gate.inside(number);
-                free_in(&mut *shard, self.worker, self.section, key)
-            }
-        }
-    }
+// Sends the key to the shard that opened its span. The rings stay.
+fn send_on(outboxes: &mut Vec<Outbox>, key: Key) -> Result<(), Key>
+    requires { key.span.shard < vec_len outboxes.old }
+    ensures len { vec_len outboxes.new ≡ vec_len outboxes.old }
+    ensures rings { map (λ outbox. outbox.ring) outboxes.new.items ≡ map (λ outbox. outbox.ring) outboxes.old.items }
+    ensures sent { MatchResult result
+        (λ _. map (λ outbox. outbox.sent) outboxes.new.items ≡ slice_set (map (λ outbox. outbox.sent) outboxes.old.items) key.span.shard (slice_index_or (map (λ outbox. outbox.sent) outboxes.old.items) key.span.shard [] ++ key ∷ []))
+        (λ back. (back ≡ key) × (map (λ outbox. outbox.sent) outboxes.new.items ≡ map (λ outbox. outbox.sent) outboxes.old.items)) }
+    ensures succeeds { 0 < slice_index_or (map (λ outbox. outbox.free) outboxes.old.items) key.span.shard 0 → IsOk result }
+{
+    outboxes[key.span.shard as usize].send(key)
 }
 
 // What the look-up of a receipt found.

@@ -15,7 +15,7 @@ use abandoned::AdoptError;
 use arena_core::{MarkError, Totals};
 use fold::Step;
 use shard::PutError;
-use span::{Counted, Kept, Key, Log, SpanId};
+use span::{Call, Counted, Kept, Key, Log, Receipt, SpanId};
 use std::alloc::Global;
 use std::sync::Wait;
 use std::sync::atomic::AtomicU64;
@@ -284,6 +284,131 @@ fn follows_a_span(rt: HostRuntime) -> Result<(), Fail> {
     } = two;
     let followed = is_followed(&rt, &arena, &mut first, &mut second);
     assert_eq!(rt; followed, Some(true));
+    Ok(())
+}
+
+// Leaves the key to the thread of its shard, and says whether the ring took it.
+fn later(seat: &mut Seat, key: Key) -> bool
+    ensures { seat.new.limits ≡ seat.old.limits }
+{
+    seat.has_shard_of(&key) && seat.free_later(key).is_ok()
+}
+
+// How many keys were taken from the rings of the seat's shard.
+fn tend<G: Gate, L: Log, R: Wait>(
+    rt: &R,
+    arena: &Arena<G, L>,
+    seat: &mut Seat,
+    receipts: &mut Vec<Receipt>,
+) -> Option<usize>
+    requires { seat.old.limits ≡ arena.now.limits }
+    ensures { seat.new.limits ≡ seat.old.limits }
+{
+    match seat.tend(rt, arena, receipts) {
+        Ok(count) => Some(count),
+        Err(_) => seat.tend(rt, arena, receipts).ok(),
+    }
+}
+
+// How many of the receipts are those of frees by the worker that were done.
+fn done_by(receipts: &[Receipt], worker: u32) -> usize {
+    let mut done = 0usize;
+    for receipt in receipts {
+        if receipt.worker == worker && receipt.call == Call::Freed {
+            done = done.saturating_add(1);
+        }
+    }
+    done
+}
+
+// A ring for four keys takes four and hands the fifth back. What is sent is live until the shard's thread tends its rings; a
+// key that was sent three times is freed once.
+fn is_freed_once<G: Gate, L: Log, R: Wait>(
+    rt: &R,
+    arena: &Arena<G, L>,
+    first: &mut Seat,
+    second: &mut Seat,
+    receipts: &mut Vec<Receipt>,
+) -> Option<bool>
+    requires first { first.old.limits ≡ arena.now.limits }
+    requires second { second.old.limits ≡ arena.now.limits }
+    ensures first { first.new.limits ≡ first.old.limits }
+    ensures second { second.new.limits ≡ second.old.limits }
+{
+    let key = put(rt, arena, first, 5)?;
+    let other = put(rt, arena, first, 6)?;
+    let own = later(first, key);
+    let sent = later(second, key) && later(second, other) && later(second, key);
+    let last = later(second, other);
+    let full = later(second, other);
+    let live = get(rt, arena, first, &key);
+    let none = tend(rt, arena, second, receipts);
+    let taken = tend(rt, arena, first, receipts);
+    let gone = get(rt, arena, first, &key);
+    let again = tend(rt, arena, first, receipts);
+    Some(
+        own && sent
+            && last
+            && !full
+            && live == (Some(5), 2)
+            && none == Some(0)
+            && taken == Some(5)
+            && gone == (None, 4)
+            && again == Some(0)
+            && done_by(receipts, 0) == 2,
+    )
+}
+
+// A key goes to the shard that opened its span, and is freed where the span then is: in the pool, or in the shard that
+// adopted it.
+fn is_freed_where_it_is<G: Gate, L: Log, R: Wait>(
+    rt: &R,
+    arena: &Arena<G, L>,
+    first: &mut Seat,
+    second: &mut Seat,
+    receipts: &mut Vec<Receipt>,
+) -> Option<bool>
+    requires first { first.old.limits ≡ arena.now.limits }
+    requires second { second.old.limits ≡ arena.now.limits }
+{
+    let pooled = put(rt, arena, first, 7)?;
+    let adopted = put(rt, arena, first, 8)?;
+    let ended = end(rt, arena, first);
+    let sent = later(second, pooled);
+    let in_pool = tend(rt, arena, first, receipts);
+    let head = adopt(rt, arena, second);
+    let sent_again = later(second, adopted);
+    let not_there = tend(rt, arena, second, receipts);
+    let in_shard = tend(rt, arena, first, receipts);
+    let gone = get(rt, arena, second, &adopted);
+    Some(
+        ended
+            && sent
+            && in_pool == Some(1)
+            && head == Ok(pooled.span)
+            && sent_again
+            && not_there == Some(0)
+            && in_shard == Some(1)
+            && gone.0.is_none()
+            && done_by(receipts, 0) == 4,
+    )
+}
+
+#[test]
+fn frees_later(rt: HostRuntime) -> Result<(), Fail> {
+    let Some(two) = make_again::<Kept>(rt.alloc()) else {
+        return Err("no arena".into());
+    };
+    let Two {
+        arena,
+        mut first,
+        mut second,
+        ..
+    } = two;
+    let mut receipts = Vec::new(rt.alloc());
+    let once = is_freed_once(&rt, &arena, &mut first, &mut second, &mut receipts);
+    let there = is_freed_where_it_is(&rt, &arena, &mut first, &mut second, &mut receipts);
+    assert_eq!(rt; (once, there), (Some(true), Some(true)));
     Ok(())
 }
 

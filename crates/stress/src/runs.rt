@@ -12,6 +12,9 @@ use std::thread::Threads;
 /// How many workers a run has, each with a shard.
 pub const WORKERS: u32 = 8;
 
+/// How many keys a ring of deferred frees holds.
+pub const RING: usize = 64;
+
 /// How many sections a run has.
 pub const SECTIONS: usize = 10;
 
@@ -35,6 +38,10 @@ pub struct Told {
     pub ended: usize,
     /// How many groups were adopted.
     pub adopted: usize,
+    /// How many keys were left to the threads of their shards.
+    pub sent: usize,
+    /// How many of them these took from their rings.
+    pub taken: usize,
     /// What the audit says of the receipts.
     pub verdict: Result<(), AuditError>,
 }
@@ -107,6 +114,26 @@ fn section<'a, R: Threads + Wait + Sync>(
     }
 }
 
+// Frees the keys that are left in the rings, when no worker runs any more.
+fn tend_all<R: Wait>(rt: &R, workers: &mut [Worker<'_>]) {
+    for worker in workers.iter_mut() {
+        if let Err(trouble) = worker.tend(rt) {
+            worker.trouble = Some(trouble);
+        }
+    }
+}
+
+// How many keys were left to the threads of their shards, and how many these took.
+fn deferred_of(workers: &[Worker<'_>]) -> (usize, usize) {
+    let mut sent = 0usize;
+    let mut taken = 0usize;
+    for worker in workers {
+        sent = sent.saturating_add(worker.sent);
+        taken = taken.saturating_add(worker.taken);
+    }
+    (sent, taken)
+}
+
 // How many shards were ended, and how many groups adopted.
 fn moves_of(workers: &[Worker<'_>]) -> (usize, usize) {
     let mut ended = 0usize;
@@ -149,7 +176,7 @@ pub fn run<R: Threads + Wait + Sync>(
     alloc: Global,
     turn: Turn,
 ) -> Result<Told, AllocError> {
-    let Ok((arena, seats, steward)) = Arena::open(alloc, WORKERS, 16, 1, 9, NoGate) else {
+    let Ok((arena, seats, steward)) = Arena::open(alloc, WORKERS, 16, RING, 9, NoGate) else {
         return Err(AllocError);
     };
     let mut workers = workers_of(alloc, &arena, seats)?;
@@ -164,9 +191,11 @@ pub fn run<R: Threads + Wait + Sync>(
         workers = worked?;
         keeper = kept;
     }
+    tend_all(rt, workers.as_mut_slice());
     let marks = keeper.marks;
     let trouble = trouble_of(workers.as_slice());
     let (ended, adopted) = moves_of(workers.as_slice());
+    let (sent, taken) = deferred_of(workers.as_slice());
     let (seats, lists) = taken_apart(alloc, workers)?;
     drop(keeper);
     let Ok(finished) = finish(arena, seats) else {
@@ -178,6 +207,8 @@ pub fn run<R: Threads + Wait + Sync>(
         marks,
         ended,
         adopted,
+        sent,
+        taken,
         verdict,
     })
 }

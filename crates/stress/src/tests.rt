@@ -9,6 +9,11 @@ fn wanted(made: usize) -> (Option<Trouble>, Result<(), AuditError>, [usize; 4]) 
     (None, Ok(()), [made, 0, 0, 0])
 }
 
+// Whether keys were left for later, and each was taken once.
+fn all_taken(told: &Told) -> bool {
+    told.sent > 1000 && told.taken == told.sent
+}
+
 // What it came to.
 fn summary(told: &Told) -> (Option<Trouble>, Result<(), AuditError>, [usize; 4]) {
     let marks = told.marks;
@@ -24,13 +29,14 @@ fn marks_between_sections(rt: HostRuntime) -> Result<(), Fail> {
     let told = run(&rt, rt.alloc(), Turn::Between)?;
     assert_eq!(rt; summary(&told), wanted(10));
     // Nobody is in the way of an end, and the first plan always finds groups that fit.
-    assert_eq!(rt; (told.ended, told.marks.folded > 0), (4, true));
+    let came = (told.ended, told.marks.folded > 0, all_taken(&told));
+    assert_eq!(rt; came, (4, true, true));
     Ok(())
 }
 
 #[test]
 fn marks_beside_sections(rt: HostRuntime) -> Result<(), Fail> {
     let told = run(&rt, rt.alloc(), Turn::Beside)?;
-    assert_eq!(rt; summary(&told), wanted(200));
+    assert_eq!(rt; (summary(&told), all_taken(&told)), (wanted(200), true));
     Ok(())
 }

@@ -42,6 +42,10 @@ pub struct Worker<'a> {
     pub has_ended: bool,
     /// How many groups it adopted.
     pub adopted: usize,
+    /// How many keys it left to the threads of their shards.
+    pub sent: usize,
+    /// How many keys it took from the rings of its shard.
+    pub taken: usize,
     /// What it met first of what no call may come to.
     pub trouble: Option<Trouble>,
     ghost fits: { seat.limits ≡ arena.now.limits },
@@ -62,6 +66,8 @@ impl<'a> Worker<'a> {
             receipts: Vec::new(alloc),
             has_ended: false,
             adopted: 0,
+            sent: 0,
+            taken: 0,
             trouble: None,
         })
     }
@@ -84,7 +90,7 @@ impl<'a> Worker<'a> {
         }
     }
 
-    // One call: mostly puts at first, and then frees until few keys are left. From the second section on, workers of even number
+    // One call: mostly puts at first, and then frees until few keys are left. Now and then it tends its rings. From the second section on, workers of even number
     // adopt near its start; each other worker ends its shard late in the section of its number. So what the first mark finds is
     // the same in each run: the groups of the shard that ended, in the pool.
     fn call<R: Wait>(&mut self, rt: &R, old: &[Key], turn: usize) -> Result<(), Trouble> {
@@ -94,6 +100,9 @@ impl<'a> Worker<'a> {
         }
         if turn == 900 && !is_even && self.seat.section() == self.seat.worker() as u64 {
             return self.end(rt);
+        }
+        if turn % 50 == 49 {
+            return self.tend(rt);
         }
         let word = self.random.next_word();
         match word % 16 {
@@ -144,7 +153,7 @@ impl<'a> Worker<'a> {
         Ok(())
     }
 
-    // Frees a key of its own, or one of the section before, whoever was given it.
+    // Frees a key of its own, or one of the section before, whoever was given it; a third of them later, where the ring has room.
     fn free<R: Wait>(&mut self, rt: &R, old: &[Key], word: u32) -> Result<(), Trouble> {
         let key = if word % 16 < 6 {
             self.own_key(word / 16)
@@ -154,9 +163,20 @@ impl<'a> Worker<'a> {
         let Some(key) = key else {
             return Ok(());
         };
+        if word % 3 == 0 && self.seat.has_shard_of(&key) && self.seat.free_later(key).is_ok() {
+            self.sent = self.sent.saturating_add(1);
+            return Ok(());
+        }
         self.receipts.reserve(1)?;
         let (_, receipt) = self.seat.free(rt, self.arena, &key);
         self.receipts.push_reserved(receipt);
+        Ok(())
+    }
+
+    /// Frees the keys that came in for its shard.
+    pub fn tend<R: Wait>(&mut self, rt: &R) -> Result<(), Trouble> {
+        let taken = self.seat.tend(rt, self.arena, &mut self.receipts)?;
+        self.taken = self.taken.saturating_add(taken);
         Ok(())
     }
 

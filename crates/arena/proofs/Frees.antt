@@ -1,0 +1,47 @@
+-- Receipts that are added for keys.
+use Rattle.std.proofs.Common.{◌≡◌, ℕ, suc, ◌+◌, ◌<◌, List, [], ◌∷◌, ◌++◌, length, map, take, drop, get_or, All, ap, subst, sym, ◌∙◌, refl, arith, append_assoc, add-one, take-suc, drop-cons}
+use Rattle.std.proofs.lemmas.List.{append-nil, map-append}
+use Rattle.std.proofs.lemmas.List.Elements.{All-append}
+use Rattle.std.proofs.lemmas.List.Concat.{flat_map-cons}
+use Rattle.std.proofs.lemmas.Grind.{flat_map-append}
+use Rattle.span.specs.declared.key.Key.{Key}
+use Rattle.span.specs.declared.receipt.Receipt.{Receipt}
+use Rattle.arena.specs.Receipts.{AddsFrees, IsFreeBy, joined}
+
+module _ {worker section : ℕ} where
+  -- for no key nothing is added
+  pub AddsFrees-none : (receipts : List Receipt) → AddsFrees worker section [] receipts receipts
+  AddsFrees-none receipts = record { added = []; appended = sym (append-nil receipts); of_keys = refl; are_frees = λ k d h. absurd (omega arith) }
+
+  -- for a key its receipt is added
+  pub AddsFrees-one : (before after : List Receipt) (key : Key) (r : Receipt) → after ≡ before ++ r ∷ [] → IsFreeBy worker section key r → AddsFrees worker section (key ∷ []) before after
+  AddsFrees-one before after key r is free =
+      let of_key : r.key ≡ key = ap (λ (r : Receipt). r.key) free in
+      record {
+        added = r ∷ [];
+        appended = is;
+        of_keys = ap (λ k. k ∷ []) of_key;
+        are_frees = λ k d h. let first : k ≡ 0 = omega arith in rw first (subst (λ k. IsFreeBy worker section k r) (sym of_key) free);
+      }
+
+  -- receipts for some keys, and then for others
+  pub AddsFrees-more : (keys more : List Key) (before mid after : List Receipt) → AddsFrees worker section keys before mid → AddsFrees worker section more mid after
+      → AddsFrees worker section (keys ++ more) before after
+  AddsFrees-more keys more before mid after a b = record {
+    added = a.added ++ b.added;
+    appended = b.appended ∙ ap (λ l. l ++ b.added) a.appended ∙ append_assoc before a.added b.added;
+    of_keys = map-append (λ r. r.key) a.added b.added ∙ rw (a.of_keys, b.of_keys) refl;
+    are_frees = All-append (λ r. IsFreeBy worker section r.key r) a.added b.added a.are_frees b.are_frees;
+  }
+
+-- the next of the keys that are left
+pub next_left : {T : Type 0} (keys rest : List T) (i : ℕ) (key : T) → i < length keys → drop i keys ≡ key ∷ rest → (take (i + 1) keys ≡ take i keys ++ key ∷ []) × (drop (i + 1) keys ≡ rest)
+next_left keys rest i key below is =
+    let whole = rw (drop-cons keys i key below) at is in
+    let first : get_or keys i key ≡ key = cc in
+    let later : drop (suc i) keys ≡ rest = cc in
+    (rw add-one (take-suc keys i key below ∙ ap (λ x. take i keys ++ x ∷ []) first), rw add-one later)
+
+-- the keys of one more ring
+pub joined-push : (rings : List (List Key)) (keys : List Key) → joined (rings ++ keys ∷ []) ≡ joined rings ++ keys
+joined-push rings keys = flat_map-append (λ ks. ks) rings (keys ∷ []) ∙ ap (λ l. joined rings ++ l) (flat_map-cons (λ ks. ks) keys [] ∙ append-nil keys)

@@ -1,0 +1,10 @@
+use Rattle.std.proofs.Common.{◌≡◌, ap, ◌∙◌, arith, ◌<◌, length}
+use Rattle.std.proofs.Math.Seq.{map-set_same}
+use Rattle.arena.proofs.Sending.{sent_step}
+use Rattle.arena.proofs.seat.send_on.Goals as goal
+
+pub returns-clause-rings : goal.returns-clause-rings
+returns-clause-rings c = map-set_same (λ outbox. outbox.ring) _ _ _ _ (c.send.ensures.ring ∙ ap (λ outbox. outbox.ring) c.index_mut.ensures.value)
+
+pub returns-clause-sent : goal.returns-clause-sent
+returns-clause-sent c = sent_step c.args.outboxes.now.items c.args.key.span.shard c.index_mut.result.now c.send.new.self c.args.key c.send.result (omega (arith, c.requires, c.args.outboxes.now.ok.0)) c.index_mut.ensures.value c.send.ensures.sent
