@@ -31,7 +31,7 @@ use Rattle.arena_core.specs.Kept.{state_of}
 use Rattle.arena_core.specs.Plain.{PlainStep}
 use Rattle.arena_core.specs.Refusals.{refusal_of, refusal_of_adoption, refusal_of_end}
 use Rattle.arena_core.specs.Sound.{IsSound}
-use Rattle.arena_core.specs.State.{CoreState, has_span}
+use Rattle.arena_core.specs.State.{CoreState, Limits, has_span}
 use Rattle.arena_core.specs.Step.{CoreStep, HasClosed}
 use Rattle.arena_core.proofs.Fields.{IsRead, shard-read, state_of-with_both_at, state_of-with_shard_at, with_both_at, with_shard_at}
 use Rattle.arena_core.proofs.Moves.{CoreStep-adopt_refused, CoreStep-end_refused}
@@ -43,13 +43,13 @@ use Rattle.arena_core.proofs.Steps.{CoreStep-refused, not_doubled, not_in_pool}
 pub state_of-same : {L : Type 0} (c : Inside L) (number : ℕ) (before after : ShardState) → IsRead c number before → after ≡ before → state_of (with_shard_at c number after) ≡ state_of c
 state_of-same c number before after read same =
     let shards : set c.shards.items number after ≡ c.shards.items = ap (set c.shards.items number) same ∙ set-same c.shards.items number before (shard-read c number before read) in
-    λ i. record { limits = record { shards = length (shards i); page_limit = c.page_limit; ring_capacity = c.ring_capacity; gens = c.gens }; shards = shards i; pool = c.pool; plan = c.plan }
+    λ i. record { limits = record { shards = length (shards i); page_limit = c.page_limit; ring_capacity = c.ring_capacity; gens = c.gens }; shards = shards i; pool = c.pool; plan = c.plan; rings = c.rings }
 
 -- a shard and a pool that are as they were leave the fields as they were
 pub state_of-both_same : {L : Type 0} (c : Inside L) (number : ℕ) (before after : ShardState) (pool : PoolState) (whereabouts : List (Option ℕ)) → IsRead c number before → after ≡ before → pool ≡ c.pool → state_of (with_both_at c number after pool whereabouts) ≡ state_of c
 state_of-both_same c number before after pool whereabouts read same pool_is =
     let shards : set c.shards.items number after ≡ c.shards.items = ap (set c.shards.items number) same ∙ set-same c.shards.items number before (shard-read c number before read) in
-    λ i. record { limits = record { shards = length (shards i); page_limit = c.page_limit; ring_capacity = c.ring_capacity; gens = c.gens }; shards = shards i; pool = pool_is i; plan = c.plan }
+    λ i. record { limits = record { shards = length (shards i); page_limit = c.page_limit; ring_capacity = c.ring_capacity; gens = c.gens }; shards = shards i; pool = pool_is i; plan = c.plan; rings = c.rings }
 
 pub IsStep-put_fields : {L : Type 0} (c : Inside L) (number : ℕ) (value : Word) (key : Key) (at : ℕ) (before after : ShardState) → IsSound (state_of c) → IsRead c number before → Puts before value key at after
     → (shown_by before).is_issued key ≡ false → shown_by after ≡ with_put (shown_by before) key value → IsSoundShard after
@@ -70,10 +70,10 @@ CoreStep-refused_fields c number value error before after read spent ended same 
     at_error cause P comes = (λ e. comes.0 (ap Err e), λ p. let e = comes.1 p in cc)
 
 -- a refused put is a step of the plain map that changes nothing
-pub PlainStep-refused : (old new : PlainMap) (number : ℕ) (value : Word) (error : PutError) → new ≡ old → PlainStep old (Put number value) (reply.Refused (refusal_of error)) new
-PlainStep-refused old new number value put_error.OutOfMemory same = same
-PlainStep-refused old new number value put_error.PagesSpent same = same
-PlainStep-refused old new number value put_error.Ended same = same
+pub PlainStep-refused : (limits : Limits) (old new : PlainMap) (number : ℕ) (value : Word) (error : PutError) → new ≡ old → PlainStep limits old (Put number value) (reply.Refused (refusal_of error)) new
+PlainStep-refused limits old new number value put_error.OutOfMemory same = same
+PlainStep-refused limits old new number value put_error.PagesSpent same = same
+PlainStep-refused limits old new number value put_error.Ended same = same
 
 pub IsStep-free_fields : {L : Type 0} (c : Inside L) (number : ℕ) (key : Key) (before after : ShardState) (answer : Freed) → IsSound (state_of c) → IsRead c number before → has_span key.span before ≡ true → Frees before key answer after
     → was_freed answer ≡ is_some ((shown_by before).value_of key) → shown_by after ≡ cond (was_freed answer) (without (shown_by before) key) (shown_by before) → IsSoundShard after

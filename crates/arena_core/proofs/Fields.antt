@@ -27,6 +27,7 @@ state_of-with_shard_at c number after = λ i. record {
   shards = set c.shards.items number after;
   pool = c.pool;
   plan = c.plan;
+  rings = c.rings;
 }
 
 pub state_of-with_both_at : {L : Type 0} (c : Inside L) (number : ℕ) (after : ShardState) (pool : PoolState) (whereabouts : List (Option ℕ)) → state_of (with_both_at c number after pool whereabouts) ≡ with_pool (with_shard (state_of c) number after) pool
@@ -35,6 +36,7 @@ state_of-with_both_at c number after pool whereabouts = λ i. record {
   shards = set c.shards.items number after;
   pool = pool;
   plan = c.plan;
+  rings = c.rings;
 }
 
 -- the shard that was read at this number

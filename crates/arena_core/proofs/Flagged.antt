@@ -118,4 +118,4 @@ module _ (closed : GroupState → Bool) where
     }
 
     pub shown-flagged : shown (with_all_flags closed core) ≡ shown core
-    shown-flagged = shown-same core (with_all_flags closed core) sound HasSoundGroups-flagged (λ w. ap (sum_by w) all_spans-flagged)
+    shown-flagged = shown-same core (with_all_flags closed core) sound HasSoundGroups-flagged refl (λ w. ap (sum_by w) all_spans-flagged)

@@ -5,6 +5,7 @@ pub mod Fields
 pub mod FieldsKept
 pub mod Flagged
 pub mod Groups
+pub mod Limits
 pub mod Lists
 pub mod LiveKeys
 pub mod LiveKeysShown
@@ -19,9 +20,12 @@ pub mod PlanFolds
 pub mod PlanKept
 pub mod PlanMarks
 pub mod PlanSteps
+pub mod RingEvents
+pub mod RingSteps
+pub mod RingsKept
 pub mod Runs
 pub mod Shown
 pub mod Spans
 pub mod Start
-pub mod Steps
 pub mod Stepping
+pub mod Steps

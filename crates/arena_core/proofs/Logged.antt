@@ -12,6 +12,7 @@ use Rattle.shard.proofs.ShownLogs.{shown-logged}
 use Rattle.abandoned.specs.Shown.{shown as shown_by_pool}
 use Rattle.abandoned.specs.State.{spans_in as pooled_spans}
 use Rattle.abandoned.proofs.ShownLogs.{shown-logged as shown_by_pool-logged}
+use Rattle.arena_core.specs.Rings.{pending_at}
 use Rattle.arena_core.specs.Sound.{HasSoundGroups}
 use Rattle.arena_core.specs.State.{CoreState, all_spans, shown}
 use Rattle.arena_core.proofs.Changes.{at_most_once}
@@ -66,9 +67,9 @@ module _ (core : CoreState) (sound : HasSoundGroups core) (key : Key) where
   value-logged = code-injective _ _ (value-all ∙ value-spans key (all_spans core) (at_most_once core sound key.span))
 
 -- cores of the same spans show the same
-pub shown-same : (old new : CoreState) → HasSoundGroups old → HasSoundGroups new → ((w : SpanState → ℕ) → sum_all w new ≡ sum_all w old) → shown new ≡ shown old
-shown-same old new sound sound_new same =
+pub shown-same : (old new : CoreState) → HasSoundGroups old → HasSoundGroups new → new.rings ≡ old.rings → ((w : SpanState → ℕ) → sum_all w new ≡ sum_all w old) → shown new ≡ shown old
+shown-same old new sound sound_new rings same =
     same_plain_map _ _
     (λ key. bit-injective _ _ (issued-all new sound_new key ∙ same (issued_weight key) ∙ sym (issued-all old sound key)))
     (λ key. code-injective _ _ (value-all new sound_new key ∙ same (value_weight key) ∙ sym (value-all old sound key)))
-    (λ worker owner. refl)
+    (λ worker shard. ap (λ r. pending_at r worker shard) rings)

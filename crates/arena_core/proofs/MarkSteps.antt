@@ -89,6 +89,7 @@ module _ (old : CoreState) (sound : IsSound old) (found : Certificate) (largest 
           IsUnderWay-marked old marked found.snapshot found.plan largest.seen.abandoned largest.seen.owned largest.best.plan
           (λ head group is. record { index = is.index; head_of = is.head_of }) owned_still;
     };
+    rings = sound.rings;
   }
 
   pub shown-marked : shown marked ≡ shown old
@@ -104,6 +105,7 @@ module _ (old : CoreState) (sound : IsSound old) where
         let (was, there, is) = map_back reopened old.shards number shard here in
         let (before, stood, same) = map_back opened_group was.groups index group (subst (λ (s : ShardState). slice_get s.groups index ≡ Some group) (sym is) at) in
         subst (λ (g : GroupState). g.closed ≡ false) same refl);
+    rings = sound.rings;
   }
 
   pub shown-closed : shown (with_plan_closed old) ≡ shown old
@@ -111,13 +113,14 @@ module _ (old : CoreState) (sound : IsSound old) where
 
 -- the fields
 
-pub state_of-mapped : {L : Type 0} (c now : Inside L) (change : ShardState → ShardState) → now.page_limit ≡ c.page_limit → now.ring_capacity ≡ c.ring_capacity → now.gens ≡ c.gens → now.shards.items ≡ map change c.shards.items
+pub state_of-mapped : {L : Type 0} (c now : Inside L) (change : ShardState → ShardState) → now.page_limit ≡ c.page_limit → now.ring_capacity ≡ c.ring_capacity → now.gens ≡ c.gens → now.rings ≡ c.rings → now.shards.items ≡ map change c.shards.items
     → state_of now ≡ record (state_of c) { shards = map change c.shards.items; pool = now.pool; plan = now.plan }
-state_of-mapped c now change pages ring gens items = λ i. record {
+state_of-mapped c now change pages ring gens rings items = λ i. record {
   limits = record { shards = (ap length items ∙ length-map c.shards.items change) i; page_limit = pages i; ring_capacity = ring i; gens = gens i };
   shards = items i;
   pool = now.pool;
   plan = now.plan;
+  rings = rings i;
 }
 
 -- the pair that comes next
@@ -157,6 +160,7 @@ state_of-with_step_at c number after pool plan whereabouts = λ i. record {
   shards = set c.shards.items number after;
   pool = pool;
   plan = plan;
+  rings = c.rings;
 }
 
 pub IsSoundStep-fold_fields : {L : Type 0} (c : Inside L) (plan : OpenPlan) (pair : SpanId × SpanId) (number : ℕ) (before after : ShardState) (pool : PoolState) (current : Option OpenPlan) (whereabouts : List (Option ℕ)) (step : Outcome) → IsSound (state_of c) → IsNext (state_of c) plan pair
@@ -174,4 +178,4 @@ pub state_of-refused : {L : Type 0} (c : Inside L) (id : SpanId) (number : ℕ) 
 state_of-refused c id number before after pool there read same pool_is =
     let named = shard-named (state_of c) id number before there read in
     let shards : set c.shards.items number after ≡ c.shards.items = ap (set c.shards.items number) same ∙ set-same c.shards.items number before named.0 in
-    λ i. record { limits = record { shards = length (shards i); page_limit = c.page_limit; ring_capacity = c.ring_capacity; gens = c.gens }; shards = shards i; pool = pool_is i; plan = c.plan }
+    λ i. record { limits = record { shards = length (shards i); page_limit = c.page_limit; ring_capacity = c.ring_capacity; gens = c.gens }; shards = shards i; pool = pool_is i; plan = c.plan; rings = c.rings }

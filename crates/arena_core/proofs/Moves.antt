@@ -39,7 +39,7 @@ IsStep-Receives old number before after pool sound here unclosed receives sound_
     record {
       kept = sound_new;
       exact = record { before = before; after = after; pool = pool; here = here; unclosed = unclosed; receives = receives; rest = refl };
-      plain = shown-same old (with_pool (with_shard old number after) pool) sound sound_new (sum_all-moved old sound number before after pool here move);
+      plain = shown-same old (with_pool (with_shard old number after) pool) sound sound_new refl (sum_all-moved old sound number before after pool here move);
     }
 
 pub IsStep-Adopts : (old : CoreState) (number : ℕ) (head : SpanId) (before after : ShardState) (pool : PoolState) → HasSoundGroups old → old.plan ≡ None → slice_get old.shards number ≡ Some before → before.ended ≡ false → Adopts old.pool before head pool after → IsSoundShard after → IsSoundPool pool
@@ -50,7 +50,7 @@ IsStep-Adopts old number head before after pool sound no_plan here running adopt
     record {
       kept = sound_new;
       exact = record { before = before; after = after; pool = pool; here = here; running = running; no_plan = no_plan; adopts = adopts; rest = refl };
-      plain = shown-same old (with_pool (with_shard old number after) pool) sound sound_new (sum_all-moved old sound number before after pool here move);
+      plain = shown-same old (with_pool (with_shard old number after) pool) sound sound_new refl (sum_all-moved old sound number before after pool here move);
     }
 
 -- refusals

@@ -23,7 +23,7 @@ use Rattle.abandoned.specs.Sound.{IsSound as IsSoundPool}
 use Rattle.abandoned.specs.State.{PoolState}
 use Rattle.arena_core.specs.Plan.{AreClosedAsPlanned, IsOwned, IsUnderWay, KeepsPlan, is_planned, plans_onto}
 use Rattle.arena_core.specs.Plain.{ErasedStep}
-use Rattle.arena_core.specs.Sound.{IsSound}
+use Rattle.arena_core.specs.Sound.{AreRings, IsSound}
 use Rattle.arena_core.specs.State.{CoreState, OpenPlan, has_span, opened_by, opened_of, shown, with_pool, with_shard}
 use Rattle.arena_core.specs.Step.{CoreStep, HasClosed}
 use Rattle.arena_core.specs.declared.event.Event.{Event}
@@ -41,10 +41,10 @@ use Rattle.arena_core.proofs.Steps.{IsStep, IsStep-Frees, IsStep-FreesPooled, Is
 pub record IsSoundStep (old : CoreState) (event : Event) (answer : Reply) (new : CoreState) : Type 0 where
   pub kept : IsSound new
   pub exact : CoreStep old event answer new
-  pub plain : ErasedStep (shown old) event answer (shown new)
+  pub plain : ErasedStep old.limits (shown old) event answer (shown new)
 
-with_plan_kept : (old : CoreState) (event : Event) (answer : Reply) (new : CoreState) → IsStep old event answer new → KeepsPlan new → IsSoundStep old event answer new
-with_plan_kept old event answer new step keeps = record { kept = record { groups = step.kept; plan = keeps }; exact = step.exact; plain = step.plain }
+with_plan_kept : (old : CoreState) (event : Event) (answer : Reply) (new : CoreState) → IsStep old event answer new → KeepsPlan new → AreRings new.limits new.rings → IsSoundStep old event answer new
+with_plan_kept old event answer new step keeps rings = record { kept = record { groups = step.kept; plan = keeps; rings = rings }; exact = step.exact; plain = step.plain }
 
 abbrev pub AreAllClosedAsPlanned : Option OpenPlan → List ShardState → Type 0
 AreAllClosedAsPlanned plan shards = (number : ℕ) (shard : ShardState) → slice_get shards number ≡ Some shard → AreClosedAsPlanned plan shard.groups
@@ -184,17 +184,17 @@ pub IsSoundStep-Puts : (old : CoreState) (number : ℕ) (value : Word) (key : Ke
     → (shown_by before).is_issued key ≡ false → shown_by after ≡ with_key (shown_by before) key value → IsSoundShard after
     → IsSoundStep old (Put number value) (reply.Issued key) (with_shard old number after)
 IsSoundStep-Puts old number value key at before after sound here puts fresh plain sound_after =
-    with_plan_kept old (Put number value) (reply.Issued key) (with_shard old number after) (IsStep-Puts old number value key at before after sound.groups here puts fresh plain sound_after) (KeepsPlan-Puts old sound number value key at before after here puts)
+    with_plan_kept old (Put number value) (reply.Issued key) (with_shard old number after) (IsStep-Puts old number value key at before after sound.groups here puts fresh plain sound_after) (KeepsPlan-Puts old sound number value key at before after here puts) sound.rings
 
 -- a key that is not live is not freed
 pub IsSoundStep-dead : (old : CoreState) (key : Key) → IsSound old → (shown old).value_of key ≡ None → IsSoundStep old (Free key) (reply.Freed false) old
-IsSoundStep-dead old key sound none = with_plan_kept old (Free key) (reply.Freed false) old (IsStep-dead old key sound.groups none) sound.plan
+IsSoundStep-dead old key sound none = with_plan_kept old (Free key) (reply.Freed false) old (IsStep-dead old key sound.groups none) sound.plan sound.rings
 
 pub IsSoundStep-Frees : (old : CoreState) (key : Key) (number : ℕ) (before after : ShardState) (answer : Freed) → IsSound old → slice_get old.shards number ≡ Some before → has_span key.span before ≡ true → Frees before key answer after
     → was_freed answer ≡ is_some ((shown_by before).value_of key) → shown_by after ≡ cond (was_freed answer) (without (shown_by before) key) (shown_by before) → IsSoundShard after
     → IsSoundStep old (Free key) (reply.Freed (was_freed answer)) (with_shard old number after)
 IsSoundStep-Frees old key number before after answer sound here has frees found plain sound_after =
-    with_plan_kept old (Free key) (reply.Freed (was_freed answer)) (with_shard old number after) (IsStep-Frees old key number before after answer sound.groups here has frees found plain sound_after) (by_answer answer frees)
+    with_plan_kept old (Free key) (reply.Freed (was_freed answer)) (with_shard old number after) (IsStep-Frees old key number before after answer sound.groups here has frees found plain sound_after) (by_answer answer frees) sound.rings
   where
     same : after ≡ before → KeepsPlan (with_shard old number after)
     same is = subst KeepsPlan (sym (with_shard-same old number before after here is)) sound.plan
@@ -208,7 +208,7 @@ pub IsSoundStep-FreesPooled : (old : CoreState) (key : Key) (pool : PoolState) (
     → was_freed answer ≡ is_some ((shown_by_pool old.pool).value_of key) → shown_by_pool pool ≡ cond (was_freed answer) (without (shown_by_pool old.pool) key) (shown_by_pool old.pool) → IsSoundPool pool
     → IsSoundStep old (Free key) (reply.Freed (was_freed answer)) (with_pool old pool)
 IsSoundStep-FreesPooled old key pool answer sound pooled frees found plain sound_pool =
-    with_plan_kept old (Free key) (reply.Freed (was_freed answer)) (with_pool old pool) (IsStep-FreesPooled old key pool answer sound.groups pooled frees found plain sound_pool) (by_answer answer frees)
+    with_plan_kept old (Free key) (reply.Freed (was_freed answer)) (with_pool old pool) (IsStep-FreesPooled old key pool answer sound.groups pooled frees found plain sound_pool) (by_answer answer frees) sound.rings
   where
     same : pool ≡ old.pool → KeepsPlan (with_pool old pool)
     same is = subst KeepsPlan (sym (with_pool-same old pool is)) sound.plan
@@ -222,9 +222,9 @@ pub IsSoundStep-Receives : (old : CoreState) (number : ℕ) (before after : Shar
     → Receives old.pool before pool after → IsSoundShard after → IsSoundPool pool
     → IsSoundStep old (End number) reply.ShardEnded (with_pool (with_shard old number after) pool)
 IsSoundStep-Receives old number before after pool sound here none_closed receives sound_after sound_pool =
-    with_plan_kept old (End number) reply.ShardEnded (with_pool (with_shard old number after) pool) (IsStep-Receives old number before after pool sound.groups here none_closed receives sound_after sound_pool) (KeepsPlan-Receives old sound number before after pool here (unclosed before.groups none_closed) receives)
+    with_plan_kept old (End number) reply.ShardEnded (with_pool (with_shard old number after) pool) (IsStep-Receives old number before after pool sound.groups here none_closed receives sound_after sound_pool) (KeepsPlan-Receives old sound number before after pool here (unclosed before.groups none_closed) receives) sound.rings
 
 pub IsSoundStep-Adopts : (old : CoreState) (number : ℕ) (head : SpanId) (before after : ShardState) (pool : PoolState) → IsSound old → old.plan ≡ None → slice_get old.shards number ≡ Some before → before.ended ≡ false → Adopts old.pool before head pool after → IsSoundShard after → IsSoundPool pool
     → IsSoundStep old (Adopt number) (reply.Adopted head) (with_pool (with_shard old number after) pool)
 IsSoundStep-Adopts old number head before after pool sound no_plan here running adopts sound_after sound_pool =
-    with_plan_kept old (Adopt number) (reply.Adopted head) (with_pool (with_shard old number after) pool) (IsStep-Adopts old number head before after pool sound.groups no_plan here running adopts sound_after sound_pool) (KeepsPlan-Adopts old sound no_plan number head before after pool here adopts)
+    with_plan_kept old (Adopt number) (reply.Adopted head) (with_pool (with_shard old number after) pool) (IsStep-Adopts old number head before after pool sound.groups no_plan here running adopts sound_after sound_pool) (KeepsPlan-Adopts old sound no_plan number head before after pool here adopts) sound.rings

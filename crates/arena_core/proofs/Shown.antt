@@ -13,6 +13,7 @@ use Rattle.shard.specs.State.{ShardState, spans_in}
 use Rattle.shard.proofs.Logged.{same_plain_map}
 use Rattle.abandoned.specs.Shown.{shown as shown_by_pool}
 use Rattle.abandoned.specs.State.{PoolState, spans_in as pooled_spans}
+use Rattle.arena_core.specs.Rings.{pending_at}
 use Rattle.arena_core.specs.State.{CoreState, has_span, shard_with, shown, shown_at, with_pool, with_shard}
 use Rattle.arena_core.proofs.Lists.{count_by-found, count_by-missed, find-counted, slice_get-set_same, sum_by-set_at}
 use Rattle.arena_core.proofs.Owners.{bit, bit-injective, code, code-injective, issued-missed, issued-sum, issued-unpooled, value-missed, value-sum, value-unpooled}
@@ -23,6 +24,7 @@ same_key-self key = rw (same_span-self key.span, eq-eqb key.slot key.slot refl, 
 
 -- one owner of a core, which showed a, shows b, and has these spans then; all others are as they were
 pub record IsLocal (old new : CoreState) (a b : PlainMap) (has : SpanId → Bool) : Type 0 where
+  pub rings : new.rings ≡ old.rings
   pub alike : (x y : SpanId) → same_span x y ≡ true → has x ≡ has y
   pub value : (key : Key) → code ((shown new).value_of key) + code (a.value_of key) ≡ code ((shown old).value_of key) + code (b.value_of key)
   pub issued : (key : Key) → bit ((shown new).is_issued key) + bit (a.is_issued key) ≡ bit ((shown old).is_issued key) + bit (b.is_issued key)
@@ -60,7 +62,7 @@ module _ (old new : CoreState) (a b : PlainMap) (has : SpanId → Bool) (local :
         bit-injective _ _ (omega (arith, local.issued other, ap bit kept))
 
     pub shown-put : shown new ≡ with_put (shown old) key value
-    shown-put = same_plain_map _ _ (λ other. put_issued other _ refl) (λ other. put_value other _ refl) (λ worker owner. refl)
+    shown-put = same_plain_map _ _ (λ other. put_issued other _ refl) (λ other. put_value other _ refl) (λ worker shard. ap (λ r. pending_at r worker shard) local.rings)
 
     pub fresh-put : a.is_issued key ≡ false → (shown old).is_issued key ≡ false
     fresh-put fresh =
@@ -84,7 +86,7 @@ module _ (old new : CoreState) (a b : PlainMap) (has : SpanId → Bool) (local :
         bit-injective _ _ (omega (arith, local.issued other, ap bit kept))
 
     pub shown-free : shown new ≡ without (shown old) key
-    shown-free = same_plain_map _ _ free_issued (λ other. free_value other _ refl) (λ worker owner. refl)
+    shown-free = same_plain_map _ _ free_issued (λ other. free_value other _ refl) (λ worker shard. ap (λ r. pending_at r worker shard) local.rings)
 
     -- what the owner showed under the key, the core showed
     pub value-before : (shown old).value_of key ≡ a.value_of key
@@ -113,6 +115,7 @@ has_pooled-counted id pool some = find-counted (is_named id) (pooled_spans pool.
 module _ (old new : CoreState) (once : (id : SpanId) → times id old ≤ 1) (once_new : (id : SpanId) → times id new ≤ 1) where
   pub IsLocal-shard : (number : ℕ) (before after : ShardState) → slice_get old.shards number ≡ Some before → new ≡ with_shard old number after → IsLocal old new (shown_by before) (shown_by after) (λ id. has_span id after)
   IsLocal-shard number before after here is = record {
+    rings = ap (λ (c : CoreState). c.rings) is;
     alike = λ x y same. ap is_some (find-same x y (spans_in after.groups) same);
     value = λ key. read_with_shard (λ plain. code (plain.value_of key)) (value-sum old key (once key.span)) (value-sum new key (once_new key.span));
     issued = λ key. read_with_shard (λ plain. bit (plain.is_issued key)) (issued-sum old key (once key.span)) (issued-sum new key (once_new key.span));
@@ -132,6 +135,7 @@ module _ (old new : CoreState) (once : (id : SpanId) → times id old ≤ 1) (on
 
   pub IsLocal-pool : (pool : PoolState) → new ≡ with_pool old pool → IsLocal old new (shown_by_pool old.pool) (shown_by_pool pool) (λ id. has_pooled id pool)
   IsLocal-pool pool is = record {
+    rings = ap (λ (c : CoreState). c.rings) is;
     alike = λ x y same. ap is_some (find-same x y (pooled_spans pool.groups) same);
     value = λ key. read_with_pool (λ plain. code (plain.value_of key)) (value-sum old key (once key.span)) (value-sum new key (once_new key.span));
     issued = λ key. read_with_pool (λ plain. bit (plain.is_issued key)) (issued-sum old key (once key.span)) (issued-sum new key (once_new key.span));

@@ -13,10 +13,12 @@ use Rattle.shard.specs.State.{ShardState}
 use Rattle.shard.proofs.Logged.{same_plain_map}
 use Rattle.abandoned.specs.State.{PoolState}
 use Rattle.abandoned.proofs.Started.{IsSound-new}
+use Rattle.arena_core.specs.Rings.{RingState, new_rings}
 use Rattle.arena_core.specs.Sound.{HasSoundGroups, IsSound, IsSoundAt}
 use Rattle.arena_core.specs.State.{AreWithin, CoreState, Limits, all_spans, OpenPlan, limits_of, new_core, new_pool, new_shard, opened_by, shard_spans, shard_with, shown, shown_at}
 use Rattle.arena_core.proofs.Changes.{indicator, past-indicator}
 use Rattle.arena_core.proofs.Groups.{strays, strays-each}
+use Rattle.arena_core.proofs.RingsKept.{AreRings-new, pending_at-new}
 use Rattle.arena_core.proofs.Spans.{named, shard_with-nowhere, sum_all}
 
 sum-new : (w : SpanState → ℕ) (limits : Limits) (numbers : List ℕ) → sum_by w (shard_spans (map (new_shard limits.page_limit limits.gens) numbers)) ≡ 0
@@ -63,19 +65,19 @@ HasSoundGroups-new_core limits within each = record {
 
 pub shown-new_core : (limits : Limits) → shown (new_core limits) ≡ empty_map
 shown-new_core limits =
-    same_plain_map _ _ (λ key. ap (λ o. (shown_at new_pool o).is_issued key) (nowhere key.span)) (λ key. ap (λ o. (shown_at new_pool o).value_of key) (nowhere key.span)) (λ worker owner. refl)
+    same_plain_map _ _ (λ key. ap (λ o. (shown_at new_pool o).is_issued key) (nowhere key.span)) (λ key. ap (λ o. (shown_at new_pool o).value_of key) (nowhere key.span)) (λ worker shard. pending_at-new limits.shards limits.ring_capacity worker shard)
   where
     nowhere : (id : SpanId) → shard_with (new_core limits).shards id ≡ None
     nowhere id = shard_with-nowhere id (new_core limits).shards (sum-new (named id) limits (range_with_len 0 limits.shards))
 
 abbrev with_count : Limits → ℕ → List ShardState → CoreState
-with_count limits count shards = record { limits = limits_of count limits.page_limit limits.ring_capacity limits.gens; shards = shards; pool = new_pool; plan = None }
+with_count limits count shards = record { limits = limits_of count limits.page_limit limits.ring_capacity limits.gens; shards = shards; pool = new_pool; plan = None; rings = new_rings limits.shards limits.ring_capacity }
 
 -- the fields of a new core show as the new core
-pub new_core-fields : (limits : Limits) (shards : List ShardState) (pool : PoolState) (plan : Option OpenPlan) → shards ≡ (new_core limits).shards → pool ≡ new_pool → plan ≡ None
-    → ◌≡◌ {A = CoreState} (record { limits = limits_of (length shards) limits.page_limit limits.ring_capacity limits.gens; shards = shards; pool = pool; plan = plan }) (new_core limits)
-new_core-fields limits shards pool plan are empty no_plan =
-    (λ i. record (with_count limits (length shards) shards) { pool = empty i; plan = no_plan i })
+pub new_core-fields : (limits : Limits) (shards : List ShardState) (pool : PoolState) (plan : Option OpenPlan) (rings : List (List RingState)) → shards ≡ (new_core limits).shards → pool ≡ new_pool → plan ≡ None → rings ≡ (new_core limits).rings
+    → ◌≡◌ {A = CoreState} (record { limits = limits_of (length shards) limits.page_limit limits.ring_capacity limits.gens; shards = shards; pool = pool; plan = plan; rings = rings }) (new_core limits)
+new_core-fields limits shards pool plan rings are empty no_plan rings_are =
+    (λ i. record (with_count limits (length shards) shards) { pool = empty i; plan = no_plan i; rings = rings_are i })
     ∙ ap (λ all. with_count limits (length all) all) are
     ∙ ap (λ n. with_count limits n (new_core limits).shards) (length-map-range_with_len (new_shard limits.page_limit limits.gens) 0 limits.shards)
 
@@ -88,6 +90,7 @@ IsSound-new_core limits groups = record {
     closed = λ number shard here index group at. absurd (no_group number shard here index group at);
     under_way = tt;
   };
+  rings = AreRings-new limits;
 }
   where
     no_group : (number : ℕ) (shard : ShardState) → slice_get (new_core limits).shards number ≡ Some shard → (index : ℕ) (group : GroupState) → slice_get shard.groups index ≡ Some group → ⊥

@@ -128,9 +128,10 @@ module _ (old : CoreState) (sound : IsSound old) (plan : OpenPlan) (pair : SpanI
               closed = AreAllClosedAsPlanned-folded old plan pair number after pool fold under_way next.pair_is (subst (λ p. AreAllClosedAsPlanned p old.shards) next.plan_is sound.plan.closed);
               under_way = IsUnderWay-folded old plan pair number after pool fold under_way next.pair_is;
             };
+            rings = sound.rings;
           };
           exact = record { plan = plan; number = number; before = before; after = after; pool = pool; next = next; here = here; folds = folds; rest = refl };
-          plain = shown-same old (with_pool (with_shard old number after) pool) sound.groups groups (sum_all-moved old sound.groups number before after pool here move);
+          plain = shown-same old (with_pool (with_shard old number after) pool) sound.groups groups refl (sum_all-moved old sound.groups number before after pool here move);
         }
 
     both_same : (after : ShardState) (pool : PoolState) → pool ≡ old.pool → after ≡ before → with_pool (with_shard old number after) pool ≡ old
@@ -145,6 +146,7 @@ module _ (old : CoreState) (sound : IsSound old) (plan : OpenPlan) (pair : SpanI
           closed = subst (λ p. AreAllClosedAsPlanned p old.shards) next.plan_is sound.plan.closed;
           under_way = IsUnderWay-passed old plan under_way pair next.pair_is empty;
         };
+        rings = sound.rings;
       };
       exact = record { plan = plan; next = next; emptied = empty; rest = refl };
       plain = refl;

@@ -42,7 +42,7 @@ use Rattle.arena_core.proofs.Spans.{has_span-counted, shard_with-here, shard_wit
 pub record IsStep (old : CoreState) (event : Event) (answer : Reply) (new : CoreState) : Type 0 where
   pub kept : HasSoundGroups new
   pub exact : CoreStep old event answer new
-  pub plain : ErasedStep (shown old) event answer (shown new)
+  pub plain : ErasedStep old.limits (shown old) event answer (shown new)
 
 -- where a span stands
 
@@ -153,7 +153,7 @@ IsStep-dead old key sound none = record { kept = sound; exact = (none, refl); pl
 pub with_shard-same : (old : CoreState) (number : ℕ) (before after : ShardState) → slice_get old.shards number ≡ Some before → after ≡ before → with_shard old number after ≡ old
 with_shard-same old number before after here same =
     let shards : set old.shards number after ≡ old.shards = ap (set old.shards number) same ∙ set-same old.shards number before here in
-    λ i. record { limits = old.limits; shards = shards i; pool = old.pool; plan = old.plan }
+    λ i. record { limits = old.limits; shards = shards i; pool = old.pool; plan = old.plan; rings = old.rings }
 
 IsStep-unfreed : (old : CoreState) (key : Key) (number : ℕ) (before after : ShardState) → HasSoundGroups old → slice_get old.shards number ≡ Some before → has_span key.span before ≡ true → false ≡ is_some ((shown_by before).value_of key) → after ≡ before
     → IsStep old (Free key) (reply.Freed false) (with_shard old number after)
@@ -180,7 +180,7 @@ IsStep-Frees old key number before after (freed.No at) sound here has (index, pl
 IsStep-Frees old key number before after freed.NotHere sound here has frees found plain sound_after = IsStep-unfreed old key number before after sound here has found frees.1
 
 pub with_pool-same : (old : CoreState) (pool : PoolState) → pool ≡ old.pool → with_pool old pool ≡ old
-with_pool-same old pool same = λ i. record { limits = old.limits; shards = old.shards; pool = same i; plan = old.plan }
+with_pool-same old pool same = λ i. record { limits = old.limits; shards = old.shards; pool = same i; plan = old.plan; rings = old.rings }
 
 IsStep-unfreed_pooled : (old : CoreState) (key : Key) (pool : PoolState) → HasSoundGroups old → (shown old).value_of key ≡ (shown_by_pool old.pool).value_of key → false ≡ is_some ((shown_by_pool old.pool).value_of key) → pool ≡ old.pool → IsStep old (Free key) (reply.Freed false) (with_pool old pool)
 IsStep-unfreed_pooled old key pool sound pooled found same =

@@ -5,6 +5,7 @@ pub mod Moved
 pub mod Plain
 pub mod Plan
 pub mod Refusals
+pub mod Rings
 pub mod Sound
 pub mod State
 pub mod Step

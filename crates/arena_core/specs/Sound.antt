@@ -1,5 +1,5 @@
 -- When a core is sound.
-use Rattle.std.specs.Prelude.{◌≡◌, ℕ, ◌<◌, nat_lt, false, if◌then◌else◌, length, slice_get, Some, count_by}
+use Rattle.std.specs.Prelude.{◌≡◌, ℕ, ◌<◌, ◌≤◌, nat_lt, false, if◌then◌else◌, List, length, slice_get, Some, count_by}
 use Rattle.span.specs.declared.id.SpanId.{SpanId}
 use Rattle.span.specs.Ids.{same_span}
 use Rattle.span.specs.State.{SpanState}
@@ -7,6 +7,7 @@ use Rattle.shard.specs.Sound.{IsSound as IsSoundShard}
 use Rattle.shard.specs.State.{ShardState, spans_in}
 use Rattle.abandoned.specs.Sound.{IsSound as IsSoundPool}
 use Rattle.arena_core.specs.Plan.{KeepsPlan}
+use Rattle.arena_core.specs.Rings.{RingState, ring_at}
 use Rattle.arena_core.specs.State.{Limits, AreWithin, CoreState, all_spans, opened_by}
 
 -- the shard has this number and the limits of the core, and is sound
@@ -29,7 +30,14 @@ pub record HasSoundGroups (core : CoreState) : Type 0 where
   -- each opened span stands in exactly one group, of one shard or of the pool, and no other span stands anywhere
   pub once : (id : SpanId) → count_by (λ span. same_span span.id id) (all_spans core) ≡ (if nat_lt id.serial (opened_by core.shards id.shard) then 1 else 0)
 
--- the groups are sound, and the closed ones are those that the open plan plans
+-- there is one ring from each worker to each shard, of the core's capacity, and it holds no more keys than that
+pub record AreRings (limits : Limits) (rings : List (List RingState)) : Type 0 where
+  pub shards : length rings ≡ limits.shards
+  pub workers : (shard : ℕ) (row : List RingState) → slice_get rings shard ≡ Some row → length row ≡ limits.shards
+  pub each : (worker shard : ℕ) (ring : RingState) → ring_at rings worker shard ≡ Some ring → (ring.capacity ≡ limits.ring_capacity) × (length ring.keys ≤ limits.ring_capacity)
+
+-- the groups are sound, the closed ones are those that the open plan plans, and the rings are those of the numbers
 pub record IsSound (core : CoreState) : Type 0 where
   pub groups : HasSoundGroups core
   pub plan : KeepsPlan core
+  pub rings : AreRings core.limits core.rings

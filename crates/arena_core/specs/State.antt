@@ -9,6 +9,7 @@ use Rattle.shard.specs.Shown.{shown as shown_by, span_named}
 use Rattle.shard.specs.State.{ShardState, no_pages, spans_in, live_keys as live_keys_of}
 use Rattle.abandoned.specs.Shown.{shown as shown_by_pool}
 use Rattle.abandoned.specs.State.{PoolState, paged_groups, spans_in as pooled_spans, live_keys as live_keys_pooled}
+use Rattle.arena_core.specs.Rings.{RingState, new_rings, pending_at}
 
 -- the numbers of the product: how many shards, how many pages a shard may have, how many entries a ring holds, and the greatest generation
 pub record Limits : Type 0 where
@@ -33,12 +34,13 @@ pub record OpenPlan : Type 0 where
   pub pairs : List (SpanId × SpanId)
   pub done : ℕ
 
--- a core: the numbers of the product, the shards by their numbers, the pool of the groups whose shards have ended, and the open plan, if there is one
+-- a core: the numbers of the product, the shards by their numbers, the pool of the groups whose shards have ended, the open plan, if there is one, and the rings of keys that wait to be freed, by shard, then by worker
 pub record CoreState : Type 0 where
   pub limits : Limits
   pub shards : List ShardState
   pub pool : PoolState
   pub plan : Option OpenPlan
+  pub rings : List (List RingState)
 
 -- a shard that has opened no span
 abbrev pub new_shard : ℕ → ℕ → ℕ → ShardState
@@ -48,9 +50,9 @@ new_shard page_limit gens number = record { number = number; page_limit = page_l
 abbrev pub new_pool : PoolState
 new_pool = record { groups = []; table = no_pages; has_plan = false }
 
--- a core of new shards, one for each number, an empty pool, and no plan
+-- a core of new shards, one for each number, an empty pool, no plan, and empty rings
 abbrev pub new_core : Limits → CoreState
-new_core limits = record { limits = limits; shards = map (new_shard limits.page_limit limits.gens) (range_with_len 0 limits.shards); pool = new_pool; plan = None }
+new_core limits = record { limits = limits; shards = map (new_shard limits.page_limit limits.gens) (range_with_len 0 limits.shards); pool = new_pool; plan = None; rings = new_rings limits.shards limits.ring_capacity }
 
 -- the core with another shard at this number
 abbrev pub with_shard : CoreState → ℕ → ShardState → CoreState
@@ -63,6 +65,10 @@ with_pool core pool = record core { pool = pool }
 -- the core with another plan, or none
 abbrev pub with_plan : CoreState → Option OpenPlan → CoreState
 with_plan core plan = record core { plan = plan }
+
+-- the core with other rings
+abbrev pub with_rings : CoreState → List (List RingState) → CoreState
+with_rings core rings = record core { rings = rings }
 
 -- the spans of all shards, in order
 abbrev pub shard_spans : List ShardState → List SpanState
@@ -94,12 +100,12 @@ abbrev pub shown_at : PoolState → Option ShardState → PlainMap
 shown_at pool None = shown_by_pool pool
 shown_at pool (Some shard) = shown_by shard
 
--- the plain map that the core shows: each key is that of the shard that has its span, or else of the pool
+-- the plain map that the core shows: each key is that of the shard that has its span, or else of the pool, and the rings hold what is pending
 abbrev pub shown : CoreState → PlainMap
 shown core = record {
   is_issued = λ key. (shown_at core.pool (shard_with core.shards key.span)).is_issued key;
   value_of = λ key. (shown_at core.pool (shard_with core.shards key.span)).value_of key;
-  pending = λ worker owner. [];
+  pending = λ worker shard. pending_at core.rings worker shard;
 }
 
 -- how many groups have a page: each group of the shards, on a page of its own, and some of the pool

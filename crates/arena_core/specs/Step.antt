@@ -1,5 +1,5 @@
 -- The steps and runs of the core.
-use Rattle.std.specs.Prelude.{◌≡◌, ◌⊎◌, ℕ, ◌<◌, ◌≤◌, true, false, List, [], ◌∷◌, ◌++◌, length, map, slice_get, Some, None, is_some}
+use Rattle.std.specs.Prelude.{◌≡◌, ◌⊎◌, ℕ, ◌<◌, ◌≤◌, Bool, true, false, List, [], ◌∷◌, ◌++◌, length, map, slice_get, Some, None, is_some}
 use Rattle.std.specs.List.{list_any}
 use Rattle.span.specs.declared.id.SpanId.{SpanId}
 use Rattle.span.specs.declared.key.Key.{Key}
@@ -15,16 +15,17 @@ use Rattle.fold.specs.Folds.{Folds}
 use Rattle.fold.specs.declared.step.Step.{Step as Outcome}
 use Rattle.fold.specs.declared.step.Step.TheVariants.{Absent, Emptied, Clash, Folded}
 use Rattle.arena_core.specs.declared.event.Event.{Event}
-use Rattle.arena_core.specs.declared.event.Event.TheVariants.{Put, Get, Free, End, Adopt, Mark, Step, Close}
+use Rattle.arena_core.specs.declared.event.Event.TheVariants.{Put, Get, Free, Later, Settle, End, Adopt, Mark, Step, Close}
 use Rattle.arena_core.specs.declared.reply.Reply.{Reply}
-use Rattle.arena_core.specs.declared.reply.Reply.TheVariants.{Issued, Found, Freed, ShardEnded, Adopted, Marked, Stepped, NoPairLeft, Closed, NoPlan, Refused}
-use Rattle.arena_core.specs.declared.reply.Refusal.TheVariants.{OutOfMemory, PagesSpent, Ended, PlanOpen, TooMany, NothingToAdopt, Config}
+use Rattle.arena_core.specs.declared.reply.Reply.TheVariants.{Issued, Found, Freed, Sent, Settled, ShardEnded, Adopted, Marked, Stepped, NoPairLeft, Closed, NoPlan, Refused}
+use Rattle.arena_core.specs.declared.reply.Refusal.TheVariants.{OutOfMemory, PagesSpent, Ended, PlanOpen, TooMany, NothingToAdopt, RingFull, Config}
 use Rattle.arena_core.specs.Sound.{IsSound}
 use Rattle.arena_core.specs.Closings.{closed_onto, reopened}
 use Rattle.arena_core.specs.Marks.{AreTooMany, IsLargest, with_plan_told}
 use Rattle.arena_core.specs.Plan.{IsCarriedOut, IsEmptied, IsNext, with_next_done}
-use Rattle.arena_core.specs.State.{CoreState, OpenPlan, shown, with_plan, with_pool, with_shard}
-use Rattle.arena_core.specs.Plain.{PlainRun, erased}
+use Rattle.arena_core.specs.Rings.{RingState, ring_at, with_keys, with_ring_at}
+use Rattle.arena_core.specs.State.{CoreState, OpenPlan, shown, with_plan, with_pool, with_rings, with_shard}
+use Rattle.arena_core.specs.Plain.{IsOutside, PlainRun, erased}
 
 -- the shard of this number, which has not ended
 pub record IsRunning (core : CoreState) (number : ℕ) (shard : ShardState) : Type 0 where
@@ -105,6 +106,35 @@ pub record FreesInPool (old : CoreState) (key : Key) (new : CoreState) : Type 0 
   pub frees : FreesPooled old.pool key (Yes at) after
   pub rest : new ≡ with_pool old after
 
+-- the key is freed by the shard or the pool that has its span, if it is live
+abbrev pub FreesKey : CoreState → Key → Bool → CoreState → Type 0
+FreesKey old key true new = FreesInShard old key new ⊎ FreesInPool old key new
+FreesKey old key false new = ((shown old).value_of key ≡ None) × (new ≡ old)
+
+-- the key goes last on the ring from the worker to the shard that opened its span, which has room for it, and all else is as it was
+pub record SendsKey (old : CoreState) (worker : ℕ) (key : Key) (new : CoreState) : Type 0 where
+  pub ring : RingState
+  pub here : ring_at old.rings worker key.span.shard ≡ Some ring
+  pub room : length ring.keys < old.limits.ring_capacity
+  pub rest : new ≡ with_rings old (with_ring_at old.rings worker key.span.shard (with_keys ring (ring.keys ++ key ∷ [])))
+
+-- the ring from this worker to this shard holds as many keys as it may
+abbrev pub HasFullRing : CoreState → ℕ → ℕ → Type 0
+HasFullRing core worker shard = (ring : RingState) × (ring_at core.rings worker shard ≡ Some ring) × (length ring.keys ≡ core.limits.ring_capacity)
+
+-- the oldest key leaves the ring from the worker to the shard, and is freed wherever its span then is, if it is live
+pub record Settles (old : CoreState) (worker shard : ℕ) (key : Key) (new : CoreState) : Type 0 where
+  pub ring : RingState
+  pub left : List Key
+  pub here : ring_at old.rings worker shard ≡ Some ring
+  pub oldest : ring.keys ≡ key ∷ left
+  pub freed : Bool
+  pub frees : FreesKey (with_rings old (with_ring_at old.rings worker shard (with_keys ring left))) key freed new
+
+-- no key waits on the ring from this worker to this shard
+abbrev pub HasEmptyRing : CoreState → ℕ → ℕ → Type 0
+HasEmptyRing core worker shard = (ring : RingState) × (ring_at core.rings worker shard ≡ Some ring) × (ring.keys ≡ [])
+
 -- the shard of this number, which has no closed group, ends, its groups are the pool's, and all other shards are as they were
 pub record Ends (old : CoreState) (number : ℕ) (new : CoreState) : Type 0 where
   pub before : ShardState
@@ -181,8 +211,13 @@ CoreStep old (Put shard value) (Refused Ended) new = HasEnded old shard × (new 
 CoreStep old (Put shard value) (Refused PagesSpent) new = NeedsPage old shard × (new ≡ old)
 CoreStep old (Put shard value) (Refused OutOfMemory) new = MayPut old shard × (new ≡ old)
 CoreStep old (Get key) (Found value) new = (value ≡ (shown old).value_of key) × (new ≡ old)
-CoreStep old (Free key) (Freed true) new = FreesInShard old key new ⊎ FreesInPool old key new
-CoreStep old (Free key) (Freed false) new = ((shown old).value_of key ≡ None) × (new ≡ old)
+CoreStep old (Free key) (Freed freed) new = FreesKey old key freed new
+CoreStep old (Later worker key) Sent new = SendsKey old worker key new
+CoreStep old (Later worker key) (Refused RingFull) new = HasFullRing old worker key.span.shard × (new ≡ old)
+CoreStep old (Later worker key) (Refused Config) new = IsOutside old.limits worker key.span.shard × (new ≡ old)
+CoreStep old (Settle worker shard) (Settled (Some key)) new = Settles old worker shard key new
+CoreStep old (Settle worker shard) (Settled None) new = HasEmptyRing old worker shard × (new ≡ old)
+CoreStep old (Settle worker shard) (Refused Config) new = IsOutside old.limits worker shard × (new ≡ old)
 CoreStep old (End shard) ShardEnded new = Ends old shard new
 CoreStep old (End shard) (Refused Ended) new = HasEnded old shard × (new ≡ old)
 CoreStep old (End shard) (Refused PlanOpen) new = HasPlan old × HasClosedGroup old shard × (new ≡ old)
@@ -220,4 +255,4 @@ pub record Answers (old : CoreState) (events : List Event) (replies replies_new 
   pub appended : replies_new ≡ replies ++ answers
   pub each : length answers ≡ length events
   pub steps : CoreRun old events answers new
-  pub plain : PlainRun (shown old) (erased events answers) (shown new)
+  pub plain : PlainRun old.limits (shown old) (erased events answers) (shown new)

@@ -10,6 +10,10 @@ pub enum Event {
     Get { key: Key },
     /// Free the key.
     Free { key: Key },
+    /// Free the key later: it goes on the ring from the worker of this number to the shard that opened its span.
+    Later { worker: u32, key: Key },
+    /// Take the oldest key from the ring from the worker to the shard of these numbers, and free it wherever its span is.
+    Settle { worker: u32, shard: u32 },
     /// End the shard of this number: its groups go to the pool, and it takes no further put.
     End { shard: u32 },
     /// Move the pool's group of lowest head that has a page to the shard of this number.

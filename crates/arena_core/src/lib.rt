@@ -20,8 +20,11 @@
 //!
 //! A key is written here as shard, serial, slot and generation. It stays good wherever its span is.
 //!
+//! A key can also be freed later: it goes on a ring from its worker to the shard that opened its span, and is freed once it is
+//! settled, wherever its span then is.
+//!
 //! The public facts: without ends, adoptions, marks, steps and closes, the replies are those of a
-//! plain map of keys, which knows no shards, pages or spans (`specs/Plain.antt`), and those events
+//! plain map of keys, which knows what is pending, and no pages, groups or plans (`specs/Plain.antt`), and those events
 //! change nothing of the map that the core shows. A mark that is not refused plans as many folds as
 //! any plan, shown by the short set, and the whole can be written as a certificate (`specs/Marks.antt`);
 //! what it plans is carried out (`specs/Plan.antt`). Each step is besides an exact step of shards and
@@ -39,6 +42,7 @@ mod lends_shard;
 mod machine;
 mod marking;
 mod reply;
+mod rings;
 #[cfg(test)]
 mod tests;
 mod totals;

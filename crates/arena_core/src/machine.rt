@@ -9,9 +9,10 @@ ghost use Rattle.abandoned.specs.Sound.{IsSound as IsSoundPool};
 ghost use Rattle.abandoned.specs.State.{PoolState};
 ghost use Rattle.arena_core.specs.Moved.{StandsIn, StandsInNoOther};
 ghost use Rattle.arena_core.specs.Sound.{IsSound};
-ghost use Rattle.arena_core.specs.State.{AreWithin, HasKeys, limits_of, live_keys, new_core, new_shard, pages, shown};
+ghost use Rattle.arena_core.specs.State.{AreWithin, HasKeys, limits_of, live_keys, new_core, new_shard, pages, shown, with_rings};
 ghost use Rattle.arena_core.specs.Step.{Answers, CoreStep};
-ghost use Rattle.arena_core.specs.Plain.{ErasedStep, PlainStep};
+ghost use Rattle.arena_core.specs.Plain.{ErasedStep, IsOutside, PlainStep};
+ghost use Rattle.arena_core.specs.Rings.{Takes};
 ghost use Rattle.arena_core.specs.declared.event.Event.TheVariants as event;
 ghost use Rattle.arena_core.specs.declared.reply.Reply.TheVariants as reply;
 
@@ -19,6 +20,7 @@ use crate::current_plan::CurrentPlan;
 use crate::error::CoreError;
 use crate::event::Event;
 use crate::reply::{Refusal, Reply, adopt_refusal, end_refusal};
+use crate::rings::Rings;
 use crate::totals::Totals;
 use crate::whereabouts::Whereabouts;
 use abandoned::Pool;
@@ -29,7 +31,7 @@ use std::marker::Model;
 
 mod marks;
 
-/// All shards and the pool as one value, which takes events one after another and answers replies.
+/// All shards, the pool and the rings of deferred frees as one value, which takes events one after another and answers replies.
 ///
 /// A put costs what the shard's own put costs. A look-up and a free ask the shard that opened the span first, which has
 /// it until it ends: they then cost what that shard's own call costs. A span that it does not have is asked for in the
@@ -45,6 +47,7 @@ pub struct Core<L: Log = Kept> {
     pool: Pool<L>,
     plan: CurrentPlan,
     whereabouts: Whereabouts,
+    rings: Rings,
 }
 
 impl<L: Log> Model for Core<L> {
@@ -65,8 +68,8 @@ impl<L: Log> Model for Core<L> {
 
 impl Core<Kept> {
     /// A core of `shards` new shards, numbered from 0 on, and an empty pool. A shard may have `page_limit` pages of
-    /// 256 slots, a ring holds `ring_capacity` entries, and a slot is given the generations from 1
-    /// to `gens`.
+    /// 256 slots, and a slot is given the generations from 1 to `gens`. From each of as many workers as shards there is a
+    /// ring to each shard, which holds `ring_capacity` keys of deferred frees; its room is made here.
     ///
     /// [`CoreError::Config`] comes exactly where a number is out of its range, which is 1 to 64
     /// shards, 1 to 1,024 pages, 1 to 1,024 entries, and from 1 generation on;
@@ -112,6 +115,7 @@ impl<L: Log> Core<L> {
         }
         let whereabouts = Whereabouts::new(alloc, shards)?;
         let plan = CurrentPlan::new(alloc)?;
+        let rings = Rings::new(alloc, shards, ring_capacity)?;
         let shards = new_shards(alloc, shards, page_limit, gens)?;
         Ok(Core {
             alloc,
@@ -122,11 +126,12 @@ impl<L: Log> Core<L> {
             pool: Pool::with_log(alloc),
             plan,
             whereabouts,
+            rings,
         })
     }
 
-    /// Takes the event and answers it. The replies to puts, look-ups and frees are those of a plain map of keys; ends,
-    /// adoptions, marks, steps and closes leave the map that the core shows as it is.
+    /// Takes the event and answers it. The replies to puts, look-ups, frees, deferred frees and settlings are those of a
+    /// plain map of keys; ends, adoptions, marks, steps and closes leave the map that the core shows as it is.
     ///
     /// A refused event changes nothing. Of several causes that hold, the first of these is answered:
     ///
@@ -140,7 +145,9 @@ impl<L: Log> Core<L> {
     /// | [`Refusal::Config`] | there is no such shard | there is no such shard | there is no such shard | | |
     /// | [`Refusal::OutOfMemory`] | an allocation was refused | an allocation was refused | an allocation was refused | an allocation was refused | an allocation was refused; the pair stays next |
     ///
-    /// A look-up, a free and a close are never refused, and take no memory.
+    /// A look-up, a free and a close are never refused, and take no memory. A deferred free and a settling take none
+    /// either: [`Refusal::RingFull`] comes exactly where the ring of the deferred free holds as many keys as it may, and
+    /// [`Refusal::Config`] exactly where there is no such worker or shard.
     ///
     /// A mark that is not refused plans as many folds as can be, and shows it: no plan of what stands has more pairs. Until the
     /// plan is closed, the groups that it folds onto take no put, and each step carries out its next pair.
@@ -149,7 +156,7 @@ impl<L: Log> Core<L> {
     #[inline(always)]
     pub fn step(&mut self, event: Event) -> Reply
         ensures exact { CoreStep self.old event result self.new }
-        ensures plain { ErasedStep (shown self.old) event result (shown self.new) }
+        ensures plain { ErasedStep self.old.limits (shown self.old) event result (shown self.new) }
         ensures sound { IsSound self.new }
     {
         match event {
@@ -159,6 +166,14 @@ impl<L: Log> Core<L> {
             },
             Event::Get { key } => Reply::Found(self.get(&key)),
             Event::Free { key } => Reply::Freed(self.free(&key)),
+            Event::Later { worker, key } => match self.later(worker, key) {
+                Ok(()) => Reply::Sent,
+                Err(refusal) => Reply::Refused(refusal),
+            },
+            Event::Settle { worker, shard } => match self.settle(worker, shard) {
+                Ok(settled) => Reply::Settled(settled),
+                Err(refusal) => Reply::Refused(refusal),
+            },
             Event::End { shard } => match self.end(shard) {
                 Ok(()) => Reply::ShardEnded,
                 Err(refusal) => Reply::Refused(refusal),
@@ -215,15 +230,20 @@ impl<L: Log> Core<L> {
         totals
     }
 
-    // Puts the value into the shard of this number, at the slot that the shard chooses.
+    /// Keeps the value in the shard of this number, at the slot that the shard chooses, and answers its key.
+    ///
+    /// What [`Core::step`] does with [`Event::Put`], without a reply to take apart. It is refused as that is: by
+    /// [`Refusal::Config`] where there is no such shard, by [`Refusal::Ended`] where it has ended, by
+    /// [`Refusal::PagesSpent`] where it needs a page that it may not have, and by [`Refusal::OutOfMemory`] only where
+    /// none of these holds.
     #[inline(always)]
-    fn put(&mut self, number: u32, value: u128) -> Result<Key, Refusal>
+    pub fn put(&mut self, number: u32, value: u128) -> Result<Key, Refusal>
         ensures exact { MatchResult result
             (λ key. CoreStep self.old (event.Put number value) (reply.Issued key) self.new)
             (λ refusal. CoreStep self.old (event.Put number value) (reply.Refused refusal) self.new) }
         ensures plain { MatchResult result
-            (λ key. PlainStep (shown self.old) (event.Put number value) (reply.Issued key) (shown self.new))
-            (λ refusal. PlainStep (shown self.old) (event.Put number value) (reply.Refused refusal) (shown self.new)) }
+            (λ key. PlainStep self.old.limits (shown self.old) (event.Put number value) (reply.Issued key) (shown self.new))
+            (λ refusal. PlainStep self.old.limits (shown self.old) (event.Put number value) (reply.Refused refusal) (shown self.new)) }
         ensures sound { IsSound self.new }
     {
         let Some(shard) = self.shards.get_mut(number as usize) else {
@@ -233,9 +253,9 @@ impl<L: Log> Core<L> {
         Ok(key)
     }
 
-    // The word of the key, where it is live.
+    /// The value of the key, where it is live: what [`Core::step`] answers to [`Event::Get`]. It takes no memory.
     #[inline(always)]
-    fn get(&self, key: &Key) -> Option<u128>
+    pub fn get(&self, key: &Key) -> Option<u128>
         ensures value { result ≡ (shown self.now).value_of key.now }
         ensures sound { IsSound self.now }
     {
@@ -275,11 +295,12 @@ impl<L: Log> Core<L> {
         shard.get(key)
     }
 
-    // Frees the key, where it is live.
+    /// Frees the key, where it is live, and says whether it was: what [`Core::step`] does with [`Event::Free`]. It takes
+    /// no memory.
     #[inline(always)]
-    fn free(&mut self, key: &Key) -> bool
+    pub fn free(&mut self, key: &Key) -> bool
         ensures exact { CoreStep self.old (event.Free key.now) (reply.Freed result) self.new }
-        ensures plain { PlainStep (shown self.old) (event.Free key.now) (reply.Freed result) (shown self.new) }
+        ensures plain { PlainStep self.old.limits (shown self.old) (event.Free key.now) (reply.Freed result) (shown self.new) }
         ensures sound { IsSound self.new }
     {
         let Some(shard) = self.shards.get_mut(key.span.shard as usize) else {
@@ -296,7 +317,7 @@ impl<L: Log> Core<L> {
     fn free_moved(&mut self, key: &Key) -> bool
         requires { StandsIn self.old.shards key.now.span key.now.span.shard → ⊥ }
         ensures exact { CoreStep self.old (event.Free key.now) (reply.Freed result) self.new }
-        ensures plain { PlainStep (shown self.old) (event.Free key.now) (reply.Freed result) (shown self.new) }
+        ensures plain { PlainStep self.old.limits (shown self.old) (event.Free key.now) (reply.Freed result) (shown self.new) }
         ensures sound { IsSound self.new }
     {
         let freed = self.free_taken_in(key);
@@ -309,7 +330,7 @@ impl<L: Log> Core<L> {
     // Frees the key in the shard that took its span in last, if one did.
     fn free_taken_in(&mut self, key: &Key) -> Freed
         ensures exact { result ≢ Freed.NotHere → CoreStep self.old (event.Free key.now) (reply.Freed (was_freed result)) self.new }
-        ensures plain { result ≢ Freed.NotHere → PlainStep (shown self.old) (event.Free key.now) (reply.Freed (was_freed result)) (shown self.new) }
+        ensures plain { result ≢ Freed.NotHere → PlainStep self.old.limits (shown self.old) (event.Free key.now) (reply.Freed (was_freed result)) (shown self.new) }
         ensures sound { IsSound self.new }
         ensures not_here { result ≡ Freed.NotHere → StandsInNoOther self.old.shards key.now.span × (self.new ≡ self.old) }
     {
@@ -335,6 +356,47 @@ impl<L: Log> Core<L> {
             unreachable!();
         };
         number
+    }
+
+    // Puts the key last on the ring from this worker to the shard that opened the key's span.
+    fn later(&mut self, worker: u32, key: Key) -> Result<(), Refusal>
+        ensures exact { MatchResult result
+            (λ _. CoreStep self.old (event.Later worker key) reply.Sent self.new)
+            (λ refusal. CoreStep self.old (event.Later worker key) (reply.Refused refusal) self.new) }
+        ensures plain { MatchResult result
+            (λ _. PlainStep self.old.limits (shown self.old) (event.Later worker key) reply.Sent (shown self.new))
+            (λ refusal. PlainStep self.old.limits (shown self.old) (event.Later worker key) (reply.Refused refusal) (shown self.new)) }
+        ensures sound { IsSound self.new }
+    {
+        self.rings.send(worker, key)
+    }
+
+    // Takes the oldest key from the ring from this worker to this shard, if one waits there.
+    fn take_sent(&mut self, worker: u32, shard: u32) -> Result<Option<Key>, Refusal>
+        ensures taken { MatchResult result
+            (λ found. Takes self.old.rings worker shard found self.new.rings)
+            (λ refusal. (refusal ≡ Refusal.Config) × IsOutside self.old.limits worker shard × (self.new ≡ self.old)) }
+        ensures rest { self.new ≡ with_rings self.old self.new.rings }
+        ensures sound { IsSound self.new }
+    {
+        self.rings.take(worker, shard)
+    }
+
+    // Frees the key that has waited longest on the ring from this worker to this shard, if one waits there.
+    fn settle(&mut self, worker: u32, shard: u32) -> Result<Option<Key>, Refusal>
+        ensures exact { MatchResult result
+            (λ settled. CoreStep self.old (event.Settle worker shard) (reply.Settled settled) self.new)
+            (λ refusal. CoreStep self.old (event.Settle worker shard) (reply.Refused refusal) self.new) }
+        ensures plain { MatchResult result
+            (λ settled. PlainStep self.old.limits (shown self.old) (event.Settle worker shard) (reply.Settled settled) (shown self.new))
+            (λ refusal. PlainStep self.old.limits (shown self.old) (event.Settle worker shard) (reply.Refused refusal) (shown self.new)) }
+        ensures sound { IsSound self.new }
+    {
+        let Some(key) = self.take_sent(worker, shard)? else {
+            return Ok(None);
+        };
+        self.free(&key);
+        Ok(Some(key))
     }
 
     // Ends the shard of this number: its groups go to the pool.

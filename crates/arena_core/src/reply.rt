@@ -19,6 +19,10 @@ pub enum Reply {
     Found(Option<u128>),
     /// Whether a free found its key live, and freed it.
     Freed(bool),
+    /// The key waits to be freed.
+    Sent,
+    /// The key that had waited longest on the ring, which is freed where it was still live, or that none waited.
+    Settled(Option<Key>),
     /// The shard has ended, and its groups are the pool's.
     ShardEnded,
     /// The head of the group that the shard has adopted.
@@ -60,8 +64,11 @@ pub enum Refusal {
     /// No group of the pool has a page.
     #[error("no group of the pool has a page: there is nothing to adopt")]
     NothingToAdopt,
-    /// There is no shard of this number.
-    #[error("there is no shard of this number: shards are numbered from 0 to one below their count")]
+    /// The ring from this worker to this shard holds as many keys as it may.
+    #[error("the ring from this worker to this shard is full: settle a key of it first")]
+    RingFull,
+    /// There is no shard of this number, or no worker: there are as many workers as shards.
+    #[error("there is no shard or worker of this number: they are numbered from 0 to one below the count of shards")]
     Config,
 }
 

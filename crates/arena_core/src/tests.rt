@@ -32,6 +32,8 @@ enum Told {
     Issued(Key),
     Found(Option<u128>),
     Freed(bool),
+    Sent,
+    Settled(Option<Key>),
     ShardEnded,
     Adopted(SpanId),
     Marked(usize),
@@ -47,6 +49,8 @@ fn tell(reply: &Reply) -> Told {
         Reply::Issued(key) => Told::Issued(*key),
         Reply::Found(value) => Told::Found(*value),
         Reply::Freed(done) => Told::Freed(*done),
+        Reply::Sent => Told::Sent,
+        Reply::Settled(key) => Told::Settled(*key),
         Reply::ShardEnded => Told::ShardEnded,
         Reply::Adopted(head) => Told::Adopted(*head),
         Reply::Marked(certificate) => Told::Marked(certificate.plan.pairs().len()),
@@ -194,6 +198,61 @@ fn a_group_moves_whole(rt: HostRuntime) {
     assert_eq!(rt;
         totals_after_moves(rt.alloc()),
         Some(Totals { pages: 1, live: 1 })
+    );
+}
+
+fn free_later(worker: u32, key: Key) -> Event {
+    Event::Later { worker, key }
+}
+
+fn settle(worker: u32, shard: u32) -> Event {
+    Event::Settle { worker, shard }
+}
+
+// A core of two shards whose rings hold one key, asked for again where an allocation was refused.
+fn new_core_of_short_rings(alloc: Global) -> Option<Core> {
+    match Core::new(alloc, 2, 4, 1, 9) {
+        Err(CoreError::OutOfMemory) => Core::new(alloc, 2, 4, 1, 9).ok(),
+        made => made.ok(),
+    }
+}
+
+// A key that is sent is live until it is settled, and is freed in the pool where its shard has ended; a key that is sent
+// again frees nothing.
+fn totals_after_settling(alloc: Global) -> Option<Totals> {
+    let (first, second) = (key(0, 0, 0, 1)?, key(0, 0, 1, 1)?);
+    let table = [
+        (put(0, 5), Told::Issued(first)),
+        (put(0, 6), Told::Issued(second)),
+        (free_later(1, first), Told::Sent),
+        (free_later(1, second), Told::Refused(Refusal::RingFull)),
+        (free_later(0, second), Told::Sent),
+        (free_later(2, first), Told::Refused(Refusal::Config)),
+        (Event::Get { key: first }, Told::Found(Some(5))),
+        (Event::End { shard: 0 }, Told::ShardEnded),
+        (settle(1, 0), Told::Settled(Some(first))),
+        (Event::Get { key: first }, Told::Found(None)),
+        (settle(1, 0), Told::Settled(None)),
+        (free_later(1, first), Told::Sent),
+        (settle(1, 0), Told::Settled(Some(first))),
+        (settle(0, 1), Told::Settled(None)),
+        (settle(0, 2), Told::Refused(Refusal::Config)),
+        (Event::Get { key: second }, Told::Found(Some(6))),
+        (settle(0, 0), Told::Settled(Some(second))),
+    ];
+    let mut core = new_core_of_short_rings(alloc)?;
+    if are_answered(&mut core, table.as_slice()) {
+        Some(core.totals())
+    } else {
+        None
+    }
+}
+
+#[test]
+fn keys_are_freed_later_wherever_they_are(rt: HostRuntime) {
+    assert_eq!(rt;
+        totals_after_settling(rt.alloc()),
+        Some(Totals { pages: 0, live: 0 })
     );
 }
 

@@ -32,7 +32,7 @@ pub returns-in_err-key-clause-plain : goal.returns-in_err-key-clause-plain
 returns-in_err-key-clause-plain g c =
     let refused = err_from_is_err_and c.from_residual.result c.from_residual.ensures.1 in
     let same = state_of-same c.self.inside c.args.number c.in-Some.shard.now c.put.new.self (record { within = c.in-Some.ensures.variant.0 refl; value = c.in-Some.ensures.value }) c.in_err-key.ensures.err in
-    let step = PlainStep-refused (shown c.args.self.now) (shown (state_of (with_shard_at c.self.inside c.args.number c.put.new.self))) c.args.number c.args.value c.in_err-key.field-0.0 (ap shown (same ∙ c.self.view_is)) in
+    let step = PlainStep-refused c.args.self.now.limits (shown c.args.self.now) (shown (state_of (with_shard_at c.self.inside c.args.number c.put.new.self))) c.args.number c.args.value c.in_err-key.field-0.0 (ap shown (same ∙ c.self.view_is)) in
     rw (refused.1, refused.2) step
 
 pub invariant_of-self-in_err-key : goal.invariant_of-self-in_err-key
