@@ -1,0 +1,154 @@
+/* Words of 128 bits under keys: a key that was freed finds nothing for ever, a live one its own word, and half-empty pages are folded
+ * onto one another while every key stays valid. The library is proved (crates/teurlaks_c); README.md beside this file has a page of use.
+ *
+ * What a caller owes, since nothing can check it:
+ * - Each call but teurlaks_new: the handle has a core, from a teurlaks_new that answered TEURLAKS_OK, with no teurlaks_drop since.
+ * - One call at a time on one handle, teurlaks_get among them. A handle may go to another thread, ordered by a lock, a start or a join.
+ * - Only the library reads or writes what a handle points to, and of two copies of a handle one is never used again.
+ * - malloc, realloc and free are of one allocator, which aligns a block to each power of two up to 16 that divides its size.
+ * - No call from a signal handler, or from the forked child of a process with threads.
+ * - A processor of level x86-64-v2.
+ */
+#ifndef TEURLAKS_H
+#define TEURLAKS_H
+
+#include <stddef.h>
+#include <stdint.h>
+
+#ifdef __cplusplus
+extern "C" {
+#endif
+
+/* What a call answers. From TEURLAKS_OUT_OF_MEMORY to TEURLAKS_CONFIG it is refused, and nothing has changed. */
+enum {
+    TEURLAKS_OK = 0,               /* done, or found */
+    TEURLAKS_NONE = 1,             /* the key is not live; there is no certificate yet */
+    TEURLAKS_OUT_OF_MEMORY = 2,    /* the call may be tried again */
+    TEURLAKS_PAGES_SPENT = 3,      /* the shard may have no further page */
+    TEURLAKS_ENDED = 4,            /* the shard has ended */
+    TEURLAKS_PLAN_OPEN = 5,        /* a plan is open: close it first */
+    TEURLAKS_TOO_MANY = 6,         /* a side has more than 4,096 groups, too many for a plan */
+    TEURLAKS_NOTHING_TO_ADOPT = 7, /* no group of the pool has a page */
+    TEURLAKS_CONFIG = 8,           /* a number is out of its range, or there is no such shard */
+    TEURLAKS_EMPTIED = 9,          /* the pair's abandoned group had no live key left */
+    TEURLAKS_NO_PAIR_LEFT = 10,    /* the open plan is done with */
+    TEURLAKS_NO_PLAN = 11,         /* no plan is open */
+    TEURLAKS_TOO_SMALL = 12,       /* the text takes more bytes than there is room for; nothing was written */
+    TEURLAKS_RING_FULL = 13        /* a ring holds as many keys as it may; no call here answers it */
+};
+
+/* Where a core is. Begin with `struct teurlaks_handle core = {0};`. */
+struct teurlaks_handle {
+    uint8_t *at;
+};
+
+/* The name of one stored word, 8 bytes. Any numbers may be given: a key that is not live finds nothing. */
+struct teurlaks_key {
+    uint8_t shard;
+    uint8_t slot;
+    uint16_t serial;
+    uint32_t generation;
+};
+
+/* The name of a span, and of the group that it heads. */
+struct teurlaks_span {
+    uint32_t shard;
+    uint32_t serial;
+};
+
+/* high * 2^64 + low */
+struct teurlaks_word {
+    uint64_t low;
+    uint64_t high;
+};
+
+/* The key, where the status is TEURLAKS_OK. */
+struct teurlaks_put_reply {
+    uint32_t status;
+    struct teurlaks_key key;
+};
+
+/* The word, where the status is TEURLAKS_OK; else 0. */
+struct teurlaks_get_reply {
+    struct teurlaks_word value;
+    uint32_t status;
+};
+
+/* The head of the adopted group, where the status is TEURLAKS_OK. */
+struct teurlaks_adopt_reply {
+    uint32_t status;
+    struct teurlaks_span head;
+};
+
+/* Where the status is TEURLAKS_OK: groups of the pool that have a page, groups of the shards, planned folds, and members of the short
+ * set, which shows that no plan has more folds. */
+struct teurlaks_mark_reply {
+    uint32_t status;
+    size_t abandoned;
+    size_t owned;
+    size_t folds;
+    size_t short_set;
+};
+
+/* The pair, where the status is TEURLAKS_OK or TEURLAKS_EMPTIED. */
+struct teurlaks_step_reply {
+    uint32_t status;
+    struct teurlaks_span abandoned;
+    struct teurlaks_span owned;
+};
+
+/* How many bytes the text takes, where the status is TEURLAKS_OK or TEURLAKS_TOO_SMALL. */
+struct teurlaks_certificate_reply {
+    uint32_t status;
+    size_t len;
+};
+
+/* Pages of 256 slots, and live keys. */
+struct teurlaks_totals_reply {
+    size_t pages;
+    size_t live;
+};
+
+/* The handle has no core: TEURLAKS_OK leaves it one. 1 to 64 shards, of up to 1 to 1,024 pages; rings of 1 to 1,024 keys (give 1, while
+ * frees are not deferred); generations from 1 to gens, at least 1. */
+uint32_t teurlaks_new(struct teurlaks_handle *out, uint32_t shards, uint32_t page_limit, uint32_t ring_capacity, uint32_t gens);
+
+/* Gives all memory back. */
+void teurlaks_drop(struct teurlaks_handle *handle);
+
+/* Keeps the word in the shard, under a key that was never given out before. */
+struct teurlaks_put_reply teurlaks_put(struct teurlaks_handle *handle, uint32_t shard, struct teurlaks_word value);
+
+/* The word of the key, or TEURLAKS_NONE. */
+struct teurlaks_get_reply teurlaks_get(struct teurlaks_handle *handle, struct teurlaks_key key);
+
+/* Frees the key, or TEURLAKS_NONE. Takes no memory. */
+uint32_t teurlaks_free(struct teurlaks_handle *handle, struct teurlaks_key key);
+
+/* How much is kept. */
+struct teurlaks_totals_reply teurlaks_totals(struct teurlaks_handle *handle);
+
+/* Ends the shard: its groups go to the pool, with their pages, and it takes no word again. */
+uint32_t teurlaks_end(struct teurlaks_handle *handle, uint32_t shard);
+
+/* Moves the pool's group of lowest head that has a page to the shard. */
+struct teurlaks_adopt_reply teurlaks_adopt(struct teurlaks_handle *handle, uint32_t shard);
+
+/* Plans as many folds as can be, and opens the plan. */
+struct teurlaks_mark_reply teurlaks_mark(struct teurlaks_handle *handle);
+
+/* Carries out the next pair of the open plan. */
+struct teurlaks_step_reply teurlaks_step(struct teurlaks_handle *handle);
+
+/* Closes the open plan. Takes no memory. */
+uint32_t teurlaks_close(struct teurlaks_handle *handle);
+
+/* Writes the text of the last mark's certificate into the first bytes of text, where text_len bytes are room enough. `text` is not
+ * NULL, and may point anywhere where text_len is 0. */
+struct teurlaks_certificate_reply teurlaks_certificate(struct teurlaks_handle *handle, uint8_t *text, size_t text_len);
+
+#ifdef __cplusplus
+}
+#endif
+
+#endif

@@ -1,0 +1,115 @@
+/* The tour of a core from C, with each allocation failing in turn. Link it with -Wl,--wrap=malloc,--wrap=realloc. */
+#include "teurlaks.h"
+#include <stdio.h>
+#include <stdlib.h>
+#include <string.h>
+
+/* How many allocations go well before one fails, and whether it has. */
+static long before_failure = -1;
+static int has_failed;
+
+void *__real_malloc(size_t size);
+void *__real_realloc(void *block, size_t size);
+
+static int fails(void) {
+    if (before_failure < 0 || before_failure-- > 0) return 0;
+    has_failed = 1;
+    return 1;
+}
+
+void *__wrap_malloc(size_t size) { return fails() ? NULL : __real_malloc(size); }
+void *__wrap_realloc(void *block, size_t size) { return fails() ? NULL : __real_realloc(block, size); }
+
+#define WANT(holds)                                                                                                                              \
+    do {                                                                                                                                         \
+        if (!(holds)) {                                                                                                                          \
+            printf("tour.c:%d: %s\n", __LINE__, #holds);                                                                                         \
+            exit(1);                                                                                                                             \
+        }                                                                                                                                        \
+    } while (0)
+
+/* The call, and once more where memory was refused: the totals are as they were, since a refusal changes nothing. */
+#define AGAIN(reply, status, call)                                                                                                               \
+    do {                                                                                                                                         \
+        struct teurlaks_totals_reply was = teurlaks_totals(&core);                                                                               \
+        reply = call;                                                                                                                            \
+        if ((status) == TEURLAKS_OUT_OF_MEMORY) {                                                                                                \
+            struct teurlaks_totals_reply is = teurlaks_totals(&core);                                                                            \
+            WANT(has_failed && is.pages == was.pages && is.live == was.live);                                                                    \
+            reply = call;                                                                                                                        \
+        }                                                                                                                                        \
+    } while (0)
+
+static struct teurlaks_word word(uint64_t low) { return (struct teurlaks_word){low, ~low}; }
+
+static void forged_keys(struct teurlaks_handle *core) {
+    for (uint64_t i = 0; i < 100000; i++) {
+        struct teurlaks_key key = {(uint8_t)(i * 37), (uint8_t)i, (uint16_t)(i * 1009), (uint32_t)(i * 2654435761u)};
+        WANT(teurlaks_get(core, key).status <= TEURLAKS_NONE);
+    }
+}
+
+static void tour(void) {
+    static const char plan[] = "folds 1\n0.0 1.0\nshort 0\nend\n";
+    struct teurlaks_handle core = {0};
+    uint32_t status = teurlaks_new(&core, 2, 4, 1, 9);
+    if (status == TEURLAKS_OUT_OF_MEMORY) {
+        WANT(has_failed && !core.at);
+        status = teurlaks_new(&core, 2, 4, 1, 9);
+    }
+    WANT(status == TEURLAKS_OK && core.at);
+
+    uint8_t text[512];
+    struct teurlaks_put_reply first, put, other;
+    AGAIN(first, first.status, teurlaks_put(&core, 0, word(10)));
+    AGAIN(put, put.status, teurlaks_put(&core, 0, word(11)));
+    WANT(first.status == TEURLAKS_OK && put.status == TEURLAKS_OK && put.key.slot == 1 && put.key.generation == 1);
+    WANT(teurlaks_free(&core, first.key) == TEURLAKS_OK && teurlaks_free(&core, first.key) == TEURLAKS_NONE);
+    WANT(teurlaks_certificate(&core, text, sizeof text).status == TEURLAKS_NONE);
+    AGAIN(status, status, teurlaks_end(&core, 0));
+    WANT(status == TEURLAKS_OK && teurlaks_end(&core, 0) == TEURLAKS_ENDED && teurlaks_end(&core, 2) == TEURLAKS_CONFIG);
+    AGAIN(other, other.status, teurlaks_put(&core, 1, word(7)));
+    WANT(other.status == TEURLAKS_OK);
+
+    struct teurlaks_mark_reply marked;
+    AGAIN(marked, marked.status, teurlaks_mark(&core));
+    WANT(marked.status == TEURLAKS_OK && marked.abandoned == 1 && marked.owned == 1 && marked.folds == 1 && marked.short_set == 0);
+    WANT(teurlaks_mark(&core).status == TEURLAKS_PLAN_OPEN && teurlaks_adopt(&core, 1).status == TEURLAKS_PLAN_OPEN);
+
+    struct teurlaks_certificate_reply told;
+    memset(text, 'x', sizeof text);
+    AGAIN(told, told.status, teurlaks_certificate(&core, text, 0));
+    WANT(told.status == TEURLAKS_TOO_SMALL && told.len < sizeof text && text[0] == 'x');
+    size_t len = told.len;
+    AGAIN(told, told.status, teurlaks_certificate(&core, text, len - 1));
+    WANT(told.status == TEURLAKS_TOO_SMALL && text[0] == 'x');
+    AGAIN(told, told.status, teurlaks_certificate(&core, text, sizeof text));
+    WANT(told.status == TEURLAKS_OK && told.len == len && text[len] == 'x' && !memcmp(text, "meshcert 1\n", 11));
+    WANT(!memcmp(text + len - strlen(plan), plan, strlen(plan)));
+
+    struct teurlaks_step_reply step;
+    AGAIN(step, step.status, teurlaks_step(&core));
+    WANT(step.status == TEURLAKS_OK && step.abandoned.shard == 0 && step.owned.shard == 1);
+    WANT(teurlaks_step(&core).status == TEURLAKS_NO_PAIR_LEFT && teurlaks_close(&core) == TEURLAKS_OK);
+    WANT(teurlaks_close(&core) == TEURLAKS_NO_PLAN && teurlaks_step(&core).status == TEURLAKS_NO_PLAN);
+    WANT(teurlaks_adopt(&core, 1).status == TEURLAKS_NOTHING_TO_ADOPT);
+
+    struct teurlaks_get_reply got = teurlaks_get(&core, put.key);
+    WANT(got.status == TEURLAKS_OK && got.value.low == 11 && got.value.high == ~11ull);
+    WANT(teurlaks_get(&core, first.key).status == TEURLAKS_NONE);
+    WANT(teurlaks_totals(&core).pages == 1 && teurlaks_totals(&core).live == 2);
+    if (!has_failed) forged_keys(&core);
+    teurlaks_drop(&core);
+    WANT(!core.at);
+}
+
+int main(void) {
+    long runs = 0;
+    do {
+        before_failure = runs++;
+        has_failed = 0;
+        tour();
+    } while (has_failed);
+    printf("the tour was taken with each of %ld allocations failing in turn\n", runs - 1);
+    return 0;
+}

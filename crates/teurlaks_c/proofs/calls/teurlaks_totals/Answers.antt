@@ -1,0 +1,12 @@
+use Rattle.std.proofs.Common.{ap, sym, ◌∙◌}
+use Rattle.std.specs.Prelude.{Some}
+use Rattle.teurlaks_c.proofs.calls.teurlaks_totals.Goals as goal
+
+pub returns : goal.returns
+returns c = record {
+  held = c.deref.result.now;
+  is = ap (λ h. h.held) (sym c.replace.ensures.value) ∙ (sym c.into_box-held.ensures ∙ ap Some (sym c.deref.ensures));
+  same = c.of.ensures ∙ (c.into_box-held.ensures ∙ ap (λ h. h.held) c.replace.ensures.value);
+  pages = c.totals-totals.ensures.pages;
+  live = c.totals-totals.ensures.shown;
+}

@@ -1,0 +1,194 @@
+-- What the calls do.
+use Rattle.std.specs.Prelude.{◌≡◌, ◌⊎◌, ◌<◌, ◌++◌, ℕ, List, Option, Some, None, true, false, drop, length}
+use Rattle.span.specs.declared.key.Key.{Key}
+use Rattle.span.specs.Log.{Value}
+use Rattle.certificate.specs.declared.certificate.Certificate.{Certificate}
+use Rattle.certificate.specs.Text.{IsWritable, certificate_text}
+use Rattle.fold.specs.declared.step.Step.TheVariants.{Folded, Emptied}
+use Rattle.arena_core.specs.declared.event.Event.{Event}
+use Rattle.arena_core.specs.declared.event.Event.TheVariants.{Put, Free, End, Adopt, Mark, Step, Close}
+use Rattle.arena_core.specs.declared.reply.Reply.{Reply}
+use Rattle.arena_core.specs.declared.reply.Reply.TheVariants.{Issued, Freed, ShardEnded, Adopted, Marked, Stepped, NoPairLeft, Closed, NoPlan, Refused}
+use Rattle.arena_core.specs.Plain.{ErasedStep}
+use Rattle.arena_core.specs.Sound.{IsSound}
+use Rattle.arena_core.specs.State.{CoreState, HasKeys, Limits, new_core, pages, shown}
+use Rattle.arena_core.specs.Step.{CoreStep}
+use Rattle.teurlaks_c.specs.declared.held.Held.{Held}
+use Rattle.teurlaks_c.specs.declared.held.Witness.{Witness}
+use Rattle.teurlaks_c.specs.declared.replies.RawKey.{RawKey}
+use Rattle.teurlaks_c.specs.declared.replies.RawWord.{RawWord}
+use Rattle.teurlaks_c.specs.declared.replies.PutReply.{PutReply}
+use Rattle.teurlaks_c.specs.declared.replies.GetReply.{GetReply}
+use Rattle.teurlaks_c.specs.declared.replies.AdoptReply.{AdoptReply}
+use Rattle.teurlaks_c.specs.declared.replies.MarkReply.{MarkReply}
+use Rattle.teurlaks_c.specs.declared.replies.StepReply.{StepReply}
+use Rattle.teurlaks_c.specs.declared.replies.CertificateReply.{CertificateReply}
+use Rattle.teurlaks_c.specs.declared.replies.TotalsReply.{TotalsReply}
+use Rattle.teurlaks_c.specs.Keys.{IsKeyOf, IsNoKey, IsSpanOf}
+use Rattle.teurlaks_c.specs.Status.{done, none, out_of_memory, emptied, no_pair_left, no_plan, too_small, refusal_status}
+use Rattle.teurlaks_c.specs.Words.{word_of}
+
+-- a new core of these numbers, and no certificate
+pub record HasNew (limits : Limits) (new : Option Held) : Type 0 where
+  pub held : Held
+  pub is : new ≡ Some held
+  pub core : held.core ≡ new_core limits
+  pub last : held.last ≡ None
+
+-- from one core to the other it gives this reply to the event: a step of shards and pool, and of the plain map that they show, to a sound core
+pub record Replies (before : CoreState) (event : Event) (reply : Reply) (after : CoreState) : Type 0 where
+  pub exact : CoreStep before event reply after
+  pub plain : ErasedStep before.limits (shown before) event reply (shown after)
+  pub sound : IsSound after
+
+-- the core of the handle gives this reply to the event, and the certificate that is kept is as it was
+pub record Steps (old : Option Held) (event : Event) (reply : Reply) (new : Option Held) : Type 0 where
+  pub before : Held
+  pub after : Held
+  pub before_is : old ≡ Some before
+  pub after_is : new ≡ Some after
+  pub replies : Replies before.core event reply after.core
+  pub same : after.last ≡ before.last
+
+-- what C reads of the reply to a put; no other reply comes
+abbrev pub SaysPut : PutReply → Reply → Type 0
+SaysPut says (Issued key) = (says.status ≡ done) × IsKeyOf says.key key
+SaysPut says (Refused refusal) = says.status ≡ refusal_status refusal
+SaysPut says reply = ⊥
+
+-- the word is put, or the put is refused
+abbrev pub Puts : Option Held → ℕ → RawWord → PutReply → Option Held → Type 0
+Puts old shard value says new = (reply : Reply) × Steps old (Put shard (word_of value)) reply new × SaysPut says reply
+
+-- what C reads of a look-up
+abbrev pub SaysGot : GetReply → Option Value → Type 0
+SaysGot says (Some value) = (says.status ≡ done) × (word_of says.value ≡ value)
+SaysGot says None = (says.status ≡ none) × (word_of says.value ≡ 0)
+
+-- the value of the key in the map that the core shows; nothing changes
+pub record GetsKey (old : Option Held) (key : Key) (found : Option Value) (new : Option Held) : Type 0 where
+  pub held : Held
+  pub is : old ≡ Some held
+  pub same : new ≡ old
+  pub value : found ≡ (shown held.core).value_of key
+
+-- the word of the key with these numbers, if it is live; nothing changes
+abbrev pub Gets : Option Held → RawKey → GetReply → Option Held → Type 0
+Gets old raw says new = (IsNoKey raw × SaysGot says None × (new ≡ old))
+    ⊎ ((key : Key) × (found : Option Value) × IsKeyOf raw key × GetsKey old key found new × SaysGot says found)
+
+-- the key with these numbers is freed, if it is live; else nothing changes
+abbrev pub Frees : Option Held → RawKey → ℕ → Option Held → Type 0
+Frees old raw says new = (IsNoKey raw × (says ≡ none) × (new ≡ old))
+    ⊎ ((key : Key) × IsKeyOf raw key
+    × ((Steps old (Free key) (Freed true) new × (says ≡ done)) ⊎ (Steps old (Free key) (Freed false) new × (says ≡ none))))
+
+-- what C reads of the reply to an end
+abbrev pub SaysEnd : ℕ → Reply → Type 0
+SaysEnd says ShardEnded = says ≡ done
+SaysEnd says (Refused refusal) = says ≡ refusal_status refusal
+-- no other reply comes
+SaysEnd says reply = Unit {0}
+
+-- the shard ends, or is refused its end
+abbrev pub Ends : Option Held → ℕ → ℕ → Option Held → Type 0
+Ends old shard says new = (reply : Reply) × Steps old (End shard) reply new × SaysEnd says reply
+
+-- what C reads of the reply to an adoption
+abbrev pub SaysAdopted : AdoptReply → Reply → Type 0
+SaysAdopted says (Adopted head) = (says.status ≡ done) × IsSpanOf says.head head
+SaysAdopted says (Refused refusal) = says.status ≡ refusal_status refusal
+-- no other reply comes
+SaysAdopted says reply = Unit {0}
+
+-- a group is adopted, or the adoption is refused
+abbrev pub Adopts : Option Held → ℕ → AdoptReply → Option Held → Type 0
+Adopts old shard says new = (reply : Reply) × Steps old (Adopt shard) reply new × SaysAdopted says reply
+
+-- the numbers of a certificate: groups of both sides, folds, and members of the short set
+pub record CountsOf (says : MarkReply) (certificate : Certificate) : Type 0 where
+  pub status : says.status ≡ done
+  pub abandoned : says.abandoned ≡ length certificate.snapshot.abandoned
+  pub owned : says.owned ≡ length certificate.snapshot.owned
+  pub folds : says.folds ≡ length certificate.plan
+  pub short_set : says.short_set ≡ length certificate.short
+
+-- what C reads of the reply to a mark
+abbrev pub SaysMarked : MarkReply → Reply → Type 0
+SaysMarked says (Marked certificate) = CountsOf says certificate
+SaysMarked says (Refused refusal) = says.status ≡ refusal_status refusal
+-- no other reply comes
+SaysMarked says reply = Unit {0}
+
+-- the certificate that is kept, if there is one
+abbrev pub kept : Option Witness → Option Certificate
+kept None = None
+kept (Some witness) = Some witness.certificate
+
+-- after the reply to a mark its certificate is kept, or, where it has none, the one before
+abbrev pub Keeps : Option Witness → Reply → Option Witness → Type 0
+Keeps old (Marked certificate) new = kept new ≡ Some certificate
+Keeps old reply new = new ≡ old
+
+-- a certificate in the reply is within the grammar of texts
+abbrev pub HasWritable : Reply → Type 0
+HasWritable (Marked certificate) = IsWritable certificate
+HasWritable reply = Unit {0}
+
+-- a largest plan is opened and its certificate kept, or the mark is refused
+pub record Marks (old : Option Held) (says : MarkReply) (new : Option Held) : Type 0 where
+  pub before : Held
+  pub after : Held
+  pub reply : Reply
+  pub before_is : old ≡ Some before
+  pub after_is : new ≡ Some after
+  pub replies : Replies before.core Mark reply after.core
+  pub told : SaysMarked says reply
+  pub keeps : Keeps before.last reply after.last
+
+-- what C reads of the reply to a step
+abbrev pub SaysStepped : StepReply → Reply → Type 0
+SaysStepped says (Stepped abandoned owned Folded) = (says.status ≡ done) × IsSpanOf says.abandoned abandoned × IsSpanOf says.owned owned
+SaysStepped says (Stepped abandoned owned Emptied) = (says.status ≡ emptied) × IsSpanOf says.abandoned abandoned × IsSpanOf says.owned owned
+SaysStepped says NoPairLeft = says.status ≡ no_pair_left
+SaysStepped says NoPlan = says.status ≡ no_plan
+SaysStepped says (Refused refusal) = says.status ≡ refusal_status refusal
+-- no other reply comes
+SaysStepped says reply = Unit {0}
+
+-- the next pair is carried out, or there is none, or memory is refused
+abbrev pub TakesStep : Option Held → StepReply → Option Held → Type 0
+TakesStep old says new = (reply : Reply) × Steps old Step reply new × SaysStepped says reply
+
+-- what C reads of the reply to a close
+abbrev pub SaysClosed : ℕ → Reply → Type 0
+SaysClosed says Closed = says ≡ done
+SaysClosed says NoPlan = says ≡ no_plan
+-- no other reply comes
+SaysClosed says reply = Unit {0}
+
+-- the plan is closed, or there is none
+abbrev pub Closes : Option Held → ℕ → Option Held → Type 0
+Closes old says new = (reply : Reply) × Steps old Close reply new × SaysClosed says reply
+
+-- the text of this certificate stands at the room's beginning and the rest of the room is as it was; or there is no certificate, no room, or no memory, and all of it is
+abbrev pub Tells : Option Witness → List ℕ → CertificateReply → List ℕ → Type 0
+Tells None old says new = (says.status ≡ none) × (new ≡ old)
+Tells (Some witness) old says new =
+    ((says.status ≡ done) × (says.len ≡ length (certificate_text witness.certificate)) × (new ≡ certificate_text witness.certificate ++ drop says.len old))
+    ⊎ (((says.status ≡ too_small) × (says.len ≡ length (certificate_text witness.certificate)) × (length old < says.len) × (new ≡ old))
+    ⊎ ((says.status ≡ out_of_memory) × (new ≡ old)))
+
+-- the text of the certificate that is kept is written into the room
+pub record Writes (old : Option Held) (room : List ℕ) (says : CertificateReply) (room_new : List ℕ) : Type 0 where
+  pub held : Held
+  pub is : old ≡ Some held
+  pub tells : Tells held.last room says room_new
+
+-- the pages and the live keys of the core, which stays as it is
+pub record Counts (old : Option Held) (says : TotalsReply) (new : Option Held) : Type 0 where
+  pub held : Held
+  pub is : old ≡ Some held
+  pub same : new ≡ old
+  pub pages : says.pages ≡ pages held.core
+  pub live : HasKeys (shown held.core) says.live

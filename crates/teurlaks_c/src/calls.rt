@@ -1,0 +1,182 @@
+// A core from its beginning to its end, and the calls on keys.
+ghost use Rattle.std.specs.Prelude.{◌≡◌, ◌↔◌, IsSome, None, Option, Some};
+ghost use Rattle.arena_core.specs.State.{AreWithin, limits_of, new_core};
+ghost use Rattle.arena_core.specs.declared.event.Event.TheVariants as event;
+ghost use Rattle.arena_core.specs.declared.reply.Reply.TheVariants as reply;
+ghost use Rattle.teurlaks_c.specs.Calls.{Counts, Frees, Gets, GetsKey, HasNew, Puts, SaysGot, Steps};
+ghost use Rattle.teurlaks_c.specs.Status.{config, out_of_memory, refusal_status};
+
+use crate::handle::Handle;
+use crate::held::Held;
+use crate::keys::{key_of, raw_of};
+use crate::replies::{GetReply, PutReply, RawKey, RawWord, TotalsReply};
+use crate::status::{CONFIG, NONE, OK, OUT_OF_MEMORY, status_of};
+use crate::words::{raw_word, value_of};
+use arena_core::{Core, CoreError};
+use span::Key;
+use std::alloc::Global;
+use std::mem::replace;
+
+/// Leaves a new core to the handle, which has none yet: of `shards` shards, 1 to 64, each of up to `page_limit` pages of 256 slots,
+/// 1 to 1,024, with rings of `ring_capacity` keys, 1 to 1,024, each slot of which is given the generations from 1 to `gens`, at least 1.
+///
+/// `CONFIG` comes exactly where a number is out of its range, and `OUT_OF_MEMORY` only where each is within it. Where the status
+/// is not `OK` the handle still has none.
+#[unsafe(no_mangle)]
+pub extern "C" fn teurlaks_new(
+    alloc: Global,
+    out: &mut Handle,
+    shards: u32,
+    page_limit: u32,
+    ring_capacity: u32,
+    gens: u32,
+) -> u32
+    requires vacant { out.old.held ≡ None }
+    ensures ok { result ≡ 0 → HasNew (limits_of shards page_limit ring_capacity gens) out.new.held }
+    ensures refused { (result ≡ 0 → ⊥) → out.new.held ≡ None }
+    ensures config { (result ≡ config) ↔ (AreWithin (limits_of shards page_limit ring_capacity gens) → ⊥) }
+{
+    match Core::with_log(
+        alloc,
+        shards,
+        page_limit as usize,
+        ring_capacity as usize,
+        gens,
+    ) {
+        Ok(core) => match Box::new(alloc, Held { core, last: None }) {
+            Ok(held) => {
+                *out = Handle::of(held);
+                OK
+            }
+            Err(_) => OUT_OF_MEMORY,
+        },
+        Err(CoreError::Config) => CONFIG,
+        Err(CoreError::OutOfMemory) => OUT_OF_MEMORY,
+    }
+}
+
+/// Gives the memory of the core back. The handle then has none.
+#[unsafe(no_mangle)]
+pub extern "C" fn teurlaks_drop(alloc: Global, handle: &mut Handle)
+    requires live { IsSome handle.old.held }
+    ensures { handle.new.held ≡ None }
+{
+    drop(replace(handle, Handle::none()).into_box(alloc));
+}
+
+/// Keeps the word in the shard, and answers its key, which was never given out before. Refused with `PAGES_SPENT`, `ENDED`, `CONFIG` or
+/// `OUT_OF_MEMORY` as [`Core::put`] is; nothing has changed then.
+#[unsafe(no_mangle)]
+pub extern "C" fn teurlaks_put(
+    alloc: Global,
+    handle: &mut Handle,
+    shard: u32,
+    value: RawWord,
+) -> PutReply
+    requires live { IsSome handle.old.held }
+    ensures { Puts handle.old.held shard value result handle.new.held }
+{
+    let mut held = replace(handle, Handle::none()).into_box(alloc);
+    let put = held.core.put(shard, value_of(value));
+    *handle = Handle::of(held);
+    match put {
+        Ok(key) => PutReply {
+            status: OK,
+            key: raw_of(key),
+        },
+        Err(refusal) => PutReply {
+            status: status_of(refusal),
+            key: no_key(),
+        },
+    }
+}
+
+/// The word of the key, where it is live, and else `NONE`. Nothing changes.
+#[unsafe(no_mangle)]
+pub extern "C" fn teurlaks_get(alloc: Global, handle: &mut Handle, key: RawKey) -> GetReply
+    requires live { IsSome handle.old.held }
+    ensures { Gets handle.old.held key result handle.new.held }
+{
+    let Some(key) = key_of(key) else {
+        return got(None);
+    };
+    got(get(alloc, handle, &key))
+}
+
+/// Frees the key, where it is live, which `OK` says; else it answers `NONE`, and nothing changes. It takes no memory.
+#[unsafe(no_mangle)]
+pub extern "C" fn teurlaks_free(alloc: Global, handle: &mut Handle, key: RawKey) -> u32
+    requires live { IsSome handle.old.held }
+    ensures { Frees handle.old.held key result handle.new.held }
+{
+    let Some(key) = key_of(key) else {
+        return NONE;
+    };
+    if free(alloc, handle, &key) { OK } else { NONE }
+}
+
+/// How many pages there are, and how many keys are live. Nothing changes.
+#[unsafe(no_mangle)]
+pub extern "C" fn teurlaks_totals(alloc: Global, handle: &mut Handle) -> TotalsReply
+    requires live { IsSome handle.old.held }
+    ensures { Counts handle.old.held result handle.new.held }
+{
+    let held = replace(handle, Handle::none()).into_box(alloc);
+    let totals = held.core.totals();
+    *handle = Handle::of(held);
+    TotalsReply {
+        pages: totals.pages,
+        live: totals.live,
+    }
+}
+
+// The core looks the key up.
+#[inline(always)]
+fn get(alloc: Global, handle: &mut Handle, key: &Key) -> Option<u128>
+    requires live { IsSome handle.old.held }
+    ensures { GetsKey handle.old.held key.now result handle.new.held }
+{
+    let held = replace(handle, Handle::none()).into_box(alloc);
+    let found = held.core.get(key);
+    *handle = Handle::of(held);
+    found
+}
+
+// The core frees the key.
+#[inline(always)]
+fn free(alloc: Global, handle: &mut Handle, key: &Key) -> bool
+    requires live { IsSome handle.old.held }
+    ensures { Steps handle.old.held (event.Free key.now) (reply.Freed result) handle.new.held }
+{
+    let mut held = replace(handle, Handle::none()).into_box(alloc);
+    let freed = held.core.free(key);
+    *handle = Handle::of(held);
+    freed
+}
+
+// What was found, as C has it.
+#[inline(always)]
+fn got(found: Option<u128>) -> GetReply
+    ensures { SaysGot result found }
+{
+    match found {
+        Some(value) => GetReply {
+            value: raw_word(value),
+            status: OK,
+        },
+        None => GetReply {
+            value: raw_word(0),
+            status: NONE,
+        },
+    }
+}
+
+// What stands for a key where there is none: generation 0 is never given out.
+fn no_key() -> RawKey {
+    RawKey {
+        shard: 0,
+        slot: 0,
+        serial: 0,
+        generation: 0,
+    }
+}

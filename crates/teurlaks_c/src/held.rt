@@ -1,0 +1,23 @@
+// What a handle holds.
+ghost use Rattle.certificate.specs.Text.{IsWritable};
+
+use arena_core::Core;
+use certificate::Certificate;
+use span::Counted;
+
+/// A core whose changes are only counted, and what its last mark answered, so that a caller can ask for the text of it afterwards.
+#[derive(Drop)]
+pub struct Held {
+    /// The shards, the pool and the open plan.
+    pub core: Core<Counted>,
+    /// The certificate of the last mark that was not refused.
+    pub last: Option<Witness>,
+}
+
+/// A certificate that is within the grammar of texts.
+#[derive(Drop)]
+pub struct Witness {
+    /// What the mark saw, its plan, and its short set.
+    pub certificate: Certificate,
+    pub ghost writable: { IsWritable certificate },
+}

@@ -1,0 +1,51 @@
+// Keys and spans as C has them.
+ghost use Rattle.std.specs.Prelude.{◌≡◌, MatchOption};
+ghost use Rattle.teurlaks_c.specs.Keys.{IsKeyOf, IsNoKey, IsSpanOf};
+
+use crate::replies::{RawKey, RawSpan};
+use span::{Key, SpanId};
+
+/// The key of these numbers, or `None` where no key has them.
+#[inline(always)]
+pub(crate) fn key_of(raw: RawKey) -> Option<Key>
+    ensures { MatchOption result (IsNoKey raw) (IsKeyOf raw) }
+{
+    let RawKey {
+        shard,
+        slot,
+        serial,
+        generation,
+    } = raw;
+    let Some(span) = SpanId::new(u32::from(shard), u32::from(serial)) else {
+        return None;
+    };
+    Key::new(span, slot, generation)
+}
+
+/// The numbers of the key.
+#[inline(always)]
+pub(crate) fn raw_of(key: Key) -> RawKey
+    ensures { IsKeyOf result key }
+{
+    let Key {
+        span,
+        slot,
+        generation,
+    } = key;
+    let SpanId { shard, serial } = span;
+    RawKey {
+        shard: shard as u8,
+        slot,
+        serial: serial as u16,
+        generation,
+    }
+}
+
+/// The numbers of the span.
+#[inline(always)]
+pub(crate) fn raw_span(id: SpanId) -> RawSpan
+    ensures { IsSpanOf result id }
+{
+    let SpanId { shard, serial } = id;
+    RawSpan { shard, serial }
+}

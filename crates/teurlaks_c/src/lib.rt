@@ -1,0 +1,38 @@
+//! The core for C, and for any language that calls C: a static library of proved functions.
+//!
+//! A [`Handle`] is what a caller keeps of a core: one word, which it never looks into. It begins as zero; `teurlaks_new` leaves a core
+//! to it, each other call works on that core, and `teurlaks_drop` gives its memory back. What the handle owns stands in its type, so
+//! the contracts of the calls are plain facts on the core before and after. Logs are only counted.
+//!
+//! ```text
+//!   C, Rust, ..      struct teurlaks { void *at; }
+//!                              │
+//!   Handle                     at ────► Held { core, last }        owned as by a box
+//!                                              │     │
+//!   events and replies           Core<Counted> ┘     └ the certificate of the last mark
+//! ```
+//!
+//! Numbers cross and small structs of numbers, no enums and no numbers of 128 bits: a reply has a status (`status.rt`), and a word
+//! is two halves. A call passes `alloc`, which takes no bytes, so callers in C pass nothing for it.
+//!
+//! The public facts (`specs/Calls.antt`): each call is the event of the core that it is named for, and what it answers is what the core
+//! replies. So what [`Core::step`](arena_core::Core::step) promises, of the plain map of keys, of refusals and of largest plans, is
+//! promised to every caller that keeps a handle as `c/teurlaks.h` says.
+#![tactic(auto)]
+
+mod calls;
+mod handle;
+mod held;
+mod keys;
+mod meshing;
+mod replies;
+mod status;
+mod words;
+
+pub use calls::{
+    teurlaks_drop, teurlaks_free, teurlaks_get, teurlaks_new, teurlaks_put, teurlaks_totals,
+};
+pub use meshing::{
+    teurlaks_adopt, teurlaks_certificate, teurlaks_close, teurlaks_end, teurlaks_mark,
+    teurlaks_step,
+};

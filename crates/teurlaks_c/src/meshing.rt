@@ -1,0 +1,231 @@
+// Shards that end, groups that are adopted, and plans of folds.
+ghost use Rattle.std.specs.Prelude.{◌≡◌, IsSome};
+ghost use Rattle.teurlaks_c.specs.Calls.{Adopts, Closes, CountsOf, Ends, HasWritable, Keeps, Marks, SaysMarked, Steps, TakesStep, Tells, Writes};
+ghost use Rattle.teurlaks_c.specs.Keys.{IsSpanOf};
+
+use crate::handle::Handle;
+use crate::held::{Held, Witness};
+use crate::keys::raw_span;
+use crate::replies::{AdoptReply, CertificateReply, MarkReply, RawSpan, StepReply};
+use crate::status::{
+    EMPTIED, NO_PAIR_LEFT, NO_PLAN, NONE, OK, OUT_OF_MEMORY, TOO_SMALL, status_of,
+};
+use arena_core::{Event, Reply};
+use certificate::{Certificate, write};
+use fold::Step;
+use span::SpanId;
+use std::alloc::Global;
+use std::mem::replace;
+
+/// Ends the shard: its groups go to the pool, with their pages, and it takes no put again. Refused with `ENDED`, `PLAN_OPEN`,
+/// `CONFIG` or `OUT_OF_MEMORY` as an end of [`Core::step`](arena_core::Core::step) is; nothing has changed then.
+#[unsafe(no_mangle)]
+pub extern "C" fn teurlaks_end(alloc: Global, handle: &mut Handle, shard: u32) -> u32
+    requires live { IsSome handle.old.held }
+    ensures { Ends handle.old.held shard result handle.new.held }
+{
+    match step(alloc, handle, Event::End { shard }) {
+        Reply::ShardEnded => OK,
+        Reply::Refused(refusal) => status_of(refusal),
+        _ => NONE,
+    }
+}
+
+/// Moves the pool's group of lowest head that has a page to the shard, and answers its head. Refused with `PAGES_SPENT`, `ENDED`,
+/// `PLAN_OPEN`, `NOTHING_TO_ADOPT`, `CONFIG` or `OUT_OF_MEMORY`; nothing has changed then.
+#[unsafe(no_mangle)]
+pub extern "C" fn teurlaks_adopt(alloc: Global, handle: &mut Handle, shard: u32) -> AdoptReply
+    requires live { IsSome handle.old.held }
+    ensures { Adopts handle.old.held shard result handle.new.held }
+{
+    match step(alloc, handle, Event::Adopt { shard }) {
+        Reply::Adopted(head) => AdoptReply {
+            status: OK,
+            head: raw_span(head),
+        },
+        Reply::Refused(refusal) => AdoptReply {
+            status: status_of(refusal),
+            head: no_span(),
+        },
+        _ => AdoptReply {
+            status: NONE,
+            head: no_span(),
+        },
+    }
+}
+
+/// Plans as many folds of the pool's groups onto those of the shards as can be, opens the plan, and keeps its certificate. Refused with
+/// `PLAN_OPEN`, `TOO_MANY` or `OUT_OF_MEMORY`; nothing has changed then, and the certificate of the mark before is kept.
+#[unsafe(no_mangle)]
+pub extern "C" fn teurlaks_mark(alloc: Global, handle: &mut Handle) -> MarkReply
+    requires live { IsSome handle.old.held }
+    ensures { Marks handle.old.held result handle.new.held }
+{
+    let mut held = replace(handle, Handle::none()).into_box(alloc);
+    let reply = held.core.step(Event::Mark);
+    let says = keep(&mut held, reply);
+    *handle = Handle::of(held);
+    says
+}
+
+/// Carries out the next pair of the open plan: `OK`, or `EMPTIED` where the pair's abandoned group had no live key left. `NO_PAIR_LEFT`
+/// and `NO_PLAN` change nothing. Refused with `OUT_OF_MEMORY` alone; the pair is then still the next.
+#[unsafe(no_mangle)]
+pub extern "C" fn teurlaks_step(alloc: Global, handle: &mut Handle) -> StepReply
+    requires live { IsSome handle.old.held }
+    ensures { TakesStep handle.old.held result handle.new.held }
+{
+    match step(alloc, handle, Event::Step) {
+        Reply::Stepped(abandoned, owned, Step::Folded) => stepped(OK, abandoned, owned),
+        Reply::Stepped(abandoned, owned, Step::Emptied) => stepped(EMPTIED, abandoned, owned),
+        Reply::NoPairLeft => unstepped(NO_PAIR_LEFT),
+        Reply::NoPlan => unstepped(NO_PLAN),
+        Reply::Refused(refusal) => unstepped(status_of(refusal)),
+        _ => unstepped(NONE),
+    }
+}
+
+/// Closes the open plan, whose pairs that are left are dropped: all groups take puts again. `NO_PLAN` changes nothing. It takes no
+/// memory.
+#[unsafe(no_mangle)]
+pub extern "C" fn teurlaks_close(alloc: Global, handle: &mut Handle) -> u32
+    requires live { IsSome handle.old.held }
+    ensures { Closes handle.old.held result handle.new.held }
+{
+    match step(alloc, handle, Event::Close) {
+        Reply::Closed => OK,
+        Reply::NoPlan => NO_PLAN,
+        _ => NONE,
+    }
+}
+
+/// Writes the text of the last mark's certificate into `text`, from its first byte on, and answers how many bytes it takes; `meshrun
+/// check` checks such a text. `TOO_SMALL` where there is no room for that many, `NONE` where no mark was made, `OUT_OF_MEMORY` where
+/// memory ran out for a copy of the text: nothing was written then. The core stays as it is.
+#[unsafe(no_mangle)]
+pub extern "C" fn teurlaks_certificate(
+    alloc: Global,
+    handle: &mut Handle,
+    text: &mut [u8],
+) -> CertificateReply
+    requires live { IsSome handle.old.held }
+    ensures same { handle.new.held ≡ handle.old.held }
+    ensures writes { Writes handle.old.held text.old result text.new }
+{
+    let held = replace(handle, Handle::none()).into_box(alloc);
+    let says = write_last(alloc, &held.last, text);
+    *handle = Handle::of(held);
+    says
+}
+
+// The core takes the event, which is no mark.
+#[inline(always)]
+fn step(alloc: Global, handle: &mut Handle, event: Event) -> Reply
+    requires live { IsSome handle.old.held }
+    ensures { Steps handle.old.held event result handle.new.held }
+{
+    let mut held = replace(handle, Handle::none()).into_box(alloc);
+    let reply = held.core.step(event);
+    *handle = Handle::of(held);
+    reply
+}
+
+// The text of the certificate, if there is one, written into the room.
+fn write_last(alloc: Global, last: &Option<Witness>, room: &mut [u8]) -> CertificateReply
+    ensures { Tells last.now room.old result room.new }
+{
+    let Some(witness) = last else {
+        return CertificateReply {
+            status: NONE,
+            len: 0,
+        };
+    };
+    let Ok(text) = write(alloc, &witness.certificate) else {
+        return CertificateReply {
+            status: OUT_OF_MEMORY,
+            len: 0,
+        };
+    };
+    let len = text.len();
+    if len > room.len() {
+        return CertificateReply {
+            status: TOO_SMALL,
+            len,
+        };
+    }
+    room[..len].copy_from_slice(&text);
+    CertificateReply { status: OK, len }
+}
+
+// What C reads of the reply to a mark, whose certificate is kept.
+fn keep(held: &mut Held, reply: Reply) -> MarkReply
+    requires { HasWritable reply }
+    ensures core { held.new.core ≡ held.old.core }
+    ensures told { SaysMarked result reply }
+    ensures keeps { Keeps held.old.last reply held.new.last }
+{
+    match reply {
+        Reply::Marked(certificate) => {
+            let says = marked(&certificate);
+            drop(replace(&mut held.last, Some(Witness { certificate })));
+            says
+        }
+        Reply::Refused(refusal) => unmarked(status_of(refusal)),
+        _ => unmarked(NONE),
+    }
+}
+
+// What the certificate counts.
+fn marked(certificate: &Certificate) -> MarkReply
+    ensures { CountsOf result certificate.now }
+{
+    MarkReply {
+        status: OK,
+        abandoned: certificate.snapshot.abandoned().len(),
+        owned: certificate.snapshot.owned().len(),
+        folds: certificate.plan.pairs().len(),
+        short_set: certificate.short.ids().len(),
+    }
+}
+
+fn unmarked(status: u32) -> MarkReply
+    ensures { result.status ≡ status }
+{
+    MarkReply {
+        status,
+        abandoned: 0,
+        owned: 0,
+        folds: 0,
+        short_set: 0,
+    }
+}
+
+fn stepped(status: u32, abandoned: SpanId, owned: SpanId) -> StepReply
+    ensures status { result.status ≡ status }
+    ensures abandoned { IsSpanOf result.abandoned abandoned }
+    ensures owned { IsSpanOf result.owned owned }
+{
+    StepReply {
+        status,
+        abandoned: raw_span(abandoned),
+        owned: raw_span(owned),
+    }
+}
+
+fn unstepped(status: u32) -> StepReply
+    ensures { result.status ≡ status }
+{
+    StepReply {
+        status,
+        abandoned: no_span(),
+        owned: no_span(),
+    }
+}
+
+// What stands for a span where there is none, as the status says.
+fn no_span() -> RawSpan {
+    RawSpan {
+        shard: 0,
+        serial: 0,
+    }
+}

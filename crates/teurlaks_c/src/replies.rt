@@ -1,0 +1,89 @@
+// What crosses to C, in and out.
+
+/// A key: the shard that opened its span, the slot, the span's serial number in that shard, and the generation. Any numbers may
+/// be given; where no live key has them, nothing is found.
+#[repr(C)]
+#[derive(Clone, Copy)]
+pub struct RawKey {
+    pub shard: u8,
+    pub slot: u8,
+    pub serial: u16,
+    pub generation: u32,
+}
+
+/// The name of a span, and of the group that it heads: the shard that opened it, and its serial number there.
+#[repr(C)]
+#[derive(Clone, Copy)]
+pub struct RawSpan {
+    pub shard: u32,
+    pub serial: u32,
+}
+
+/// A word of 128 bits: `high * 2^64 + low`.
+#[repr(C)]
+#[derive(Clone, Copy)]
+pub struct RawWord {
+    pub low: u64,
+    pub high: u64,
+}
+
+/// What a put answers: the key where the status is `OK`.
+#[repr(C)]
+#[derive(Clone, Copy)]
+pub struct PutReply {
+    pub status: u32,
+    pub key: RawKey,
+}
+
+/// What a look-up answers: the word where the status is `OK`, else 0.
+#[repr(C)]
+#[derive(Clone, Copy)]
+pub struct GetReply {
+    pub value: RawWord,
+    pub status: u32,
+}
+
+/// What an adoption answers: the head of the group where the status is `OK`.
+#[repr(C)]
+#[derive(Clone, Copy)]
+pub struct AdoptReply {
+    pub status: u32,
+    pub head: RawSpan,
+}
+
+/// What a mark answers where the status is `OK`: how many groups of the pool have a page, how many groups the shards have, how many
+/// folds are planned, and how many groups are in the short set, which shows that no plan has more folds.
+#[repr(C)]
+#[derive(Clone, Copy)]
+pub struct MarkReply {
+    pub status: u32,
+    pub abandoned: usize,
+    pub owned: usize,
+    pub folds: usize,
+    pub short_set: usize,
+}
+
+/// What a step answers: the heads of the pair where the status is `OK` or `EMPTIED`.
+#[repr(C)]
+#[derive(Clone, Copy)]
+pub struct StepReply {
+    pub status: u32,
+    pub abandoned: RawSpan,
+    pub owned: RawSpan,
+}
+
+/// What a certificate's text takes, in bytes, where the status is `OK` or `TOO_SMALL`.
+#[repr(C)]
+#[derive(Clone, Copy)]
+pub struct CertificateReply {
+    pub status: u32,
+    pub len: usize,
+}
+
+/// How many pages of 256 slots there are, and how many keys are live.
+#[repr(C)]
+#[derive(Clone, Copy)]
+pub struct TotalsReply {
+    pub pages: usize,
+    pub live: usize,
+}

@@ -1,0 +1,64 @@
+// What a call answers, as a number, since no enum crosses to C.
+ghost use Rattle.std.specs.Prelude.{◌≡◌};
+ghost use Rattle.teurlaks_c.specs.Status.{refusal_status};
+
+use arena_core::Refusal;
+
+/// Done, or found.
+pub(crate) const OK: u32 = 0;
+
+/// The key is not live; or no mark was made yet, and so there is no certificate.
+pub(crate) const NONE: u32 = 1;
+
+/// Refused: memory ran out.
+pub(crate) const OUT_OF_MEMORY: u32 = 2;
+
+/// Refused: the shard may have no further page.
+pub(crate) const PAGES_SPENT: u32 = 3;
+
+/// Refused: the shard has ended.
+pub(crate) const ENDED: u32 = 4;
+
+/// Refused: a plan is open.
+pub(crate) const PLAN_OPEN: u32 = 5;
+
+/// Refused: a side has more than 4,096 groups.
+pub(crate) const TOO_MANY: u32 = 6;
+
+/// Refused: no group of the pool has a page.
+pub(crate) const NOTHING_TO_ADOPT: u32 = 7;
+
+/// Refused: a number is out of its range.
+pub(crate) const CONFIG: u32 = 8;
+
+/// The pair's abandoned group had no live key left, and stays without a page.
+pub(crate) const EMPTIED: u32 = 9;
+
+/// The open plan has no pair left.
+pub(crate) const NO_PAIR_LEFT: u32 = 10;
+
+/// No plan is open.
+pub(crate) const NO_PLAN: u32 = 11;
+
+/// The text takes more bytes than there is room for, and nothing was written.
+pub(crate) const TOO_SMALL: u32 = 12;
+
+/// Refused: a ring holds as many keys as it may. No call here frees a key later, so none answers it.
+pub(crate) const RING_FULL: u32 = 13;
+
+/// The status that stands for the refusal.
+#[inline(always)]
+pub(crate) fn status_of(refusal: Refusal) -> u32
+    ensures { result ≡ refusal_status refusal }
+{
+    match refusal {
+        Refusal::OutOfMemory => OUT_OF_MEMORY,
+        Refusal::PagesSpent => PAGES_SPENT,
+        Refusal::Ended => ENDED,
+        Refusal::PlanOpen => PLAN_OPEN,
+        Refusal::TooMany => TOO_MANY,
+        Refusal::NothingToAdopt => NOTHING_TO_ADOPT,
+        Refusal::RingFull => RING_FULL,
+        Refusal::Config => CONFIG,
+    }
+}

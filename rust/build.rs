@@ -1,0 +1,58 @@
+//! Links the proved archive `libteurlaks_c.a`, and the three functions through which it asks for memory.
+//!
+//! `TEURLAKS_ARCHIVE` names the folder where the archive lies. Where it is not set, the Rattle kit's `rt lib` proves and makes it in
+//! `crates/teurlaks_c` of the repository. The kit is `KIT`, or the folder above the `bin` where `rt` is found on the `PATH`, or `/opt/rattle`.
+
+use std::env;
+use std::path::{Path, PathBuf};
+use std::process::Command;
+
+fn main() {
+    println!("cargo:rerun-if-env-changed=TEURLAKS_ARCHIVE");
+    println!("cargo:rerun-if-env-changed=KIT");
+    let archive = match env::var_os("TEURLAKS_ARCHIVE") {
+        Some(folder) => PathBuf::from(folder),
+        None => prove(),
+    };
+    link(&archive, "teurlaks_c");
+    if archive.join("liblibc_c.a").exists() {
+        link(&archive, "libc_c");
+    } else {
+        link(&kit().join("c"), "libc_c");
+    }
+}
+
+fn link(folder: &Path, name: &str) {
+    let archive = folder.join(format!("lib{name}.a"));
+    assert!(archive.exists(), "there is no {}", archive.display());
+    println!("cargo:rerun-if-changed={}", archive.display());
+    println!("cargo:rustc-link-search=native={}", folder.display());
+    println!("cargo:rustc-link-lib=static={name}");
+}
+
+/// Proves the library and makes the archive, which takes seconds where nothing has changed and minutes at first.
+fn prove() -> PathBuf {
+    let crates = Path::new(env!("CARGO_MANIFEST_DIR")).join("../crates");
+    let folder = crates.join("teurlaks_c");
+    println!("cargo:rerun-if-changed={}", crates.display());
+    let made = Command::new(kit().join("bin/rt"))
+        .arg("lib")
+        .current_dir(&folder)
+        .status();
+    assert!(
+        made.is_ok_and(|status| status.success()),
+        "`rt lib` could not make the archive in {}: set TEURLAKS_ARCHIVE to the folder of a libteurlaks_c.a",
+        folder.display()
+    );
+    folder.join("out")
+}
+
+fn kit() -> PathBuf {
+    // `rt` may be a link into the kit.
+    let of_rt = |rt: PathBuf| Some(rt.canonicalize().ok()?.parent()?.parent()?.to_path_buf());
+    let on_path = || env::split_paths(&env::var_os("PATH")?).find_map(|folder| of_rt(folder.join("rt")));
+    env::var_os("KIT")
+        .map(PathBuf::from)
+        .or_else(on_path)
+        .unwrap_or_else(|| PathBuf::from("/opt/rattle"))
+}

@@ -1,0 +1,286 @@
+//! All shards as one value.
+
+use crate::names::{Group, Key};
+use crate::raw;
+use crate::refused::Refused;
+use std::cell::UnsafeCell;
+use std::fmt;
+use std::ptr;
+
+/// The numbers of a core.
+#[derive(Clone, Copy, Debug, PartialEq, Eq)]
+pub struct Limits {
+    /// How many shards there are, 1 to 64.
+    pub shards: u32,
+    /// How many pages of 256 slots a shard may have, 1 to 1,024.
+    pub pages: u32,
+    /// How often a slot may be used, at least once. A slot that was used so often is never used again.
+    pub generations: u32,
+}
+
+impl Default for Limits {
+    /// One shard, with as many pages and generations as there can be.
+    fn default() -> Limits {
+        Limits {
+            shards: 1,
+            pages: 1024,
+            generations: u32::MAX,
+        }
+    }
+}
+
+/// What a mark saw and planned.
+#[derive(Clone, Copy, Debug, PartialEq, Eq)]
+pub struct Marked {
+    /// How many groups of the pool have a page.
+    pub abandoned: usize,
+    /// How many groups the shards have.
+    pub owned: usize,
+    /// How many folds are planned: no plan has more.
+    pub folds: usize,
+    /// How many groups are in the short set, which shows that.
+    pub short_set: usize,
+}
+
+/// What a step did.
+#[derive(Clone, Copy, Debug, PartialEq, Eq)]
+pub enum Stepped {
+    /// The first group is now on the page of the second, and its own page is gone.
+    Folded(Group, Group),
+    /// The first group had no live key left, and so no page to give back.
+    Emptied(Group, Group),
+    /// Each pair of the plan is done with.
+    NoPairLeft,
+}
+
+/// Words of 128 bits under keys, in shards: the proved library as it is.
+///
+/// A shard that ends leaves its groups to a pool. A mark plans as many folds of the pool's groups onto those of the shards as can be,
+/// and each step carries one out, which gives one page back. Every key stays valid.
+///
+/// ```
+/// use teurlaks::{Core, Limits, Stepped};
+///
+/// let mut core = Core::new(Limits { shards: 2, pages: 4, generations: 9 })?;
+/// let first = core.insert(0, 10)?;
+/// let key = core.insert(0, 11)?;
+/// core.free(first);
+/// core.end(0)?; // its group 0.0 goes to the pool, with its page
+/// core.insert(1, 7)?;
+///
+/// assert_eq!(core.mark()?.folds, 1);
+/// assert!(matches!(core.step()?, Stepped::Folded(..)));
+/// core.close()?;
+/// assert_eq!(core.pages(), 1); // one page less
+/// assert_eq!(core.get(key), Some(11)); // the key finds its word
+/// assert_eq!(core.get(first), None);
+/// # Ok::<(), teurlaks::Refused>(())
+/// ```
+pub struct Core {
+    // SAFETY: only this module has it, so it is what `teurlaks_new` left there until `drop`. A call through `&self` writes to it, and none
+    // runs beside another, since the type is not `Sync` and no call calls back.
+    handle: UnsafeCell<raw::Handle>,
+}
+
+impl Core {
+    /// A core of new shards, numbered from 0 on. It is refused with [`Refused::Config`] exactly where a number is out of its range.
+    pub fn new(limits: Limits) -> Result<Core, Refused> {
+        let Limits {
+            shards,
+            pages,
+            generations,
+        } = limits;
+        let core = Core {
+            handle: UnsafeCell::new(raw::Handle { at: ptr::null_mut() }),
+        };
+        // SAFETY: the handle has no core yet. A core that has none is not dropped below.
+        match unsafe { raw::teurlaks_new(core.handle.get(), shards, pages, 1, generations) } {
+            raw::OK => Ok(core),
+            other => {
+                std::mem::forget(core);
+                Err(Refused::of(other))
+            }
+        }
+    }
+
+    /// Keeps a word in the shard, and gives its key, which was never given out before.
+    #[inline]
+    pub fn insert(&mut self, shard: u32, word: u128) -> Result<Key, Refused> {
+        // SAFETY: the handle has a core, and no other call runs.
+        let put = unsafe { raw::teurlaks_put(self.handle.get(), shard, halves(word)) };
+        match put.status {
+            raw::OK => Ok(Key(put.key)),
+            other => Err(Refused::of(other)),
+        }
+    }
+
+    /// The word of the key, where it is live.
+    #[inline]
+    pub fn get(&self, key: Key) -> Option<u128> {
+        // SAFETY: as in `insert`.
+        let got = unsafe { raw::teurlaks_get(self.handle.get(), key.0) };
+        (got.status == raw::OK).then(|| u128::from(got.value.high) << 64 | u128::from(got.value.low))
+    }
+
+    /// Whether the key is live.
+    #[inline]
+    pub fn contains(&self, key: Key) -> bool {
+        self.get(key).is_some()
+    }
+
+    /// Frees the key, and says whether it was live. It takes no memory.
+    #[inline]
+    pub fn free(&mut self, key: Key) -> bool {
+        // SAFETY: as in `insert`.
+        unsafe { raw::teurlaks_free(self.handle.get(), key.0) == raw::OK }
+    }
+
+    /// Frees the key, and gives its word, where it was live.
+    #[inline]
+    pub fn remove(&mut self, key: Key) -> Option<u128> {
+        let word = self.get(key)?;
+        self.free(key);
+        Some(word)
+    }
+
+    /// Ends a shard: its groups go to the pool, with their pages, and it takes no word again.
+    pub fn end(&mut self, shard: u32) -> Result<(), Refused> {
+        // SAFETY: as in `insert`.
+        done(unsafe { raw::teurlaks_end(self.handle.get(), shard) })
+    }
+
+    /// Moves the pool's group of lowest head that has a page to a shard, and gives its name.
+    pub fn adopt(&mut self, shard: u32) -> Result<Group, Refused> {
+        // SAFETY: as in `insert`.
+        let adopted = unsafe { raw::teurlaks_adopt(self.handle.get(), shard) };
+        done(adopted.status).map(|()| Group(adopted.head))
+    }
+
+    /// Plans as many folds as can be, and opens the plan. Until it is closed, the groups that it folds onto take no word.
+    pub fn mark(&mut self) -> Result<Marked, Refused> {
+        // SAFETY: as in `insert`.
+        let raw::MarkReply {
+            status,
+            abandoned,
+            owned,
+            folds,
+            short_set,
+        } = unsafe { raw::teurlaks_mark(self.handle.get()) };
+        done(status).map(|()| Marked {
+            abandoned,
+            owned,
+            folds,
+            short_set,
+        })
+    }
+
+    /// Carries out the next pair of the open plan. It is refused where memory runs out; the pair is then still the next.
+    pub fn step(&mut self) -> Result<Stepped, Refused> {
+        // SAFETY: as in `insert`.
+        let raw::StepReply {
+            status,
+            abandoned,
+            owned,
+        } = unsafe { raw::teurlaks_step(self.handle.get()) };
+        match status {
+            raw::OK => Ok(Stepped::Folded(Group(abandoned), Group(owned))),
+            raw::EMPTIED => Ok(Stepped::Emptied(Group(abandoned), Group(owned))),
+            raw::NO_PAIR_LEFT => Ok(Stepped::NoPairLeft),
+            other => Err(Refused::of(other)),
+        }
+    }
+
+    /// Closes the open plan; pairs that are left are dropped.
+    pub fn close(&mut self) -> Result<(), Refused> {
+        // SAFETY: as in `insert`.
+        done(unsafe { raw::teurlaks_close(self.handle.get()) })
+    }
+
+    /// Marks, takes all steps and closes, and says how many pages came back. Where a step is refused, the plan is closed all the same.
+    pub fn mesh(&mut self) -> Result<usize, Refused> {
+        let before = self.pages();
+        self.mark()?;
+        let taken = loop {
+            match self.step() {
+                Ok(Stepped::NoPairLeft) => break Ok(()),
+                Ok(_) => {}
+                Err(refused) => break Err(refused),
+            }
+        };
+        self.close()?;
+        taken.map(|()| before - self.pages())
+    }
+
+    /// The text of the last mark's certificate, which shows that no plan has more folds, or `None` before the first mark. `meshrun check`
+    /// checks such a text without trusting who made it.
+    pub fn certificate(&self) -> Result<Option<String>, Refused> {
+        let mut text = Vec::new();
+        loop {
+            // SAFETY: as in `insert`, and the text is not moved meanwhile.
+            let told = unsafe { raw::teurlaks_certificate(self.handle.get(), text.as_mut_ptr(), text.len()) };
+            match told.status {
+                raw::OK => return Ok(Some(String::from_utf8_lossy(&text).into_owned())),
+                raw::NONE => return Ok(None),
+                raw::TOO_SMALL => {
+                    text.try_reserve_exact(told.len).map_err(|_| Refused::OutOfMemory)?;
+                    text.resize(told.len, 0);
+                }
+                other => return Err(Refused::of(other)),
+            }
+        }
+    }
+
+    /// How many pages of 256 slots there are.
+    pub fn pages(&self) -> usize {
+        self.totals().pages
+    }
+
+    /// How many keys are live.
+    pub fn len(&self) -> usize {
+        self.totals().live
+    }
+
+    /// Whether no key is live.
+    pub fn is_empty(&self) -> bool {
+        self.len() == 0
+    }
+
+    fn totals(&self) -> raw::TotalsReply {
+        // SAFETY: as in `insert`.
+        unsafe { raw::teurlaks_totals(self.handle.get()) }
+    }
+}
+
+// SAFETY: that a handle may go to another thread is proved in `crates/teurlaks_c` (`unsafe impl Send for Handle`, with its proof), and `&mut`
+// and `Drop` order the calls.
+unsafe impl Send for Core {}
+
+impl Drop for Core {
+    fn drop(&mut self) {
+        // SAFETY: the handle has a core, and nothing uses it after.
+        unsafe { raw::teurlaks_drop(self.handle.get()) }
+    }
+}
+
+impl fmt::Debug for Core {
+    fn fmt(&self, f: &mut fmt::Formatter<'_>) -> fmt::Result {
+        f.debug_struct("Core")
+            .field("pages", &self.pages())
+            .field("len", &self.len())
+            .finish()
+    }
+}
+
+fn done(status: u32) -> Result<(), Refused> {
+    match status {
+        raw::OK => Ok(()),
+        other => Err(Refused::of(other)),
+    }
+}
+
+fn halves(word: u128) -> raw::RawWord {
+    raw::RawWord {
+        low: word as u64,
+        high: (word >> 64) as u64,
+    }
+}

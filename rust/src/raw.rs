@@ -1,0 +1,108 @@
+//! The calls of the archive, as `crates/teurlaks_c` exports them. `tests/declarations.rs` compares the two, and `c/teurlaks.h` too. The
+//! parameter `alloc` there takes no bytes, and stands nowhere here.
+
+#[repr(C)]
+pub struct Handle {
+    pub at: *mut u8,
+}
+
+#[repr(C)]
+#[derive(Clone, Copy, PartialEq, Eq, PartialOrd, Ord, Hash)]
+pub struct RawKey {
+    pub shard: u8,
+    pub slot: u8,
+    pub serial: u16,
+    pub generation: u32,
+}
+
+#[repr(C)]
+#[derive(Clone, Copy, PartialEq, Eq, PartialOrd, Ord, Hash)]
+pub struct RawSpan {
+    pub shard: u32,
+    pub serial: u32,
+}
+
+#[repr(C)]
+#[derive(Clone, Copy)]
+pub struct RawWord {
+    pub low: u64,
+    pub high: u64,
+}
+
+#[repr(C)]
+pub struct PutReply {
+    pub status: u32,
+    pub key: RawKey,
+}
+
+#[repr(C)]
+pub struct GetReply {
+    pub value: RawWord,
+    pub status: u32,
+}
+
+#[repr(C)]
+pub struct AdoptReply {
+    pub status: u32,
+    pub head: RawSpan,
+}
+
+#[repr(C)]
+pub struct MarkReply {
+    pub status: u32,
+    pub abandoned: usize,
+    pub owned: usize,
+    pub folds: usize,
+    pub short_set: usize,
+}
+
+#[repr(C)]
+pub struct StepReply {
+    pub status: u32,
+    pub abandoned: RawSpan,
+    pub owned: RawSpan,
+}
+
+#[repr(C)]
+pub struct CertificateReply {
+    pub status: u32,
+    pub len: usize,
+}
+
+#[repr(C)]
+pub struct TotalsReply {
+    pub pages: usize,
+    pub live: usize,
+}
+
+extern "C" {
+    pub fn teurlaks_new(out: *mut Handle, shards: u32, page_limit: u32, ring_capacity: u32, gens: u32) -> u32;
+    pub fn teurlaks_drop(handle: *mut Handle);
+    pub fn teurlaks_put(handle: *mut Handle, shard: u32, value: RawWord) -> PutReply;
+    pub fn teurlaks_get(handle: *mut Handle, key: RawKey) -> GetReply;
+    pub fn teurlaks_free(handle: *mut Handle, key: RawKey) -> u32;
+    pub fn teurlaks_totals(handle: *mut Handle) -> TotalsReply;
+    pub fn teurlaks_end(handle: *mut Handle, shard: u32) -> u32;
+    pub fn teurlaks_adopt(handle: *mut Handle, shard: u32) -> AdoptReply;
+    pub fn teurlaks_mark(handle: *mut Handle) -> MarkReply;
+    pub fn teurlaks_step(handle: *mut Handle) -> StepReply;
+    pub fn teurlaks_close(handle: *mut Handle) -> u32;
+    pub fn teurlaks_certificate(handle: *mut Handle, text: *mut u8, text_len: usize) -> CertificateReply;
+}
+
+pub const OK: u32 = 0;
+pub const NONE: u32 = 1;
+pub const OUT_OF_MEMORY: u32 = 2;
+pub const PAGES_SPENT: u32 = 3;
+pub const ENDED: u32 = 4;
+pub const PLAN_OPEN: u32 = 5;
+pub const TOO_MANY: u32 = 6;
+pub const NOTHING_TO_ADOPT: u32 = 7;
+pub const CONFIG: u32 = 8;
+pub const EMPTIED: u32 = 9;
+pub const NO_PAIR_LEFT: u32 = 10;
+pub const NO_PLAN: u32 = 11;
+pub const TOO_SMALL: u32 = 12;
+// No call here frees a key later, so none answers it.
+#[allow(dead_code)]
+pub const RING_FULL: u32 = 13;

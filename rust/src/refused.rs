@@ -1,0 +1,66 @@
+//! Why a call is refused.
+
+use crate::raw;
+use std::error::Error;
+use std::fmt;
+
+/// Why a call is refused. Nothing has changed then.
+#[derive(Clone, Copy, Debug, PartialEq, Eq, Hash)]
+#[non_exhaustive]
+pub enum Refused {
+    /// Memory ran out: the call may be tried again.
+    OutOfMemory,
+    /// The shard may have no further page, or has opened all its 1,024 spans.
+    PagesSpent,
+    /// The shard has ended, and takes no value.
+    Ended,
+    /// A plan is open: a mark and an adoption wait for its close, and so does the end of a shard that has a group of the plan.
+    PlanOpen,
+    /// A mark would see more than 4,096 groups on a side.
+    TooMany,
+    /// No group of the pool has a page.
+    NothingToAdopt,
+    /// A number is out of its range, or there is no shard of this number.
+    Config,
+    /// No plan is open.
+    NoPlan,
+    /// A status that no contract allows here: the archive is not the one that this crate is written for.
+    Unknown(u32),
+}
+
+impl Refused {
+    #[cold]
+    pub(crate) fn of(status: u32) -> Refused {
+        match status {
+            raw::OUT_OF_MEMORY => Refused::OutOfMemory,
+            raw::PAGES_SPENT => Refused::PagesSpent,
+            raw::ENDED => Refused::Ended,
+            raw::PLAN_OPEN => Refused::PlanOpen,
+            raw::TOO_MANY => Refused::TooMany,
+            raw::NOTHING_TO_ADOPT => Refused::NothingToAdopt,
+            raw::CONFIG => Refused::Config,
+            raw::NO_PLAN => Refused::NoPlan,
+            other => Refused::Unknown(other),
+        }
+    }
+}
+
+impl fmt::Display for Refused {
+    fn fmt(&self, f: &mut fmt::Formatter<'_>) -> fmt::Result {
+        f.write_str(match self {
+            Refused::OutOfMemory => "out of memory: free some and try again",
+            Refused::PagesSpent => "the shard may have no further page: free keys, or ask another shard",
+            Refused::Ended => "the shard has ended: ask another shard",
+            Refused::PlanOpen => "a plan is open: close it first",
+            Refused::TooMany => "a side has more than 4096 groups, too many for a plan",
+            Refused::NothingToAdopt => "no group of the pool has a page: there is nothing to adopt",
+            Refused::Config => "a number is out of its range",
+            Refused::NoPlan => "no plan is open: mark first",
+            Refused::Unknown(status) => {
+                return write!(f, "the archive answered {status}, which this crate does not know")
+            }
+        })
+    }
+}
+
+impl Error for Refused {}
