@@ -2,10 +2,10 @@ pub mod Taken
 pub mod Given
 pub mod Entered
 pub mod Refused
+pub mod Recalling
 pub mod Making
 pub mod Shards
 pub mod Barriers
-pub mod Recalling
 pub mod Notes
 pub mod Progress
 pub mod Reporting

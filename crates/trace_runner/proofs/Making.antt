@@ -3,23 +3,25 @@ use Rattle.std.proofs.Common.{◌≡◌, ℕ, suc, Bool, true, false, cond, leng
 use Rattle.std.proofs.lemmas.List.{map-append, append-nil}
 use Rattle.std.proofs.lemmas.List.Elements.{filter_map-append}
 use Rattle.std.proofs.lemmas.List.Sums.{fold-append}
+use Rattle.arena_core.proofs.Limits.{limits-CoreRun}
 use Rattle.arena_core.proofs.Lists.{each-append}
-use Rattle.arena_core.specs.State.{CoreState, shown}
+use Rattle.arena_core.specs.State.{CoreState, Limits, shown}
 use Rattle.arena_core.specs.Step.{CoreStep, CoreRun}
 use Rattle.arena_core.specs.Plain.{ErasedStep, PlainRun, erased, is_plain}
 use Rattle.arena_core.specs.Sound.{IsSound}
 use Rattle.trace_runner.specs.Made.{Asked, Calls, Keyless, Leaves, Made, Called, Unbound, Left, Did, asked_of, core_after, event_made, reply_made, events_of, replies_of}
 use Rattle.trace_runner.specs.News.{News, with_all_made, with_made}
-use Rattle.trace_runner.specs.Recalls.{Carries, Makes, MakesLine, Recalls, news_at, settling_with}
-use Rattle.trace_runner.specs.Runs.{Happens, IsAnswered, IsTold, answers_from, ends_asked, finishing, on_line, stepping}
+use Rattle.trace_runner.specs.Kept.{Kept, keeping}
+use Rattle.trace_runner.specs.Recalls.{Carries, Makes, MakesLine, news_at, settling_with}
+use Rattle.trace_runner.proofs.Recalling.{keeping-append, keeping-none}
+use Rattle.trace_runner.specs.Runs.{Happens, IsAnswered, IsTold, ends_asked, finishing, stepping}
 use Rattle.trace_runner.specs.declared.plans.Plans.{Plans}
 use Rattle.trace_text.specs.declared.line.Call.{Call}
 use Rattle.trace_text.specs.declared.line.Line.TheVariants as line
 use Rattle.arena_core.specs.declared.event.Event.{Event}
-use Rattle.arena_core.specs.declared.event.Event.TheVariants.{Put, Get, Free, End, Adopt, Mark, Step, Close}
+use Rattle.arena_core.specs.declared.event.Event.TheVariants.{Put, Get, Free, Later, Settle, End, Adopt, Mark, Step, Close}
 use Rattle.arena_core.specs.declared.reply.Reply.TheVariants.{ShardEnded}
 use Rattle.arena_core.specs.declared.reply.Reply.{Reply}
-use Rattle.trace_runner.specs.declared.report.LineAnswer.{LineAnswer}
 use Rattle.span.specs.PlainMap.{PlainMap}
 
 CoreRun-append : (a b c : CoreState) (es fs : List Event) (rs ss : List Reply) → CoreRun a es rs b → CoreRun b fs ss c → CoreRun a (es ++ fs) (rs ++ ss) c
@@ -28,9 +30,9 @@ CoreRun-append a b c (e ∷ es) fs (r ∷ rs) ss (mid, step, sound, first) secon
 CoreRun-append a b c [] fs (r ∷ rs) ss first second = absurd first
 CoreRun-append a b c (e ∷ es) fs [] ss first second = absurd first
 
-PlainRun-append : (a b c : PlainMap) (first second : List (Event × Reply)) → PlainRun a first b → PlainRun b second c → PlainRun a (first ++ second) c
-PlainRun-append a b c [] second before after = subst (λ (s : PlainMap). PlainRun s second c) before after
-PlainRun-append a b c (step ∷ first) second (mid, here, before) after = (mid, here, PlainRun-append mid b c first second before after)
+PlainRun-append : (limits : Limits) (a b c : PlainMap) (first second : List (Event × Reply)) → PlainRun limits a first b → PlainRun limits b second c → PlainRun limits a (first ++ second) c
+PlainRun-append limits a b c [] second before after = subst (λ (s : PlainMap). PlainRun limits s second c) before after
+PlainRun-append limits a b c (step ∷ first) second (mid, here, before) after = (mid, here, PlainRun-append limits mid b c first second before after)
 
 -- what is erased of a list that goes on
 cond-append : (b : Bool) (step : Event × Reply) (first second : List (Event × Reply)) → cond b (step ∷ (first ++ second)) (first ++ second) ≡ cond b (step ∷ first) first ++ second
@@ -65,22 +67,24 @@ Happens-append core (Unbound ∷ first) second before after = Happens-append cor
 Happens-append core (Left ∷ first) second before after = Happens-append core first second before after
 
 -- one event, as the plain map has it
-erased-one : (a b : PlainMap) (event : Event) (reply : Reply) → ErasedStep a event reply b → PlainRun a (erased (event ∷ []) (reply ∷ [])) b
-erased-one a b (Put shard value) reply step = (b, step, refl)
-erased-one a b (Get key) reply step = (b, step, refl)
-erased-one a b (Free key) reply step = (b, step, refl)
-erased-one a b (End shard) reply step = step
-erased-one a b (Adopt shard) reply step = step
-erased-one a b Mark reply step = step
-erased-one a b Step reply step = step
-erased-one a b Close reply step = step
+erased-one : (limits : Limits) (a b : PlainMap) (event : Event) (reply : Reply) → ErasedStep limits a event reply b → PlainRun limits a (erased (event ∷ []) (reply ∷ [])) b
+erased-one limits a b (Put shard value) reply step = (b, step, refl)
+erased-one limits a b (Get key) reply step = (b, step, refl)
+erased-one limits a b (Free key) reply step = (b, step, refl)
+erased-one limits a b (Later worker key) reply step = (b, step, refl)
+erased-one limits a b (Settle worker shard) reply step = (b, step, refl)
+erased-one limits a b (End shard) reply step = step
+erased-one limits a b (Adopt shard) reply step = step
+erased-one limits a b Mark reply step = step
+erased-one limits a b Step reply step = step
+erased-one limits a b Close reply step = step
 
 pub IsAnswered-none : (core : CoreState) → IsAnswered core [] core
 IsAnswered-none core = record { each = tt; last = refl; core = refl; plain = refl; told = tt }
 
-pub IsAnswered-one : (event : Event) (reply : Reply) (old new : CoreState) → CoreStep old event reply new → IsSound new → ErasedStep (shown old) event reply (shown new) → IsTold reply
+pub IsAnswered-one : (event : Event) (reply : Reply) (old new : CoreState) → CoreStep old event reply new → IsSound new → ErasedStep old.limits (shown old) event reply (shown new) → IsTold reply
     → IsAnswered old (Called event reply new ∷ []) new
-IsAnswered-one event reply old new step sound plain told = record { each = (step, tt); last = refl; core = (new, step, sound, refl); plain = erased-one (shown old) (shown new) event reply plain; told = (told, tt) }
+IsAnswered-one event reply old new step sound plain told = record { each = (step, tt); last = refl; core = (new, step, sound, refl); plain = erased-one old.limits (shown old) (shown new) event reply plain; told = (told, tt) }
 
 pub IsAnswered-append : (a b c : CoreState) (first second : List Made) → IsAnswered a first b → IsAnswered b second c → IsAnswered a (first ++ second) c
 IsAnswered-append a b c first second before after =
@@ -90,46 +94,37 @@ IsAnswered-append a b c first second before after =
       each = Happens-append a first second before.each (subst (λ (core : CoreState). Happens core second) before.last after.each);
       last = after.last ∙ ap (λ core. core_after core second) before.last ∙ sym (core_after-append a first second);
       core = rw (events, replies) (CoreRun-append a b c (events_of first) (events_of second) (replies_of first) (replies_of second) before.core after.core);
-      plain = rw (events, replies, erased-append (events_of first) (events_of second) (replies_of first) (replies_of second) (replies-length first)) (PlainRun-append (shown a) (shown b) (shown c) (erased (events_of first) (replies_of first)) (erased (events_of second) (replies_of second)) before.plain after.plain);
+      plain = rw (events, replies, erased-append (events_of first) (events_of second) (replies_of first) (replies_of second) (replies-length first)) (PlainRun-append a.limits (shown a) (shown b) (shown c) (erased (events_of first) (replies_of first)) (erased (events_of second) (replies_of second)) before.plain
+          (subst (λ limits. PlainRun limits (shown b) (erased (events_of second) (replies_of second)) (shown c)) (limits-CoreRun a b (events_of first) (replies_of first) before.core) after.plain));
       told = rw replies (each-append IsTold (replies_of first) (replies_of second) before.told after.told);
     }
 
--- one call, and the answer behind the earlier ones
-pub Makes-called : (number : ℕ) (event : Event) (reply : Reply) (old new : CoreState) (before : List LineAnswer)
-    → CoreStep old event reply new → IsSound new → ErasedStep (shown old) event reply (shown new) → IsTold reply
-    → Makes number (Calls event ∷ []) old before new (before ++ on_line number (Called event reply new) ∷ [])
-Makes-called number event reply old new before step sound plain told =
-    (Called event reply new ∷ [], refl, IsAnswered-one event reply old new step sound plain told, refl)
+-- one call, of which the answer is kept
+pub Makes-called : (number : ℕ) (event : Event) (reply : Reply) (old new : CoreState) (before after : Kept)
+    → CoreStep old event reply new → IsSound new → ErasedStep old.limits (shown old) event reply (shown new) → IsTold reply → after ≡ keeping number before (Called event reply new ∷ [])
+    → Makes number (Calls event ∷ []) old before new after
+Makes-called number event reply old new before after step sound plain told kept =
+    (Called event reply new ∷ [], refl, IsAnswered-one event reply old new step sound plain told, kept)
 
 -- no call, since its key was never given out
-pub Makes-unbound : (number : ℕ) (core : CoreState) (before : List LineAnswer) → Makes number (Keyless ∷ []) core before core (before ++ on_line number Unbound ∷ [])
-Makes-unbound number core before = (Unbound ∷ [], refl, record { each = tt; last = refl; core = refl; plain = refl; told = tt }, refl)
+pub Makes-unbound : (number : ℕ) (core : CoreState) (before after : Kept) → after ≡ keeping number before (Unbound ∷ []) → Makes number (Keyless ∷ []) core before core after
+Makes-unbound number core before after kept = (Unbound ∷ [], refl, record { each = tt; last = refl; core = refl; plain = refl; told = tt }, kept)
 
 -- no call, since the thread ends
-pub Makes-left : (number : ℕ) (core : CoreState) (before : List LineAnswer) → Makes number (Leaves ∷ []) core before core (before ++ on_line number Left ∷ [])
-Makes-left number core before = (Left ∷ [], refl, record { each = tt; last = refl; core = refl; plain = refl; told = tt }, refl)
+pub Makes-left : (number : ℕ) (core : CoreState) (before after : Kept) → after ≡ keeping number before (Left ∷ []) → Makes number (Leaves ∷ []) core before core after
+Makes-left number core before after kept = (Left ∷ [], refl, record { each = tt; last = refl; core = refl; plain = refl; told = tt }, kept)
 
-pub Makes-none : (number : ℕ) (core : CoreState) (before : List LineAnswer) → Makes number [] core before core before
-Makes-none number core before = ([], refl, IsAnswered-none core, sym (append-nil before))
+pub Makes-none : (number : ℕ) (core : CoreState) (kept : Kept) → Makes number [] core kept core kept
+Makes-none number core kept = ([], refl, IsAnswered-none core, sym (keeping-none number kept))
 
-pub Makes-append : (number : ℕ) (first second : List Asked) (a b c : CoreState) (x y z : List LineAnswer)
+pub Makes-append : (number : ℕ) (first second : List Asked) (a b c : CoreState) (x y z : Kept)
     → Makes number first a x b y → Makes number second b y c z → Makes number (first ++ second) a x c z
 Makes-append number first second a b c x y z (made, asks, answers, after) (more, asks_more, answers_more, after_more) = (
   made ++ more,
   map-append asked_of made more ∙ ap (λ l. l ++ map asked_of more) asks ∙ ap (λ l. first ++ l) asks_more,
   IsAnswered-append a b c made more answers answers_more,
-  after_more ∙ ap (λ l. l ++ map (on_line number) more) after ∙ append_assoc x (map (on_line number) made) (map (on_line number) more) ∙ ap (λ l. x ++ l) (sym (map-append (on_line number) made more)),
+  after_more ∙ ap (λ k. keeping number k more) after ∙ keeping-append number x made more,
 )
-
--- more answers behind those of the lines that were run
-pub Recalls-makes : (done : List Did) (number : ℕ) (asked : List Asked) (old new : CoreState) (before after : List LineAnswer) (starts : List ℕ)
-    → Recalls done before starts → Makes number asked old before new after → Recalls done after starts
-Recalls-makes done number asked old new before after starts recalls (made, asks, answered, more) = record {
-  running = recalls.running ++ map (on_line number) made;
-  answers_are = more ∙ ap (λ l. l ++ map (on_line number) made) recalls.answers_are ∙ append_assoc (answers_from 6 done) recalls.running (map (on_line number) made);
-  long = recalls.long;
-  starts_are = recalls.starts_are;
-}
 
 -- ---- what is done about plans and at barriers
 
@@ -137,7 +132,7 @@ pub Carries-none : (core : CoreState) (news : News) → Carries [] core news cor
 Carries-none core news = ([], refl, IsAnswered-none core, refl)
 
 -- one event, and the news with what it tells
-pub Carries-one : (event : Event) (reply : Reply) (old new : CoreState) (before after : News) → CoreStep old event reply new → IsSound new → ErasedStep (shown old) event reply (shown new) → IsTold reply
+pub Carries-one : (event : Event) (reply : Reply) (old new : CoreState) (before after : News) → CoreStep old event reply new → IsSound new → ErasedStep old.limits (shown old) event reply (shown new) → IsTold reply
     → after ≡ with_made before (Called event reply new) → Carries (Calls event ∷ []) old before new after
 Carries-one event reply old new before after step sound plain told news = (Called event reply new ∷ [], refl, IsAnswered-one event reply old new step sound plain told, news)
 
@@ -150,53 +145,53 @@ Carries-append first second a b c x y z (made, asks, answered, news) (more, asks
 )
 
 -- the end of a shard, which tells nothing
-pub Carries-end : (shard : ℕ) (old new : CoreState) (news : News) → CoreStep old (End shard) ShardEnded new → IsSound new → ErasedStep (shown old) (End shard) ShardEnded (shown new)
+pub Carries-end : (shard : ℕ) (old new : CoreState) (news : News) → CoreStep old (End shard) ShardEnded new → IsSound new → ErasedStep old.limits (shown old) (End shard) ShardEnded (shown new)
     → Carries (ends_asked (shard ∷ [])) old news new news
 Carries-end shard old new news step sound plain = Carries-one (End shard) ShardEnded old new news news step sound plain tt refl
 
 -- ---- what a line asks for, by its kind
 
-module _ (number : ℕ) (threads : List ℕ) (old : CoreState) (before : List LineAnswer) (plans : Plans) where
-  pub MakesLine-silent : MakesLine number (settling_with threads old line.Silent) [] line.Silent old before (news_at (length before) plans) old before (news_at (length before) plans)
+module _ (number : ℕ) (threads : List ℕ) (old : CoreState) (before : Kept) (plans : Plans) where
+  pub MakesLine-silent : MakesLine number (settling_with threads old line.Silent) [] line.Silent old before (news_at before.count plans) old before (news_at before.count plans)
   MakesLine-silent = record {
     settled_core = old;
     called_core = old;
-    news = news_at (length before) plans;
+    news = news_at before.count plans;
     settles = Carries-none old _;
     makes = Makes-none number old before;
     plans = Carries-none old _;
   }
 
-  pub MakesLine-call : (thread : ℕ) (call : Call) (asked : List Asked) (mid new : CoreState) (after : List LineAnswer) (plans_after : Plans)
-      → Makes number asked old before mid after → Carries (stepping mid.plan) mid (news_at (length after) plans) new (news_at (length after) plans_after)
-      → MakesLine number (settling_with threads old (line.Call thread call)) asked (line.Call thread call) old before (news_at (length before) plans) new after (news_at (length after) plans_after)
+  pub MakesLine-call : (thread : ℕ) (call : Call) (asked : List Asked) (mid new : CoreState) (after : Kept) (plans_after : Plans)
+      → Makes number asked old before mid after → Carries (stepping mid.plan) mid (news_at after.count plans) new (news_at after.count plans_after)
+      → MakesLine number (settling_with threads old (line.Call thread call)) asked (line.Call thread call) old before (news_at before.count plans) new after (news_at after.count plans_after)
   MakesLine-call thread call asked mid new after plans_after makes follows = record {
     settled_core = old;
     called_core = mid;
-    news = news_at (length before) plans;
+    news = news_at before.count plans;
     settles = Carries-none old _;
     makes = makes;
     plans = follows;
   }
 
-  module _ (mid : CoreState) (settled : Plans) (settles : Carries (finishing old.plan ++ ends_asked threads) old (news_at (length before) plans) mid (news_at (length before) settled)) where
-    pub MakesLine-adopt : (shard : ℕ) (asked : List Asked) (new : CoreState) (after : List LineAnswer) → Makes number asked mid before new after
-        → MakesLine number (settling_with threads old (line.Adopt shard)) asked (line.Adopt shard) old before (news_at (length before) plans) new after (news_at (length after) settled)
+  module _ (mid : CoreState) (settled : Plans) (settles : Carries (finishing old.plan ++ ends_asked threads) old (news_at before.count plans) mid (news_at before.count settled)) where
+    pub MakesLine-adopt : (shard : ℕ) (asked : List Asked) (new : CoreState) (after : Kept) → Makes number asked mid before new after
+        → MakesLine number (settling_with threads old (line.Adopt shard)) asked (line.Adopt shard) old before (news_at before.count plans) new after (news_at after.count settled)
     MakesLine-adopt shard asked new after makes = record {
       settled_core = mid;
       called_core = new;
-      news = news_at (length before) settled;
+      news = news_at before.count settled;
       settles = settles;
       makes = makes;
       plans = Carries-none new _;
     }
 
-    pub MakesLine-mark : (new : CoreState) (plans_after : Plans) → Carries (Calls Mark ∷ []) mid (news_at (length before) settled) new (news_at (length before) plans_after)
-        → MakesLine number (settling_with threads old line.Mark) [] line.Mark old before (news_at (length before) plans) new before (news_at (length before) plans_after)
+    pub MakesLine-mark : (new : CoreState) (plans_after : Plans) → Carries (Calls Mark ∷ []) mid (news_at before.count settled) new (news_at before.count plans_after)
+        → MakesLine number (settling_with threads old line.Mark) [] line.Mark old before (news_at before.count plans) new before (news_at before.count plans_after)
     MakesLine-mark new plans_after marks = record {
       settled_core = mid;
       called_core = mid;
-      news = news_at (length before) settled;
+      news = news_at before.count settled;
       settles = settles;
       makes = Makes-none number mid before;
       plans = marks;

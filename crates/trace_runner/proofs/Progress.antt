@@ -12,22 +12,23 @@ use Rattle.std.proofs.lemmas.List.{append-nil, get_or_append_left, length-map, l
 use Rattle.arena_core.specs.State.{CoreState}
 use Rattle.trace_runner.specs.Barrier.{is_barrier, leavers, open_lines}
 use Rattle.trace_text.specs.Causes.{ends, has_ended, first_cause, is_adopt, thread_of}
-use Rattle.trace_runner.specs.Recalls.{CanLeave, Carries, EndsBelow, HasCome, IsReady, KnowsPlan, MakesLine, Recalls, Serves, news_at, settling_with}
+use Rattle.trace_runner.specs.Recalls.{CanLeave, Carries, EndsBelow, HasCome, IsReady, KnowsPlan, MakesLine, Serves, news_at, settling_with}
+use Rattle.trace_runner.specs.Kept.{FindsAt, Kept, keeping, kept_none, kept_of, keys_of}
+use Rattle.trace_text.specs.Places.{place_at}
 use Rattle.trace_runner.specs.Made.{Did, all_made, asked_of, made_by}
 use Rattle.trace_runner.specs.News.{News, news_of, no_news, with_all_made, with_answers, with_line}
 use Rattle.trace_runner.specs.Runs.{DoLines, Does, IsRun, answers_from, asked_by, calls_at, calls_in, ends_asked, finishing, on_line, pairs_left_of, planning_at, settling_at}
 use Rattle.trace_runner.specs.declared.plans.Plans.{Plans}
-use Rattle.trace_runner.specs.declared.report.LineAnswer.{LineAnswer}
 use Rattle.trace_text.specs.declared.header.Header.{Header}
 use Rattle.trace_text.specs.declared.line.Call.TheVariants.{Put, Fill, Get, Free, Sweep, End}
 use Rattle.trace_text.specs.declared.line.Line.{Line}
 use Rattle.trace_text.specs.declared.line.Line.TheVariants as line
 use Rattle.trace_runner.proofs.Barriers.{has_ended-open, has_ended-open-push}
 use Rattle.trace_text.proofs.Clips.{AllFine, all_fine}
-use Rattle.trace_text.proofs.Knowing.{has_ended-push}
+use Rattle.trace_text.proofs.Knowing.{has_ended-push, keys_in-push}
 use Rattle.trace_runner.proofs.Making.{IsAnswered-append, IsAnswered-none}
 use Rattle.trace_runner.proofs.Notes.{above-all_made}
-use Rattle.trace_runner.proofs.Recalling.{answers_from-append, take_line}
+use Rattle.trace_runner.proofs.Recalling.{FindsAt-fine, Keyed-asked, Recalls-none, Recalls-push, kept_of-none, kept_of-push, length-Keyed, take_line}
 use Rattle.trace_text.proofs.Texts.{first_cause-none}
 
 DoLines-push : (shards : ℕ) (all : List Line) (start : CoreState) (lines : List Line) (line : Line) (done after : List Did) (did : Did) → DoLines shards all start lines done after → Does shards all start after line did
@@ -119,22 +120,10 @@ DoLines-rest shards all start (l ∷ ls) done after (did, does, later) =
 news_of-push : (done : List Did) (did : Did) → news_of (done ++ did ∷ []) ≡ with_line (news_of done) did
 news_of-push done did = fold-append with_line no_news done (did ∷ [])
 
-module _ (h : Header) (lines : List Line) (count : ℕ) (old core : CoreState) (answers : List LineAnswer) (starts : List ℕ) (leaving : ℕ → Bool) (plans : Plans) (come : HasCome h.shards lines count old core answers starts leaving plans) where
-  -- once the start of the next line is kept
-  pub HasCome-recalls : Recalls come.done answers (starts ++ length answers ∷ [])
-  HasCome-recalls = record {
-    running = [];
-    answers_are = come.answers_are ∙ sym (append-nil (answers_from 6 come.done));
-    long = length_push starts (length answers) ∙ omega (arith, come.long, come.count_is);
-    starts_are = λ place within. elim (cases_lt place count) [
-      | inl low ↦ get_or_append_left starts (length answers ∷ []) 0 place (omega (arith, come.long)) ∙ come.starts_are place low
-      | inr high ↦
-          let here : place ≡ length starts = omega (arith, come.long, come.count_is) in
-          let all : place ≡ length come.done = omega (arith, come.count_is) in
-          ap (λ n. get_or (starts ++ length answers ∷ []) n 0) here ∙ get_or-append_seam starts (length answers) [] 0
-          ∙ ap length come.answers_are ∙ sym (ap (λ d. length (answers_from 6 d)) (ap (λ n. take n come.done) all ∙ take-length come.done))
-    ];
-  }
+module _ (h : Header) (replies : Bool) (lines : List Line) (count : ℕ) (old core : CoreState) (kept : Kept) (leaving : ℕ → Bool) (plans : Plans) (come : HasCome replies h.shards lines count old core kept leaving plans) where
+  -- the next line finds its keys
+  pub HasCome-finds : (l : Line) → first_cause h (take count lines) l ≡ None → FindsAt lines come.done kept.keys (place_at (take count lines) l) l
+  HasCome-finds = FindsAt-fine h lines count come.done kept.keys come.recalls
 
   waiting_ended : (t : ℕ) → has_ended (open_lines (take count lines)) t ≡ true → has_ended (take count lines) t ≡ true
   waiting_ended t = has_ended-open (take count lines) t
@@ -165,11 +154,11 @@ module _ (h : Header) (lines : List Line) (count : ℕ) (old core : CoreState) (
   leaving_is = λ i t. come.leaving_are t i
 
   -- once the next line was run
-  pub HasCome-more : (l : Line) (new : CoreState) (after : List LineAnswer) (now : ℕ → Bool) (plans_now : Plans) → slice_get lines count ≡ Some l → first_cause h (take count lines) l ≡ None
-      → MakesLine (count + 6) (settling_with (filter leaving (range_with_len 0 h.shards)) core l) (asked_by lines come.done l) l core answers (news_at (length answers) plans) new after (news_at (length after) plans_now)
+  pub HasCome-more : (l : Line) (new : CoreState) (after : Kept) (now : ℕ → Bool) (plans_now : Plans) → slice_get lines count ≡ Some l → first_cause h (take count lines) l ≡ None
+      → MakesLine (count + 6) (settling_with (filter leaving (range_with_len 0 h.shards)) core l) (asked_by lines come.done l) l core kept (news_at kept.count plans) new after (news_at after.count plans_now)
       → EndsBelow core h.shards (λ t. is_barrier l && leaving t) new → ((t : ℕ) → now t ≡ (not (is_barrier l) && (ends t l || leaving t)))
       → KnowsPlan plans_now new → plans_now.marks ≤ plans.marks + 1
-      → HasCome h.shards lines (count + 1) old new after (starts ++ length answers ∷ []) now plans_now
+      → HasCome replies h.shards lines (count + 1) old new after now plans_now
   HasCome-more l new after now plans_now here fine makes ended left knows marks =
       let (settled, asks_settled, answered_settled, news_settled) = makes.settles in
       let (made, asks, answered, more) = makes.makes in
@@ -185,6 +174,9 @@ module _ (h : Header) (lines : List Line) (count : ℕ) (old core : CoreState) (
         calls = asks;
         plans = asks_planned ∙ ap (λ c. planning_at c l) called_all.last;
       } in
+      let keyed = Keyed-asked lines come.done l made asks in
+      let keys : after.keys ≡ kept.keys ++ keys_of made = ap (λ (k : Kept). k.keys) more in
+      let number : count + 6 ≡ length come.done + 6 = ap (λ n. n + 6) (sym come.count_is) in
       let waits : (t : ℕ) → has_ended (open_lines (take (count + 1) lines)) t ≡ (not (is_barrier l) && (ends t l || has_ended (open_lines (take count lines)) t)) =
       λ t. ap (λ ls. has_ended (open_lines ls) t) next.0 ∙ has_ended-open-push (take count lines) l t in
       record {
@@ -193,24 +185,17 @@ module _ (h : Header) (lines : List Line) (count : ℕ) (old core : CoreState) (
         lines_do = subst (λ (some : List Line). DoLines h.shards lines old some [] (come.done ++ did ∷ [])) (sym next.0) (DoLines-push h.shards lines old (take count lines) l [] come.done did come.lines_do does);
         answered = rw all_made-push (IsAnswered-append old core new (all_made come.done) (made_by did) come.answered
             (IsAnswered-append core makes.called_core new (settled ++ made) planned called answered_planned));
-        answers_are =
-            let number : 6 + length come.done ≡ count + 6 = omega (arith, come.count_is) in
-            more ∙ ap (λ ls. ls ++ map (on_line (count + 6)) made) come.answers_are
-            ∙ sym (answers_from-append 6 come.done (did ∷ []) ∙ ap (λ n. answers_from 6 come.done ++ (map (on_line n) made ++ [])) number
-            ∙ ap (λ ls. answers_from 6 come.done ++ ls) (append-nil (map (on_line (count + 6)) made)));
+        kept_is = more ∙ ap (λ k. keeping (count + 6) k made) come.kept_is ∙ ap (λ n. keeping n (kept_of replies come.done) made) number ∙ sym (kept_of-push replies come.done did);
+        recalls = rw (next.0, keys) (Recalls-push (take count lines) l come.done did kept.keys come.recalls (come.count_is ∙ sym next.1) come.long keyed);
+        long = rw next.0 (ap length keys ∙ length-append kept.keys (keys_of made) ∙ ap₂ (λ a b. a + b) come.long (length-Keyed l made keyed) ∙ sym (keys_in-push (take count lines) l));
         news_are =
-            let stands : makes.news.above ≡ length answers = ap (λ (n : News). n.above) news_settled ∙ above-all_made (news_at (length answers) plans) settled in
-            let longer : length after ≡ makes.news.above + length made = ap length more ∙ length-append answers (map (on_line (count + 6)) made)
-            ∙ ap₂ (λ a b. a + b) (sym stands) (length-map made (on_line (count + 6))) in
+            let stands : makes.news.above ≡ kept.count = ap (λ (n : News). n.above) news_settled ∙ above-all_made (news_at kept.count plans) settled in
+            let longer : after.count ≡ makes.news.above + length made = ap (λ (k : Kept). k.count) more ∙ ap (λ n. n + length made) (sym stands) in
             news_planned ∙ ap (λ n. with_all_made (record makes.news { above = n }) planned) longer
             ∙ ap (λ n. with_all_made (with_answers (length made) n) planned) (news_settled ∙ ap (λ n. with_all_made n settled) come.news_are)
             ∙ sym (news_of-push come.done did);
         knows = knows;
         marks = omega (arith, marks, come.marks);
-        long = length_push starts (length answers) ∙ ap (λ n. n + 1) come.long;
-        starts_are = λ place less.
-            let within : place ≤ length come.done = omega (arith, come.count_is) in
-            HasCome-recalls.starts_are place within ∙ ap (λ d. length (answers_from 6 d)) (sym (take-append-le place come.done (did ∷ []) within));
         enough = rw ended.limits come.enough;
         leaving_are = λ t. left t ∙ ap (λ b. not (is_barrier l) && (ends t l || b)) (come.leaving_are t) ∙ sym (waits t);
         ended_are = λ t below.
@@ -222,15 +207,15 @@ module _ (h : Header) (lines : List Line) (count : ℕ) (old core : CoreState) (
       }
 
   -- how many of the answers are those of threads' lines
-  pub HasCome-calls : count ≡ length lines → length answers ≡ calls_in lines come.done + length (filter is_adopt lines)
+  pub HasCome-calls : count ≡ length lines → kept.count ≡ calls_in lines come.done + length (filter is_adopt lines)
   HasCome-calls all =
       let whole : take count lines ≡ lines = ap (λ n. take n lines) all ∙ take-length lines in
       let rest = DoLines-rest h.shards lines old lines [] come.done (subst (λ (some : List Line). DoLines h.shards lines old some [] come.done) whole come.lines_do) in
-      ap length come.answers_are ∙ subst (λ (d : List Did). length (answers_from 6 d) ≡ calls_in lines d + length (filter is_adopt lines)) (sym rest.1) (rest.2 6)
+      ap (λ (k : Kept). k.count) come.kept_is ∙ subst (λ (d : List Did). length (answers_from 6 d) ≡ calls_in lines d + length (filter is_adopt lines)) (sym rest.1) (rest.2 6)
 
   -- once the last section is settled, the run is whole
-  pub HasCome-IsRun : (new : CoreState) (calls : ℕ) (news : News) → count ≡ length lines → Carries (finishing core.plan ++ ends_asked (filter leaving (range_with_len 0 h.shards))) core (news_at (length answers) plans) new news → calls ≡ calls_in lines come.done
-      → IsRun h.shards lines old new answers calls news
+  pub HasCome-IsRun : (new : CoreState) (calls : ℕ) (news : News) → count ≡ length lines → Carries (finishing core.plan ++ ends_asked (filter leaving (range_with_len 0 h.shards))) core (news_at kept.count plans) new news → calls ≡ calls_in lines come.done
+      → IsRun h.shards lines old new (answers_from 6 come.done) calls news
   HasCome-IsRun new calls news all (made, asks, answered, told) calls_are =
       let whole : take count lines ≡ lines = ap (λ n. take n lines) all ∙ take-length lines in record {
         done = come.done;
@@ -239,21 +224,21 @@ module _ (h : Header) (lines : List Line) (count : ℕ) (old core : CoreState) (
         settled = asks ∙ ap (λ (f : ℕ → Bool). finishing core.plan ++ ends_asked (filter f (range_with_len 0 h.shards))) leaving_is ∙ ap (λ ls. finishing core.plan ++ ends_asked (leavers h.shards ls)) whole
             ∙ ap (λ (c : CoreState). finishing c.plan ++ ends_asked (leavers h.shards lines)) come.answered.last;
         answered = IsAnswered-append old core new (all_made come.done) made come.answered answered;
-        answers_are = come.answers_are;
+        answers_are = refl;
         calls_are = calls_are;
         news_are = told ∙ ap (λ n. with_all_made n made) come.news_are;
       }
 
 -- before the first line
-pub HasCome-start : (h : Header) (lines : List Line) (core : CoreState) (leaving : ℕ → Bool) (plans : Plans) → Serves h.shards core → ((t : ℕ) → leaving t ≡ false) → news_at 0 plans ≡ no_news → plans.left ≡ None → HasCome h.shards lines 0 core core [] [] leaving plans
-HasCome-start h lines core leaving plans serves none news left = record {
+pub HasCome-start : (h : Header) (replies : Bool) (lines : List Line) (core : CoreState) (leaving : ℕ → Bool) (plans : Plans) → Serves h.shards core → ((t : ℕ) → leaving t ≡ false) → news_at 0 plans ≡ no_news → plans.left ≡ None → HasCome replies h.shards lines 0 core core (kept_none replies) leaving plans
+HasCome-start h replies lines core leaving plans serves none news left = record {
   done = [];
   count_is = refl;
   lines_do = refl;
   answered = IsAnswered-none core;
-  answers_are = refl;
+  kept_is = kept_of-none replies;
+  recalls = Recalls-none [];
   long = refl;
-  starts_are = λ place less. absurd (omega (arith, less));
   enough = serves.enough;
   leaving_are = none;
   ended_are = serves.running;

@@ -1,12 +1,36 @@
--- The answers of a line, among those of all lines that were run.
-use Rattle.std.proofs.Common.{zero, suc, ◌≡◌, ℕ, ◌+◌, ◌-◌, ◌<◌, ◌≤◌, List, [], ◌∷◌, ◌++◌, map, length, take, drop, get_or, Some, slice_get, refl, sym, ap, ◌∙◌, append_assoc, arith, length-append, add-zero}
-use Rattle.std.proofs.Math.Seq.{drop-append_seam, take-append_seam}
-use Rattle.std.proofs.lemmas.List.{append-nil, get_or_default, take-append-drop}
-use Rattle.std.proofs.lemmas.Option.{slice_get-get_or, slice_get_past}
-use Rattle.trace_runner.specs.Recalls.{Recalls, answers_if_run}
-use Rattle.trace_runner.specs.Made.{Did}
-use Rattle.trace_runner.specs.Runs.{answers_from, on_line}
+-- What a run keeps of its replies, one line more, and how a key is found in it.
+use Rattle.std.proofs.Common.{zero, suc, ◌≡◌, ℕ, ◌+◌, ◌<◌, ◌≤◌, Bool, true, false, cond, not, List, [], ◌∷◌, ◌++◌, map, length, take, drop, filter, Option, Some, None, slice_get, refl, sym, ap, subst, ◌∙◌, ◌-◌, append_assoc, arith, inl, inr, length-append, add-zero, unwrap_or, option_map, option_and_then}
+use Rattle.std.specs.List.{flat_map, range_with_len}
+use Rattle.std.specs.Option.{option_map_or, option_or}
+use Rattle.std.specs.Str.{bytes_eq}
+use Rattle.std.proofs.lemmas.Bool.Decides.{nat_tests}
+use Rattle.std.proofs.lemmas.Grind.{flat_map-append}
+use Rattle.std.proofs.lemmas.List.{append-nil, length-map, map-append, take-append-drop}
+use Rattle.std.proofs.lemmas.List.Elements.{filter-append}
+use Rattle.std.proofs.lemmas.List.FromFn.{length-range_with_len}
+use Rattle.std.proofs.lemmas.Option.{slice_get-map}
+use Rattle.span.specs.declared.key.Key.{Key}
+use Rattle.arena_core.specs.declared.event.Event.TheVariants as event
+use Rattle.arena_core.specs.declared.reply.Refusal.TheVariants.{NothingToAdopt}
+use Rattle.arena_core.specs.declared.reply.Reply.TheVariants.{Issued, Found, Freed, Refused}
+use Rattle.trace_runner.specs.Kept.{FindsAt, FindsOne, Kept, Recalls, answer_key, is_put, keeping, kept_none, kept_of, keys_of, told_of}
+use Rattle.trace_runner.specs.Made.{Asked, Calls, Did, Made, Called, Unbound, Left, asked_of}
+use Rattle.trace_runner.specs.Runs.{answer_to, answers_from, asked_by, key_at, key_bound, key_made, on_key, on_line}
 use Rattle.trace_runner.specs.declared.report.LineAnswer.{LineAnswer}
+use Rattle.trace_text.specs.Causes.{binding_at, binding_from, binding_of, first_cause, has_key, has_range, keys_at, keys_in, marks, marks_at}
+use Rattle.trace_text.specs.Earlier.{key_count}
+use Rattle.trace_text.specs.Places.{first_of, place_at}
+use Rattle.trace_text.specs.declared.header.Header.{Header}
+use Rattle.trace_text.specs.declared.line.Binding.{Binding}
+use Rattle.trace_text.specs.declared.line.Call.TheVariants.{Put, Fill, Get, Free, Sweep, End}
+use Rattle.trace_text.specs.declared.line.Keys.{Keys}
+use Rattle.trace_text.specs.declared.line.Keys.TheVariants.{One, Many}
+use Rattle.trace_text.specs.declared.line.Line.{Line}
+use Rattle.trace_text.specs.declared.line.Line.TheVariants as line
+use Rattle.trace_text.proofs.Bindings.{binding_of-push, of_either}
+use Rattle.trace_text.proofs.Clips.{all_fine}
+use Rattle.trace_text.proofs.Lines.{chosen}
+use Rattle.trace_text.proofs.Texts.{first_cause-none}
 
 pub answers_from-append : (number : ℕ) (first second : List Did) → answers_from number (first ++ second) ≡ answers_from number first ++ answers_from (number + length first) second
 answers_from-append number [] second = ap (λ n. answers_from n second) (sym (add-zero number))
@@ -24,75 +48,308 @@ take_line (y ∷ ys) (suc place) x is =
     let next : suc place + 1 ≡ suc (place + 1) = omega arith in
     (ap (λ n. take n (y ∷ ys)) next ∙ ap (λ l. y ∷ l) later.0, ap suc later.1)
 
-pub answers_from-take_more : (number : ℕ) (done : List Did) (place : ℕ) (did : Did) → slice_get done place ≡ Some did
-    → answers_from number (take (place + 1) done) ≡ answers_from number (take place done) ++ map (on_line (place + number)) did.calls
-answers_from-take_more number done place did is =
-    let line = take_line done place did is in
-    let same : number + length (take place done) ≡ place + number = omega (arith, line.1) in
-    ap (answers_from number) line.0 ∙ answers_from-append number (take place done) (did ∷ [])
-    ∙ ap (λ n. answers_from number (take place done) ++ (map (on_line n) did.calls ++ [])) same
-    ∙ ap (λ l. answers_from number (take place done) ++ l) (append-nil (map (on_line (place + number)) did.calls))
+-- ---- what is kept
 
-module _ (number : ℕ) (done : List Did) (running : List LineAnswer) (place : ℕ) where
-  abbrev start : ℕ
-  start = length (answers_from number (take place done))
+keys_of-append : (first second : List Made) → keys_of (first ++ second) ≡ keys_of first ++ keys_of second
+keys_of-append first second =
+    ap (map key_made) (filter-append (λ m. is_put (asked_of m)) first second)
+    ∙ map-append key_made (filter (λ m. is_put (asked_of m)) first) (filter (λ m. is_put (asked_of m)) second)
 
-  abbrev end : ℕ
-  end = length (answers_from number (take (place + 1) done))
+told_of-append : (asked : Bool) (number : ℕ) (first second : List Made) → told_of asked number first ++ told_of asked number second ≡ told_of asked number (first ++ second)
+told_of-append true number first second = sym (map-append (on_line number) first second)
+told_of-append false number first second = refl
 
-  behind : List LineAnswer
-  behind = answers_from (number + length (take (place + 1) done)) (drop (place + 1) done) ++ running
+told_of-none : (asked : Bool) (number : ℕ) → told_of asked number [] ≡ []
+told_of-none true number = refl
+told_of-none false number = refl
 
-  split_at_end : answers_from number done ++ running ≡ answers_from number (take (place + 1) done) ++ behind
-  unfolding behind
-  split_at_end =
-      ap (λ d. answers_from number d ++ running) (sym (take-append-drop (place + 1) done))
-      ∙ ap (λ l. l ++ running) (answers_from-append number (take (place + 1) done) (drop (place + 1) done))
-      ∙ append_assoc (answers_from number (take (place + 1) done)) _ running
+pub keeping-none : (number : ℕ) (kept : Kept) → keeping number kept [] ≡ kept
+keeping-none number kept =
+    let told : kept.told ++ told_of kept.asked number [] ≡ kept.told = ap (λ l. kept.told ++ l) (told_of-none kept.asked number) ∙ append-nil kept.told in
+    λ i. record { keys = append-nil kept.keys i; count = add-zero kept.count i; asked = kept.asked; told = told i }
 
-  pub end_within : end ≤ length (answers_from number done ++ running)
-  end_within = rw split_at_end (omega (arith, length-append (answers_from number (take (place + 1) done)) behind))
+pub keeping-append : (number : ℕ) (kept : Kept) (first second : List Made) → keeping number (keeping number kept first) second ≡ keeping number kept (first ++ second)
+keeping-append number kept first second =
+    let keys : (kept.keys ++ keys_of first) ++ keys_of second ≡ kept.keys ++ keys_of (first ++ second) =
+    append_assoc kept.keys (keys_of first) (keys_of second) ∙ ap (λ l. kept.keys ++ l) (sym (keys_of-append first second)) in
+    let count : kept.count + length first + length second ≡ kept.count + length (first ++ second) = omega (arith, length-append first second) in
+    let told : (kept.told ++ told_of kept.asked number first) ++ told_of kept.asked number second ≡ kept.told ++ told_of kept.asked number (first ++ second) =
+    append_assoc kept.told (told_of kept.asked number first) (told_of kept.asked number second) ∙ ap (λ l. kept.told ++ l) (told_of-append kept.asked number first second) in
+    λ i. record { keys = keys i; count = count i; asked = kept.asked; told = told i }
 
-  module _ (did : Did) (is : slice_get done place ≡ Some did) where
-    end_is : end ≡ start + length (map (on_line (place + number)) did.calls)
-    end_is = ap length (answers_from-take_more number done place did is) ∙ length-append (answers_from number (take place done)) (map (on_line (place + number)) did.calls)
+keys_of-other : (m : Made) → is_put (asked_of m) ≡ false → keys_of (m ∷ []) ≡ []
+keys_of-other m e = rw e refl
 
-    pub start_first : start ≤ end
-    start_first = omega (arith, end_is)
+keys_of-put : (m : Made) → is_put (asked_of m) ≡ true → keys_of (m ∷ []) ≡ key_made m ∷ []
+keys_of-put m e = rw e refl
 
-    pub part_of_line : take (end - start) (drop start (answers_from number done ++ running)) ≡ map (on_line (place + number)) did.calls
-    part_of_line =
-        let said = map (on_line (place + number)) did.calls in
-        let parts : answers_from number done ++ running ≡ answers_from number (take place done) ++ (said ++ behind) =
-        split_at_end ∙ ap (λ l. l ++ behind) (answers_from-take_more number done place did is) ∙ append_assoc (answers_from number (take place done)) said behind in
-        let rest : drop start (answers_from number done ++ running) ≡ said ++ behind = ap (drop start) parts ∙ drop-append_seam (answers_from number (take place done)) (said ++ behind) in
-        let long : end - start ≡ length said = omega (arith, end_is) in
-        ap (λ n. take n (drop start (answers_from number done ++ running))) long ∙ ap (take (length said)) rest ∙ take-append_seam said behind
+-- once one answer is told
+module _ (number : ℕ) (before after : Kept) (m : Made) (count : after.count ≡ before.count + 1) (asked : after.asked ≡ before.asked) (told : after.told ≡ before.told ++ told_of before.asked number (m ∷ [])) where
+  pub keeping-other : is_put (asked_of m) ≡ false → after.keys ≡ before.keys → after ≡ keeping number before (m ∷ [])
+  keeping-other other keys =
+      let all : after.keys ≡ before.keys ++ keys_of (m ∷ []) = keys ∙ sym (append-nil before.keys) ∙ ap (λ l. before.keys ++ l) (sym (keys_of-other m other)) in
+      λ i. record { keys = all i; count = count i; asked = asked i; told = told i }
 
-nothing : Did
-nothing = record { settled = []; calls = []; plans = [] }
+  pub keeping-put : is_put (asked_of m) ≡ true → after.keys ≡ before.keys ++ key_made m ∷ [] → after ≡ keeping number before (m ∷ [])
+  keeping-put put keys =
+      let all : after.keys ≡ before.keys ++ keys_of (m ∷ []) = keys ∙ ap (λ l. before.keys ++ l) (sym (keys_of-put m put)) in
+      λ i. record { keys = all i; count = count i; asked = asked i; told = told i }
 
-module _ (done : List Did) (answers : List LineAnswer) (starts : List ℕ) (recalls : Recalls done answers starts) (place : ℕ) where
-  -- a line that was not run to its end
-  pub answers_if_run-past : length starts - 1 ≤ place → [] ≡ answers_if_run (place + 6) (slice_get done place)
-  answers_if_run-past past = ap (answers_if_run (place + 6)) (sym (slice_get_past done place (omega (arith, recalls.long))))
+pub kept_of-none : (replies : Bool) → kept_none replies ≡ kept_of replies []
+kept_of-none true = refl
+kept_of-none false = refl
 
-  module _ (low : place < length starts - 1) (from to : ℕ) (from_is : from ≡ get_or starts place from) (to_is : to ≡ get_or starts (place + 1) to) where
-    did_is : slice_get done place ≡ Some (get_or done place nothing)
-    did_is = slice_get-get_or done place nothing (omega (arith, recalls.long))
+-- the key that an answer names is that of the put
+pub answer_key-to : (m : Made) → answer_key (answer_to m) ≡ key_made m
+answer_key-to (Called event (Issued key) core) = refl
+answer_key-to (Called event (Found (Some value)) core) = refl
+answer_key-to (Called event (Found None) core) = refl
+answer_key-to (Called event (Freed true) core) = refl
+answer_key-to (Called event (Freed false) core) = refl
+answer_key-to (Called event (Refused NothingToAdopt) core) = refl
+answer_key-to (Called event reply core) = refl
+answer_key-to Unbound = refl
+answer_key-to Left = refl
 
-    from_start : from ≡ length (answers_from 6 (take place done))
-    from_start = from_is ∙ get_or_default starts place from 0 (omega arith) ∙ recalls.starts_are place (omega (arith, recalls.long))
+told_all : (replies : Bool) (number : ℕ) (before all : List LineAnswer) (made : List Made) → all ≡ before ++ map (on_line number) made
+    → (cond replies all []) ≡ (cond replies before []) ++ told_of replies number made
+told_all true number before all made is = is
+told_all false number before all made is = refl
 
-    to_end : to ≡ length (answers_from 6 (take (place + 1) done))
-    to_end = to_is ∙ get_or_default starts (place + 1) to 0 (omega arith) ∙ recalls.starts_are (place + 1) (omega (arith, recalls.long))
+-- one line more
+pub kept_of-push : (replies : Bool) (done : List Did) (did : Did) → kept_of replies (done ++ did ∷ []) ≡ keeping (length done + 6) (kept_of replies done) did.calls
+kept_of-push replies done did =
+    let keys : flat_map (λ (d : Did). keys_of d.calls) (done ++ did ∷ []) ≡ flat_map (λ (d : Did). keys_of d.calls) done ++ keys_of did.calls =
+    flat_map-append (λ (d : Did). keys_of d.calls) done (did ∷ []) ∙ ap (λ l. flat_map (λ (d : Did). keys_of d.calls) done ++ l) (append-nil (keys_of did.calls)) in
+    let number : 6 + length done ≡ length done + 6 = omega arith in
+    let answers : answers_from 6 (done ++ did ∷ []) ≡ answers_from 6 done ++ map (on_line (length done + 6)) did.calls =
+    answers_from-append 6 done (did ∷ []) ∙ ap (λ n. answers_from 6 done ++ (map (on_line n) did.calls ++ [])) number
+    ∙ ap (λ l. answers_from 6 done ++ l) (append-nil (map (on_line (length done + 6)) did.calls)) in
+    let count : length (answers_from 6 (done ++ did ∷ [])) ≡ length (answers_from 6 done) + length did.calls =
+    ap length answers ∙ length-append (answers_from 6 done) (map (on_line (length done + 6)) did.calls) ∙ ap (λ n. length (answers_from 6 done) + n) (length-map did.calls (on_line (length done + 6))) in
+    let told = told_all replies (length done + 6) (answers_from 6 done) (answers_from 6 (done ++ did ∷ [])) did.calls answers in
+    λ i. record { keys = keys i; count = count i; asked = replies; told = told i }
 
-    pub from_first : from ≤ to
-    from_first = omega (arith, from_start, to_end, start_first 6 done recalls.running place (get_or done place nothing) did_is)
+-- ---- the keys of a line
 
-    pub to_within : to ≤ length answers
-    to_within = rw recalls.answers_are (omega (arith, to_end, end_within 6 done recalls.running place))
+-- all that is asked for are puts
+abbrev AllPuts : List Asked → Type 0
+AllPuts [] = Unit {0}
+AllPuts (a ∷ asked) = (is_put a ≡ true) × AllPuts asked
 
-    pub answers_if_run-part : take (to - from) (drop from answers) ≡ answers_if_run (place + 6) (slice_get done place)
-    answers_if_run-part = rw (from_start, to_end, recalls.answers_are)
-        (part_of_line 6 done recalls.running place (get_or done place nothing) did_is ∙ ap (answers_if_run (place + 6)) (sym did_is))
+-- nothing that is asked for is a put
+abbrev NoPuts : List Asked → Type 0
+NoPuts [] = Unit {0}
+NoPuts (a ∷ asked) = (is_put a ≡ false) × NoPuts asked
+
+AllPuts-map : (f : ℕ → Asked) → ((i : ℕ) → is_put (f i) ≡ true) → (places : List ℕ) → AllPuts (map f places)
+AllPuts-map f each [] = tt
+AllPuts-map f each (i ∷ places) = (each i, AllPuts-map f each places)
+
+NoPuts-map : (f : ℕ → Asked) → ((i : ℕ) → is_put (f i) ≡ false) → (places : List ℕ) → NoPuts (map f places)
+NoPuts-map f each [] = tt
+NoPuts-map f each (i ∷ places) = (each i, NoPuts-map f each places)
+
+keys_of-all : (made : List Made) → AllPuts (map asked_of made) → keys_of made ≡ map key_made made
+keys_of-all [] puts = refl
+keys_of-all (m ∷ made) puts = rw puts.0 (ap (λ l. key_made m ∷ l) (keys_of-all made puts.1))
+
+keys_of-no : (made : List Made) → NoPuts (map asked_of made) → keys_of made ≡ []
+keys_of-no [] puts = refl
+keys_of-no (m ∷ made) puts = rw puts.0 (keys_of-no made puts.1)
+
+get_is_no_put : (o : Option Key) → is_put (on_key event.Get o) ≡ false
+get_is_no_put None = refl
+get_is_no_put (Some key) = refl
+
+free_is_no_put : (o : Option Key) → is_put (on_key event.Free o) ≡ false
+free_is_no_put None = refl
+free_is_no_put (Some key) = refl
+
+-- a line that binds a name has its keys, in order, and any other line has none
+abbrev pub Keyed : Line → List Made → Type 0
+Keyed (line.Call t (Put name v)) made = (keys_of made ≡ map key_made made) × (length made ≡ 1)
+Keyed (line.Call t (Fill name n v)) made = (keys_of made ≡ map key_made made) × (length made ≡ n)
+Keyed _ made = keys_of made ≡ []
+
+asks_some : (made : List Made) (asked : List Asked) → map asked_of made ≡ asked → AllPuts asked → keys_of made ≡ map key_made made
+asks_some made asked is puts = keys_of-all made (subst AllPuts (sym is) puts)
+
+asks_none : (made : List Made) (asked : List Asked) → map asked_of made ≡ asked → NoPuts asked → keys_of made ≡ []
+asks_none made asked is puts = keys_of-no made (subst NoPuts (sym is) puts)
+
+pub Keyed-asked : (all : List Line) (done : List Did) (l : Line) (made : List Made) → map asked_of made ≡ asked_by all done l → Keyed l made
+Keyed-asked all done line.Silent made is = asks_none made [] is tt
+Keyed-asked all done line.Mark made is = asks_none made [] is tt
+Keyed-asked all done (line.Adopt s) made is = asks_none made _ is (refl, tt)
+Keyed-asked all done (line.Call t (Put name v)) made is = (asks_some made _ is (refl, tt), sym (length-map made asked_of) ∙ ap length is)
+Keyed-asked all done (line.Call t (Fill name n v)) made is = (
+  asks_some made _ is (AllPuts-map (λ i. Calls (event.Put t (v + i))) (λ i. refl) (range_with_len 0 n)),
+  sym (length-map made asked_of) ∙ ap length is ∙ length-map (range_with_len 0 n) (λ i. Calls (event.Put t (v + i))) ∙ length-range_with_len 0 n,
+)
+Keyed-asked all done (line.Call t (Get key)) made is = asks_none made _ is (get_is_no_put _, tt)
+Keyed-asked all done (line.Call t (Free key)) made is = asks_none made _ is (free_is_no_put _, tt)
+Keyed-asked all done (line.Call t (Sweep name from to)) made is = asks_none made _ is (NoPuts-map _ (λ place. free_is_no_put _) (range_with_len from (to - from)))
+Keyed-asked all done (line.Call t End) made is = asks_none made _ is (refl, tt)
+
+as_many : (made : List Made) (n : ℕ) → (keys_of made ≡ map key_made made) × (length made ≡ n) → length (keys_of made) ≡ n
+as_many made n keyed = ap length keyed.0 ∙ length-map made key_made ∙ keyed.1
+
+pub length-Keyed : (l : Line) (made : List Made) → Keyed l made → length (keys_of made) ≡ keys_at l
+length-Keyed line.Silent made keyed = ap length keyed
+length-Keyed line.Mark made keyed = ap length keyed
+length-Keyed (line.Adopt s) made keyed = ap length keyed
+length-Keyed (line.Call t (Put name v)) made keyed = as_many made 1 keyed
+length-Keyed (line.Call t (Fill name n v)) made keyed = as_many made n keyed
+length-Keyed (line.Call t (Get key)) made keyed = ap length keyed
+length-Keyed (line.Call t (Free key)) made keyed = ap length keyed
+length-Keyed (line.Call t (Sweep name from to)) made keyed = ap length keyed
+length-Keyed (line.Call t End) made keyed = ap length keyed
+
+-- ---- the keys of a name
+
+get_left : {X : Type 0} (xs ys : List X) (n : ℕ) → n < length xs → slice_get (xs ++ ys) n ≡ slice_get xs n
+get_left [] ys n less = absurd (omega (arith, less))
+get_left (x ∷ xs) ys zero less = refl
+get_left (x ∷ xs) ys (suc n) less = get_left xs ys n (omega (arith, less))
+
+get_right : {X : Type 0} (xs ys : List X) (n : ℕ) → slice_get (xs ++ ys) (length xs + n) ≡ slice_get ys n
+get_right {X = X} [] ys n = let same : length {A = X} [] + n ≡ n = omega arith in ap (slice_get ys) same
+get_right (x ∷ xs) ys n = let same : length (x ∷ xs) + n ≡ suc (length xs + n) = omega arith in ap (slice_get (x ∷ (xs ++ ys))) same ∙ get_right xs ys n
+
+got : {X : Type 0} (xs : List X) (n : ℕ) → n < length xs → (x : X) × (slice_get xs n ≡ Some x)
+got [] n less = absurd (omega (arith, less))
+got (x ∷ xs) zero less = (x, refl)
+got (x ∷ xs) (suc n) less = got xs n (omega (arith, less))
+
+got_within : {X : Type 0} (xs : List X) (n : ℕ) (x : X) → slice_get xs n ≡ Some x → n < length xs
+got_within [] n x is = absurd cc
+got_within (y ∷ xs) zero x is = omega arith
+got_within (y ∷ xs) (suc n) x is = omega (arith, got_within xs n x is)
+
+-- what a line binds a name to
+record IsBound (place first : ℕ) (made : List Made) (b : Binding) : Type 0 where
+  line_is : b.line ≡ place
+  first_is : b.first ≡ first
+  count_is : key_count b.keys ≡ length made
+  keys_are : keys_of made ≡ map key_made made
+
+by_record : (place section first thread n : ℕ) (keys : Keys) (made : List Made) (b : Binding) → Some (record { keys = keys; thread = thread; section = section; line = place; first = first }) ≡ Some b
+    → key_count keys ≡ n → (keys_of made ≡ map key_made made) × (length made ≡ n) → IsBound place first made b
+by_record place section first thread n keys made b is count keyed =
+    let line_is : place ≡ b.line = ap (λ o. option_map_or (λ (x : Binding). x.line) o place) is in
+    let first_is : first ≡ b.first = ap (λ o. option_map_or (λ (x : Binding). x.first) o first) is in
+    let keys_is : keys ≡ b.keys = ap (λ o. option_map_or (λ (x : Binding). x.keys) o keys) is in
+    record { line_is = sym line_is; first_is = sym first_is; count_is = ap key_count (sym keys_is) ∙ count ∙ sym keyed.1; keys_are = keyed.0 }
+
+IsBound-at : (place section first : ℕ) (name : List ℕ) (l : Line) (made : List Made) (b : Binding) → Keyed l made → binding_at place section first name l ≡ Some b → IsBound place first made b
+IsBound-at place section first name line.Silent made b keyed e = cc
+IsBound-at place section first name line.Mark made b keyed e = cc
+IsBound-at place section first name (line.Adopt s) made b keyed e = cc
+IsBound-at place section first name (line.Call t (Put bound v)) made b keyed e = elim (chosen (bytes_eq bound name) _ _ (Some b) e) [
+  | inl p ↦ by_record place section first t 1 One made b p.1 refl keyed
+  | inr p ↦ cc p.1
+]
+IsBound-at place section first name (line.Call t (Fill bound n v)) made b keyed e = elim (chosen (bytes_eq bound name) _ _ (Some b) e) [
+  | inl p ↦ by_record place section first t n (Many n) made b p.1 refl keyed
+  | inr p ↦ cc p.1
+]
+IsBound-at place section first name (line.Call t (Get key)) made b keyed e = cc
+IsBound-at place section first name (line.Call t (Free key)) made b keyed e = cc
+IsBound-at place section first name (line.Call t (Sweep bound from to)) made b keyed e = cc
+IsBound-at place section first name (line.Call t End) made b keyed e = cc
+
+pub Recalls-none : (keys : List (Option Key)) → Recalls [] [] keys
+Recalls-none keys name b place is less = cc
+
+module _ (above : List Line) (l : Line) (done : List Did) (did : Did) (keys : List (Option Key)) (recalls : Recalls above done keys) (count : length done ≡ length above) (long : length keys ≡ keys_in above) (keyed : Keyed l did.calls) where
+  earlier : (b : Binding) (place : ℕ) → (b.line < length done) × (slice_get keys (b.first + place) ≡ Some (key_bound done place b))
+      → (b.line < length (done ++ did ∷ [])) × (slice_get (keys ++ keys_of did.calls) (b.first + place) ≡ Some (key_bound (done ++ did ∷ []) place b))
+  earlier b place known =
+      let same : key_bound (done ++ did ∷ []) place b ≡ key_bound done place b = ap (λ o. option_and_then (λ (d : Did). option_and_then key_made (slice_get d.calls place)) o) (get_left done (did ∷ []) b.line known.0) in
+      (omega (arith, known.0, length-append done (did ∷ [])), get_left keys (keys_of did.calls) (b.first + place) (got_within keys (b.first + place) _ known.1) ∙ known.1 ∙ ap Some (sym same))
+
+  latest : (b : Binding) (place : ℕ) → place < key_count b.keys → IsBound (length above) (keys_in above) did.calls b
+      → (b.line < length (done ++ did ∷ [])) × (slice_get (keys ++ keys_of did.calls) (b.first + place) ≡ Some (key_bound (done ++ did ∷ []) place b))
+  latest b place less bound =
+      let at : b.line ≡ length done + 0 = omega (arith, bound.line_is, count) in
+      let here : b.first + place ≡ length keys + place = omega (arith, bound.first_is, long) in
+      let (made, is) = got did.calls place (omega (arith, less, bound.count_is)) in
+      let found : slice_get (keys ++ keys_of did.calls) (b.first + place) ≡ Some (key_made made) =
+      ap (slice_get (keys ++ keys_of did.calls)) here ∙ get_right keys (keys_of did.calls) place ∙ ap (λ ks. slice_get ks place) bound.keys_are ∙ slice_get-map key_made did.calls place ∙ ap (option_map key_made) is in
+      let its : slice_get (done ++ did ∷ []) b.line ≡ Some did = ap (slice_get (done ++ did ∷ [])) at ∙ get_right done (did ∷ []) 0 in
+      let same : key_bound (done ++ did ∷ []) place b ≡ key_made made =
+      ap (λ o. option_and_then (λ (d : Did). option_and_then key_made (slice_get d.calls place)) o) its ∙ ap (option_and_then key_made) is in
+      (omega (arith, at, length-append done (did ∷ [])), found ∙ ap Some (sym same))
+
+  -- one line more
+  pub Recalls-push : Recalls (above ++ l ∷ []) (done ++ did ∷ []) (keys ++ keys_of did.calls)
+  Recalls-push name b place is less = elim (of_either (binding_of name above) (binding_at (length above) (marks above) (keys_in above) name l) b (sym (binding_of-push name above l) ∙ is)) [
+    | inl old ↦ earlier b place (recalls name b place old less)
+    | inr new ↦ latest b place less (IsBound-at (length above) (marks above) (keys_in above) name l did.calls b keyed new)
+  ]
+
+-- ---- what a line reads
+
+either_left : {X : Type 0} (o p : Option X) (x : X) → o ≡ Some x → option_or o p ≡ Some x
+either_left None p x e = cc
+either_left (Some y) p x e = e
+
+binding_from-front : (place section first : ℕ) (name : List ℕ) (front back : List Line) (b : Binding) → binding_from place section first name front ≡ Some b → binding_from place section first name (front ++ back) ≡ Some b
+binding_from-front place section first name [] back b e = cc
+binding_from-front place section first name (l ∷ front) back b e = elim (of_either (binding_at place section first name l) (binding_from (place + 1) (section + marks_at l) (first + keys_at l) name front) b e) [
+  | inl here ↦ either_left _ _ b here
+  | inr later ↦ later_on (binding_at place section first name l) e (binding_from-front (place + 1) (section + marks_at l) (first + keys_at l) name front back b later)
+]
+  where
+    later_on : (o : Option Binding) → option_or o (binding_from (place + 1) (section + marks_at l) (first + keys_at l) name front) ≡ Some b
+        → binding_from (place + 1) (section + marks_at l) (first + keys_at l) name (front ++ back) ≡ Some b → option_or o (binding_from (place + 1) (section + marks_at l) (first + keys_at l) name (front ++ back)) ≡ Some b
+    later_on None is more = more
+    later_on (Some x) is more = is
+
+-- a name that is bound above a line is bound so by all lines
+binding_of-take : (lines : List Line) (n : ℕ) (name : List ℕ) (b : Binding) → binding_of name (take n lines) ≡ Some b → binding_of name lines ≡ Some b
+binding_of-take lines n name b is = ap (binding_of name) (sym (take-append-drop n lines)) ∙ binding_from-front 0 0 0 name (take n lines) (drop n lines) b is
+
+known : (test : Keys → Bool) (o : Option Binding) → not (option_map_or (λ (b : Binding). test b.keys) o false) ≡ false → (b : Binding) × (o ≡ Some b) × (test b.keys ≡ true)
+known test None e = cc
+known test (Some b) e = (b, refl, is_true (test b.keys) e)
+  where
+    is_true : (t : Bool) → not t ≡ false → t ≡ true
+    is_true true e = refl
+    is_true false e = cc
+
+below_count : (index : Option ℕ) (keys : Keys) → has_key index keys ≡ true → unwrap_or index 0 < key_count keys
+below_count None One e = omega arith
+below_count (Some i) (Many n) e = grind (arith, nat_tests)
+below_count None (Many n) e = cc
+below_count (Some i) One e = cc
+
+range_below : (from to place : ℕ) (keys : Keys) → has_range from to keys ≡ true → place < to → place < key_count keys
+range_below from to place One e less = cc
+range_below from to place (Many n) e less = grind (arith, nat_tests)
+
+module _ (h : Header) (lines : List Line) (n : ℕ) (done : List Did) (keys : List (Option Key)) (recalls : Recalls (take n lines) done keys) where
+  one_found : (name : List ℕ) (b : Binding) (place : ℕ) → binding_of name (take n lines) ≡ Some b → place < key_count b.keys → FindsOne lines done keys (first_of (take n lines) name) name place
+  one_found name b place is less =
+      let first : first_of (take n lines) name ≡ b.first = ap (λ o. option_map_or (λ (x : Binding). x.first) o 0) is in
+      let key : key_at lines done name place ≡ key_bound done place b = ap (λ o. option_and_then (λ (x : Binding). key_bound done place x) o) (binding_of-take lines n name b is) in
+      ap (λ f. slice_get keys (f + place)) first ∙ (recalls name b place is less).1 ∙ ap Some (sym key)
+
+  -- a line that may be run finds its keys
+  pub FindsAt-fine : (l : Line) → first_cause h (take n lines) l ≡ None → FindsAt lines done keys (place_at (take n lines) l) l
+  FindsAt-fine line.Silent fine = tt
+  FindsAt-fine line.Mark fine = tt
+  FindsAt-fine (line.Adopt s) fine = tt
+  FindsAt-fine (line.Call t (Put name v)) fine = tt
+  FindsAt-fine (line.Call t (Fill name m v)) fine = tt
+  FindsAt-fine (line.Call t End) fine = tt
+  FindsAt-fine (line.Call t (Get key)) fine =
+      let (b, is, has) = known (has_key key.index) (binding_of key.name (take n lines)) (all_fine h (take n lines) (line.Call t (Get key)) (first_cause-none h (take n lines) (line.Call t (Get key)) fine).1).known in
+      one_found key.name b (unwrap_or key.index 0) is (below_count key.index b.keys has)
+  FindsAt-fine (line.Call t (Free key)) fine =
+      let (b, is, has) = known (has_key key.index) (binding_of key.name (take n lines)) (all_fine h (take n lines) (line.Call t (Free key)) (first_cause-none h (take n lines) (line.Call t (Free key)) fine).1).known in
+      one_found key.name b (unwrap_or key.index 0) is (below_count key.index b.keys has)
+  FindsAt-fine (line.Call t (Sweep name from to)) fine =
+      let (b, is, has) = known (has_range from to) (binding_of name (take n lines)) (all_fine h (take n lines) (line.Call t (Sweep name from to)) (first_cause-none h (take n lines) (line.Call t (Sweep name from to)) fine).1).known in
+      λ place low high. one_found name b place is (range_below from to place b.keys has high)

@@ -1,6 +1,6 @@
 -- The start of a run, and the report of one.
-use Rattle.std.proofs.Common.{◌≡◌, ℕ, Bool, false, List, Option, Some, None, option_map, refl, ap, subst, ◌∙◌, arith, slice_get}
-use Rattle.std.specs.List.{range_with_len}
+use Rattle.std.proofs.Common.{◌≡◌, ◌++◌, ℕ, Bool, false, List, [], ◌∷◌, Option, Some, None, option_map, refl, ap, subst, ◌∙◌, arith, slice_get}
+use Rattle.std.specs.List.{flat_map, range_with_len}
 use Rattle.std.specs.Option.{option_map_or}
 use Rattle.std.proofs.lemmas.Option.{slice_get-map}
 use Rattle.span.specs.PlainMap.{empty_map}
@@ -9,10 +9,11 @@ use Rattle.arena_core.specs.State.{CoreState, HasKeys, live_keys, new_shard, pag
 use Rattle.trace_runner.specs.News.{News}
 use Rattle.trace_runner.specs.Recalls.{Serves}
 use Rattle.trace_runner.specs.Replay.{IsReportOf, ending_of, start_of}
-use Rattle.trace_runner.specs.Report.{report_text}
+use Rattle.trace_runner.specs.Report.{body_text, news_text, report_text}
 use Rattle.trace_runner.specs.Runs.{IsRun}
 use Rattle.trace_runner.specs.declared.report.Ending.{Ending}
 use Rattle.trace_runner.specs.declared.report.LineAnswer.{LineAnswer}
+use Rattle.trace_runner.specs.declared.report.PlanNote.{PlanNote}
 use Rattle.trace_text.specs.declared.header.Header.{Header}
 use Rattle.trace_text.specs.declared.trace.Trace.{Trace}
 
@@ -30,6 +31,11 @@ Serves-start header = record {
       ap (λ o. option_map_or (λ (shard : ShardState). shard.ended) o false) (slice_get-map (new_shard header.pages header.gens) (range_with_len 0 header.shards) number)
       ∙ not_ended header.pages header.gens (slice_get (range_with_len 0 header.shards) number);
 }
+
+-- a report that tells no answer is the news
+pub body_text-brief : (told : ℕ) (answers : List LineAnswer) (notes : List PlanNote) → body_text false told answers notes ≡ flat_map (λ (note : PlanNote). news_text false note.news) notes
+body_text-brief told answers [] = refl
+body_text-brief told answers (note ∷ notes) = ap (λ text. news_text false note.news ++ text) (body_text-brief note.above answers notes)
 
 module _ (trace : Trace) (replies : Bool) (start last : CoreState) (answers : List LineAnswer) (ending : Ending) (news : News) where
   -- what is written of a run is its report

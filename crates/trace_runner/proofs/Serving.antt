@@ -11,7 +11,7 @@ use Rattle.arena_core.specs.State.{CoreState, with_shard}
 use Rattle.arena_core.specs.Step.{CoreStep}
 use Rattle.trace_runner.specs.Recalls.{EndsOne, IsOpen, IsServed, KeepsPlan, KeepsShards, MayCall, ended_at}
 use Rattle.arena_core.specs.declared.event.Event.{Event}
-use Rattle.arena_core.specs.declared.event.Event.TheVariants.{Put, Get, Free, End, Adopt, Mark, Step, Close}
+use Rattle.arena_core.specs.declared.event.Event.TheVariants.{Put, Get, Free, Later, Settle, End, Adopt, Mark, Step, Close}
 use Rattle.arena_core.specs.declared.reply.Reply.{Reply}
 use Rattle.arena_core.specs.declared.reply.Reply.TheVariants.{Issued, Found, Freed, ShardEnded, Adopted, Refused}
 use Rattle.arena_core.specs.declared.reply.Refusal.TheVariants.{OutOfMemory, PagesSpent, Ended, PlanOpen, NothingToAdopt, Config}
@@ -80,6 +80,8 @@ KeepsPlan-step old new (Get key) (Found value) may step = KeepsPlan-same old new
 KeepsPlan-step old new (Free key) (Freed true) may (inl step) = subst (KeepsPlan old) (sym step.rest) (record { shards = KeepsShards-with_shard old step.number step.before step.after step.here (ended-Frees step.before step.after key step.at step.frees); plan = refl })
 KeepsPlan-step old new (Free key) (Freed true) may (inr step) = subst (KeepsPlan old) (sym step.rest) (record { shards = record { limits = refl; ended = λ number. refl }; plan = refl })
 KeepsPlan-step old new (Free key) (Freed false) may step = KeepsPlan-same old new step.1
+KeepsPlan-step old new (Later worker key) reply may step = absurd may
+KeepsPlan-step old new (Settle worker shard) reply may step = absurd may
 KeepsPlan-step old new (End shard) reply may step = absurd may
 KeepsPlan-step old new (Adopt shard) (Adopted head) may step =
     let adopted = ap (λ (s : ShardState). s.ended) step.adopts.takes_in.after in
@@ -120,6 +122,8 @@ IsServed-step old new (Put shard value) (Refused OutOfMemory) may step = tt
 IsServed-step old new (Put shard value) (Issued key) may step = tt
 IsServed-step old new (Get key) (Found value) may step = tt
 IsServed-step old new (Free key) (Freed freed) may step = tt
+IsServed-step old new (Later worker key) reply may step = absurd may
+IsServed-step old new (Settle worker shard) reply may step = absurd may
 IsServed-step old new (End shard) reply may step = absurd may
 IsServed-step old new (Adopt shard) (Refused Config) may step = omega (arith, may.0.within, step.0)
 IsServed-step old new (Adopt shard) (Refused Ended) may step = has_ended-clash old shard step.0.0 may.0 step.0.1 step.0.2

@@ -6,6 +6,7 @@ pub mod Job
 pub mod Telling
 pub mod Barrier
 pub mod Runs
+pub mod Kept
 pub mod Recalls
 pub mod Replay
 pub mod Verdict

@@ -5,59 +5,39 @@ use Rattle.std.specs.HashSet.{HashSet}
 use Rattle.std.specs.Option.{option_map, option_map_or}
 use Rattle.span.specs.declared.key.Key.{Key}
 use Rattle.trace_runner.specs.Barrier.{is_barrier, open_lines}
-use Rattle.trace_text.specs.Causes.{has_ended, is_call, is_call_over, thread_of}
+use Rattle.trace_text.specs.Causes.{has_ended, is_call, is_call_over, keys_in, thread_of}
 use Rattle.arena_core.specs.State.{CoreState}
 use Rattle.trace_runner.specs.Made.{Asked, Did, Made, all_made, asked_of}
+use Rattle.trace_runner.specs.Kept.{Kept, Recalls, keeping, kept_of}
 use Rattle.trace_runner.specs.News.{News, news_of, with_all_made}
 use Rattle.trace_runner.specs.Runs.{DoLines, IsAnswered, answers_from, ends_asked, finishing, key_made, on_line, pairs_left_of, planning_at}
 use Rattle.trace_runner.specs.declared.plans.Plans.{Plans}
 use Rattle.arena_core.specs.declared.event.Event.{Event}
-use Rattle.arena_core.specs.declared.event.Event.TheVariants.{Put, End, Adopt, Mark, Step, Close}
+use Rattle.arena_core.specs.declared.event.Event.TheVariants.{Put, Later, Settle, End, Adopt, Mark, Step, Close}
 use Rattle.arena_core.specs.declared.reply.Reply.{Reply}
-use Rattle.arena_core.specs.declared.reply.Reply.TheVariants.{Marked, Stepped, NoPairLeft, Closed, NoPlan, Refused}
-use Rattle.arena_core.specs.declared.reply.Refusal.TheVariants.{Ended, PlanOpen, TooMany, Config}
+use Rattle.arena_core.specs.declared.reply.Reply.TheVariants.{Sent, Settled, Marked, Stepped, NoPairLeft, Closed, NoPlan, Refused}
+use Rattle.arena_core.specs.declared.reply.Refusal.TheVariants.{Ended, PlanOpen, TooMany, RingFull, Config}
 use Rattle.trace_runner.specs.declared.report.LineAnswer.{LineAnswer}
 use Rattle.trace_text.specs.declared.line.Line.{Line}
 
--- ---- the answers
+-- ---- what is done at a line
 
--- the answers of the lines that were run stand first, each line's from its start on; then come those of the line that runs
-pub record Recalls (done : List Did) (answers : List LineAnswer) (starts : List ℕ) : Type 0 where
-  pub running : List LineAnswer
-  pub answers_are : answers ≡ answers_from 6 done ++ running
-  pub long : length starts ≡ length done + 1
-  pub starts_are : (place : ℕ) → place ≤ length done → slice_index starts place ≡ length (answers_from 6 (take place done))
-
--- the answers of a line that did this, or none, where no such line was run
-abbrev pub answers_if_run : ℕ → Option Did → List LineAnswer
-answers_if_run number None = []
-answers_if_run number (Some did) = map (on_line number) did.calls
-
--- the key that a put of a line gave out
-abbrev pub key_if_run : ℕ → Option Did → Option Key
-key_if_run place None = None
-key_if_run place (Some did) = option_and_then key_made (slice_get did.calls place)
-
--- some lines were run so
-abbrev pub IsRunning : List LineAnswer → List ℕ → Type 0
-IsRunning answers starts = (done : List Did) × Recalls done answers starts
-
--- what the line of that number asks for was done, from one core to the other, and the answers stand behind the earlier ones
-abbrev pub Makes : ℕ → List Asked → CoreState → List LineAnswer → CoreState → List LineAnswer → Type 0
-Makes number asked old before new after = (made : List Made) × (map asked_of made ≡ asked) × IsAnswered old made new × (after ≡ before ++ map (on_line number) made)
+-- what the line of that number asks for was done, from one core to the other, and is kept behind what was
+abbrev pub Makes : ℕ → List Asked → CoreState → Kept → CoreState → Kept → Type 0
+Makes number asked old before new after = (made : List Made) × (map asked_of made ≡ asked) × IsAnswered old made new × (after ≡ keeping number before made)
 
 -- these were asked and done, from one core to the other, and what they tell of plans stands behind the earlier news
 abbrev pub Carries : List Asked → CoreState → News → CoreState → News → Type 0
 Carries asked old before new after = (made : List Made) × (map asked_of made ≡ asked) × IsAnswered old made new × (after ≡ with_all_made before made)
 
 -- what a line asks for was done: first what settles the section, then its calls, and then what follows them
-pub record MakesLine (number : ℕ) (settled asked : List Asked) (line : Line) (old : CoreState) (before : List LineAnswer) (news_before : News) (new : CoreState) (after : List LineAnswer) (news_after : News) : Type 0 where
+pub record MakesLine (number : ℕ) (settled asked : List Asked) (line : Line) (old : CoreState) (before : Kept) (news_before : News) (new : CoreState) (after : Kept) (news_after : News) : Type 0 where
   pub settled_core : CoreState
   pub called_core : CoreState
   pub news : News
   pub settles : Carries settled old news_before settled_core news
   pub makes : Makes number asked settled_core before called_core after
-  pub plans : Carries (planning_at called_core line) called_core (record news { above = length after }) new news_after
+  pub plans : Carries (planning_at called_core line) called_core (record news { above = after.count }) new news_after
 
 -- what settles the section, where a barrier begins at the line and the threads leave
 abbrev pub settling_with : List ℕ → CoreState → Line → List Asked
@@ -98,6 +78,8 @@ pub record EndsBelow (old : CoreState) (bound : ℕ) (test : ℕ → Bool) (new 
 abbrev pub MayCall : CoreState → Event → Type 0
 MayCall core (Put shard value) = IsOpen core shard
 MayCall core (Adopt shard) = IsOpen core shard × (core.plan ≡ None)
+MayCall core (Later worker key) = ⊥
+MayCall core (Settle worker shard) = ⊥
 MayCall core (End shard) = ⊥
 MayCall core Mark = ⊥
 MayCall core Step = ⊥
@@ -109,7 +91,10 @@ abbrev pub IsServed : Reply → Type 0
 IsServed (Refused Ended) = ⊥
 IsServed (Refused PlanOpen) = ⊥
 IsServed (Refused TooMany) = ⊥
+IsServed (Refused RingFull) = ⊥
 IsServed (Refused Config) = ⊥
+IsServed Sent = ⊥
+IsServed (Settled key) = ⊥
 IsServed (Marked certificate) = ⊥
 IsServed (Stepped abandoned owned step) = ⊥
 IsServed NoPairLeft = ⊥
@@ -145,20 +130,20 @@ pub record IsReady (shards : ℕ) (core : CoreState) (leaving : ℕ → Bool) (l
 -- ---- how far a run has come
 
 -- so many lines of the trace were run to their end
-pub record HasCome (shards : ℕ) (lines : List Line) (count : ℕ) (old core : CoreState) (answers : List LineAnswer) (starts : List ℕ) (leaving : ℕ → Bool) (plans : Plans) : Type 0 where
+pub record HasCome (replies : Bool) (shards : ℕ) (lines : List Line) (count : ℕ) (old core : CoreState) (kept : Kept) (leaving : ℕ → Bool) (plans : Plans) : Type 0 where
   pub done : List Did
   pub count_is : length done ≡ count
   pub lines_do : DoLines shards lines old (take count lines) [] done
   pub answered : IsAnswered old (all_made done) core
-  pub answers_are : answers ≡ answers_from 6 done
-  pub long : length starts ≡ count
-  pub starts_are : (place : ℕ) → place < count → slice_index starts place ≡ length (answers_from 6 (take place done))
+  pub kept_is : kept ≡ kept_of replies done
+  pub recalls : Recalls (take count lines) done kept.keys
+  pub long : length kept.keys ≡ keys_in (take count lines)
   pub enough : shards ≤ core.limits.shards
   -- the threads that leave are those that ended behind the last barrier, and the shards of those that ended above it have ended
   pub leaving_are : (thread : ℕ) → leaving thread ≡ has_ended (open_lines (take count lines)) thread
   pub ended_are : (thread : ℕ) → thread < shards → ended_at core thread ≡ (has_ended (take count lines) thread && not (has_ended (open_lines (take count lines)) thread))
   -- the news is that of the lines, and the open plan is known
-  pub news_are : news_at (length answers) plans ≡ news_of done
+  pub news_are : news_at kept.count plans ≡ news_of done
   pub knows : KnowsPlan plans core
   pub marks : plans.marks ≤ count
 

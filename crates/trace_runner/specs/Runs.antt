@@ -123,7 +123,7 @@ pub record IsAnswered (old : CoreState) (made : List Made) (new : CoreState) : T
   pub each : Happens old made
   pub last : new ≡ core_after old made
   pub core : CoreRun old (events_of made) (replies_of made) new
-  pub plain : PlainRun (shown old) (erased (events_of made) (replies_of made)) (shown new)
+  pub plain : PlainRun old.limits (shown old) (erased (events_of made) (replies_of made)) (shown new)
   pub told : AllByRecursion IsTold (replies_of made)
 
 -- after what was done from the core on, the line did this

@@ -9,6 +9,8 @@ use Rattle.std.specs.declared.io.ErrorKind.TheVariants as io_kinds
 use Rattle.clap.specs.Words.{kind_of}
 use Rattle.clap.specs.declared.error.kind.ErrorKind.{ErrorKind}
 use Rattle.clap.specs.declared.error.kind.ErrorKind.TheVariants as kind
+use Rattle.audit.specs.Faults as audit_causes
+use Rattle.audit.specs.declared.fault.AuditCause.{AuditCause}
 use Rattle.certificate.specs.Causes as certificate_causes
 use Rattle.certificate.specs.declared.text.cause.ReadError.{ReadError}
 use Rattle.certificate.specs.declared.text.cause.ReadError.TheVariants as read_error
@@ -80,6 +82,8 @@ status_of (fault.BadTrace line c) = 1
 status_of (fault.BadCertificate line c) = 1
 status_of (fault.Words error) = if is_request (kind_of error) then 0 else 2
 status_of fault.OutOfMemory = 3
+status_of fault.Doubled = 4
+status_of (fault.Audit c) = 4
 status_of fault.SinkFailed = 5
 status_of fault.Io = 5
 
@@ -92,12 +96,18 @@ status_where_untold tell_error.SinkFailed = 5
 abbrev pub line_message : ℕ → List ℕ → List ℕ
 line_message line word = codes "line " ++ decimal line ++ codes ": " ++ word ++ codes "\n"
 
+-- `audit: CAUSE`
+abbrev pub audit_message : AuditCause → List ℕ
+audit_message c = codes "audit: " ++ audit_causes.word_of c ++ codes "\n"
+
 -- the text says the fault; what it says of words is the parser's own
 abbrev pub Says : Fault → List ℕ → Type 0
 Says (fault.BadTrace line c) text = text ≡ line_message line (word_of c)
 Says (fault.BadCertificate line c) text = text ≡ line_message line (certificate_causes.word_of c)
 Says (fault.Words error) text = ⊤
 Says fault.OutOfMemory text = text ≡ codes "memory\n"
+Says fault.Doubled text = text ≡ codes "doubled\n"
+Says (fault.Audit c) text = text ≡ audit_message c
 Says fault.SinkFailed text = text ≡ codes "io\n"
 Says fault.Io text = text ≡ codes "io\n"
 

@@ -9,6 +9,7 @@ ghost use Rattle.trace_runner.specs.Telling.{fault_of_check, fault_of_io, fault_
 use crate::job::JobError;
 use crate::sink::SinkFailed;
 use crate::store::StoreFailed;
+use audit::AuditCause;
 use certificate::ReadError;
 use std::alloc::{AllocError, AllocFailed};
 use std::io;
@@ -120,6 +121,12 @@ pub enum Fault {
         line: usize,
         cause: certificate::Cause,
     },
+    /// A shard or the pool of a run by threads was not as its calls had left it.
+    #[error("a span stood in two places, or a shard had ended that had not: report this as an error of the program")]
+    Doubled,
+    /// What the calls of a run by threads were told does not agree with the logs of its spans.
+    #[error("audit: {0}")]
+    Audit(AuditCause),
     /// The sink did not take the whole report, or the whole verdict.
     #[error("the report could not be written whole: look for a full disk or a closed pipe")]
     SinkFailed,
@@ -145,8 +152,8 @@ impl Fault {
     }
 
     /// The status with which the program ends: 0 where help was asked for, 1 where the text is no
-    /// trace or no certificate, 2 where the words name no job, 3 where memory ran out, and 5 where a
-    /// read or a write failed.
+    /// trace or no certificate, 2 where the words name no job, 3 where memory ran out, 4 where a run by
+    /// threads was not as it ought to be, and 5 where a read or a write failed.
     pub fn status(&self) -> u8
         ensures { result ≡ status_of self.now }
     {
@@ -156,6 +163,7 @@ impl Fault {
             Fault::Words(error) if error.use_stderr() => 2,
             Fault::Words(_) => 0,
             Fault::OutOfMemory => 3,
+            Fault::Doubled | Fault::Audit(_) => 4,
             Fault::SinkFailed | Fault::Io => 5,
         }
     }

@@ -19,6 +19,7 @@ mod fault;
 mod job;
 mod plans;
 mod replay;
+mod replies;
 mod report;
 mod run;
 mod sink;
@@ -30,9 +31,13 @@ pub use checking::check_text;
 pub use fault::{CheckError, Fault, ReplayError};
 pub use job::{Job, JobError};
 pub use replay::replay_serial;
+pub use report::{
+    Answer, CloseNews, Ending, Heads, LineAnswer, MarkNews, PlanNews, PlanNote, Steps, TakenStep,
+};
 pub use sink::{Memory, Out, Sink, SinkFailed, give};
 pub use store::{Disk, Store, StoreFailed, save};
 pub use telling::{TellError, tell};
 pub use trace_text::{
     Binding, Call, Cause, Header, Keys, Line, Name, ParseError, Reference, Trace, parse,
 };
+pub use writing::{push_answers, push_ending, push_news};

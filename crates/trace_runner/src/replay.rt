@@ -1,19 +1,21 @@
 //! Replays a trace on a core of its own.
 
-ghost use Rattle.std.specs.Prelude.{◌≡◌, ◌<◌, ◌-◌, ◌^◌, IfOk, IfErr, List, OnErr, OnOk};
+ghost use Rattle.std.specs.Prelude.{◌≡◌, ◌<◌, ◌-◌, ◌^◌, [], IfOk, IfErr, List, OnErr, OnOk, length, true, if◌then◌else◌};
 ghost use Rattle.span.specs.PlainMap.{empty_map};
 ghost use Rattle.arena_core.specs.State.{shown};
 ghost use Rattle.trace_text.specs.Header.{IsWithinLimits};
 ghost use Rattle.trace_text.specs.Trace.{Spells};
 ghost use Rattle.trace_text.specs.declared.header.Header.{Header};
 ghost use Rattle.trace_text.specs.declared.line.Line.{Line};
+ghost use Rattle.trace_runner.specs.Report.{AreInOrder, report_text};
+ghost use Rattle.trace_runner.specs.declared.report.LineAnswer.{LineAnswer};
 ghost use Rattle.trace_runner.specs.Replay.{IsNoFault, IsReportOf, Stops, WritesReport, start_of};
 
 use crate::fault::ReplayError;
-use crate::report::Ending;
+use crate::report::{Ending, LineAnswer, PlanNote};
 use crate::run::run_lines;
 use crate::sink::{Sink, give};
-use crate::writing::report_text;
+use crate::writing::{brief_text, report_text};
 use arena_core::{Core, CoreError};
 use span::Counted;
 use std::alloc::{AllocError, Global};
@@ -65,14 +67,14 @@ fn replay(alloc: Global, trace: &Trace, replies: bool) -> Result<Replayed, Alloc
     ensures { IfOk result (λ replayed. IsReportOf trace.now replies replayed.report.items replayed.certificate.items) }
 {
     let core = core_of(alloc, &trace.header)?;
-    let ran = run_lines(alloc, trace, core)?;
+    let ran = run_lines(alloc, trace, replies, core)?;
     let totals = ran.core.totals();
     let ending = Ending {
         pages: totals.pages,
         live: totals.live,
         calls: ran.calls,
     };
-    let report = report_text(
+    let report = told_text(
         alloc,
         replies,
         ran.answers.as_slice(),
@@ -83,6 +85,23 @@ fn replay(alloc: Global, trace: &Trace, replies: bool) -> Result<Replayed, Alloc
         report,
         certificate: ran.certificate,
     })
+}
+
+/// The text of a report, of which the answers are at hand where it tells them.
+fn told_text(
+    alloc: Global,
+    replies: bool,
+    told: &[LineAnswer],
+    notes: &[PlanNote],
+    ending: &Ending,
+) -> Result<Vec<u8>, AllocError>
+    requires { replies ≡ true → AreInOrder 0 (length told.now) notes.now }
+    ensures { (answers : List LineAnswer) → told.now ≡ (if replies then answers else []) → IfOk result (λ text. text.items ≡ report_text replies answers notes.now ending.now) }
+{
+    if !replies {
+        return brief_text(alloc, notes, ending);
+    }
+    report_text(alloc, replies, told, notes, ending)
 }
 
 /// The core that the header asks for. Its logs are only counted, since no report shows one.

@@ -33,6 +33,21 @@ pub enum Answer {
     NothingToAdopt,
 }
 
+impl Answer {
+    ghost use Rattle.std.specs.Prelude.{◌≡◌};
+    ghost use Rattle.trace_runner.specs.Kept.{answer_key};
+
+    /// The key that a put gave out; none for any other answer.
+    pub(crate) fn key(self) -> Option<Key>
+        ensures { result ≡ answer_key self }
+    {
+        match self {
+            Answer::Key(key) => Some(key),
+            _ => None,
+        }
+    }
+}
+
 /// An answer with its place in the trace.
 #[derive(Clone, Copy, Debug, PartialEq, Eq)]
 pub struct LineAnswer {

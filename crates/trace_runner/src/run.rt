@@ -1,34 +1,35 @@
 //! Runs the lines of a trace on a core.
 
-ghost use Rattle.std.specs.Prelude.{◌≡◌, ◌+◌, ◌-◌, ◌≤◌, ◌^◌, ◌<◌, ◌&&◌, ◌||◌, ◌==◌, ◌++◌, [], ◌∷◌, true, false, not, List, ℕ, Some, None, filter, map, OnOk, IfOk, length, nat_lt, option_and_then, slice_get, slice_range, take, unwrap_or, if◌then◌else◌};
+ghost use Rattle.std.specs.Prelude.{◌≡◌, ◌+◌, ◌-◌, ◌≤◌, ◌^◌, ◌<◌, ◌&&◌, ◌||◌, ◌==◌, ◌++◌, [], ◌∷◌, true, false, not, List, ℕ, Bool, Some, None, filter, map, OnOk, IfOk, length, nat_lt, slice_get, take, unwrap_or, if◌then◌else◌};
 ghost use Rattle.std.specs.List.{range_with_len};
 ghost use Rattle.arena_core.specs.State.{CoreState};
 ghost use Rattle.trace_runner.specs.Barrier.{is_barrier};
-ghost use Rattle.trace_runner.specs.Recalls.{CanLeave, Carries, EndsBelow, EndsOne, HasCome, IsOpen, IsReady, IsRunning, IsServed, KeepsPlan, KnowsPlan, Makes, MakesLine, MayCall, Recalls, Serves, answers_if_run, has, key_if_run, news_at, settling_with};
+ghost use Rattle.trace_runner.specs.Kept.{Finds, FindsAt, FindsOne, is_put, kept_in};
+ghost use Rattle.trace_runner.specs.Recalls.{CanLeave, Carries, EndsBelow, EndsOne, HasCome, IsOpen, IsReady, IsServed, KeepsPlan, KnowsPlan, Makes, MakesLine, MayCall, Serves, has, news_at, settling_with};
+ghost use Rattle.trace_text.specs.Places.{place_at};
+ghost use Rattle.trace_runner.specs.declared.report.LineAnswer.{LineAnswer};
 ghost use Rattle.trace_text.specs.Causes.{call_ends, ends, first_cause, is_adopt, is_call_over};
 ghost use Rattle.trace_runner.specs.Made.{Did, Called, Calls, Keyless, Leaves};
 ghost use Rattle.trace_runner.specs.News.{News};
-ghost use Rattle.trace_runner.specs.Runs.{IsRun, answer_to, asked_by, asked_by_call, ends_asked, finishing, on_key, IsTold, key_at, key_bound, key_of};
+ghost use Rattle.trace_runner.specs.Runs.{IsRun, answer_to, asked_by, asked_by_call, ends_asked, finishing, on_key, IsTold, key_at, key_of};
 ghost use Rattle.arena_core.specs.declared.event.Event.TheVariants as event;
 ghost use Rattle.arena_core.specs.declared.event.Event.{Event};
 
 use crate::plans::Plans;
+use crate::replies::Replies;
 use crate::report::{Answer, LineAnswer, PlanNote};
 use arena_core::{Core, Event, Refusal, Reply};
 use span::{Counted, Key};
 use std::alloc::{AllocError, Global};
 use std::collections::HashSet;
-use trace_text::{Binding, Call, Line, Name, Reference, Trace};
+use trace_text::{Call, Line, Reference, Trace};
 
 /// A run of a trace, as far as it has come.
 #[derive(Drop)]
 struct Run<'t> {
     trace: &'t Trace,
     core: Core<Counted>,
-    /// The answers so far, in the order of the calls.
-    answers: Vec<LineAnswer>,
-    /// Of each line that was run, where its answers begin.
-    starts: Vec<usize>,
+    replies: Replies,
     /// The threads that have ended, and whose shards wait for the barrier to be abandoned.
     leaving: HashSet<u32>,
     plans: Plans,
@@ -36,26 +37,26 @@ struct Run<'t> {
 
 impl<'t> Run<'t> {
     /// A run of no line yet.
-    fn new(alloc: Global, trace: &'t Trace, core: Core<Counted>) -> Run<'t>
+    fn new(alloc: Global, trace: &'t Trace, replies: bool, core: Core<Counted>) -> Run<'t>
         requires { Serves trace.now.header.shards core }
         ensures trace { result.trace.now ≡ trace.now }
-        ensures come { HasCome trace.now.header.shards trace.now.lines.items 0 core result.core result.answers.items result.starts.items (has result.leaving) result.plans }
+        ensures come { HasCome replies trace.now.header.shards trace.now.lines.items 0 core result.core (kept_in result.replies) (has result.leaving) result.plans }
     {
         Run {
             trace,
             core,
-            answers: Vec::new(alloc),
-            starts: Vec::new(alloc),
+            replies: Replies::new(alloc, replies),
             leaving: HashSet::new(alloc),
             plans: Plans::new(alloc),
         }
     }
 
-    /// Makes a call on the line of that number, and keeps its answer.
+    /// Makes a call that is no put on the line of that number, and keeps what it answers.
     fn call(&mut self, number: usize, event: Event) -> Result<(), AllocError>
-        requires { MayCall self.old.core event }
-        ensures made { OnOk result (Makes number (Calls event ∷ []) self.old.core self.old.answers.items self.new.core self.new.answers.items) }
-        ensures starts { self.new.starts ≡ self.old.starts }
+        requires may { MayCall self.old.core event }
+        requires kind { is_put (Calls event) ≡ false }
+        ensures made { OnOk result (Makes number (Calls event ∷ []) self.old.core (kept_in self.old.replies) self.new.core (kept_in self.new.replies)) }
+        ensures keys { self.new.replies.keys ≡ self.old.replies.keys }
         ensures shards { KeepsPlan self.old.core self.new.core }
         ensures plans { self.new.plans ≡ self.old.plans }
         ensures leaving { self.new.leaving ≡ self.old.leaving }
@@ -63,26 +64,38 @@ impl<'t> Run<'t> {
     {
         let reply = self.core.step(event);
         let answer = answer_to(reply)?;
-        self.answers.push(LineAnswer {
-            line: number,
-            answer,
-        })?;
+        self.replies.tell(number, answer)?;
         Ok(())
     }
 
-    /// Keeps that no call was made, since the key that the line names was never given out.
-    fn skip(&mut self, number: usize) -> Result<(), AllocError>
-        ensures made { OnOk result (Makes number (Keyless ∷ []) self.old.core self.old.answers.items self.new.core self.new.answers.items) }
-        ensures starts { self.new.starts ≡ self.old.starts }
+    /// Puts a value.
+    fn put(&mut self, number: usize, thread: u32, value: u128) -> Result<(), AllocError>
+        requires { IsOpen self.old.core thread }
+        ensures made { OnOk result (Makes number (Calls (event.Put thread value) ∷ []) self.old.core (kept_in self.old.replies) self.new.core (kept_in self.new.replies)) }
         ensures shards { KeepsPlan self.old.core self.new.core }
         ensures plans { self.new.plans ≡ self.old.plans }
         ensures leaving { self.new.leaving ≡ self.old.leaving }
         ensures trace { self.new.trace.now ≡ self.old.trace.now }
     {
-        self.answers.push(LineAnswer {
-            line: number,
-            answer: Answer::Unbound,
-        })?;
+        let reply = self.core.step(Event::Put {
+            shard: thread,
+            value,
+        });
+        let answer = answer_to(reply)?;
+        self.replies.tell_put(number, answer)?;
+        Ok(())
+    }
+
+    /// Keeps that no call was made, since the key that the line names was never given out.
+    fn skip(&mut self, number: usize) -> Result<(), AllocError>
+        ensures made { OnOk result (Makes number (Keyless ∷ []) self.old.core (kept_in self.old.replies) self.new.core (kept_in self.new.replies)) }
+        ensures keys { self.new.replies.keys ≡ self.old.replies.keys }
+        ensures shards { KeepsPlan self.old.core self.new.core }
+        ensures plans { self.new.plans ≡ self.old.plans }
+        ensures leaving { self.new.leaving ≡ self.old.leaving }
+        ensures trace { self.new.trace.now ≡ self.old.trace.now }
+    {
+        self.replies.tell(number, Answer::Unbound)?;
         Ok(())
     }
 
@@ -96,66 +109,29 @@ impl<'t> Run<'t> {
     ) -> Result<(), AllocError>
         requires running { IsOpen self.old.core thread }
         requires within { value + count ≤ 2 ^ 128 }
-        ensures made { OnOk result (Makes number (map (λ i. Calls (event.Put thread (value + i))) (range_with_len 0 count)) self.old.core self.old.answers.items self.new.core self.new.answers.items) }
-        ensures starts { self.new.starts ≡ self.old.starts }
+        ensures made { OnOk result (Makes number (map (λ i. Calls (event.Put thread (value + i))) (range_with_len 0 count)) self.old.core (kept_in self.old.replies) self.new.core (kept_in self.new.replies)) }
         ensures shards { KeepsPlan self.old.core self.new.core }
         ensures plans { self.new.plans ≡ self.old.plans }
         ensures leaving { self.new.leaving ≡ self.old.leaving }
         ensures trace { self.new.trace.now ≡ self.old.trace.now }
     {
         for i in 0..count {
-            let put = Event::Put {
-                shard: thread,
-                value: value + u128::from(i),
-            };
-            self.call(number, put)?;
+            self.put(number, thread, value + u128::from(i))?;
         }
         Ok(())
     }
 
-    /// The answers of the line at that place below the header, or none where it was not run to its end.
-    fn answers_of(&self, line: usize) -> &[LineAnswer]
-        requires { IsRunning self.now.answers.items self.now.starts.items }
-        ensures { (done : List Did) → Recalls done self.now.answers.items self.now.starts.items → result.now ≡ answers_if_run (line + 6) (slice_get done line) }
+    /// The key that a reference names, where the first key of its name has that place.
+    fn key_of(&self, first: usize, reference: &Reference) -> Option<Key>
+        ensures { (done : List Did) → FindsOne self.now.trace.now.lines.items done self.now.replies.keys.items first reference.now.name (unwrap_or reference.now.index 0) → result ≡ key_of self.now.trace.now.lines.items done reference.now }
     {
-        if line >= self.starts.len() - 1 {
-            return &[];
-        }
-        part(&self.answers, self.starts[line], self.starts[line + 1])
-    }
-
-    /// The key that a put of the line at that place gave out.
-    fn key_at(&self, line: usize, place: usize) -> Option<Key>
-        requires { IsRunning self.now.answers.items self.now.starts.items }
-        ensures { (done : List Did) → Recalls done self.now.answers.items self.now.starts.items → result ≡ key_if_run place (slice_get done line) }
-    {
-        match self.answers_of(line).get(place)?.answer {
-            Answer::Key(key) => Some(key),
-            _ => None,
-        }
-    }
-
-    /// The key that a put of the line that binds a name gave out.
-    fn key_bound(&self, binding: Option<Binding>, place: u32) -> Option<Key>
-        requires { IsRunning self.now.answers.items self.now.starts.items }
-        ensures { (done : List Did) → Recalls done self.now.answers.items self.now.starts.items → result ≡ option_and_then (λ binding. key_bound done place binding) binding }
-    {
-        self.key_at(binding?.line, place as usize)
-    }
-
-    /// The key that a reference names.
-    fn key_of(&self, reference: &Reference) -> Option<Key>
-        requires { IsRunning self.now.answers.items self.now.starts.items }
-        ensures { (done : List Did) → Recalls done self.now.answers.items self.now.starts.items → result ≡ key_of self.now.trace.now.lines.items done reference.now }
-    {
-        let binding = self.trace.binding(&reference.name);
-        self.key_bound(binding, reference.index.unwrap_or(0))
+        self.replies.key(first, reference.index.unwrap_or(0))
     }
 
     /// Frees the key, where it was given out.
     fn free(&mut self, number: usize, key: Option<Key>) -> Result<(), AllocError>
-        ensures made { OnOk result (Makes number (on_key event.Free key ∷ []) self.old.core self.old.answers.items self.new.core self.new.answers.items) }
-        ensures starts { self.new.starts ≡ self.old.starts }
+        ensures made { OnOk result (Makes number (on_key event.Free key ∷ []) self.old.core (kept_in self.old.replies) self.new.core (kept_in self.new.replies)) }
+        ensures keys { self.new.replies.keys ≡ self.old.replies.keys }
         ensures shards { KeepsPlan self.old.core self.new.core }
         ensures plans { self.new.plans ≡ self.old.plans }
         ensures leaving { self.new.leaving ≡ self.old.leaving }
@@ -169,8 +145,7 @@ impl<'t> Run<'t> {
 
     /// Looks the key up, where it was given out.
     fn get(&mut self, number: usize, key: Option<Key>) -> Result<(), AllocError>
-        ensures made { OnOk result (Makes number (on_key event.Get key ∷ []) self.old.core self.old.answers.items self.new.core self.new.answers.items) }
-        ensures starts { self.new.starts ≡ self.old.starts }
+        ensures made { OnOk result (Makes number (on_key event.Get key ∷ []) self.old.core (kept_in self.old.replies) self.new.core (kept_in self.new.replies)) }
         ensures shards { KeepsPlan self.old.core self.new.core }
         ensures plans { self.new.plans ≡ self.old.plans }
         ensures leaving { self.new.leaving ≡ self.old.leaving }
@@ -182,20 +157,17 @@ impl<'t> Run<'t> {
         }
     }
 
-    /// Frees the keys of a name from one place up to, and without, another.
-    fn sweep(&mut self, number: usize, name: &Name, from: u32, to: u32) -> Result<(), AllocError>
-        requires running { IsRunning self.old.answers.items self.old.starts.items }
-        ensures made { (done : List Did) → Recalls done self.old.answers.items self.old.starts.items
-            → OnOk result (Makes number (map (λ place. on_key event.Free (key_at self.old.trace.now.lines.items done name.now place)) (range_with_len from (to - from))) self.old.core self.old.answers.items self.new.core self.new.answers.items) }
-        ensures starts { self.new.starts ≡ self.old.starts }
+    /// Frees the keys of a name from one place up to, and without, another, where its first key has that place.
+    fn sweep(&mut self, number: usize, first: usize, from: u32, to: u32) -> Result<(), AllocError>
+        ensures made { (done : List Did) (name : List ℕ) → ((place : ℕ) → from ≤ place → place < to → FindsOne self.old.trace.now.lines.items done self.old.replies.keys.items first name place)
+            → OnOk result (Makes number (map (λ place. on_key event.Free (key_at self.old.trace.now.lines.items done name place)) (range_with_len from (to - from))) self.old.core (kept_in self.old.replies) self.new.core (kept_in self.new.replies)) }
         ensures shards { KeepsPlan self.old.core self.new.core }
         ensures plans { self.new.plans ≡ self.old.plans }
         ensures leaving { self.new.leaving ≡ self.old.leaving }
         ensures trace { self.new.trace.now ≡ self.old.trace.now }
     {
-        let binding = self.trace.binding(name);
         for place in from..to {
-            let key = self.key_bound(binding, place);
+            let key = self.replies.key(first, place);
             self.free(number, key)?;
         }
         Ok(())
@@ -203,52 +175,46 @@ impl<'t> Run<'t> {
 
     /// Keeps that the thread has ended. Its shard is abandoned at the barrier.
     fn leave(&mut self, number: usize, thread: u32) -> Result<(), AllocError>
-        ensures made { OnOk result (Makes number (Leaves ∷ []) self.old.core self.old.answers.items self.new.core self.new.answers.items) }
-        ensures starts { self.new.starts ≡ self.old.starts }
+        ensures made { OnOk result (Makes number (Leaves ∷ []) self.old.core (kept_in self.old.replies) self.new.core (kept_in self.new.replies)) }
         ensures shards { KeepsPlan self.old.core self.new.core }
         ensures plans { self.new.plans ≡ self.old.plans }
         ensures leaving { OnOk result ((other : ℕ) → has self.new.leaving other ≡ (thread == other || has self.old.leaving other)) }
         ensures trace { self.new.trace.now ≡ self.old.trace.now }
     {
         self.leaving.insert(thread)?;
-        self.answers.push(LineAnswer {
-            line: number,
-            answer: Answer::Ended,
-        })?;
+        self.replies.tell(number, Answer::Ended)?;
         Ok(())
     }
 
-    /// Makes the calls of a thread on the line of that number.
-    fn thread_call(&mut self, number: usize, thread: u32, call: &Call) -> Result<(), AllocError>
-        requires running { IsRunning self.old.answers.items self.old.starts.items }
+    /// Makes the calls of a thread on the line of that number. The first key of the name that it reads has that place.
+    fn thread_call(
+        &mut self,
+        number: usize,
+        thread: u32,
+        first: usize,
+        call: &Call,
+    ) -> Result<(), AllocError>
         requires thread { IsOpen self.old.core thread }
         requires within { is_call_over call.now ≡ false }
-        ensures made { (done : List Did) → Recalls done self.old.answers.items self.old.starts.items
-            → OnOk result (Makes number (asked_by_call self.old.trace.now.lines.items done thread call.now) self.old.core self.old.answers.items self.new.core self.new.answers.items) }
-        ensures starts { self.new.starts ≡ self.old.starts }
+        ensures made { (done : List Did) → Finds self.old.trace.now.lines.items done self.old.replies.keys.items first call.now
+            → OnOk result (Makes number (asked_by_call self.old.trace.now.lines.items done thread call.now) self.old.core (kept_in self.old.replies) self.new.core (kept_in self.new.replies)) }
         ensures shards { KeepsPlan self.old.core self.new.core }
         ensures plans { self.new.plans ≡ self.old.plans }
         ensures leaving { OnOk result ((other : ℕ) → has self.new.leaving other ≡ (call_ends other thread call.now || has self.old.leaving other)) }
         ensures trace { self.new.trace.now ≡ self.old.trace.now }
     {
         match call {
-            Call::Put { value, .. } => self.call(
-                number,
-                Event::Put {
-                    shard: thread,
-                    value: *value,
-                },
-            ),
+            Call::Put { value, .. } => self.put(number, thread, *value),
             Call::Fill { count, value, .. } => self.fill(number, thread, *count, *value),
             Call::Get { key } => {
-                let key = self.key_of(key);
+                let key = self.key_of(first, key);
                 self.get(number, key)
             }
             Call::Free { key } => {
-                let key = self.key_of(key);
+                let key = self.key_of(first, key);
                 self.free(number, key)
             }
-            Call::Sweep { name, from, to } => self.sweep(number, name, *from, *to),
+            Call::Sweep { from, to, .. } => self.sweep(number, first, *from, *to),
             Call::End => self.leave(number, thread),
         }
     }
@@ -261,8 +227,7 @@ impl<'t> Run<'t> {
         ensures shards { OnOk result (EndsOne self.old.core shard self.new.core) }
         ensures plan { OnOk result (self.new.core.plan ≡ self.old.core.plan) }
         ensures plans { self.new.plans ≡ self.old.plans }
-        ensures answers { self.new.answers ≡ self.old.answers }
-        ensures starts { self.new.starts ≡ self.old.starts }
+        ensures replies { self.new.replies ≡ self.old.replies }
         ensures leaving { self.new.leaving ≡ self.old.leaving }
         ensures trace { self.new.trace.now ≡ self.old.trace.now }
     {
@@ -281,8 +246,7 @@ impl<'t> Run<'t> {
         ensures shards { OnOk result (EndsBelow self.old.core self.old.trace.now.header.shards (has self.old.leaving) self.new.core) }
         ensures plan { OnOk result (self.new.core.plan ≡ self.old.core.plan) }
         ensures plans { self.new.plans ≡ self.old.plans }
-        ensures answers { self.new.answers ≡ self.old.answers }
-        ensures starts { self.new.starts ≡ self.old.starts }
+        ensures replies { self.new.replies ≡ self.old.replies }
         ensures leaving { OnOk result ((other : ℕ) → has self.new.leaving other ≡ false) }
         ensures trace { self.new.trace.now ≡ self.old.trace.now }
     {
@@ -300,17 +264,16 @@ impl<'t> Run<'t> {
     fn settle(&mut self) -> Result<(), AllocError>
         requires leave { CanLeave self.old.trace.now.header.shards self.old.core (has self.old.leaving) }
         requires knows { KnowsPlan self.old.plans self.old.core }
-        ensures made { OnOk result (Carries (finishing self.old.core.plan ++ ends_asked (filter (has self.old.leaving) (range_with_len 0 self.old.trace.now.header.shards))) self.old.core (news_at (length self.old.answers.items) self.old.plans) self.new.core (news_at (length self.old.answers.items) self.new.plans)) }
+        ensures made { OnOk result (Carries (finishing self.old.core.plan ++ ends_asked (filter (has self.old.leaving) (range_with_len 0 self.old.trace.now.header.shards))) self.old.core (news_at self.old.replies.count self.old.plans) self.new.core (news_at self.old.replies.count self.new.plans)) }
         ensures shards { OnOk result (EndsBelow self.old.core self.old.trace.now.header.shards (has self.old.leaving) self.new.core) }
         ensures unplanned { OnOk result (self.new.core.plan ≡ None) }
         ensures left { OnOk result (self.new.plans.left ≡ None) }
         ensures marks { self.new.plans.marks ≡ self.old.plans.marks }
-        ensures answers { self.new.answers ≡ self.old.answers }
-        ensures starts { self.new.starts ≡ self.old.starts }
+        ensures replies { self.new.replies ≡ self.old.replies }
         ensures leaving { OnOk result ((other : ℕ) → has self.new.leaving other ≡ false) }
         ensures trace { self.new.trace.now ≡ self.old.trace.now }
     {
-        self.plans.finish(&mut self.core, self.answers.len())?;
+        self.plans.finish(&mut self.core, self.replies.count())?;
         self.abandon()
     }
 
@@ -318,24 +281,24 @@ impl<'t> Run<'t> {
     /// of the open plan is left. A barrier begins with its first adoption, since no thread's line stands between that
     /// and the mark.
     fn line(&mut self, place: usize, line: &Line) -> Result<(), AllocError>
-        requires running { IsRunning self.old.answers.items self.old.starts.items }
         requires numbered { place + 6 < 2 ^ 64 }
+        requires here { slice_get self.old.trace.now.lines.items place ≡ Some line.now }
         requires ready { IsReady self.old.trace.now.header.shards self.old.core (has self.old.leaving) line.now }
         requires knows { KnowsPlan self.old.plans self.old.core }
         requires few { self.old.plans.marks ≤ place }
-        ensures made { (done : List Did) → Recalls done self.old.answers.items self.old.starts.items
-            → OnOk result (MakesLine (place + 6) (settling_with (filter (has self.old.leaving) (range_with_len 0 self.old.trace.now.header.shards)) self.old.core line.now) (asked_by self.old.trace.now.lines.items done line.now) line.now self.old.core self.old.answers.items (news_at (length self.old.answers.items) self.old.plans) self.new.core self.new.answers.items (news_at (length self.new.answers.items) self.new.plans)) }
+        ensures made { (done : List Did) → FindsAt self.old.trace.now.lines.items done self.old.replies.keys.items (place_at (take place self.old.trace.now.lines.items) line.now) line.now
+            → OnOk result (MakesLine (place + 6) (settling_with (filter (has self.old.leaving) (range_with_len 0 self.old.trace.now.header.shards)) self.old.core line.now) (asked_by self.old.trace.now.lines.items done line.now) line.now self.old.core (kept_in self.old.replies) (news_at self.old.replies.count self.old.plans) self.new.core (kept_in self.new.replies) (news_at self.new.replies.count self.new.plans)) }
         ensures knows { OnOk result (KnowsPlan self.new.plans self.new.core) }
         ensures marks { OnOk result (self.new.plans.marks ≤ self.old.plans.marks + 1) }
         ensures shards { OnOk result (EndsBelow self.old.core self.old.trace.now.header.shards (λ thread. is_barrier line.now && has self.old.leaving thread) self.new.core) }
-        ensures starts { self.new.starts ≡ self.old.starts }
         ensures leaving { OnOk result ((other : ℕ) → has self.new.leaving other ≡ (not (is_barrier line.now) && (ends other line.now || has self.old.leaving other))) }
         ensures trace { self.new.trace.now ≡ self.old.trace.now }
     {
         match line {
             Line::Silent => Ok(()),
             Line::Call { thread, call } => {
-                self.thread_call(place + 6, *thread, call)?;
+                let first = self.trace.place(place);
+                self.thread_call(place + 6, *thread, first, call)?;
                 self.plans.follow(&mut self.core)
             }
             Line::Adopt { shard } => {
@@ -344,7 +307,7 @@ impl<'t> Run<'t> {
             }
             Line::Mark => {
                 self.settle()?;
-                self.plans.mark(&mut self.core, self.answers.len())
+                self.plans.mark(&mut self.core, self.replies.count())
             }
         }
     }
@@ -354,12 +317,11 @@ impl<'t> Run<'t> {
         requires numbered { place + 6 < 2 ^ 64 }
         requires here { slice_get self.old.trace.now.lines.items place ≡ Some line.now }
         requires fine { first_cause self.old.trace.now.header (take place self.old.trace.now.lines.items) line.now ≡ None }
-        requires come { (start : CoreState) × HasCome self.old.trace.now.header.shards self.old.trace.now.lines.items place start self.old.core self.old.answers.items self.old.starts.items (has self.old.leaving) self.old.plans }
-        ensures more { (start : CoreState) → HasCome self.old.trace.now.header.shards self.old.trace.now.lines.items place start self.old.core self.old.answers.items self.old.starts.items (has self.old.leaving) self.old.plans
-            → OnOk result (HasCome self.old.trace.now.header.shards self.old.trace.now.lines.items (place + 1) start self.new.core self.new.answers.items self.new.starts.items (has self.new.leaving) self.new.plans) }
+        requires come { (replies : Bool) × (start : CoreState) × HasCome replies self.old.trace.now.header.shards self.old.trace.now.lines.items place start self.old.core (kept_in self.old.replies) (has self.old.leaving) self.old.plans }
+        ensures more { (replies : Bool) (start : CoreState) → HasCome replies self.old.trace.now.header.shards self.old.trace.now.lines.items place start self.old.core (kept_in self.old.replies) (has self.old.leaving) self.old.plans
+            → OnOk result (HasCome replies self.old.trace.now.header.shards self.old.trace.now.lines.items (place + 1) start self.new.core (kept_in self.new.replies) (has self.new.leaving) self.new.plans) }
         ensures trace { self.new.trace.now ≡ self.old.trace.now }
     {
-        self.starts.push(self.answers.len())?;
         self.line(place, line)?;
         Ok(())
     }
@@ -370,9 +332,9 @@ impl<'t> Run<'t> {
 pub struct Ran {
     /// The core after the last line, and after the end of the text.
     pub core: Core<Counted>,
-    /// The answers of all lines, in the order of the report.
+    /// The answers of all lines, in the order of the report, where it tells them; else none.
     pub answers: Vec<LineAnswer>,
-    /// How many of them are those of threads' lines.
+    /// How many answers the lines of threads had.
     pub calls: usize,
     /// What the report tells of plans, in order.
     pub notes: Vec<PlanNote>,
@@ -383,12 +345,17 @@ pub struct Ran {
 /// Runs the lines of a trace on the core, one after another. At the end of the text it ends the open plan, and abandons the
 /// shards of the threads that ended after the last mark.
 ///
-/// The error means that memory ran out, in a call or for the answers; the core is then dropped.
-pub fn run_lines(alloc: Global, trace: &Trace, core: Core<Counted>) -> Result<Ran, AllocError>
+/// The error means that memory ran out, in a call or for what is kept of its reply; the core is then dropped.
+pub fn run_lines(
+    alloc: Global,
+    trace: &Trace,
+    replies: bool,
+    core: Core<Counted>,
+) -> Result<Ran, AllocError>
     requires { Serves trace.now.header.shards core }
-    ensures { IfOk result (λ ran. (news : News) × IsRun trace.now.header.shards trace.now.lines.items core ran.core ran.answers.items ran.calls news × (ran.notes.items ≡ news.notes) × (ran.certificate.items ≡ news.certificate)) }
+    ensures { IfOk result (λ ran. (answers : List LineAnswer) × (news : News) × IsRun trace.now.header.shards trace.now.lines.items core ran.core answers ran.calls news × (ran.answers.items ≡ (if replies then answers else [])) × (ran.notes.items ≡ news.notes) × (ran.certificate.items ≡ news.certificate)) }
 {
-    let mut run = Run::new(alloc, trace, core);
+    let mut run = Run::new(alloc, trace, replies, core);
     for place in 0..trace.lines.len() {
         run.next_line(place, &trace.lines[place])?;
     }
@@ -396,16 +363,15 @@ pub fn run_lines(alloc: Global, trace: &Trace, core: Core<Counted>) -> Result<Ra
     let Run {
         trace: _,
         core,
-        answers,
-        starts: _,
+        replies,
         leaving: _,
         plans,
     } = run;
     let (notes, certificate) = plans.told();
-    let calls = answers.len() - adoptions(trace.lines.as_slice());
+    let calls = replies.count() - adoptions(trace.lines.as_slice());
     Ok(Ran {
         core,
-        answers,
+        answers: replies.into_told(),
         calls,
         notes,
         certificate,
@@ -423,15 +389,6 @@ fn adoptions(lines: &[Line]) -> usize
         }
     }
     count
-}
-
-/// The answers from one place up to, and without, another.
-fn part(answers: &[LineAnswer], start: usize, end: usize) -> &[LineAnswer]
-    requires ordered { start ≤ end }
-    requires within { end ≤ length answers.now }
-    ensures { result.now ≡ slice_range answers.now start end }
-{
-    &answers[start..end]
 }
 
 /// What the report tells of the reply to a call. Of the refusals it tells only that of a page and that of an adoption
@@ -453,8 +410,14 @@ fn answer_to(reply: Reply) -> Result<Answer, AllocError>
         Reply::Refused(Refusal::NothingToAdopt) => Ok(Answer::NothingToAdopt),
         Reply::Refused(Refusal::OutOfMemory) => Err(AllocError),
         // A trace asks for its own shards alone, for none that has ended, and adopts where no plan is open.
-        Reply::Refused(Refusal::Ended | Refusal::PlanOpen | Refusal::TooMany | Refusal::Config) =>
-            unreachable!(),
+        Reply::Refused(
+            Refusal::Ended
+            | Refusal::PlanOpen
+            | Refusal::TooMany
+            | Refusal::RingFull
+            | Refusal::Config,
+        ) => unreachable!(),
+        Reply::Sent | Reply::Settled(_) => unreachable!(),
         Reply::Marked(_) | Reply::Stepped(..) | Reply::NoPairLeft | Reply::Closed | Reply::NoPlan =>
             unreachable!(),
     }

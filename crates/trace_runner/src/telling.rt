@@ -2,10 +2,11 @@
 
 ghost use Rattle.std.specs.Prelude.{◌≡◌, ◌<◌, ◌+◌, ◌-◌, ◌^◌, true, false, MatchBool, IfOk, OnOk, IsErrOf};
 ghost use Rattle.trace_runner.specs.declared.telling.TellError.TheVariants as tell_error;
-ghost use Rattle.trace_runner.specs.Telling.{Says, TakesFront, TakesMessage, asks_for_help, line_message, status_of, status_where_untold};
+ghost use Rattle.trace_runner.specs.Telling.{Says, TakesFront, TakesMessage, asks_for_help, audit_message, line_message, status_of, status_where_untold};
 
 use crate::fault::Fault;
 use crate::sink::{Sink, SinkFailed, give};
+use audit::AuditCause;
 use itoa::Buffer;
 use std::alloc::{AllocError, Global};
 use thiserror::Error;
@@ -61,6 +62,15 @@ fn line_message(alloc: Global, line: usize, word: &str) -> Result<Vec<u8>, Alloc
     Ok(text)
 }
 
+fn audit_message(alloc: Global, cause: AuditCause) -> Result<Vec<u8>, AllocError>
+    ensures { IfOk result (λ text. text.items ≡ audit_message cause) }
+{
+    let mut text = Vec::from_slice(alloc, b"audit: ")?;
+    text.extend_from_slice(cause.to_string(alloc)?.as_bytes())?;
+    text.extend_from_slice(b"\n")?;
+    Ok(text)
+}
+
 fn message(alloc: Global, fault: &Fault) -> Result<Vec<u8>, AllocError>
     ensures { IfOk result (λ text. Says fault.now text.items) }
 {
@@ -69,6 +79,8 @@ fn message(alloc: Global, fault: &Fault) -> Result<Vec<u8>, AllocError>
         Fault::BadCertificate { line, cause } => line_message(alloc, *line, cause.word()),
         Fault::Words(error) => Ok(error.to_string(alloc)?.into_bytes()),
         Fault::OutOfMemory => Vec::from_slice(alloc, b"memory\n"),
+        Fault::Doubled => Vec::from_slice(alloc, b"doubled\n"),
+        Fault::Audit(cause) => audit_message(alloc, *cause),
         Fault::SinkFailed | Fault::Io => Vec::from_slice(alloc, b"io\n"),
     }
 }

@@ -1,8 +1,10 @@
 //! Writes a report. Each number is printed into a buffer on the stack, so that the text alone grows.
 
-ghost use Rattle.std.specs.Prelude.{◌≡◌, ◌++◌, OnOk, IfOk, length};
+ghost use Rattle.std.specs.Prelude.{◌≡◌, ◌++◌, List, OnOk, IfOk, false, length};
+ghost use Rattle.std.specs.List.{flat_map};
 ghost use Rattle.span.specs.Texts.{id_text, key_text};
-ghost use Rattle.trace_runner.specs.Report.{AreInOrder, body_text, end_line, report_text};
+ghost use Rattle.trace_runner.specs.Report.{AreInOrder, body_text, end_line, news_text, report_text};
+ghost use Rattle.trace_runner.specs.declared.report.LineAnswer.{LineAnswer};
 
 use crate::report::{Ending, LineAnswer, PlanNote};
 use itoa::{Buffer, Integer};
@@ -12,8 +14,8 @@ use std::alloc::{AllocError, Global};
 mod answers;
 mod plans;
 
-use answers::push_answers;
-use plans::push_news;
+pub use answers::push_answers;
+pub use plans::push_news;
 
 pub(crate) fn push_number<I: Integer>(out: &mut Vec<u8>, number: I) -> Result<(), AllocError>
     ensures { OnOk result (out.new.items ≡ out.old.items ++ I.text number) }
@@ -40,7 +42,8 @@ fn push_key(out: &mut Vec<u8>, key: Key) -> Result<(), AllocError>
     push_number(out, key.generation)
 }
 
-fn push_ending(out: &mut Vec<u8>, ending: &Ending) -> Result<(), AllocError>
+/// Adds the line of the counts to the text. `AllocError` comes where memory runs out.
+pub fn push_ending(out: &mut Vec<u8>, ending: &Ending) -> Result<(), AllocError>
     ensures { OnOk result (out.new.items ≡ out.old.items ++ end_line ending.now) }
 {
     out.extend_from_slice(b"end pages ")?;
@@ -71,6 +74,16 @@ fn push_body(
     push_answers(out, replies, &answers[told..])
 }
 
+/// The news of plans, without the steps.
+fn push_notes(out: &mut Vec<u8>, notes: &[PlanNote]) -> Result<(), AllocError>
+    ensures { OnOk result (out.new.items ≡ out.old.items ++ flat_map (λ note. news_text false note.news) notes.now) }
+{
+    for note in notes {
+        push_news(out, false, &note.news)?;
+    }
+    Ok(())
+}
+
 /// The text of a report: the news of plans, with `replies` a line for each answer and each step, in order, and then always
 /// the line of the counts. `AllocError` comes where memory runs out.
 pub(crate) fn report_text(
@@ -85,6 +98,21 @@ pub(crate) fn report_text(
 {
     let mut text = Vec::new(alloc);
     push_body(&mut text, replies, answers, notes)?;
+    push_ending(&mut text, ending)?;
+    Ok(text)
+}
+
+/// The text of a report that tells no answer: the news of plans, in order, and then the line of the counts. `AllocError`
+/// comes where memory runs out.
+pub(crate) fn brief_text(
+    alloc: Global,
+    notes: &[PlanNote],
+    ending: &Ending,
+) -> Result<Vec<u8>, AllocError>
+    ensures { (answers : List LineAnswer) → IfOk result (λ text. text.items ≡ report_text false answers notes.now ending.now) }
+{
+    let mut text = Vec::new(alloc);
+    push_notes(&mut text, notes)?;
     push_ending(&mut text, ending)?;
     Ok(text)
 }

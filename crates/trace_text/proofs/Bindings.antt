@@ -6,7 +6,7 @@ use Rattle.std.proofs.lemmas.Bool.Decides.{nat_tests}
 use Rattle.trace_text.proofs.Lines.{chosen, same_bytes}
 use Rattle.trace_text.proofs.Clips.{all_fine}
 use Rattle.trace_text.specs.Earlier.{Few, IsFew}
-use Rattle.trace_text.specs.Causes.{binding_at, binding_from, binding_of, binds_again, call_binding, is_call, is_call_over, marks, marks_at}
+use Rattle.trace_text.specs.Causes.{binding_at, binding_from, binding_of, binds_again, call_binding, is_call, is_call_over, keys_at, keys_in, marks, marks_at}
 use Rattle.trace_text.specs.Within.{order_cause}
 use Rattle.trace_text.specs.declared.header.Header.{Header}
 use Rattle.trace_text.specs.declared.line.Call.{Call}
@@ -24,80 +24,84 @@ or_assoc : {X : Type 0} (o p q : Option X) → option_or o (option_or p q) ≡ o
 or_assoc None p q = refl
 or_assoc (Some x) p q = refl
 
-binding_from-push : (place section : ℕ) (name : List ℕ) (ls : List Line) (l : Line) → binding_from place section name (ls ++ l ∷ []) ≡ option_or (binding_from place section name ls) (binding_at (place + length ls) (section + marks ls) name l)
-binding_from-push place section name [] l =
+binding_from-push : (place section first : ℕ) (name : List ℕ) (ls : List Line) (l : Line)
+    → binding_from place section first name (ls ++ l ∷ []) ≡ option_or (binding_from place section first name ls) (binding_at (place + length ls) (section + marks ls) (first + keys_in ls) name l)
+binding_from-push place section first name [] l =
     let here : place + length {A = Line} [] ≡ place = omega arith in
     let mark : section + 0 ≡ section = omega arith in
-    rw (here, mark) (or_none (binding_at place section name l))
-binding_from-push place section name (m ∷ ms) l =
+    let key : first + 0 ≡ first = omega arith in
+    rw (here, mark, key) (or_none (binding_at place section first name l))
+binding_from-push place section first name (m ∷ ms) l =
     let here : place + length (m ∷ ms) ≡ (place + 1) + length ms = omega arith in
     let mark : section + (marks_at m + marks ms) ≡ (section + marks_at m) + marks ms = omega arith in
-    rw (here, mark) (ap (λ o. option_or (binding_at place section name m) o) (binding_from-push (place + 1) (section + marks_at m) name ms l)
-    ∙ or_assoc (binding_at place section name m) (binding_from (place + 1) (section + marks_at m) name ms) _)
+    let key : first + (keys_at m + keys_in ms) ≡ (first + keys_at m) + keys_in ms = omega arith in
+    rw (here, mark, key) (ap (λ o. option_or (binding_at place section first name m) o) (binding_from-push (place + 1) (section + marks_at m) (first + keys_at m) name ms l)
+    ∙ or_assoc (binding_at place section first name m) (binding_from (place + 1) (section + marks_at m) (first + keys_at m) name ms) _)
 
-pub binding_of-push : (name : List ℕ) (ls : List Line) (l : Line) → binding_of name (ls ++ l ∷ []) ≡ option_or (binding_of name ls) (binding_at (length ls) (marks ls) name l)
+pub binding_of-push : (name : List ℕ) (ls : List Line) (l : Line) → binding_of name (ls ++ l ∷ []) ≡ option_or (binding_of name ls) (binding_at (length ls) (marks ls) (keys_in ls) name l)
 binding_of-push name ls l =
     let here : 0 + length ls ≡ length ls = omega arith in
     let mark : 0 + marks ls ≡ marks ls = omega arith in
-    binding_from-push 0 0 name ls l ∙ rw (here, mark) refl
+    let key : 0 + keys_in ls ≡ keys_in ls = omega arith in
+    binding_from-push 0 0 0 name ls l ∙ rw (here, mark, key) refl
 
 none_from : {X : Type 0} (o : Option X) → is_some o ≡ false → o ≡ None
 none_from None e = refl
 none_from (Some x) e = cc
 
 -- a call that is not refused binds a name that was not bound
-fresh_name : (ls : List Line) (place section thread : ℕ) (name : List ℕ) (c : Call) (b : Binding) → binds_again ls c ≡ false → call_binding place section name thread c ≡ Some b → binding_of name ls ≡ None
-fresh_name ls place section thread name (Put bound v) b free e = elim (chosen (bytes_eq bound name) _ _ (Some b) e) [
+fresh_name : (ls : List Line) (place section first thread : ℕ) (name : List ℕ) (c : Call) (b : Binding) → binds_again ls c ≡ false → call_binding place section first name thread c ≡ Some b → binding_of name ls ≡ None
+fresh_name ls place section first thread name (Put bound v) b free e = elim (chosen (bytes_eq bound name) _ _ (Some b) e) [
   | inl p ↦ let same = same_bytes bound name p.0 in none_from (binding_of name ls) (rw same at free)
   | inr p ↦ cc p.1
 ]
-fresh_name ls place section thread name (Fill bound n v) b free e = elim (chosen (bytes_eq bound name) _ _ (Some b) e) [
+fresh_name ls place section first thread name (Fill bound n v) b free e = elim (chosen (bytes_eq bound name) _ _ (Some b) e) [
   | inl p ↦ let same = same_bytes bound name p.0 in none_from (binding_of name ls) (rw same at free)
   | inr p ↦ cc p.1
 ]
-fresh_name ls place section thread name (Get key) b free e = cc
-fresh_name ls place section thread name (Free key) b free e = cc
-fresh_name ls place section thread name (Sweep bound from to) b free e = cc
-fresh_name ls place section thread name End b free e = cc
+fresh_name ls place section first thread name (Get key) b free e = cc
+fresh_name ls place section first thread name (Free key) b free e = cc
+fresh_name ls place section first thread name (Sweep bound from to) b free e = cc
+fresh_name ls place section first thread name End b free e = cc
 
 -- so does a line
-pub fresh : (h : Header) (ls : List Line) (place section : ℕ) (name : List ℕ) (l : Line) (b : Binding) → order_cause h ls l ≡ None → binding_at place section name l ≡ Some b → binding_of name ls ≡ None
-fresh h ls place section name line.Silent b fine e = cc
-fresh h ls place section name line.Mark b fine e = cc
-fresh h ls place section name (line.Adopt s) b fine e = cc
-fresh h ls place section name (line.Call t c) b fine e = fresh_name ls place section t name c b (all_fine h ls (line.Call t c) fine).bound e
+pub fresh : (h : Header) (ls : List Line) (place section first : ℕ) (name : List ℕ) (l : Line) (b : Binding) → order_cause h ls l ≡ None → binding_at place section first name l ≡ Some b → binding_of name ls ≡ None
+fresh h ls place section first name line.Silent b fine e = cc
+fresh h ls place section first name line.Mark b fine e = cc
+fresh h ls place section first name (line.Adopt s) b fine e = cc
+fresh h ls place section first name (line.Call t c) b fine e = fresh_name ls place section first t name c b (all_fine h ls (line.Call t c) fine).bound e
 
 pub either_first : {X : Type 0} (o p : Option X) → ((x : X) → p ≡ Some x → o ≡ None) → option_or p o ≡ option_or o p
 either_first o None free = sym (or_none o)
 either_first o (Some x) free = rw (free x refl) refl
 
-few_call : (place section thread : ℕ) (name : List ℕ) (c : Call) (b : Binding) → is_call_over c ≡ false → call_binding place section name thread c ≡ Some b → IsFew b.keys
-few_call place section thread name (Put bound v) b within e = elim (chosen (bytes_eq bound name) _ _ (Some b) e) [
+few_call : (place section first thread : ℕ) (name : List ℕ) (c : Call) (b : Binding) → is_call_over c ≡ false → call_binding place section first name thread c ≡ Some b → IsFew b.keys
+few_call place section first thread name (Put bound v) b within e = elim (chosen (bytes_eq bound name) _ _ (Some b) e) [
   | inl p ↦ let is : One ≡ b.keys = ap (λ o. option_map_or (λ (x : Binding). x.keys) o One) p.1 in subst IsFew is (omega arith)
   | inr p ↦ cc p.1
 ]
-few_call place section thread name (Fill bound n v) b within e = elim (chosen (bytes_eq bound name) _ _ (Some b) e) [
+few_call place section first thread name (Fill bound n v) b within e = elim (chosen (bytes_eq bound name) _ _ (Some b) e) [
   | inl p ↦ let is : Many n ≡ b.keys = ap (λ o. option_map_or (λ (x : Binding). x.keys) o One) p.1 in
       let small : n ≤ 262144 = grind (arith, nat_tests) in subst IsFew is small
   | inr p ↦ cc p.1
 ]
-few_call place section thread name (Get key) b within e = cc
-few_call place section thread name (Free key) b within e = cc
-few_call place section thread name (Sweep bound from to) b within e = cc
-few_call place section thread name End b within e = cc
+few_call place section first thread name (Get key) b within e = cc
+few_call place section first thread name (Free key) b within e = cc
+few_call place section first thread name (Sweep bound from to) b within e = cc
+few_call place section first thread name End b within e = cc
 
-few_at : (place section : ℕ) (name : List ℕ) (l : Line) (b : Binding) → is_call is_call_over l ≡ false → binding_at place section name l ≡ Some b → IsFew b.keys
-few_at place section name line.Silent b within e = cc
-few_at place section name line.Mark b within e = cc
-few_at place section name (line.Adopt s) b within e = cc
-few_at place section name (line.Call t c) b within e = few_call place section t name c b within e
+few_at : (place section first : ℕ) (name : List ℕ) (l : Line) (b : Binding) → is_call is_call_over l ≡ false → binding_at place section first name l ≡ Some b → IsFew b.keys
+few_at place section first name line.Silent b within e = cc
+few_at place section first name line.Mark b within e = cc
+few_at place section first name (line.Adopt s) b within e = cc
+few_at place section first name (line.Call t c) b within e = few_call place section first t name c b within e
 
-of_either : {X : Type 0} (o p : Option X) (x : X) → option_or o p ≡ Some x → (o ≡ Some x) ⊎ (p ≡ Some x)
+pub of_either : {X : Type 0} (o p : Option X) (x : X) → option_or o p ≡ Some x → (o ≡ Some x) ⊎ (p ≡ Some x)
 of_either None p x e = inr e
 of_either (Some y) p x e = inl e
 
 pub few-push : (ls : List Line) (l : Line) → Few ls → is_call is_call_over l ≡ false → Few (ls ++ l ∷ [])
-few-push ls l few within name b e = elim (of_either (binding_of name ls) (binding_at (length ls) (marks ls) name l) b (sym (binding_of-push name ls l) ∙ e)) [
+few-push ls l few within name b e = elim (of_either (binding_of name ls) (binding_at (length ls) (marks ls) (keys_in ls) name l) b (sym (binding_of-push name ls l) ∙ e)) [
   | inl old ↦ few name b old
-  | inr new ↦ few_at (length ls) (marks ls) name l b within new
+  | inr new ↦ few_at (length ls) (marks ls) (keys_in ls) name l b within new
 ]

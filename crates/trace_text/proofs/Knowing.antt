@@ -6,13 +6,17 @@ use Rattle.std.proofs.lemmas.List.Folds.{list_any-append}
 use Rattle.std.specs.List.{list_any}
 use Rattle.std.proofs.Math.Bool.{or_comm, or-false}
 use Rattle.trace_text.proofs.Bindings.{binding_of-push, either_first, few-push, fresh}
-use Rattle.trace_text.specs.Earlier.{Knows, NotesEnd, NotesNames, awaits_after}
-use Rattle.trace_text.specs.Causes.{awaits_mark, binding_at, binding_of, ends, has_ended, is_call, is_call_over, marks, marks_at}
+use Rattle.trace_text.specs.Earlier.{Knows, NotesEnd, NotesNames, awaits_after, bound_in}
+use Rattle.trace_text.specs.Causes.{awaits_mark, binding_at, binding_of, ends, has_ended, is_call, is_call_over, keys_at, keys_in, marks, marks_at}
 use Rattle.trace_text.specs.Within.{order_cause}
 use Rattle.trace_text.specs.declared.header.Header.{Header}
 use Rattle.trace_text.specs.declared.earlier.Earlier.{Earlier}
 use Rattle.trace_text.specs.declared.line.Line.{Line}
 use Rattle.trace_text.specs.declared.line.Line.TheVariants as line
+
+pub keys_in-push : (ls : List Line) (l : Line) → keys_in (ls ++ l ∷ []) ≡ keys_in ls + keys_at l
+keys_in-push [] l = omega arith
+keys_in-push (m ∷ ms) l = omega (arith, keys_in-push ms l)
 
 marks-push : (ls : List Line) (l : Line) → marks (ls ++ l ∷ []) ≡ marks ls + marks_at l
 marks-push [] l = omega arith
@@ -36,15 +40,17 @@ awaits_mark-push ls line.Mark = rw (reverse-append ls (line.Mark ∷ [])) refl
 
 -- one line more is known, where it is not refused
 pub Knows-push : (h : Header) (ls : List Line) (l : Line) (old new : Earlier) → Knows ls old → order_cause h ls l ≡ None → is_call is_call_over l ≡ false
-    → NotesNames old new (length ls) l → NotesEnd old new l → new.section ≡ old.section + marks_at l → new.awaits_mark ≡ awaits_after old.awaits_mark l
+    → NotesNames old new (length ls) l → NotesEnd old new l → new.section ≡ old.section + marks_at l → new.keys ≡ old.keys + keys_at l → new.awaits_mark ≡ awaits_after old.awaits_mark l
     → Knows (ls ++ l ∷ []) new
-Knows-push h ls l old new knows fine within names ended section awaits = record {
+Knows-push h ls l old new knows fine within names ended section keys awaits = record {
   names = λ name. names name
-      ∙ ap₂ (λ s o. option_or (binding_at (length ls) s name l) o) knows.section (knows.names name)
-      ∙ either_first (binding_of name ls) (binding_at (length ls) (marks ls) name l) (λ b e. fresh h ls (length ls) (marks ls) name l b fine e)
+      ∙ ap₂ (λ s k. option_or (binding_at (length ls) s k name l) (bound_in old name)) knows.section knows.keys
+      ∙ ap (λ o. option_or (binding_at (length ls) (marks ls) (keys_in ls) name l) o) (knows.names name)
+      ∙ either_first (binding_of name ls) (binding_at (length ls) (marks ls) (keys_in ls) name l) (λ b e. fresh h ls (length ls) (marks ls) (keys_in ls) name l b fine e)
       ∙ sym (binding_of-push name ls l);
   ended = λ t. ended t ∙ ap (λ b. ends t l || b) (knows.ended t) ∙ sym (has_ended-push t ls l);
   section = section ∙ ap (λ n. n + marks_at l) knows.section ∙ sym (marks-push ls l);
+  keys = keys ∙ ap (λ n. n + keys_at l) knows.keys ∙ sym (keys_in-push ls l);
   awaits = awaits ∙ ap (λ b. awaits_after b l) knows.awaits ∙ sym (awaits_mark-push ls l);
   few = few-push ls l knows.few within;
 }

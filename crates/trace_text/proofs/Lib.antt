@@ -6,5 +6,6 @@ pub mod Lines
 pub mod Clips
 pub mod Bindings
 pub mod Knowing
+pub mod Placing
 pub mod Texts
 pub mod Exclusion

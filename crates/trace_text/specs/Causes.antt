@@ -67,25 +67,41 @@ abbrev pub marks : List Line → ℕ
 marks [] = 0
 marks (line ∷ lines) = marks_at line + marks lines
 
--- what a thread's call on the line at that place and in that section binds the name to
-abbrev pub call_binding : (place section : ℕ) → List ℕ → ℕ → Call → Option Binding
-call_binding place section name thread (Put bound value) = if bytes_eq bound name then Some (record { keys = One; thread = thread; section = section; line = place }) else None
-call_binding place section name thread (Fill bound count value) = if bytes_eq bound name then Some (record { keys = Many count; thread = thread; section = section; line = place }) else None
-call_binding place section name thread _ = None
+-- how many keys a call binds its name to
+abbrev pub keys_by : Call → ℕ
+keys_by (Put name value) = 1
+keys_by (Fill name count value) = count
+keys_by _ = 0
 
--- what the line at that place and in that section binds the name to
-abbrev pub binding_at : (place section : ℕ) → List ℕ → Line → Option Binding
-binding_at place section name (line.Call thread call) = call_binding place section name thread call
-binding_at place section name _ = None
+-- the same for a line
+abbrev pub keys_at : Line → ℕ
+keys_at (line.Call thread call) = keys_by call
+keys_at _ = 0
 
--- what the first line that binds the name binds it to, in lines of which the first stands at that place and in that section
-abbrev pub binding_from : (place section : ℕ) → List ℕ → List Line → Option Binding
-binding_from place section name [] = None
-binding_from place section name (line ∷ lines) = option_or (binding_at place section name line) (binding_from (place + 1) (section + marks_at line) name lines)
+-- how many keys the lines bind
+abbrev pub keys_in : List Line → ℕ
+keys_in [] = 0
+keys_in (line ∷ lines) = keys_at line + keys_in lines
+
+-- what a thread's call on the line at that place, in that section and after so many keys binds the name to
+abbrev pub call_binding : (place section first : ℕ) → List ℕ → ℕ → Call → Option Binding
+call_binding place section first name thread (Put bound value) = if bytes_eq bound name then Some (record { keys = One; thread = thread; section = section; line = place; first = first }) else None
+call_binding place section first name thread (Fill bound count value) = if bytes_eq bound name then Some (record { keys = Many count; thread = thread; section = section; line = place; first = first }) else None
+call_binding place section first name thread _ = None
+
+-- what the line at that place, in that section and after so many keys binds the name to
+abbrev pub binding_at : (place section first : ℕ) → List ℕ → Line → Option Binding
+binding_at place section first name (line.Call thread call) = call_binding place section first name thread call
+binding_at place section first name _ = None
+
+-- what the first line that binds the name binds it to, in lines of which the first stands at that place, in that section and after so many keys
+abbrev pub binding_from : (place section first : ℕ) → List ℕ → List Line → Option Binding
+binding_from place section first name [] = None
+binding_from place section first name (line ∷ lines) = option_or (binding_at place section first name line) (binding_from (place + 1) (section + marks_at line) (first + keys_at line) name lines)
 
 -- what the lines below the header bind the name to
 abbrev pub binding_of : List ℕ → List Line → Option Binding
-binding_of name lines = binding_from 0 0 name lines
+binding_of name lines = binding_from 0 0 0 name lines
 
 -- the thread's call ends the thread that is asked for
 abbrev pub call_ends : (asked thread : ℕ) → Call → Bool

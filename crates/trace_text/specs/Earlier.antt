@@ -4,7 +4,7 @@ use Rattle.std.specs.HashMap as hash
 use Rattle.std.specs.HashSet as bag
 use Rattle.std.specs.Option.{option_or}
 use Rattle.std.specs.Cmp.Lexicographic.{pointwise}
-use Rattle.trace_text.specs.Causes.{awaits_mark, binding_at, binding_of, ends, has_ended, is_adopt, marks, speaks}
+use Rattle.trace_text.specs.Causes.{awaits_mark, binding_at, binding_of, ends, has_ended, is_adopt, keys_in, marks, speaks}
 use Rattle.trace_text.specs.declared.line.Line.{Line}
 use Rattle.trace_text.specs.declared.line.Keys.{Keys}
 use Rattle.trace_text.specs.declared.line.Keys.TheVariants.{One, Many}
@@ -32,17 +32,18 @@ IsFew keys = key_count keys ≤ 262144
 abbrev pub Few : List Line → Type 0
 Few lines = (name : List ℕ) (b : Binding) → binding_of name lines ≡ Some b → IsFew b.keys
 
--- it has what those lines bind, which threads they end, how many marks they have, and whether one must follow
+-- it has what those lines bind, which threads they end, how many marks they have, how many keys they bind, and whether a mark must follow
 pub record Knows (lines : List Line) (e : Earlier) : Type 0 where
   pub names : (name : List ℕ) → bound_in e name ≡ binding_of name lines
   pub ended : (thread : ℕ) → ended_in e thread ≡ has_ended lines thread
   pub section : e.section ≡ marks lines
+  pub keys : e.keys ≡ keys_in lines
   pub awaits : e.awaits_mark ≡ awaits_mark lines
   pub few : Few lines
 
 -- the new table has what the line at that place binds, and beside it what the old one had
 abbrev pub NotesNames : (old new : Earlier) (place : ℕ) → Line → Type 0
-NotesNames old new place line = (name : List ℕ) → bound_in new name ≡ option_or (binding_at place old.section name line) (bound_in old name)
+NotesNames old new place line = (name : List ℕ) → bound_in new name ≡ option_or (binding_at place old.section old.keys name line) (bound_in old name)
 
 -- the new set has the thread that the line ends, and beside it those of the old one
 abbrev pub NotesEnd : (old new : Earlier) → Line → Type 0

@@ -1,7 +1,8 @@
 //! What is kept of the lines before a line.
 
-ghost use Rattle.std.specs.Prelude.{◌≡◌, ◌+◌, ◌-◌, ◌<◌, ◌^◌, List, OnOk};
-ghost use Rattle.trace_text.specs.Causes.{call_ends, marks_at};
+ghost use Rattle.std.specs.Prelude.{◌≡◌, ◌+◌, ◌-◌, ◌<◌, ◌^◌, List, IfOk, OnOk};
+ghost use Rattle.trace_text.specs.Causes.{call_ends, keys_at, marks_at};
+ghost use Rattle.trace_text.specs.Places.{place_at, place_by, unless};
 ghost use Rattle.trace_text.specs.Within.{name_cause, order_cause, thread_cause};
 ghost use Rattle.trace_text.specs.declared.line.Line.{Line};
 ghost use Rattle.trace_text.specs.declared.line.Line.TheVariants as line;
@@ -22,6 +23,8 @@ pub struct Earlier {
     ended: HashSet<u32>,
     /// How many marks there are.
     section: usize,
+    /// How many keys the names are bound to.
+    keys: usize,
     /// Whether an adoption waits for its mark.
     awaits_mark: bool,
 }
@@ -29,7 +32,9 @@ pub struct Earlier {
 impl Earlier {
     ghost use Rattle.trace_text.specs.Earlier.{Knows, NotesEnd, NotesNames, awaits_after, bound_in};
     ghost use Rattle.trace_text.specs.Causes.{awaits_mark};
-    ghost use Rattle.std.specs.Prelude.{[]};
+    ghost use Rattle.std.specs.Prelude.{[], ℕ, Some, None, if◌then◌else◌};
+    ghost use Rattle.std.specs.Option.{option_or};
+    ghost use Rattle.std.specs.Str.{bytes_eq};
 
     /// Before the first line.
     pub fn new(alloc: Global) -> Earlier
@@ -39,6 +44,7 @@ impl Earlier {
             names: HashMap::new(alloc),
             ended: HashSet::new(alloc),
             section: 0,
+            keys: 0,
             awaits_mark: false,
         }
     }
@@ -70,71 +76,88 @@ impl Earlier {
         }
     }
 
-    /// What is wrong with the names of a thread's call.
-    fn name_cause(&self, thread: u32, call: &Call) -> Option<Cause>
-        ensures { (before : List Line) → Knows before self.now → result ≡ name_cause before thread call.now }
+    /// The place of the first key that a thread's call reads, 0 where it reads none; or what is wrong with its names.
+    fn name_place(&self, thread: u32, call: &Call) -> Result<usize, Cause>
+        ensures { (before : List Line) → Knows before self.now → result ≡ unless (name_cause before thread call.now) (place_by before call.now) }
     {
         if let Some(name) = call.bound_name() {
             return if self.binding(name).is_some() {
-                Some(Cause::Bound)
+                Err(Cause::Bound)
             } else {
-                None
+                Ok(0)
             };
         }
-        let name = call.read_name()?;
+        let Some(name) = call.read_name() else {
+            return Ok(0);
+        };
         match self.binding(name) {
             Some(binding) if call.has_keys(binding.keys) => {
                 if binding.section == self.section && binding.thread != thread {
-                    Some(Cause::Early)
+                    Err(Cause::Early)
                 } else {
-                    None
+                    Ok(binding.first)
                 }
             }
-            _ => Some(Cause::Unknown),
+            _ => Err(Cause::Unknown),
         }
     }
 
-    /// What is wrong with a line after those, where its form and its numbers are right.
-    pub fn cause_of(&self, header: &Header, line: &Line) -> Option<Cause>
-        ensures { (before : List Line) → Knows before self.now → result ≡ order_cause header.now before line.now }
+    /// The place of the first key that a line after those reads, 0 where it reads none; or what is wrong with the line,
+    /// where its form and its numbers are right.
+    pub fn place_of(&self, header: &Header, line: &Line) -> Result<usize, Cause>
+        ensures { (before : List Line) → Knows before self.now → result ≡ unless (order_cause header.now before line.now) (place_at before line.now) }
     {
-        match line {
-            Line::Silent | Line::Mark => None,
-            Line::Adopt { shard } => self.thread_cause(header, *shard),
-            Line::Call { thread, call } => {
-                let cause = self.thread_cause(header, *thread);
-                if cause.is_some() {
-                    cause
-                } else if self.awaits_mark {
-                    Some(Cause::Adopt)
-                } else {
-                    self.name_cause(*thread, call)
-                }
-            }
+        let (thread, call) = match line {
+            Line::Silent | Line::Mark => return Ok(0),
+            Line::Adopt { shard } => (shard, None),
+            Line::Call { thread, call } => (thread, Some(call)),
+        };
+        if let Some(cause) = self.thread_cause(header, *thread) {
+            return Err(cause);
         }
+        match call {
+            None => Ok(0),
+            Some(_) if self.awaits_mark => Err(Cause::Adopt),
+            Some(call) => self.name_place(*thread, call),
+        }
+    }
+
+    /// Keeps what a name is bound to, and counts its keys.
+    fn bind(&mut self, name: &Name, binding: Binding, count: usize) -> Result<(), AllocError>
+        ensures names { OnOk result ((other : List ℕ) → bound_in self.new other ≡ option_or (if bytes_eq name.now other then Some binding else None) (bound_in self.old other)) }
+        ensures keys { OnOk result (self.new.keys ≡ self.old.keys + count) }
+        ensures ended { self.new.ended ≡ self.old.ended }
+        ensures section { self.new.section ≡ self.old.section }
+        ensures awaits { self.new.awaits_mark ≡ self.old.awaits_mark }
+    {
+        // More keys than a number counts find no memory.
+        let keys = self.keys.checked_add(count).ok_or(AllocError)?;
+        self.names.insert(name.clone()?, binding)?;
+        self.keys = keys;
+        Ok(())
     }
 
     /// Keeps what a thread's call binds or ends.
     fn note_call(&mut self, place: usize, thread: u32, call: &Call) -> Result<(), AllocError>
         ensures names { OnOk result (NotesNames self.old self.new place (line.Call thread call.now)) }
+        ensures keys { OnOk result (self.new.keys ≡ self.old.keys + keys_at (line.Call thread call.now)) }
         ensures ended { OnOk result (NotesEnd self.old self.new (line.Call thread call.now)) }
         ensures section { self.new.section ≡ self.old.section }
         ensures awaits { self.new.awaits_mark ≡ self.old.awaits_mark }
     {
         let section = self.section;
+        let first = self.keys;
         let binding = |keys| Binding {
             keys,
             thread,
             section,
             line: place,
+            first,
         };
         match call {
-            Call::Put { name, .. } => {
-                self.names.insert(name.clone()?, binding(Keys::One))?;
-            }
+            Call::Put { name, .. } => self.bind(name, binding(Keys::One), 1)?,
             Call::Fill { name, count, .. } => {
-                self.names
-                    .insert(name.clone()?, binding(Keys::Many(*count)))?;
+                self.bind(name, binding(Keys::Many(*count)), *count as usize)?
             }
             Call::End => {
                 self.ended.insert(thread)?;
@@ -150,6 +173,7 @@ impl Earlier {
         ensures names { OnOk result (NotesNames self.old self.new place line.now) }
         ensures ended { OnOk result (NotesEnd self.old self.new line.now) }
         ensures section { OnOk result (self.new.section ≡ self.old.section + marks_at line.now) }
+        ensures keys { OnOk result (self.new.keys ≡ self.old.keys + keys_at line.now) }
         ensures awaits { OnOk result (self.new.awaits_mark ≡ awaits_after self.old.awaits_mark line.now) }
     {
         match line {

@@ -52,6 +52,8 @@ pub struct Binding {
     pub section: usize,
     /// The place of the line that binds it among the lines below the header, from 0.
     pub line: usize,
+    /// The place of its first key among all keys that the lines bind, from 0; its other keys stand behind that.
+    pub first: usize,
 }
 
 impl Reference {

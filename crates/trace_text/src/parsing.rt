@@ -6,6 +6,7 @@ ghost use Rattle.trace_text.specs.declared.line.Line.{Line};
 ghost use Rattle.trace_text.specs.Causes.{HasCause, IsNextLine, Reads};
 ghost use Rattle.trace_text.specs.Header.{IsWithinLimits};
 ghost use Rattle.trace_text.specs.Earlier.{Knows};
+ghost use Rattle.trace_text.specs.Places.{place_at, places_from};
 ghost use Rattle.trace_text.specs.Words.{lines_of};
 ghost use Rattle.trace_text.specs.Trace.{FailsAt, IsFault, IsReadAs, IsTrace, Spells};
 
@@ -21,32 +22,44 @@ use std::alloc::Global;
 /// How many lines the header has.
 const HEADER_LINES: usize = 5;
 
-/// Reads the line that follows those.
-fn next_line(header: &Header, earlier: &Earlier, text: &[u8]) -> Result<Line, Cause>
+/// Reads the line that follows those, with the place of the first key that it reads.
+fn next_line(header: &Header, earlier: &Earlier, text: &[u8]) -> Result<(Line, usize), Cause>
     requires { IsWithinLimits header.now }
-    ensures ok { (before : List Line) → Knows before earlier.now → IfOk result (IsNextLine header.now before text.now) }
+    ensures ok { (before : List Line) → Knows before earlier.now → IfOk result (λ next. IsNextLine header.now before text.now next.0) }
+    ensures place { (before : List Line) → Knows before earlier.now → IfOk result (λ next. next.1 ≡ place_at before next.0) }
     ensures err { (before : List Line) → Knows before earlier.now → IfErr result (HasCause header.now before text.now) }
 {
     let line = read_line(text)?;
-    match earlier.cause_of(header, &line) {
-        None => Ok(line),
-        Some(cause) => Err(cause),
+    match earlier.place_of(header, &line) {
+        Ok(place) => Ok((line, place)),
+        Err(cause) => Err(cause),
     }
 }
 
+/// What the lines below the header are read as.
+#[derive(Drop)]
+struct Body {
+    lines: Vec<Line>,
+    /// Of each line, the place of the first key that it reads.
+    places: Vec<usize>,
+    earlier: Earlier,
+}
+
 /// Reads the lines of the text below the header, one after another, with what is kept of them.
-fn body(alloc: Global, header: &Header, text: &[u8]) -> Result<(Vec<Line>, Earlier), ParseError>
+fn read_body(alloc: Global, header: &Header, text: &[u8]) -> Result<Body, ParseError>
     requires { IsWithinLimits header.now }
-    ensures known { IfOk result (λ body. Knows body.0.items body.1) }
-    ensures ok { IfOk result (λ body. Reads header.now [] (lines_of text.now) body.0.items) }
+    ensures known { IfOk result (λ body. Knows body.lines.items body.earlier) }
+    ensures placed { IfOk result (λ body. body.places.items ≡ places_from [] body.lines.items) }
+    ensures ok { IfOk result (λ body. Reads header.now [] (lines_of text.now) body.lines.items) }
     ensures err { IfErr result (FailsAt header.now (lines_of text.now)) }
 {
     let mut lines = Vec::new(alloc);
+    let mut places = Vec::new(alloc);
     let mut earlier = Earlier::new(alloc);
     let mut rest = text;
     while let Some((bytes, below)) = first_line(rest) {
-        let line = match next_line(header, &earlier, bytes) {
-            Ok(line) => line,
+        let (line, place) = match next_line(header, &earlier, bytes) {
+            Ok(next) => next,
             Err(cause) => return Err(ParseError::BadTrace {
                 line: lines.len() + HEADER_LINES + 1,
                 cause,
@@ -54,9 +67,14 @@ fn body(alloc: Global, header: &Header, text: &[u8]) -> Result<(Vec<Line>, Earli
         };
         earlier.note(lines.len(), &line)?;
         lines.push(line)?;
+        places.push(place)?;
         rest = below;
     }
-    Ok((lines, earlier))
+    Ok(Body {
+        lines,
+        places,
+        earlier,
+    })
 }
 
 /// Reads a trace, so that what is read or refused can be asked whether the text spells it.
@@ -65,7 +83,11 @@ fn trace_of(alloc: Global, text: &[u8]) -> Result<Trace, ParseError>
     ensures fault { IfErr result (IsFault text.now) }
 {
     let (header, below) = read_header(text)?;
-    let (lines, earlier) = body(alloc, &header, below)?;
+    let Body {
+        lines,
+        places,
+        earlier,
+    } = read_body(alloc, &header, below)?;
     if earlier.awaits_mark() {
         return Err(ParseError::BadTrace {
             line: lines.len() + HEADER_LINES + 1,
@@ -76,6 +98,7 @@ fn trace_of(alloc: Global, text: &[u8]) -> Result<Trace, ParseError>
         header,
         lines,
         earlier,
+        places,
     })
 }
 

@@ -1,9 +1,11 @@
 //! A whole trace.
 
-ghost use Rattle.std.specs.Prelude.{◌≡◌, false};
+ghost use Rattle.std.specs.Prelude.{◌≡◌, ◌<◌, [], Some, false, length, slice_get, take};
 ghost use Rattle.trace_text.specs.Causes.{IsSound, awaits_mark, binding_of};
 ghost use Rattle.trace_text.specs.Earlier.{Knows};
 ghost use Rattle.trace_text.specs.Header.{IsWithinLimits};
+ghost use Rattle.trace_text.specs.Places.{place_at, places_from};
+ghost use Rattle.trace_text.specs.declared.line.Line.{Line};
 
 use super::earlier::Earlier;
 use super::header::Header;
@@ -19,10 +21,14 @@ pub struct Trace {
     pub lines: Vec<Line>,
     /// What the lines bind, so that a name is found without a walk.
     pub(super) earlier: Earlier,
+    /// Of each line, the place of the first key that it reads among all keys that the lines bind, so that a run looks up no
+    /// name.
+    pub(super) places: Vec<usize>,
     ghost within: { IsWithinLimits header },
     ghost sound: { IsSound header lines.items },
     ghost settled: { awaits_mark lines.items ≡ false },
     ghost known: { Knows lines.items earlier },
+    ghost placed: { places.items ≡ places_from [] lines.items },
 }
 
 impl Trace {
@@ -31,5 +37,15 @@ impl Trace {
         ensures { result ≡ binding_of name.now self.now.lines.items }
     {
         self.earlier.binding(name)
+    }
+
+    /// The place among all keys that the lines bind, from 0, of the first key of the name whose keys the line reads or
+    /// frees; 0 where it reads none. The line is counted from 0, below the header. The name was looked up as the line was
+    /// read.
+    pub fn place(&self, line: usize) -> usize
+        requires { line < length self.now.lines.items }
+        ensures { (there : Line) → slice_get self.now.lines.items line ≡ Some there → result ≡ place_at (take line self.now.lines.items) there }
+    {
+        self.places[line]
     }
 }

@@ -16,6 +16,7 @@ Exit status:
   1  the text is no trace or no certificate, or the certificate is rejected
   2  the words are not those of a command
   3  memory ran out
+  4  a run by threads was not as it ought to be
   5  a file could not be read or written";
 
 /// Of `run`.
@@ -39,6 +40,7 @@ the counts of pages, of live keys and of calls:
   7 value 5
   8 yes
   end pages 1 live 0 calls 3
+  audit ok
 
 docs/FORMATS.md describes traces and reports, and examples/ has some of each.
 

@@ -42,7 +42,9 @@ fn push_answer_line(out: &mut Vec<u8>, answer: &LineAnswer) -> Result<(), AllocE
     out.extend_from_slice(b"\n")
 }
 
-pub(crate) fn push_answers(
+/// Adds a line for each answer to the text, in their order, where `replies` asks for them. `AllocError` comes where memory
+/// runs out.
+pub fn push_answers(
     out: &mut Vec<u8>,
     replies: bool,
     answers: &[LineAnswer],

@@ -140,7 +140,8 @@ fn push_too_many(out: &mut Vec<u8>, mark: usize) -> Result<(), AllocError>
     out.extend_from_slice(b" refused many\n")
 }
 
-pub(crate) fn push_news(out: &mut Vec<u8>, replies: bool, news: &PlanNews) -> Result<(), AllocError>
+/// Adds news of a plan to the text, with its steps where `replies` asks for them. `AllocError` comes where memory runs out.
+pub fn push_news(out: &mut Vec<u8>, replies: bool, news: &PlanNews) -> Result<(), AllocError>
     ensures { OnOk result (out.new.items ≡ out.old.items ++ news_text replies news.now) }
 {
     match news {

@@ -13,8 +13,7 @@ loop-shard-preserved c = elim c.if-contains.branch [
         plan = rw w.self-is (w.in_ok-end.ensures.plan ∙ c.loop-shard.invariant.plan);
         plans = rw w.self-is (w.end.ensures.plans ∙ c.loop-shard.invariant.plans);
         shards = rw w.self-is (EndsBelow-end _ _ c.loop-shard.shard-counter (has c.args.self.now.leaving) c.loop-shard.invariant.shards _ passes w.in_ok-end.ensures.shards);
-        answers = rw w.self-is (w.end.ensures.answers ∙ c.loop-shard.invariant.answers);
-        starts = rw w.self-is (w.end.ensures.starts ∙ c.loop-shard.invariant.starts);
+        replies = rw w.self-is (w.end.ensures.replies ∙ c.loop-shard.invariant.replies);
         leaving = rw w.self-is (w.end.ensures.leaving ∙ c.loop-shard.invariant.leaving);
         trace = rw w.self-is (w.end.ensures.trace ∙ c.loop-shard.invariant.trace);
       }
@@ -25,8 +24,7 @@ loop-shard-preserved c = elim c.if-contains.branch [
         plan = rw w.self-is c.loop-shard.invariant.plan;
         plans = rw w.self-is c.loop-shard.invariant.plans;
         shards = rw w.self-is (EndsBelow-skip _ _ c.loop-shard.shard-counter (has c.args.self.now.leaving) c.loop-shard.invariant.shards fails);
-        answers = rw w.self-is c.loop-shard.invariant.answers;
-        starts = rw w.self-is c.loop-shard.invariant.starts;
+        replies = rw w.self-is c.loop-shard.invariant.replies;
         leaving = rw w.self-is c.loop-shard.invariant.leaving;
         trace = rw w.self-is c.loop-shard.invariant.trace;
       }

@@ -12,8 +12,7 @@ invariant-loop-shard l = record {
   shards : EndsBelow l.fn.self.core l.shard-counter (has l.fn.self.leaving) l.self.core;
   plan : l.self.core.plan ≡ l.fn.self.core.plan;
   plans : l.self.plans ≡ l.fn.self.plans;
-  answers : l.self.answers ≡ l.fn.self.answers;
-  starts : l.self.starts ≡ l.fn.self.starts;
+  replies : l.self.replies ≡ l.fn.self.replies;
   leaving : l.self.leaving ≡ l.fn.self.leaving;
   trace : l.self.trace.now ≡ l.fn.self.trace.now;
 }

@@ -15,7 +15,7 @@ stepped c = subst (λ (r : Reply). CoreStep c.args.self.now.core (event.End c.ar
 
 pub returns-in-ShardEnded-clause-made : goal.returns-in-ShardEnded-clause-made
 returns-in-ShardEnded-clause-made c news = Carries-end c.args.shard _ _ news (stepped c) c.step.ensures.sound
-    (subst (λ (r : Reply). ErasedStep (shown c.args.self.now.core) (event.End c.args.shard) r (shown c.step.new.self)) c.in-ShardEnded.is c.step.ensures.plain)
+    (subst (λ (r : Reply). ErasedStep c.args.self.now.core.limits (shown c.args.self.now.core) (event.End c.args.shard) r (shown c.step.new.self)) c.in-ShardEnded.is c.step.ensures.plain)
 
 pub returns-in-ShardEnded-clause-shards : goal.returns-in-ShardEnded-clause-shards
 returns-in-ShardEnded-clause-shards c = EndsOne-step _ _ c.args.shard (stepped c)

@@ -1,6 +1,7 @@
 use Rattle.std.proofs.Common.{◌+◌, ◌∙◌, ◌∷◌, [], List, map, subst, sym, ℕ, zero-add}
 use Rattle.std.specs.List.{range_with_len}
 use Rattle.std.proofs.lemmas.List.FromFn.{map-range_with_len_more}
+use Rattle.trace_runner.specs.Kept.{kept_in}
 use Rattle.trace_runner.specs.Recalls.{Makes}
 use Rattle.trace_runner.specs.Made.{Asked, Calls}
 use Rattle.arena_core.specs.declared.event.Event.TheVariants as event
@@ -13,16 +14,15 @@ loop-i-preserved c =
     let put : ℕ → Asked = λ k. Calls (event.Put c.args.thread (c.args.value + k)) in
     let more = map-range_with_len_more put 0 c.loop-i.i c.loop-i.i (zero-add c.loop-i.i) in
     record {
-      made = subst (λ (asked : List Asked). Makes c.args.number asked c.args.self.now.core c.args.self.now.answers.items c.call.new.self.core c.call.new.self.answers.items) (sym more)
-          (Makes-append c.args.number (map put (range_with_len 0 c.loop-i.i)) (put c.loop-i.i ∷ []) c.args.self.now.core c.loop-i.self.core c.call.new.self.core
-          c.args.self.now.answers.items c.loop-i.self.answers.items c.call.new.self.answers.items c.loop-i.invariant.made
-          (rw (← c.from.ensures) c.in_ok-call.ensures.made));
-      starts = c.call.ensures.starts ∙ c.loop-i.invariant.starts;
-      trace = c.call.ensures.trace ∙ c.loop-i.invariant.trace;
-      leaving = c.call.ensures.leaving ∙ c.loop-i.invariant.leaving;
-      shards = KeepsPlan-trans _ _ _ c.loop-i.invariant.shards c.call.ensures.shards;
-      plans = c.call.ensures.plans ∙ c.loop-i.invariant.plans;
+      made = subst (λ (asked : List Asked). Makes c.args.number asked c.args.self.now.core (kept_in c.args.self.now.replies) c.put.new.self.core (kept_in c.put.new.self.replies)) (sym more)
+          (Makes-append c.args.number (map put (range_with_len 0 c.loop-i.i)) (put c.loop-i.i ∷ []) c.args.self.now.core c.loop-i.self.core c.put.new.self.core
+          (kept_in c.args.self.now.replies) (kept_in c.loop-i.self.replies) (kept_in c.put.new.self.replies) c.loop-i.invariant.made
+          (rw (← c.from.ensures) c.in_ok-put.ensures.made));
+      trace = c.put.ensures.trace ∙ c.loop-i.invariant.trace;
+      leaving = c.put.ensures.leaving ∙ c.loop-i.invariant.leaving;
+      shards = KeepsPlan-trans _ _ _ c.loop-i.invariant.shards c.put.ensures.shards;
+      plans = c.put.ensures.plans ∙ c.loop-i.invariant.plans;
     }
 
-pub call-requires : goal.call-requires
-call-requires c = IsOpen-kept _ _ c.args.thread c.loop-i.invariant.shards.shards c.requires.running
+pub put-requires : goal.put-requires
+put-requires c = IsOpen-kept _ _ c.args.thread c.loop-i.invariant.shards.shards c.requires.running

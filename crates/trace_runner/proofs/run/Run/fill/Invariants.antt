@@ -1,5 +1,6 @@
 use Rattle.std.proofs.Common.{◌≡◌, ◌+◌, map}
 use Rattle.std.specs.List.{range_with_len}
+use Rattle.trace_runner.specs.Kept.{kept_in}
 use Rattle.trace_runner.specs.Recalls.{KeepsPlan, Makes}
 use Rattle.trace_runner.specs.Made.{Calls}
 use Rattle.arena_core.specs.declared.event.Event.TheVariants as event
@@ -7,8 +8,7 @@ use Rattle.trace_runner.proofs.run.Run.fill.Given as goal
 
 abbrev pub invariant-loop-i : goal.invariant-loop-i
 invariant-loop-i l = record {
-  made : Makes l.number (map (λ k. Calls (event.Put l.thread (l.value + k))) (range_with_len 0 l.i)) l.fn.self.core l.fn.self.answers.items l.self.core l.self.answers.items;
-  starts : l.self.starts ≡ l.fn.self.starts;
+  made : Makes l.number (map (λ k. Calls (event.Put l.thread (l.value + k))) (range_with_len 0 l.i)) l.fn.self.core (kept_in l.fn.self.replies) l.self.core (kept_in l.self.replies);
   trace : l.self.trace.now ≡ l.fn.self.trace.now;
   leaving : l.self.leaving ≡ l.fn.self.leaving;
   shards : KeepsPlan l.fn.self.core l.self.core;

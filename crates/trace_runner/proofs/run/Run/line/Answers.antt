@@ -1,7 +1,8 @@
-use Rattle.std.proofs.Common.{◌+◌, ◌∙◌, ap, filter, length}
+use Rattle.std.proofs.Common.{◌+◌, ◌∙◌, ap, filter}
 use Rattle.std.specs.List.{range_with_len}
 use Rattle.std.proofs.lemmas.Result.{on_ok_weaker}
 use Rattle.trace_text.specs.Causes.{thread_of}
+use Rattle.trace_runner.specs.Kept.{kept_in}
 use Rattle.trace_runner.specs.Recalls.{has}
 use Rattle.trace_runner.proofs.Making.{MakesLine-adopt, MakesLine-call, MakesLine-mark, MakesLine-silent}
 use Rattle.trace_runner.proofs.Shards.{IsOpen-others}
@@ -10,33 +11,35 @@ use Rattle.trace_runner.proofs.run.Run.line.Goals as goal
 pub thread_call-requires-clause-thread : goal.thread_call-requires-clause-thread
 thread_call-requires-clause-thread c = c.requires.ready.running c.in-Call.thread (ap thread_of c.in-Call.is)
 
-pub call-requires : goal.call-requires
-call-requires c =
+pub call-requires-clause-may : goal.call-requires-clause-may
+call-requires-clause-may c =
     let of = ap thread_of c.in-Adopt.is in
     (IsOpen-others _ _ _ _ c.in_ok-settle-in-Adopt.ensures.shards c.in-Adopt.shard (c.requires.ready.stays c.in-Adopt.shard of) (c.requires.ready.running c.in-Adopt.shard of), c.in_ok-settle-in-Adopt.ensures.unplanned)
 
 pub returns-in-Silent-clause-made : goal.returns-in-Silent-clause-made
-returns-in-Silent-clause-made c done recalls =
+returns-in-Silent-clause-made c done finds =
     let threads = filter (has c.args.self.now.leaving) (range_with_len 0 c.args.self.now.trace.now.header.shards) in
-    rw c.in-Silent.is (MakesLine-silent (c.args.place + 6) threads c.args.self.now.core c.args.self.now.answers.items c.args.self.now.plans)
+    rw c.in-Silent.is (MakesLine-silent (c.args.place + 6) threads c.args.self.now.core (kept_in c.args.self.now.replies) c.args.self.now.plans)
 
 pub returns-in_ok-thread_call-in-Call-clause-made : goal.returns-in_ok-thread_call-in-Call-clause-made
-returns-in_ok-thread_call-in-Call-clause-made c done recalls =
+returns-in_ok-thread_call-in-Call-clause-made c done finds =
     let threads = filter (has c.args.self.now.leaving) (range_with_len 0 c.args.self.now.trace.now.header.shards) in
-    let follows = rw c.thread_call.ensures.plans at (c.follow.ensures.made (length c.thread_call.new.self.answers.items)) in
-    rw c.in-Call.is (on_ok_weaker c.follow.result (MakesLine-call (c.args.place + 6) threads c.args.self.now.core c.args.self.now.answers.items c.args.self.now.plans c.in-Call.thread _ _ c.thread_call.new.self.core
-    c.follow.new.core c.thread_call.new.self.answers.items c.follow.new.self (c.in_ok-thread_call-in-Call.ensures.made done recalls)) follows)
+    let follows = rw c.thread_call.ensures.plans at (c.follow.ensures.made c.thread_call.new.self.replies.count) in
+    let first = c.place-first.ensures c.args.line.now c.requires.here in
+    let found = rw c.in-Call.is at (rw (← first) at finds) in
+    rw c.in-Call.is (on_ok_weaker c.follow.result (MakesLine-call (c.args.place + 6) threads c.args.self.now.core (kept_in c.args.self.now.replies) c.args.self.now.plans c.in-Call.thread _ _ c.thread_call.new.self.core
+    c.follow.new.core (kept_in c.thread_call.new.self.replies) c.follow.new.self (c.in_ok-thread_call-in-Call.ensures.made done found)) follows)
 
 pub returns-in_ok-settle-in-Adopt-clause-made : goal.returns-in_ok-settle-in-Adopt-clause-made
-returns-in_ok-settle-in-Adopt-clause-made c done recalls =
+returns-in_ok-settle-in-Adopt-clause-made c done finds =
     let threads = filter (has c.args.self.now.leaving) (range_with_len 0 c.args.self.now.trace.now.header.shards) in
-    let made = rw c.settle.ensures.answers at c.call.ensures.made in
-    rw (c.in-Adopt.is, c.call.ensures.plans) (on_ok_weaker c.call.result (MakesLine-adopt (c.args.place + 6) threads c.args.self.now.core c.args.self.now.answers.items c.args.self.now.plans c.settle.new.self.core c.settle.new.self.plans
-    c.in_ok-settle-in-Adopt.ensures.made c.in-Adopt.shard _ c.call.new.self.core c.call.new.self.answers.items) made)
+    let made = rw c.settle.ensures.replies at c.call.ensures.made in
+    rw (c.in-Adopt.is, c.call.ensures.plans) (on_ok_weaker c.call.result (MakesLine-adopt (c.args.place + 6) threads c.args.self.now.core (kept_in c.args.self.now.replies) c.args.self.now.plans c.settle.new.self.core c.settle.new.self.plans
+    c.in_ok-settle-in-Adopt.ensures.made c.in-Adopt.shard _ c.call.new.self.core (kept_in c.call.new.self.replies)) made)
 
 pub returns-in_ok-settle-in-Mark-clause-made : goal.returns-in_ok-settle-in-Mark-clause-made
-returns-in_ok-settle-in-Mark-clause-made c done recalls =
+returns-in_ok-settle-in-Mark-clause-made c done finds =
     let threads = filter (has c.args.self.now.leaving) (range_with_len 0 c.args.self.now.trace.now.header.shards) in
-    let marks = rw (c.len.ensures ∙ ap (λ answers. answers.len) c.settle-in-Mark.ensures.answers ∙ c.args.self.now.answers.ok.0) at c.mark.ensures.made in
-    rw (c.in-Mark.is, c.settle-in-Mark.ensures.answers) (on_ok_weaker c.mark.result (MakesLine-mark (c.args.place + 6) threads c.args.self.now.core c.args.self.now.answers.items c.args.self.now.plans c.settle-in-Mark.new.self.core c.settle-in-Mark.new.self.plans
+    let marks = rw (c.count.ensures ∙ ap (λ replies. replies.count) c.settle-in-Mark.ensures.replies) at c.mark.ensures.made in
+    rw (c.in-Mark.is, c.settle-in-Mark.ensures.replies) (on_ok_weaker c.mark.result (MakesLine-mark (c.args.place + 6) threads c.args.self.now.core (kept_in c.args.self.now.replies) c.args.self.now.plans c.settle-in-Mark.new.self.core c.settle-in-Mark.new.self.plans
     c.in_ok-settle-in-Mark.ensures.made c.mark.new.core c.mark.new.self) marks)

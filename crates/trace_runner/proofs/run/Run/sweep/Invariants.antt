@@ -1,6 +1,7 @@
-use Rattle.std.proofs.Common.{◌≡◌, ◌-◌, ◌≤◌, List, map}
+use Rattle.std.proofs.Common.{◌≡◌, ◌-◌, ◌≤◌, ◌<◌, ℕ, List, map}
 use Rattle.std.specs.List.{range_with_len}
-use Rattle.trace_runner.specs.Recalls.{IsRunning, KeepsPlan, Makes, Recalls}
+use Rattle.trace_runner.specs.Kept.{FindsOne, kept_in}
+use Rattle.trace_runner.specs.Recalls.{KeepsPlan, Makes}
 use Rattle.trace_runner.specs.Made.{Did}
 use Rattle.trace_runner.specs.Runs.{key_at, on_key}
 use Rattle.arena_core.specs.declared.event.Event.TheVariants as event
@@ -8,11 +9,10 @@ use Rattle.trace_runner.proofs.run.Run.sweep.Given as goal
 
 abbrev pub invariant-loop-place : goal.invariant-loop-place
 invariant-loop-place l = record {
-  made : (done : List Did) → Recalls done l.fn.self.answers.items l.fn.self.starts.items
-      → Makes l.number (map (λ place. on_key event.Free (key_at l.fn.self.trace.now.lines.items done l.name place)) (range_with_len l.fn.from (l.place - l.fn.from))) l.fn.self.core l.fn.self.answers.items l.self.core l.self.answers.items;
+  made : (done : List Did) (name : List ℕ) → ((place : ℕ) → l.fn.from ≤ place → place < l.fn.to → FindsOne l.fn.self.trace.now.lines.items done l.fn.self.replies.keys.items l.fn.first name place)
+      → Makes l.number (map (λ place. on_key event.Free (key_at l.fn.self.trace.now.lines.items done name place)) (range_with_len l.fn.from (l.place - l.fn.from))) l.fn.self.core (kept_in l.fn.self.replies) l.self.core (kept_in l.self.replies);
   bound : l.place - l.fn.from ≤ l.fn.to - l.fn.from;
-  running : IsRunning l.self.answers.items l.self.starts.items;
-  starts : l.self.starts ≡ l.fn.self.starts;
+  keys : l.self.replies.keys ≡ l.fn.self.replies.keys;
   trace : l.self.trace.now ≡ l.fn.self.trace.now;
   leaving : l.self.leaving ≡ l.fn.self.leaving;
   shards : KeepsPlan l.fn.self.core l.self.core;

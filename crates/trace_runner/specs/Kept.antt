@@ -1,0 +1,85 @@
+-- What a run keeps of the replies to its lines.
+use Rattle.std.specs.Prelude.{◌≡◌, ◌<◌, ◌≤◌, ◌+◌, ◌++◌, ℕ, Bool, true, false, List, [], filter, length, map, slice_get, if◌then◌else◌, Option, Some, None, unwrap_or}
+use Rattle.std.specs.List.{flat_map}
+use Rattle.span.specs.declared.key.Key.{Key}
+use Rattle.trace_runner.specs.Made.{Asked, Calls, Did, Made, asked_of}
+use Rattle.trace_runner.specs.Runs.{answers_from, key_at, key_bound, key_made, on_line}
+use Rattle.trace_text.specs.Causes.{binding_of}
+use Rattle.trace_text.specs.Earlier.{key_count}
+use Rattle.trace_text.specs.declared.line.Binding.{Binding}
+use Rattle.trace_text.specs.declared.line.Call.{Call}
+use Rattle.trace_text.specs.declared.line.Call.TheVariants.{Get, Free, Sweep}
+use Rattle.trace_text.specs.declared.line.Line.{Line}
+use Rattle.trace_text.specs.declared.line.Line.TheVariants as line
+use Rattle.arena_core.specs.declared.event.Event.TheVariants.{Put}
+use Rattle.trace_runner.specs.declared.replies.Replies.{Replies}
+use Rattle.trace_runner.specs.declared.report.Answer.{Answer}
+use Rattle.trace_runner.specs.declared.report.Answer.TheVariants as answer
+use Rattle.trace_runner.specs.declared.report.LineAnswer.{LineAnswer}
+
+-- ---- what is kept
+
+pub record Kept : Type 0 where
+  -- of each put, in order, the key that it gave out
+  pub keys : List (Option Key)
+  -- how many answers there are
+  pub count : ℕ
+  -- the report tells the answers
+  pub asked : Bool
+  -- the answers, where it tells them
+  pub told : List LineAnswer
+
+abbrev pub kept_in : Replies → Kept
+kept_in r = record { keys = r.keys.items; count = r.count; asked = r.asked; told = r.told.items }
+
+abbrev pub kept_none : Bool → Kept
+kept_none asked = record { keys = []; count = 0; asked = asked; told = [] }
+
+-- the key that an answer names
+abbrev pub answer_key : Answer → Option Key
+answer_key (answer.Key key) = Some key
+answer_key _ = None
+
+-- what is asked for is a put
+abbrev pub is_put : Asked → Bool
+is_put (Calls (Put shard value)) = true
+is_put _ = false
+
+-- of the puts among what was done, in order, the keys that they gave out
+abbrev pub keys_of : List Made → List (Option Key)
+keys_of made = map key_made (filter (λ m. is_put (asked_of m)) made)
+
+-- what is told of what was done at the line of that number
+abbrev pub told_of : Bool → ℕ → List Made → List LineAnswer
+told_of asked number made = if asked then map (on_line number) made else []
+
+-- what is kept once this was done at the line of that number
+abbrev pub keeping : ℕ → Kept → List Made → Kept
+keeping number kept made = record kept { keys = kept.keys ++ keys_of made; count = kept.count + length made; told = kept.told ++ told_of kept.asked number made }
+
+-- what is kept of the lines that were run
+abbrev pub kept_of : Bool → List Did → Kept
+kept_of asked done = record { keys = flat_map (λ did. keys_of did.calls) done; count = length (answers_from 6 done); asked = asked; told = if asked then answers_from 6 done else [] }
+
+-- ---- how a key is found
+
+-- at that place behind the first stands the key of the name
+abbrev pub FindsOne : List Line → List Did → List (Option Key) → (first : ℕ) → List ℕ → ℕ → Type 0
+FindsOne lines done keys first name place = slice_get keys (first + place) ≡ Some (key_at lines done name place)
+
+-- so do all keys that the call reads or frees
+abbrev pub Finds : List Line → List Did → List (Option Key) → (first : ℕ) → Call → Type 0
+Finds lines done keys first (Get key) = FindsOne lines done keys first key.name (unwrap_or key.index 0)
+Finds lines done keys first (Free key) = FindsOne lines done keys first key.name (unwrap_or key.index 0)
+Finds lines done keys first (Sweep name from to) = (place : ℕ) → from ≤ place → place < to → FindsOne lines done keys first name place
+Finds lines done keys first _ = Unit {0}
+
+-- the same for a line
+abbrev pub FindsAt : List Line → List Did → List (Option Key) → (first : ℕ) → Line → Type 0
+FindsAt lines done keys first (line.Call thread call) = Finds lines done keys first call
+FindsAt lines done keys first _ = Unit {0}
+
+-- each key of a name that those lines bind stands at its place, as the line that binds it was run
+abbrev pub Recalls : List Line → List Did → List (Option Key) → Type 0
+Recalls above done keys = (name : List ℕ) (b : Binding) (place : ℕ) → binding_of name above ≡ Some b → place < key_count b.keys
+    → (b.line < length done) × (slice_get keys (b.first + place) ≡ Some (key_bound done place b))
