@@ -12,21 +12,42 @@ use Rattle.trace_runner.specs.declared.fault.Fault.{Fault}
 use Rattle.trace_runner.specs.declared.fault.Fault.TheVariants as fault
 use Rattle.trace_runner.specs.declared.job.Job.{Job}
 use Rattle.trace_runner.specs.declared.job.Job.TheVariants.{Run, Check}
+use Rattle.thread_runner.specs.Threaded.{FailsAudit, WritesThreadedFront, WritesThreadedReport}
 
 -- 0 where the certificate is accepted, and else 1
 abbrev pub status_of_verdict : Bool → ℕ
 status_of_verdict true = 0
 status_of_verdict false = 1
 
+-- a replay of the text has written its report, whole: a serial one with this certificate, or one by threads
+abbrev pub WritesRun : (serial : Bool) → (text : List ℕ) → (replies : Bool) → (old new : Option (List ℕ)) → (certificate : List ℕ) → Type 0
+WritesRun true text replies old new certificate = WritesReport text replies old new certificate
+WritesRun false text replies old new certificate = WritesThreadedReport text replies old new
+
+-- a replay of the text has written a prefix of its report
+abbrev pub WritesRunFront : (serial : Bool) → (text : List ℕ) → (replies : Bool) → (old new : Option (List ℕ)) → Type 0
+WritesRunFront true text replies old new = WritesFront text replies old new
+WritesRunFront false text replies old new = WritesThreadedFront text replies old new
+
+-- where a replay came to a halt: at a sink that failed, once, with a prefix of the report taken; or with nothing taken, at the fault of the text, where an
+-- allocation was refused, or, by threads alone, where a shard or the pool was not as the run had left it or the audit failed
+abbrev pub HaltsReplay : (serial : Bool) → (text : List ℕ) → (replies : Bool) → (failures_old failures_new : ℕ) → (old new : Option (List ℕ)) → Fault → Type 0
+HaltsReplay serial text replies failures_old failures_new old new fault.SinkFailed = (failures_new ≡ failures_old + 1) × WritesRunFront serial text replies old new
+HaltsReplay serial text replies failures_old failures_new old new (fault.BadTrace line cause) = IsFaultAt text line cause × (failures_new ≡ failures_old) × (new ≡ old)
+HaltsReplay serial text replies failures_old failures_new old new fault.OutOfMemory = (failures_new ≡ failures_old) × (new ≡ old)
+HaltsReplay serial text replies failures_old failures_new old new fault.Doubled = (serial ≡ false) × (failures_new ≡ failures_old) × (new ≡ old)
+HaltsReplay serial text replies failures_old failures_new old new (fault.Audit cause) = (serial ≡ false) × FailsAudit cause × (failures_new ≡ failures_old) × (new ≡ old)
+HaltsReplay serial text replies failures_old failures_new old new _ = ⊥
+
 module _ {D : Type 0} (held : D → List ℕ → Option (List ℕ)) where
   -- a trace was replayed with this report, and the certificate of its last mark that planned is in the file that is named for it
-  abbrev pub IsReplayed : (replies : Bool) → (certificate : Option Text) → (old new : Option (List ℕ)) → (before after : D) → Type 0
-  IsReplayed replies certificate old new before after =
-      (text : List ℕ) × (bytes : List ℕ) × WritesReport text replies old new bytes × IsSaved held certificate bytes before after
+  abbrev pub IsReplayed : (serial replies : Bool) → (certificate : Option Text) → (old new : Option (List ℕ)) → (before after : D) → Type 0
+  IsReplayed serial replies certificate old new before after =
+      (text : List ℕ) × (bytes : List ℕ) × WritesRun serial text replies old new bytes × IsSaved held certificate bytes before after
 
   -- `run` replayed a trace as it says and ends with 0; `check` checked a certificate and ends as its verdict says
   abbrev pub Does : Job → (old new : Option (List ℕ)) → (before after : D) → (status : ℕ) → Type 0
-  Does (Run trace serial replies certificate) old new before after status = IsReplayed replies (shown certificate) old new before after × (status ≡ 0)
+  Does (Run trace serial replies certificate) old new before after status = IsReplayed serial replies (shown certificate) old new before after × (status ≡ 0)
   Does (Check file) old new before after status =
       ((text : List ℕ) × (accepted : Bool) × WritesVerdict text old new accepted × (status ≡ status_of_verdict accepted)) × (after ≡ before)
 
@@ -56,23 +77,26 @@ module _ {D : Type 0} (held : D → List ℕ → Option (List ℕ)) (failures : 
   IsUntouched failures_old failures_new old new before after = (failures_new ≡ failures_old) × (new ≡ old) × (after ≡ before)
 
   -- the report was written whole; there was a certificate, whose file could not be written: that failed once, and the other files are as they were
-  abbrev pub IsReplayedUnsaved : (replies : Bool) → (certificate : Option Text) → (failures_old failures_new : ℕ) → (old new : Option (List ℕ)) → (before after : D) → Type 0
-  IsReplayedUnsaved replies certificate failures_old failures_new old new before after =
-      (failures_new ≡ failures_old) × ((text : List ℕ) × (bytes : List ℕ) × WritesReport text replies old new bytes × IsUnsaved held certificate bytes before after) × (failures after ≡ failures before + 1)
+  abbrev pub IsReplayedUnsaved : (serial replies : Bool) → (certificate : Option Text) → (failures_old failures_new : ℕ) → (old new : Option (List ℕ)) → (before after : D) → Type 0
+  IsReplayedUnsaved serial replies certificate failures_old failures_new old new before after =
+      (failures_new ≡ failures_old) × ((text : List ℕ) × (bytes : List ℕ) × WritesRun serial text replies old new bytes × IsUnsaved held certificate bytes before after) × (failures after ≡ failures before + 1)
 
   -- where a run came to a halt: at a sink that failed, once, with a prefix of the report taken and no file written; at a file that
-  -- could not be read, or that of the certificate, which could not be written; or with nothing written at the fault of a text, or where an allocation was refused
-  abbrev pub HaltsRun : (replies : Bool) → (certificate : Option Text) → (failures_old failures_new : ℕ) → (old new : Option (List ℕ)) → (before after : D) → Fault → Type 0
-  HaltsRun replies certificate failures_old failures_new old new before after fault.SinkFailed = (failures_new ≡ failures_old + 1) × ((text : List ℕ) × WritesFront text replies old new) × (after ≡ before)
-  HaltsRun replies certificate failures_old failures_new old new before after fault.Io =
-      IsUntouched failures_old failures_new old new before after ⊎ IsReplayedUnsaved replies certificate failures_old failures_new old new before after
-  HaltsRun replies certificate failures_old failures_new old new before after (fault.BadTrace line cause) = ((text : List ℕ) × IsFaultAt text line cause) × IsUntouched failures_old failures_new old new before after
-  HaltsRun replies certificate failures_old failures_new old new before after fault.OutOfMemory = IsUntouched failures_old failures_new old new before after
-  HaltsRun replies certificate failures_old failures_new old new before after _ = ⊥
+  -- could not be read, or that of the certificate, which could not be written; or with nothing written at the fault of a text, where an allocation was refused,
+  -- or, by threads alone, where a shard or the pool was not as the run had left it or the audit failed
+  abbrev pub HaltsRun : (serial replies : Bool) → (certificate : Option Text) → (failures_old failures_new : ℕ) → (old new : Option (List ℕ)) → (before after : D) → Fault → Type 0
+  HaltsRun serial replies certificate failures_old failures_new old new before after fault.SinkFailed = (failures_new ≡ failures_old + 1) × ((text : List ℕ) × WritesRunFront serial text replies old new) × (after ≡ before)
+  HaltsRun serial replies certificate failures_old failures_new old new before after fault.Io =
+      IsUntouched failures_old failures_new old new before after ⊎ IsReplayedUnsaved serial replies certificate failures_old failures_new old new before after
+  HaltsRun serial replies certificate failures_old failures_new old new before after (fault.BadTrace line cause) = ((text : List ℕ) × IsFaultAt text line cause) × IsUntouched failures_old failures_new old new before after
+  HaltsRun serial replies certificate failures_old failures_new old new before after fault.OutOfMemory = IsUntouched failures_old failures_new old new before after
+  HaltsRun serial replies certificate failures_old failures_new old new before after fault.Doubled = (serial ≡ false) × IsUntouched failures_old failures_new old new before after
+  HaltsRun serial replies certificate failures_old failures_new old new before after (fault.Audit cause) = (serial ≡ false) × FailsAudit cause × IsUntouched failures_old failures_new old new before after
+  HaltsRun serial replies certificate failures_old failures_new old new before after _ = ⊥
 
   -- where the job came to a halt; a check writes no file
   abbrev pub Halts : Job → (failures_old failures_new : ℕ) → (old new : Option (List ℕ)) → (before after : D) → Fault → Type 0
-  Halts (Run trace serial replies certificate) failures_old failures_new old new before after stop = HaltsRun replies (shown certificate) failures_old failures_new old new before after stop
+  Halts (Run trace serial replies certificate) failures_old failures_new old new before after stop = HaltsRun serial replies (shown certificate) failures_old failures_new old new before after stop
   Halts (Check file) failures_old failures_new old new before after stop = HaltsCheck failures_old failures_new old new stop × (after ≡ before)
 
   -- no job was begun, and nothing was written; or the job that words name came to a halt

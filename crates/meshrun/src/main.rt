@@ -10,7 +10,7 @@
 #![tactic(auto)]
 
 ghost use Rattle.std.specs.Prelude.{◌≡◌, ◌<◌, ◌≤◌, ◌+◌, ◌-◌, ◌^◌, ℕ, List, IfErr, IfOk, OnOk};
-ghost use Rattle.meshrun.specs.Done.{Does, Halts, HaltsCheck, HaltsRun, IsDone, IsHalted, IsReplayed, status_of_verdict};
+ghost use Rattle.meshrun.specs.Done.{Does, Halts, HaltsCheck, HaltsReplay, HaltsRun, IsDone, IsHalted, IsReplayed, WritesRun, status_of_verdict};
 ghost use Rattle.trace_runner.specs.Job.{shown};
 ghost use Rattle.trace_runner.specs.Verdict.{WritesVerdict};
 
@@ -19,6 +19,9 @@ use std::fs;
 use std::io::{self, Input, Read};
 use std::process::ExitCode;
 use std::rt::Files;
+use std::sync::Wait;
+use std::thread::Threads;
+use thread_runner::replay_threads;
 use trace_runner::{Disk, Fault, Job, Out, Sink, Store, check_text, replay_serial, save, tell};
 
 /// The words after the program's own name.
@@ -42,11 +45,36 @@ fn trace_text(rt: &(impl Files + Input + AllocGlobal), path: Option<&str>) -> io
     }
 }
 
+/// Replays the trace, one call after another or by threads, and writes its report to `out`. `cert` is then the text of the
+/// certificate of the last mark that planned, or empty where none did.
+fn replay<R: Threads + Wait + Sync + AllocGlobal, S: Sink>(
+    rt: &R,
+    text: &[u8],
+    serial: bool,
+    replies: bool,
+    out: &mut S,
+    cert: &mut Vec<u8>,
+) -> Result<(), Fault>
+    requires { S.failures out.old < 2 ^ 64 - 1 }
+    ensures done { OnOk result (WritesRun serial text.now replies (S.taken out.old) (S.taken out.new) cert.new.items) }
+    ensures succeeded { OnOk result (S.failures out.new ≡ S.failures out.old) }
+    ensures failures { S.failures out.new ≤ S.failures out.old + 1 }
+    ensures err { IfErr result (HaltsReplay serial text.now replies (S.failures out.old) (S.failures out.new) (S.taken out.old) (S.taken out.new)) }
+{
+    if serial {
+        replay_serial(rt.alloc(), text, replies, out, cert)?;
+        return Ok(());
+    }
+    replay_threads(rt, rt.alloc(), text, replies, out, cert)?;
+    Ok(())
+}
+
 /// Replays the trace of the file, or of standard input where no file is named, writes its report to `out`, and then the
 /// certificate of the last mark that planned, if there was one, to the file that is named for it.
-fn run_trace<R: Files + Input + AllocGlobal, S: Sink, D: Store>(
+fn run_trace<R: Threads + Wait + Sync + Files + Input + AllocGlobal, S: Sink, D: Store>(
     rt: &R,
     path: Option<&str>,
+    serial: bool,
     replies: bool,
     certificate: Option<&str>,
     out: &mut S,
@@ -54,16 +82,16 @@ fn run_trace<R: Files + Input + AllocGlobal, S: Sink, D: Store>(
 ) -> Result<(), Fault>
     requires sink_room { S.failures out.old < 2 ^ 64 - 1 }
     requires store_room { D.failures store.old < 2 ^ 64 - 1 }
-    ensures done { OnOk result (IsReplayed D.held replies (shown certificate.entry) (S.taken out.old) (S.taken out.new) store.old store.new) }
+    ensures done { OnOk result (IsReplayed D.held serial replies (shown certificate.entry) (S.taken out.old) (S.taken out.new) store.old store.new) }
     ensures succeeded { OnOk result (S.failures out.new ≡ S.failures out.old) }
     ensures failures { S.failures out.new ≤ S.failures out.old + 1 }
     ensures stored { OnOk result (D.failures store.new ≡ D.failures store.old) }
     ensures store_failures { D.failures store.new ≤ D.failures store.old + 1 }
-    ensures err { IfErr result (HaltsRun D.held D.failures replies (shown certificate.entry) (S.failures out.old) (S.failures out.new) (S.taken out.old) (S.taken out.new) store.old store.new) }
+    ensures err { IfErr result (HaltsRun D.held D.failures serial replies (shown certificate.entry) (S.failures out.old) (S.failures out.new) (S.taken out.old) (S.taken out.new) store.old store.new) }
 {
     let text = trace_text(rt, path)?;
     let mut bytes = Vec::new(rt.alloc());
-    replay_serial(rt.alloc(), &text, replies, out, &mut bytes)?;
+    replay(rt, &text, serial, replies, out, &mut bytes)?;
     save(store, certificate, &bytes)?;
     Ok(())
 }
@@ -94,7 +122,7 @@ fn verdict_status(accepted: bool) -> u8
 
 /// Does the job: writes to `out`, and to `store` where a file is named for the certificate, and answers the status with
 /// which the program ends: 1 where a certificate is rejected, and else 0.
-fn do_job<R: Files + Input + AllocGlobal, S: Sink, D: Store>(
+fn do_job<R: Threads + Wait + Sync + Files + Input + AllocGlobal, S: Sink, D: Store>(
     rt: &R,
     job: Job<'_>,
     out: &mut S,
@@ -110,14 +138,13 @@ fn do_job<R: Files + Input + AllocGlobal, S: Sink, D: Store>(
     ensures err { IfErr result (Halts D.held D.failures job.entry (S.failures out.old) (S.failures out.new) (S.taken out.old) (S.taken out.new) store.old store.new) }
 {
     match job {
-        // Until calls run on threads, every run is serial.
         Job::Run {
             trace,
-            serial: _,
+            serial,
             replies,
             certificate,
         } => {
-            run_trace(rt, trace, replies, certificate, out, store)?;
+            run_trace(rt, trace, serial, replies, certificate, out, store)?;
             Ok(0)
         }
         Job::Check { file } => {
@@ -128,7 +155,7 @@ fn do_job<R: Files + Input + AllocGlobal, S: Sink, D: Store>(
 }
 
 /// Does the job that the program's words name.
-fn do_named_job<R: Env + Files + Input + AllocGlobal, S: Sink, D: Store>(
+fn do_named_job<R: Threads + Wait + Sync + Env + Files + Input + AllocGlobal, S: Sink, D: Store>(
     rt: &R,
     out: &mut S,
     store: &mut D,

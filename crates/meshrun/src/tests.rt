@@ -8,6 +8,7 @@ mod refused;
 mod sink;
 mod store;
 mod telling;
+mod threads;
 
 /// The trace of no call.
 const EMPTY: &[u8] = b"mesh 1\nshards 1\npages 4\nring 4\ngens 9\n";

@@ -1,6 +1,10 @@
 //! Jobs on files of the disk.
 use crate::do_job;
+use std::io::Input;
+use std::rt::Files;
+use std::sync::Wait;
 use std::test::Fail;
+use std::thread::Threads;
 use std::{fs, io};
 use trace_runner::{Disk, Fault, Job, Memory};
 
@@ -13,7 +17,10 @@ const CERTIFICATE: &[u8] =
     b"meshcert 1\nabandoned 0\nowned 1\n0.0 0100000000000000000000000000000000000000000000000000000000000000\nfolds 0\nshort 0\nend\n";
 
 /// With which status the job ends, and what it wrote.
-fn ended(rt: &HostRuntime, job: Job<'_>) -> (u8, Memory) {
+fn ended<R: Threads + Wait + Sync + Files + Input + AllocGlobal>(
+    rt: &R,
+    job: Job<'_>,
+) -> (u8, Memory) {
     let mut out = Memory::new(rt.alloc());
     let status = match do_job(rt, job, &mut out, &mut Disk::new(rt)) {
         Ok(status) => status,
@@ -23,8 +30,8 @@ fn ended(rt: &HostRuntime, job: Job<'_>) -> (u8, Memory) {
 }
 
 /// The same, where there is a file of this text while the job is done.
-fn ended_beside(
-    rt: &HostRuntime,
+fn ended_beside<R: Threads + Wait + Sync + Files + Input + AllocGlobal>(
+    rt: &R,
     path: &str,
     text: &[u8],
     job: Job<'_>,

@@ -1,0 +1,54 @@
+-- What diaries say, and the report that follows.
+use Rattle.std.proofs.Common.{◌≡◌, ◌∙◌, ◌++◌, ℕ, Bool, List, [], ◌∷◌, ap, map, refl, subst, sym}
+use Rattle.std.specs.Prelude.{codes}
+use Rattle.std.specs.List.{flat_map}
+use Rattle.span.specs.declared.receipt.Receipt.{Receipt}
+use Rattle.span.specs.declared.span_log.SpanLog.{SpanLog}
+use Rattle.audit.specs.Agreement.{Agreement}
+use Rattle.audit.specs.History.{HaveHistories}
+use Rattle.thread_runner.specs.Threaded.{IsAuditStop, IsRunStop, IsThreadedReport, TellsAll}
+use Rattle.thread_runner.specs.Told.{Voice, diary_lines, voice_lines, voice_of}
+use Rattle.thread_runner.specs.declared.diary.Diary.{Diary}
+use Rattle.thread_runner.specs.declared.diary.OtherLine.{OtherLine}
+use Rattle.thread_runner.specs.declared.error.ThreadsError.{ThreadsError}
+use Rattle.thread_runner.specs.declared.error.ThreadsError.TheVariants.{OutOfMemory, BadTrace, Doubled, AuditFault, SinkFailed}
+
+-- the replies of what diaries have are those of the diaries
+pub flat_map-voices : (diaries : List Diary) → flat_map voice_lines (map voice_of diaries) ≡ flat_map diary_lines diaries
+flat_map-voices [] = refl
+flat_map-voices (diary ∷ diaries) = ap (λ replies. diary_lines diary ++ replies) (flat_map-voices diaries)
+
+-- the receipts of what diaries have are those of the diaries
+pub map-voices : (diaries : List Diary) → map (λ (voice : Voice). voice.receipts) (map voice_of diaries) ≡ map (λ (diary : Diary). diary.receipts.items) diaries
+map-voices [] = refl
+map-voices (diary ∷ diaries) = ap (λ lists. diary.receipts.items ∷ lists) (map-voices diaries)
+
+-- where the receipts of diaries agree with logs, what they tell is the report
+pub IsThreadedReport-told : (shown : Bool) (logs : List SpanLog) (diaries : List Diary) (adoptions : List OtherLine) (lists : List (List Receipt)) (text bytes : List ℕ)
+    → lists ≡ map (λ (diary : Diary). diary.receipts.items) diaries → TellsAll shown (map voice_of diaries) adoptions text
+    → Agreement logs lists → HaveHistories lists → bytes ≡ text ++ codes "audit ok\n" → IsThreadedReport shown bytes
+IsThreadedReport-told shown logs diaries adoptions lists text bytes of_diaries tells agreed histories ends =
+    let same : lists ≡ map (λ (voice : Voice). voice.receipts) (map voice_of diaries) = of_diaries ∙ sym (map-voices diaries) in
+    record {
+      logs = logs;
+      voices = map voice_of diaries;
+      adoptions = adoptions;
+      replies = tells.0;
+      notes = tells.1;
+      ending = tells.2;
+      agreed = subst (λ ls. Agreement logs ls) same agreed;
+      histories = subst (λ ls. HaveHistories ls) same histories;
+      told = tells.3;
+      spelled = ends ∙ ap (λ t. t ++ codes "audit ok\n") tells.4;
+    }
+
+-- where the audit of the receipts of diaries stops, so does the run
+pub IsRunStop-audit : (logs : List SpanLog) (diaries : List Diary) (lists : List (List Receipt)) (error : ThreadsError)
+    → lists ≡ map (λ (diary : Diary). diary.receipts.items) diaries → IsAuditStop logs lists error → IsRunStop error
+IsRunStop-audit logs diaries lists OutOfMemory of_diaries stop = tt
+IsRunStop-audit logs diaries lists (AuditFault cause) of_diaries stop =
+    let same : lists ≡ map (λ (voice : Voice). voice.receipts) (map voice_of diaries) = of_diaries ∙ sym (map-voices diaries) in
+    (logs, map voice_of diaries, subst (λ ls. IsAuditStop logs ls (AuditFault cause)) same stop)
+IsRunStop-audit logs diaries lists (BadTrace line cause) of_diaries stop = absurd stop
+IsRunStop-audit logs diaries lists Doubled of_diaries stop = absurd stop
+IsRunStop-audit logs diaries lists SinkFailed of_diaries stop = absurd stop

@@ -1,0 +1,4 @@
+pub mod Errors
+pub mod Told
+pub mod Report
+pub mod Threaded

@@ -1,0 +1,86 @@
+-- What a replay by threads writes.
+use Rattle.std.specs.Prelude.{◌≡◌, ◌+◌, ◌++◌, ℕ, Bool, true, List, Option, map}
+use Rattle.std.specs.List.{flat_map}
+use Rattle.std.specs.List.Sorted.{IsPermutation}
+use Rattle.std.specs.Io.KnownBytes.{Appends}
+use Rattle.span.specs.declared.receipt.Receipt.{Receipt}
+use Rattle.span.specs.declared.span_log.SpanLog.{SpanLog}
+use Rattle.audit.specs.Agreement.{Agreement}
+use Rattle.audit.specs.Faults.{FailsFirst}
+use Rattle.audit.specs.History.{HaveHistories}
+use Rattle.audit.specs.declared.fault.AuditCause.{AuditCause}
+use Rattle.trace_runner.specs.Sink.{AppendsFront}
+use Rattle.trace_runner.specs.declared.report.Ending.{Ending}
+use Rattle.trace_runner.specs.declared.report.LineAnswer.{LineAnswer}
+use Rattle.trace_text.specs.Trace.{IsFaultAt, IsTrace}
+use Rattle.trace_text.specs.declared.trace.Trace.{Trace}
+use Rattle.trace_runner.specs.Report.{end_line}
+use Rattle.thread_runner.specs.Report.{body_text, threaded_text}
+use Rattle.thread_runner.specs.Told.{Voice, other_line, voice_lines}
+use Rattle.thread_runner.specs.declared.body.Note.{Note}
+use Rattle.thread_runner.specs.declared.diary.OtherLine.{OtherLine}
+use Rattle.thread_runner.specs.declared.error.ThreadsError.{ThreadsError}
+use Rattle.thread_runner.specs.declared.error.ThreadsError.TheVariants.{OutOfMemory, BadTrace, Doubled, AuditFault, SinkFailed}
+
+-- the replies are all that the threads were told, and those of the adoptions
+abbrev pub AreReplies : List Voice → List OtherLine → List LineAnswer → Type 0
+AreReplies voices adoptions replies = IsPermutation (flat_map voice_lines voices ++ map other_line adoptions) replies
+
+-- the bytes are the report of a run whose receipts agree with the logs of its spans, so that its calls on each span have one history; where replies
+-- are shown, that of each call on a key is what its receipt says
+pub record IsThreadedReport (shown : Bool) (bytes : List ℕ) : Type 0 where
+  pub logs : List SpanLog
+  pub voices : List Voice
+  pub adoptions : List OtherLine
+  pub replies : List LineAnswer
+  pub notes : List Note
+  pub ending : Ending
+  pub agreed : Agreement logs (map (λ voice. voice.receipts) voices)
+  pub histories : HaveHistories (map (λ voice. voice.receipts) voices)
+  pub told : shown ≡ true → AreReplies voices adoptions replies
+  pub spelled : bytes ≡ threaded_text shown replies notes ending
+
+-- the text is a trace, and what was taken more than before is such a report, whole
+abbrev pub WritesThreadedReport : List ℕ → Bool → (old new : Option (List ℕ)) → Type 0
+WritesThreadedReport text shown old new = ((trace : Trace) × IsTrace text trace) × ((bytes : List ℕ) × IsThreadedReport shown bytes × Appends old new bytes)
+
+-- a prefix of such a report was taken
+abbrev pub WritesThreadedFront : List ℕ → Bool → (old new : Option (List ℕ)) → Type 0
+WritesThreadedFront text shown old new = ((trace : Trace) × IsTrace text trace) × ((bytes : List ℕ) × IsThreadedReport shown bytes × AppendsFront old new bytes)
+
+-- the text is a report of what the threads and the adoptions were told, up to its counts; where replies are shown, they are all there
+abbrev pub TellsAll : Bool → List Voice → List OtherLine → List ℕ → Type 0
+TellsAll shown voices adoptions text =
+    (replies : List LineAnswer) × (notes : List Note) × (ending : Ending)
+    × (shown ≡ true → AreReplies voices adoptions replies) × (text ≡ body_text shown replies notes ++ end_line ending)
+
+-- receipts of a run do not agree with its logs, first in this part
+abbrev pub FailsAudit : AuditCause → Type 0
+FailsAudit cause = (logs : List SpanLog) × (voices : List Voice) × FailsFirst logs (map (λ voice. voice.receipts) voices) cause
+
+-- the audit did not say that receipts agree with logs: memory ran out, or they do not, first in this part
+abbrev pub IsAuditStop : List SpanLog → List (List Receipt) → ThreadsError → Type 0
+IsAuditStop logs lists OutOfMemory = Unit {0}
+IsAuditStop logs lists (AuditFault cause) = FailsFirst logs lists cause
+IsAuditStop logs lists _ = ⊥
+
+-- no report came of a run: memory ran out, a shard or the pool was not as the run had left it, or the audit failed
+abbrev pub IsRunStop : ThreadsError → Type 0
+IsRunStop OutOfMemory = Unit {0}
+IsRunStop Doubled = Unit {0}
+IsRunStop (AuditFault cause) = FailsAudit cause
+IsRunStop _ = ⊥
+
+-- the text is at no fault
+abbrev pub IsNoFault : ThreadsError → Type 0
+IsNoFault (BadTrace line cause) = ⊥
+IsNoFault error = Unit {0}
+
+-- where a replay by threads stopped: where an allocation was refused, at the first line at fault, where a shard or the pool was not as the run had left
+-- it or where the audit failed, with nothing taken; or at a sink that failed, once, with a prefix of the report taken
+abbrev pub StopsThreads : List ℕ → Bool → (failures_old failures_new : ℕ) → (old new : Option (List ℕ)) → ThreadsError → Type 0
+StopsThreads text shown failures_old failures_new old new OutOfMemory = (failures_new ≡ failures_old) × (new ≡ old)
+StopsThreads text shown failures_old failures_new old new (BadTrace line cause) = IsFaultAt text line cause × (failures_new ≡ failures_old) × (new ≡ old)
+StopsThreads text shown failures_old failures_new old new Doubled = (failures_new ≡ failures_old) × (new ≡ old)
+StopsThreads text shown failures_old failures_new old new (AuditFault cause) = FailsAudit cause × (failures_new ≡ failures_old) × (new ≡ old)
+StopsThreads text shown failures_old failures_new old new SinkFailed = (failures_new ≡ failures_old + 1) × WritesThreadedFront text shown old new

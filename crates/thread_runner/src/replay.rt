@@ -1,0 +1,213 @@
+// Replays a trace by threads, and holds what its calls were told against the logs.
+ghost use Rattle.std.specs.Prelude.{◌≡◌, ◌<◌, ◌-◌, ◌^◌, IfOk, IfErr, List, OnErr, OnOk, map, vec_items};
+ghost use Rattle.audit.specs.Agreement.{Agreement};
+ghost use Rattle.audit.specs.History.{HaveHistories};
+ghost use Rattle.trace_text.specs.Trace.{Spells};
+ghost use Rattle.trace_text.specs.declared.header.Header.{Header};
+ghost use Rattle.trace_text.specs.declared.line.Line.{Line};
+ghost use Rattle.thread_runner.specs.Threaded.{IsAuditStop, IsNoFault, IsRunStop, IsThreadedReport, StopsThreads, TellsAll, WritesThreadedReport};
+ghost use Rattle.thread_runner.specs.Told.{voice_of};
+
+use crate::body::{push_body, replies_of};
+use crate::diary::Diary;
+use crate::error::ThreadsError;
+use crate::layout::Layout;
+use crate::section::{Ran, Told, run_sections};
+use crate::worker::Text;
+use arena::{Arena, Gate, NoGate, finish};
+use audit::{AuditError, audit};
+use span::{Receipt, SpanLog};
+use std::alloc::{AllocError, Global};
+use std::sync::Wait;
+use std::thread::Threads;
+use trace_runner::{Ending, Sink, Trace, give, parse, push_ending};
+
+/// What a replay leaves.
+#[derive(Drop)]
+struct Replayed {
+    /// The report's text.
+    report: Vec<u8>,
+    /// The text of the certificate of the last mark that planned; empty where none did.
+    certificate: Vec<u8>,
+}
+
+// How many replies the threads had.
+fn calls_of(diaries: &[Diary]) -> usize {
+    let mut calls = 0usize;
+    for diary in diaries {
+        calls = calls.saturating_add(diary.calls());
+    }
+    calls
+}
+
+// The receipts of each thread.
+fn receipts_of(alloc: Global, diaries: Vec<Diary>) -> Result<Vec<Vec<Receipt>>, AllocError>
+    ensures { IfOk result (λ receipts. map vec_items receipts.items ≡ map (λ diary. diary.receipts.items) diaries.items) }
+{
+    let mut receipts = Vec::with_capacity(alloc, diaries.len())?;
+    for diary in diaries {
+        receipts.push(diary.into_receipts())?;
+    }
+    Ok(receipts)
+}
+
+// The report of what a run left, without its last line.
+fn report_of(
+    alloc: Global,
+    told: &Told,
+    shown: bool,
+    ending: &Ending,
+) -> Result<Vec<u8>, AllocError>
+    ensures { IfOk result (λ text. TellsAll shown (map voice_of told.now.diaries.items) told.now.adoptions.items text.items) }
+{
+    let replies = replies_of(
+        alloc,
+        shown,
+        told.diaries.as_slice(),
+        told.adoptions.as_slice(),
+    )?;
+    let mut report = Vec::new(alloc);
+    push_body(
+        &mut report,
+        shown,
+        replies.as_slice(),
+        told.notes.as_slice(),
+    )?;
+    push_ending(&mut report, ending)?;
+    Ok(report)
+}
+
+// Holds the receipts against the logs.
+fn held_against(
+    alloc: Global,
+    logs: &[SpanLog],
+    receipts: &[Vec<Receipt>],
+) -> Result<(), ThreadsError>
+    ensures agreed { OnOk result (Agreement logs.now (map vec_items receipts.now)) }
+    ensures histories { OnOk result (HaveHistories (map vec_items receipts.now)) }
+    ensures err { IfErr result (IsAuditStop logs.now (map vec_items receipts.now)) }
+{
+    match audit(alloc, logs, receipts) {
+        Ok(()) => Ok(()),
+        Err(AuditError::Fault(cause)) => Err(ThreadsError::AuditFault(cause)),
+        Err(AuditError::OutOfMemory) => Err(ThreadsError::OutOfMemory),
+    }
+}
+
+// The whole report of what a run left, where its receipts agree with the logs.
+fn audited(
+    alloc: Global,
+    told: Told,
+    logs: &[SpanLog],
+    shown: bool,
+    ending: &Ending,
+) -> Result<Replayed, ThreadsError>
+    ensures ok { IfOk result (λ replayed. IsThreadedReport shown replayed.report.items) }
+    ensures err { IfErr result IsRunStop }
+{
+    let mut report = report_of(alloc, &told, shown, ending)?;
+    let receipts = receipts_of(alloc, told.diaries)?;
+    held_against(alloc, logs, receipts.as_slice())?;
+    report.extend_from_slice(b"audit ok\n")?;
+    Ok(Replayed {
+        report,
+        certificate: told.certificate,
+    })
+}
+
+// The report of a run of the trace by threads, and its last certificate.
+fn replay<R: Threads + Wait + Sync, G: Gate + Sync>(
+    rt: &R,
+    alloc: Global,
+    gate: G,
+    trace: &Trace,
+    shown: bool,
+) -> Result<Replayed, ThreadsError>
+    ensures ok { IfOk result (λ replayed. IsThreadedReport shown replayed.report.items) }
+    ensures err { IfErr result IsRunStop }
+{
+    let header = &trace.header;
+    let (pages, ring) = (header.pages as usize, header.ring as usize);
+    let opened = Arena::open(alloc, header.shards, pages, ring, header.gens, gate);
+    let Ok((arena, seats, steward)) = opened else {
+        // The header's numbers are within their ranges.
+        return Err(ThreadsError::OutOfMemory);
+    };
+    let text = Text {
+        trace,
+        layout: Layout::of(alloc, trace)?,
+        replies: shown,
+    };
+    let Ran { seats, told } = run_sections(rt, alloc, &text, &arena, seats, steward)?;
+    let totals = arena.totals(rt);
+    let ending = Ending {
+        pages: totals.pages,
+        live: totals.live,
+        calls: calls_of(told.diaries.as_slice()),
+    };
+    let Ok(finished) = finish(arena, seats) else {
+        return Err(ThreadsError::OutOfMemory);
+    };
+    audited(alloc, told, finished.logs.as_slice(), shown, &ending)
+}
+
+/// Replays a trace by threads: reads the text whole, runs each section's lines on a thread for each of its threads that has
+/// some, with the steps of the open plan beside them, holds what all calls were told against the logs of all spans, and gives
+/// the report to `out`, with a line for each reply where `replies` asks for them. A thread's lines run on the thread at hand
+/// where none can be started. `cert` is then the text of the certificate of the last mark that planned, or empty where none did.
+///
+/// The report is that of the run that happened. What it tells of calls that ran side by side may be another the next time.
+///
+/// # Errors
+///
+/// `BadTrace` exactly for a text that is no trace, with its first line at fault and the first cause that holds of it.
+/// `AuditFault` where what the calls were told doesn't agree with the logs, with the first part that fails. `Doubled` where a
+/// shard or the pool was not as the run had left it. `OutOfMemory` where an allocation was refused. After each of these
+/// `out` has taken nothing. `SinkFailed` where `out` failed; it has then taken a prefix of the report. After each of them
+/// `cert` is as it was.
+pub fn replay_threads<R: Threads + Wait + Sync, S: Sink>(
+    rt: &R,
+    alloc: Global,
+    text: &[u8],
+    replies: bool,
+    out: &mut S,
+    cert: &mut Vec<u8>,
+) -> Result<(), ThreadsError>
+    requires { S.failures out.old < 2 ^ 64 - 1 }
+    ensures ok { OnOk result (WritesThreadedReport text.now replies (S.taken out.old) (S.taken out.new)) }
+    ensures accepted { (header : Header) (lines : List Line) → Spells text.now header lines → IfErr result IsNoFault }
+    ensures succeeded { OnOk result (S.failures out.new ≡ S.failures out.old) }
+    ensures err { IfErr result (StopsThreads text.now replies (S.failures out.old) (S.failures out.new) (S.taken out.old) (S.taken out.new)) }
+    ensures err_certificate { OnErr result (cert.new ≡ cert.old) }
+{
+    replay_gated(rt, alloc, NoGate, text, replies, out, cert)
+}
+
+/// As [`replay_threads`], with a gate that each thread passes inside of each critical section under one shard's lock. A
+/// test can hold threads there, and so see that they run side by side.
+pub fn replay_gated<R: Threads + Wait + Sync, G: Gate + Sync, S: Sink>(
+    rt: &R,
+    alloc: Global,
+    gate: G,
+    text: &[u8],
+    replies: bool,
+    out: &mut S,
+    cert: &mut Vec<u8>,
+) -> Result<(), ThreadsError>
+    requires { S.failures out.old < 2 ^ 64 - 1 }
+    ensures ok { OnOk result (WritesThreadedReport text.now replies (S.taken out.old) (S.taken out.new)) }
+    ensures accepted { (header : Header) (lines : List Line) → Spells text.now header lines → IfErr result IsNoFault }
+    ensures succeeded { OnOk result (S.failures out.new ≡ S.failures out.old) }
+    ensures err { IfErr result (StopsThreads text.now replies (S.failures out.old) (S.failures out.new) (S.taken out.old) (S.taken out.new)) }
+    ensures err_certificate { OnErr result (cert.new ≡ cert.old) }
+{
+    let trace = parse(alloc, text)?;
+    let replayed = replay(rt, alloc, gate, &trace, replies)?;
+    match give(out, replayed.report.as_slice()) {
+        Ok(()) => {
+            *cert = replayed.certificate;
+            Ok(())
+        }
+        Err(_) => Err(ThreadsError::SinkFailed),
+    }
+}

@@ -1,0 +1,329 @@
+// The sections of a run, and what stands between them.
+use crate::body::Note;
+use crate::diary::{Diary, OtherLine};
+use crate::error::Halt;
+use crate::keeper::Keeper;
+use crate::worker::{Keys, Text, Worker};
+use arena::{Arena, Gate, Seat, Steward};
+use std::alloc::{AllocError, Global};
+use std::sync::Wait;
+use std::thread;
+use std::thread::Threads;
+use trace_runner::{Line, PlanNews};
+
+/// What all sections of a run leave.
+#[derive(Drop)]
+pub(crate) struct Ran {
+    /// The seats of all workers.
+    pub(crate) seats: Vec<Seat>,
+    /// What they were told, and what came of the marks.
+    pub(crate) told: Told,
+}
+
+/// What a run was told.
+#[derive(Drop)]
+pub(crate) struct Told {
+    /// What each worker was told.
+    pub(crate) diaries: Vec<Diary>,
+    /// What the adoptions came to, in the order of their lines, where the report has replies.
+    pub(crate) adoptions: Vec<OtherLine>,
+    /// What the report tells of plans, in order.
+    pub(crate) notes: Vec<Note>,
+    /// The text of the certificate of the last mark that planned; empty where none did.
+    pub(crate) certificate: Vec<u8>,
+}
+
+// A run between two sections.
+#[derive(Drop)]
+struct Crew<'a, G: Gate> {
+    alloc: Global,
+    text: &'a Text<'a>,
+    workers: Vec<Worker<'a, G>>,
+    keeper: Keeper<'a, G>,
+    keys: Keys,
+    adoptions: Vec<OtherLine>,
+    notes: Vec<Note>,
+}
+
+// A worker for each seat.
+fn workers_of<'a, G: Gate>(
+    alloc: Global,
+    arena: &'a Arena<G>,
+    text: &'a Text<'a>,
+    seats: Vec<Seat>,
+) -> Result<Vec<Worker<'a, G>>, AllocError> {
+    let mut workers = Vec::with_capacity(alloc, seats.len())?;
+    for seat in seats {
+        if let Some(worker) = Worker::new(alloc, arena, text, seat) {
+            workers.push(worker)?;
+        }
+    }
+    Ok(workers)
+}
+
+// No key of so many threads.
+fn no_keys(alloc: Global, threads: usize) -> Result<Keys, AllocError> {
+    let mut keys = Vec::with_capacity(alloc, threads)?;
+    for _ in 0..threads {
+        keys.push(Vec::new(alloc))?;
+    }
+    Ok(keys)
+}
+
+// A section's lines of one worker.
+fn work_one<'a, R: Wait, G: Gate>(
+    rt: &R,
+    worker: Worker<'a, G>,
+    keys: &Keys,
+    end: usize,
+) -> Result<Worker<'a, G>, Halt> {
+    let mut worker = worker;
+    worker.run(rt, keys, end)?;
+    Ok(worker)
+}
+
+// A section's lines, each worker's on a thread of its own.
+fn work<'a, R: Threads + Wait + Sync, G: Gate + Sync>(
+    rt: &R,
+    workers: Vec<Worker<'a, G>>,
+    keys: &Keys,
+    end: usize,
+) -> Result<Vec<Result<Worker<'a, G>, Halt>>, AllocError> {
+    thread::map_vec(rt, workers, &|worker| work_one(rt, worker, keys, end))
+}
+
+// The steps of the open plan.
+fn keep<'a, R: Wait, G: Gate>(rt: &R, keeper: Keeper<'a, G>) -> Result<Keeper<'a, G>, AllocError> {
+    let mut keeper = keeper;
+    keeper.take_steps(rt)?;
+    Ok(keeper)
+}
+
+// A section's lines, with the steps of the open plan beside them.
+fn work_beside<'a, R: Threads + Wait + Sync, G: Gate + Sync>(
+    rt: &R,
+    workers: Vec<Worker<'a, G>>,
+    keeper: Keeper<'a, G>,
+    keys: &Keys,
+    end: usize,
+) -> Result<(Vec<Result<Worker<'a, G>, Halt>>, Keeper<'a, G>), AllocError> {
+    if !keeper.has_steps() {
+        return Ok((work(rt, workers, keys, end)?, keeper));
+    }
+    let (workers, keeper) = thread::join(
+        rt,
+        move || work(rt, workers, keys, end),
+        move || keep(rt, keeper),
+    );
+    Ok((workers?, keeper?))
+}
+
+// The lines of the trace below its header.
+fn text_lines<'a>(text: &'a Text<'a>) -> &'a [Line] {
+    text.trace.lines.as_slice()
+}
+
+// The place of the first adoption from one place up to, and without, another, which is that of a mark; or the mark's.
+fn barrier_of(lines: &[Line], from: usize, end: usize) -> usize {
+    for place in from..end {
+        if let Some(Line::Adopt { .. }) = lines.get(place) {
+            return place;
+        }
+    }
+    end
+}
+
+impl<'a, G: Gate + Sync> Crew<'a, G> {
+    // Runs the lines of the section that ends above that place.
+    fn run<R: Threads + Wait + Sync>(self, rt: &R, end: usize) -> Result<Self, Halt> {
+        let Crew {
+            alloc,
+            text,
+            workers,
+            keeper,
+            keys,
+            adoptions,
+            notes,
+        } = self;
+        let mut busy = Vec::with_capacity(alloc, workers.len())?;
+        let mut all = Vec::with_capacity(alloc, workers.len())?;
+        for worker in workers {
+            if worker.has_lines(end) {
+                busy.push(worker)?;
+            } else {
+                all.push(worker)?;
+            }
+        }
+        let (worked, keeper) = work_beside(rt, busy, keeper, &keys, end)?;
+        for worker in worked {
+            all.push(worker?)?;
+        }
+        Ok(Crew {
+            alloc,
+            text,
+            workers: all,
+            keeper,
+            keys,
+            adoptions,
+            notes,
+        })
+    }
+
+    // Keeps the keys of the section that was run, for the sections behind it.
+    fn hand_over(&mut self) -> Result<(), AllocError> {
+        for worker in self.workers.iter_mut() {
+            worker.hand_over(&mut self.keys)?;
+        }
+        Ok(())
+    }
+
+    // Keeps news that is told at the line of that place.
+    fn tell(&mut self, place: usize, news: PlanNews) -> Result<(), AllocError> {
+        let line = place.saturating_add(6);
+        self.notes.push(Note { line, news })?;
+        Ok(())
+    }
+
+    // Ends the open plan: takes the steps that are left, and closes it, which is told at the line of that place.
+    fn close<R: Wait>(&mut self, rt: &R, place: usize) -> Result<(), AllocError> {
+        self.keeper.take_steps(rt)?;
+        match self.keeper.close(rt) {
+            Some(news) => self.tell(place, news),
+            None => Ok(()),
+        }
+    }
+
+    // Abandons the shards of the threads that ended in the section, ascending.
+    fn abandon<R: Wait>(&mut self, rt: &R) -> Result<(), Halt> {
+        for thread in 0..self.text.trace.header.shards {
+            for worker in self.workers.iter_mut() {
+                if worker.thread() == thread {
+                    worker.leave(rt)?;
+                }
+            }
+        }
+        Ok(())
+    }
+
+    // Settles the section that was run: its plan is ended, which is told at the line of that place, and shards are abandoned.
+    fn settle<R: Wait>(&mut self, rt: &R, place: usize) -> Result<(), Halt> {
+        self.hand_over()?;
+        self.close(rt, place)?;
+        self.abandon(rt)
+    }
+
+    // Makes the adoption of the line at that place.
+    fn adopt<R: Wait>(&mut self, rt: &R, place: usize, shard: u32) -> Result<(), Halt> {
+        for worker in self.workers.iter_mut() {
+            if worker.thread() == shard {
+                let other = worker.adopt(rt)?;
+                if self.text.replies {
+                    let line = place.saturating_add(6);
+                    self.adoptions.push(OtherLine { line, other })?;
+                }
+            }
+        }
+        Ok(())
+    }
+
+    // The adoptions of the lines from one place up to, and without, another, in their order.
+    fn adoptions<R: Wait>(&mut self, rt: &R, from: usize, end: usize) -> Result<(), Halt> {
+        for place in from..end {
+            if let Some(Line::Adopt { shard }) = self.text.trace.lines.get(place) {
+                self.adopt(rt, place, *shard)?;
+            }
+        }
+        Ok(())
+    }
+
+    // Makes the mark of the line at that place. All workers go on to the next section.
+    fn mark<R: Wait>(&mut self, rt: &R, place: usize) -> Result<(), Halt> {
+        let news = self.keeper.mark(rt)?;
+        self.tell(place, news)?;
+        for worker in self.workers.iter_mut() {
+            worker.go_on();
+        }
+        Ok(())
+    }
+
+    // A section from one place up to, and without, its mark, and the barrier.
+    fn section<R: Threads + Wait + Sync>(
+        self,
+        rt: &R,
+        from: usize,
+        end: usize,
+    ) -> Result<Self, Halt> {
+        let mut crew = self.run(rt, end)?;
+        let barrier = barrier_of(text_lines(crew.text), from, end);
+        crew.settle(rt, barrier)?;
+        crew.adoptions(rt, barrier, end)?;
+        crew.mark(rt, end)?;
+        Ok(crew)
+    }
+
+    // What the run leaves.
+    fn taken_apart(self) -> Result<Ran, AllocError> {
+        let Crew {
+            alloc,
+            workers,
+            keeper,
+            adoptions,
+            notes,
+            ..
+        } = self;
+        let mut seats = Vec::with_capacity(alloc, workers.len())?;
+        let mut diaries = Vec::with_capacity(alloc, workers.len())?;
+        for worker in workers {
+            let (seat, diary) = worker.taken_apart();
+            seats.push(seat)?;
+            diaries.push(diary)?;
+        }
+        Ok(Ran {
+            seats,
+            told: Told {
+                diaries,
+                adoptions,
+                notes,
+                certificate: keeper.into_certificate(),
+            },
+        })
+    }
+}
+
+/// Runs all sections of a trace at an arena that was opened for it, up to the end of the text.
+///
+/// # Errors
+///
+/// `OutOfMemory` where a growth was refused, and `Doubled` where a shard or the pool was not as the run had left it.
+pub(crate) fn run_sections<'a, R: Threads + Wait + Sync, G: Gate + Sync>(
+    rt: &R,
+    alloc: Global,
+    text: &'a Text<'a>,
+    arena: &'a Arena<G>,
+    seats: Vec<Seat>,
+    steward: Steward,
+) -> Result<Ran, Halt> {
+    let Some(keeper) = Keeper::new(alloc, arena, steward) else {
+        return Err(Halt::Doubled);
+    };
+    let lines = text.trace.lines.as_slice();
+    let mut crew = Crew {
+        alloc,
+        text,
+        workers: workers_of(alloc, arena, text, seats)?,
+        keeper,
+        keys: no_keys(alloc, text.trace.header.shards as usize)?,
+        adoptions: Vec::new(alloc),
+        notes: Vec::new(alloc),
+    };
+    let mut from = 0;
+    for place in 0..lines.len() {
+        if let Line::Mark = &lines[place] {
+            crew = crew.section(rt, from, place)?;
+            from = place;
+        }
+    }
+    let mut crew = crew.run(rt, lines.len())?;
+    crew.settle(rt, lines.len())?;
+    Ok(crew.taken_apart()?)
+}

@@ -1,0 +1,255 @@
+// Who runs a thread's lines.
+ghost use Rattle.std.specs.Prelude.{◌≡◌};
+
+use crate::diary::{Diary, Other};
+use crate::error::Halt;
+use crate::layout::Layout;
+use abandoned::{AdoptError, ReceiveError};
+use arena::{Arena, Gate, Seat};
+use shard::PutError;
+use span::Key;
+use std::alloc::{AllocError, Global};
+use std::sync::Wait;
+use trace_runner::{Call, Line, Name, Reference, Trace};
+
+/// The keys that each thread's puts were given in the sections before, in order: none for a put that was refused.
+pub(crate) type Keys = Vec<Vec<Option<Key>>>;
+
+/// What all workers read.
+#[derive(Drop)]
+pub(crate) struct Text<'a> {
+    pub(crate) trace: &'a Trace,
+    pub(crate) layout: Layout,
+    /// Whether the report has the replies.
+    pub(crate) replies: bool,
+}
+
+/// A thread of the trace at the arena.
+#[derive(Drop)]
+pub(crate) struct Worker<'a, G: Gate> {
+    arena: &'a Arena<G>,
+    text: &'a Text<'a>,
+    seat: Seat,
+    /// How many of its lines it has run.
+    done: usize,
+    /// The keys that its puts were given in this section, in order: none for a put that was refused.
+    fresh: Vec<Option<Key>>,
+    /// What it was told.
+    diary: Diary,
+    /// Whether it ended in this section, so that its shard is to be abandoned.
+    leaves: bool,
+    ghost fits: { seat.limits ≡ arena.now.limits },
+}
+
+impl<'a, G: Gate> Worker<'a, G> {
+    /// The worker in this seat, or `None` where the seat is that of an arena of other numbers.
+    pub(crate) fn new(
+        alloc: Global,
+        arena: &'a Arena<G>,
+        text: &'a Text<'a>,
+        seat: Seat,
+    ) -> Option<Worker<'a, G>> {
+        if !seat.fits(arena) {
+            return None;
+        }
+        Some(Worker {
+            arena,
+            text,
+            seat,
+            done: 0,
+            fresh: Vec::new(alloc),
+            diary: Diary::new(alloc, text.replies),
+            leaves: false,
+        })
+    }
+
+    /// Its thread's number.
+    pub(crate) fn thread(&self) -> u32 {
+        self.seat.worker()
+    }
+
+    /// Whether it has a line to run above the line at that place.
+    pub(crate) fn has_lines(&self, end: usize) -> bool {
+        self.text
+            .layout
+            .line_after(self.thread(), self.done, end)
+            .is_some()
+    }
+
+    /// Runs its lines above the line at that place. `keys` are those of the sections before.
+    pub(crate) fn run<R: Wait>(&mut self, rt: &R, keys: &Keys, end: usize) -> Result<(), Halt> {
+        for _ in 0..self.text.trace.lines.len() {
+            let next = self.text.layout.line_after(self.thread(), self.done, end);
+            let Some(place) = next else {
+                return Ok(());
+            };
+            self.done = self.done.saturating_add(1);
+            self.line(rt, keys, place)?;
+        }
+        Ok(())
+    }
+
+    // Runs the line at that place.
+    fn line<R: Wait>(&mut self, rt: &R, keys: &Keys, place: usize) -> Result<(), Halt> {
+        let number = place.saturating_add(6);
+        let Some(Line::Call { call, .. }) = self.text.trace.lines.get(place) else {
+            return Ok(());
+        };
+        match call {
+            Call::Put { value, .. } => self.put(rt, number, *value),
+            Call::Fill { count, value, .. } => self.fill(rt, number, *count, *value),
+            Call::Get { key } => {
+                let key = self.key_of(keys, key);
+                self.get(rt, number, key)
+            }
+            Call::Free { key } => {
+                let key = self.key_of(keys, key);
+                self.free(rt, number, key)
+            }
+            Call::Sweep { name, from, to } => self.sweep(rt, keys, number, name, *from, *to),
+            Call::End => {
+                self.leaves = true;
+                self.other(number, Other::Ended)
+            }
+        }
+    }
+
+    // Keeps what the line of that number came to other than by a call on a key.
+    fn other(&mut self, number: usize, other: Other) -> Result<(), Halt> {
+        self.diary.keep_other(number, other)?;
+        Ok(())
+    }
+
+    // The key that a put of a name was given.
+    fn key_at(&self, keys: &Keys, name: &Name, index: u32) -> Option<Key> {
+        let binding = self.text.trace.binding(name)?;
+        let first = self.text.layout.first_key(binding.line)?;
+        let place = first.saturating_add(index as usize);
+        let known = keys.get(binding.thread as usize)?;
+        if place < known.len() {
+            return known[place];
+        }
+        *self.fresh.get(place - known.len())?
+    }
+
+    // The key that a reference names.
+    fn key_of(&self, keys: &Keys, reference: &Reference) -> Option<Key> {
+        self.key_at(keys, &reference.name, reference.index.unwrap_or(0))
+    }
+
+    fn put<R: Wait>(&mut self, rt: &R, number: usize, value: u128) -> Result<(), Halt> {
+        match self.seat.put(rt, self.arena, value) {
+            Ok((key, receipt)) => {
+                self.fresh.push(Some(key))?;
+                self.diary.keep(number, receipt)?;
+                Ok(())
+            }
+            Err(PutError::PagesSpent) => {
+                self.fresh.push(None)?;
+                self.other(number, Other::PagesSpent)
+            }
+            Err(PutError::OutOfMemory) => Err(Halt::OutOfMemory),
+            Err(PutError::Ended) => Err(Halt::Doubled),
+        }
+    }
+
+    // Puts `count` values in order, from `value` up. In a trace all of them are below 2^128, so nothing wraps.
+    fn fill<R: Wait>(
+        &mut self,
+        rt: &R,
+        number: usize,
+        count: u32,
+        value: u128,
+    ) -> Result<(), Halt> {
+        for i in 0..count {
+            self.put(rt, number, value.wrapping_add(u128::from(i)))?;
+        }
+        Ok(())
+    }
+
+    // Looks the key up, where it was given out.
+    fn get<R: Wait>(&mut self, rt: &R, number: usize, key: Option<Key>) -> Result<(), Halt> {
+        let Some(key) = key else {
+            return self.other(number, Other::Unbound);
+        };
+        let (_, receipt) = self.seat.get(rt, self.arena, &key);
+        self.diary.keep(number, receipt)?;
+        Ok(())
+    }
+
+    // Frees the key, where it was given out.
+    fn free<R: Wait>(&mut self, rt: &R, number: usize, key: Option<Key>) -> Result<(), Halt> {
+        let Some(key) = key else {
+            return self.other(number, Other::Unbound);
+        };
+        let (_, receipt) = self.seat.free(rt, self.arena, &key);
+        self.diary.keep(number, receipt)?;
+        Ok(())
+    }
+
+    // Frees the keys of a name from one place up to, and without, another.
+    fn sweep<R: Wait>(
+        &mut self,
+        rt: &R,
+        keys: &Keys,
+        number: usize,
+        name: &Name,
+        from: u32,
+        to: u32,
+    ) -> Result<(), Halt> {
+        for index in from..to {
+            let key = self.key_at(keys, name, index);
+            self.free(rt, number, key)?;
+        }
+        Ok(())
+    }
+
+    /// Abandons its shard, if its thread ended in this section.
+    pub(crate) fn leave<R: Wait>(&mut self, rt: &R) -> Result<(), Halt> {
+        if !self.leaves {
+            return Ok(());
+        }
+        self.leaves = false;
+        match self.seat.end(rt, self.arena) {
+            Ok(()) => Ok(()),
+            Err(ReceiveError::OutOfMemory) => Err(Halt::OutOfMemory),
+            Err(ReceiveError::Doubled | ReceiveError::Ended | ReceiveError::PlanOpen) => {
+                Err(Halt::Doubled)
+            }
+        }
+    }
+
+    /// Lets its shard adopt a group.
+    pub(crate) fn adopt<R: Wait>(&mut self, rt: &R) -> Result<Other, Halt> {
+        match self.seat.adopt(rt, self.arena) {
+            Ok(head) => Ok(Other::Adopted(head)),
+            Err(AdoptError::PagesSpent) => Ok(Other::PagesSpent),
+            Err(AdoptError::NothingToAdopt) => Ok(Other::NothingToAdopt),
+            Err(AdoptError::OutOfMemory) => Err(Halt::OutOfMemory),
+            Err(AdoptError::Doubled | AdoptError::Ended | AdoptError::PlanOpen) => {
+                Err(Halt::Doubled)
+            }
+        }
+    }
+
+    /// From now on its receipts carry the next section.
+    pub(crate) fn go_on(&mut self) {
+        if self.seat.section() < u64::MAX {
+            self.seat.next_section();
+        }
+    }
+
+    /// Moves the keys that its puts of this section were given behind those of the sections before.
+    pub(crate) fn hand_over(&mut self, keys: &mut Keys) -> Result<(), AllocError> {
+        if let Some(known) = keys.get_mut(self.seat.worker() as usize) {
+            known.append(&mut self.fresh)?;
+        }
+        Ok(())
+    }
+
+    /// Its seat, and what it was told.
+    pub(crate) fn taken_apart(self) -> (Seat, Diary) {
+        let Worker { seat, diary, .. } = self;
+        (seat, diary)
+    }
+}
