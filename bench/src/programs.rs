@@ -52,6 +52,13 @@ impl Programs {
         command
     }
 
+    /// `meshrun` by threads, with the replies.
+    pub fn by_threads(&self, trace: &Path) -> Command {
+        let mut command = Command::new(&self.meshrun);
+        command.args(["run", "--replies"]).arg(trace);
+        command
+    }
+
     pub fn run(&self, who: Who, trace: &Path, replies: bool, report: &Path) -> io::Result<Used> {
         child::run(&mut self.command(who, trace, replies), File::create(report)?)
     }

@@ -150,6 +150,40 @@ fn workers() -> String {
     text
 }
 
+/// Four threads, each with so many look-ups, frees and puts of its own, a line of each in turn.
+pub fn side_by_side(calls: usize) -> String {
+    let (threads, values) = (4, 1000);
+    let mut text = header(threads, 1024, GENS);
+    let mut random = Random::new(17);
+    let mut puts = vec![values; threads];
+    let mut live: Vec<Vec<usize>> = vec![(0..values).collect(); threads];
+    for thread in 0..threads {
+        for n in 0..values {
+            let _ = writeln!(text, "{thread} put t{thread}p{n} {n}");
+        }
+    }
+    for call in 0..calls {
+        for thread in 0..threads {
+            let at = random.below(values);
+            let n = live[thread][at];
+            let _ = match call % 4 {
+                0 | 1 => writeln!(text, "{thread} get t{thread}p{n}"),
+                2 => {
+                    live[thread].swap(0, at);
+                    writeln!(text, "{thread} free t{thread}p{n}")
+                }
+                _ => {
+                    let fresh = puts[thread];
+                    puts[thread] += 1;
+                    live[thread][0] = fresh;
+                    writeln!(text, "{thread} put t{thread}p{fresh} {call}")
+                }
+            };
+        }
+    }
+    text
+}
+
 /// Four full shards where each page keeps `kept` values at random slots; the first two of them end. Behind that stand `marks`
 /// marks, and a call after each.
 fn sparse(kept: usize, marks: usize) -> String {

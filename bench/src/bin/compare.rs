@@ -1,8 +1,10 @@
 //! `compare MESHRUN EXAMPLES COUNT SCRATCH`: the plain program and `meshrun` against the worked examples, and against each other on
-//! COUNT random texts.
+//! COUNT random texts. Of these the first 300 are also run by threads.
 //!
 //! Where there are several largest plans, `meshrun` may choose any: the plain program is given its folds, and says whether they are a
-//! largest plan. All else must be the same byte for byte: the report, standard error, and the status.
+//! largest plan. All else must be the same byte for byte: the report, standard error, and the status. A run by threads must end with
+//! `audit ok`, and with the serial numbers of live keys and of calls; where a call was refused a page or a group, which another thread's
+//! free can decide, with that of calls.
 
 use beside::drawn;
 use beside::programs::{Programs, Who};
@@ -17,7 +19,18 @@ struct Compare {
     scratch: PathBuf,
 }
 
+/// So many random texts are run by threads.
+const BY_THREADS: u64 = 300;
+
 type Answer = (Option<i32>, String, String);
+
+/// The numbers of live keys and of calls that a report ends with; of calls alone, where other threads may decide what is live.
+fn totals(report: &str, decided: bool) -> Option<Vec<&str>> {
+    let end = report.lines().rev().find(|line| line.starts_with("end "))?;
+    let words: Vec<&str> = end.split(' ').collect();
+    let first = if decided { 3 } else { 5 };
+    words.get(first..).map(<[&str]>::to_vec)
+}
 
 fn answer(output: Output) -> Answer {
     let text = |bytes: Vec<u8>| String::from_utf8_lossy(&bytes).into_owned();
@@ -54,6 +67,26 @@ impl Compare {
             }
         }
         Ok(theirs == ours)
+    }
+
+    /// Whether a run by threads comes to what the serial run comes to, and is audited; a text that is refused is refused so too.
+    fn agrees_by_threads(&self, trace: &Path) -> io::Result<bool> {
+        let serial = answer(self.programs.command(Who::Meshrun, trace, true).output()?);
+        let threads = answer(self.programs.by_threads(trace).output()?);
+        let decided = !(serial.1.contains(" refused ") || threads.1.contains(" refused "));
+        let same = if serial.0 == Some(0) {
+            threads.0 == Some(0)
+                && threads.1.ends_with("\naudit ok\n")
+                && totals(&serial.1, decided) == totals(&threads.1, decided)
+        } else {
+            serial == threads
+        };
+        if !same {
+            println!("differs by threads: {}", trace.display());
+            println!("  threads: {:?} {} {:?}", threads.0, threads.2.trim_end(), totals(&threads.1, true));
+            println!("  serial:  {:?} {} {:?}", serial.0, serial.2.trim_end(), totals(&serial.1, true));
+        }
+        Ok(same)
     }
 
     /// Whether a stored report is what the plain program prints, with the folds that are stored.
@@ -94,7 +127,8 @@ fn random(compare: &Compare, count: u64) -> io::Result<usize> {
     for seed in 1..=count {
         let name = format!("{seed}.trace");
         let trace = compare.keep(&name, &drawn::text(seed))?;
-        if compare.agree(&trace, seed % 2 == 0)? {
+        let by_threads = seed > BY_THREADS || compare.agrees_by_threads(&trace)?;
+        if compare.agree(&trace, seed % 2 == 0)? && by_threads {
             fs::remove_file(trace)?;
         } else {
             wrong += 1;
