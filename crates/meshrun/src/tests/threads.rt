@@ -13,29 +13,29 @@ const TWO_PUTS: &[u8] = b"mesh 1\nshards 2\npages 4\nring 4\ngens 9\n0 put a 1\n
 const TWO_PUTS_REPORT: &[u8] =
     b"6 key 0.0/0/1\n7 key 1.0/0/1\nend pages 2 live 2 calls 2\naudit ok\n";
 
-/// Who is inside of its critical section, and who met the other there.
+/// Whether a shard's first call has come, and whether it met the other shard's.
 #[derive(Drop)]
-struct Meeting {
-    inside: [AtomicBool; 2],
-    met: [AtomicBool; 2],
+struct Visit {
+    inside: AtomicBool,
+    met: AtomicBool,
 }
 
-/// Each shard's first call waits for the other's to be inside too, for a while.
-#[derive(Drop)]
-struct Meet<'a> {
-    meeting: &'a Meeting,
-}
+impl Visit {
+    fn new() -> Visit {
+        Visit {
+            inside: AtomicBool::new(false),
+            met: AtomicBool::new(false),
+        }
+    }
 
-impl<'a> Gate for Meet<'a> {
-    fn inside(&self, shard: u32) {
-        let own = (shard % 2) as usize;
-        let other = 1 - own;
-        if self.meeting.inside[own].swap(true, Ordering::SeqCst) {
+    /// Waits, where this is the shard's first call, for the other's to be inside too, for a while.
+    fn meet(&self, other: &Visit) {
+        if self.inside.swap(true, Ordering::SeqCst) {
             return;
         }
         for _ in 0..1_000_000 {
-            if self.meeting.inside[other].load(Ordering::SeqCst) {
-                self.meeting.met[own].store(true, Ordering::SeqCst);
+            if other.inside.load(Ordering::SeqCst) {
+                self.met.store(true, Ordering::SeqCst);
                 return;
             }
             thread::yield_now();
@@ -43,19 +43,36 @@ impl<'a> Gate for Meet<'a> {
     }
 }
 
+/// Each shard's first call waits for the other's.
+#[derive(Drop)]
+struct Meet<'a> {
+    first: &'a Visit,
+    second: &'a Visit,
+}
+
+impl<'a> Gate for Meet<'a> {
+    fn inside(&self, shard: u32) {
+        if shard == 0 {
+            self.first.meet(self.second);
+        } else {
+            self.second.meet(self.first);
+        }
+    }
+}
+
 #[test]
 fn threads_run_side_by_side(rt: HostRuntime) -> Result<(), Fail> {
     let alloc: Global = rt.alloc();
-    let meeting = Meeting {
-        inside: [AtomicBool::new(false), AtomicBool::new(false)],
-        met: [AtomicBool::new(false), AtomicBool::new(false)],
-    };
+    let (first, second) = (Visit::new(), Visit::new());
     let mut out = Memory::new(alloc);
     let mut cert = Vec::new(alloc);
-    let gate = Meet { meeting: &meeting };
+    let gate = Meet {
+        first: &first,
+        second: &second,
+    };
     replay_gated(&rt, alloc, gate, TWO_PUTS, true, &mut out, &mut cert)?;
     assert_eq!(rt; out.bytes.as_slice(), TWO_PUTS_REPORT);
-    assert!(rt; meeting.met[0].load(Ordering::SeqCst));
-    assert!(rt; meeting.met[1].load(Ordering::SeqCst));
+    assert!(rt; first.met.load(Ordering::SeqCst));
+    assert!(rt; second.met.load(Ordering::SeqCst));
     Ok(())
 }
