@@ -74,6 +74,13 @@ module _ (pool : PoolState) (sound : IsSound pool) where
   value-logged : (key : Key) → (shown pool).value_of key ≡ logged_by key (span_named (spans_in pool.groups) key.span)
   value-logged key = ap (λ (m : PlainMap). m.value_of key) shown-logged
 
+  -- the value of a key is that of its span's log
+  pub value_of-here : (key : Key) (index place : ℕ) (group : PooledState) (span : SpanState) → IsHere pool.groups key.span index place group span → (shown pool).value_of key ≡ value_in span.log key.slot key.generation
+  value_of-here key index place group span here = value-logged key ∙ ap (logged_by key) (span_named-here key.span index place group span here)
+
+  pub value_of-elsewhere : (key : Key) → IsElsewhere pool.groups key.span → (shown pool).value_of key ≡ None
+  value_of-elsewhere key elsewhere = value-logged key ∙ ap (logged_by key) (span_named-elsewhere key.span elsewhere)
+
   -- a look-up answers as the plain map
   pub value_found-Gets : (key : Key) (answer : Found) → Gets pool key answer → value_found answer ≡ (shown pool).value_of key
   value_found-Gets key (found.Value value at) (index, place, page, group, span, here, paged, holds, word, before) =

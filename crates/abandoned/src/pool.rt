@@ -2,6 +2,7 @@
 ghost use Rattle.std.specs.Prelude.{◌≡◌, ◌<◌, ◌≤◌, ◌*◌, ◌↔◌, ℕ, [], map, length, IsTrue, IfOk, MatchOption, false, true, if◌then◌else◌, is_some};
 ghost use Rattle.std.specs.List.Sorted.{IsStrictlyIncreasing};
 ghost use Rattle.span.specs.Ids.{rank};
+ghost use Rattle.span.specs.Order.{HasNoneFrom, IsFirstFrom};
 ghost use Rattle.span.specs.PlainMap as plain;
 ghost use Rattle.span.specs.State.{SpanState};
 ghost use Rattle.shard.specs.Calls.{value_found, was_freed};
@@ -181,6 +182,17 @@ impl<L: Log> Pool<L> {
             return Freed::No(at);
         }
         Freed::Yes(at)
+    }
+
+    /// The key of the span's lowest live slot from this one on, if one is live here. It takes no memory.
+    pub fn first_from(&self, id: SpanId, slot: u32) -> Option<Key>
+        ensures first { MatchOption result (HasNoneFrom (shown self.now) id slot) (IsFirstFrom (shown self.now) id slot) }
+        ensures sound { IsSound self.now }
+    {
+        let Some((group, place)) = self.find(id) else {
+            return None;
+        };
+        group.span_at(place).first_from(slot)
     }
 
     // The group that the span of the id stands in, and its place there.

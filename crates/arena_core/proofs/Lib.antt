@@ -14,6 +14,7 @@ pub mod MarkSteps
 pub mod Marks
 pub mod Moved
 pub mod Moves
+pub mod NextLive
 pub mod Noted
 pub mod Owners
 pub mod PlanFolds

@@ -2,6 +2,7 @@ pub mod Closings
 pub mod Kept
 pub mod Marks
 pub mod Moved
+pub mod NextLive
 pub mod Plain
 pub mod Plan
 pub mod Refusals

@@ -30,6 +30,7 @@ use std::alloc::{AllocError, Global};
 use std::marker::Model;
 
 mod marks;
+mod walk;
 
 /// All shards, the pool and the rings of deferred frees as one value, which takes events one after another and answers replies.
 ///

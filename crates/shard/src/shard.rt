@@ -2,6 +2,7 @@
 ghost use Rattle.std.specs.Prelude.{◌*◌, ◌+◌, ◌≡◌, ◌<◌, ◌≤◌, ℕ, [], insert, vec_len, vec_capacity, map, length, IsTrue, IsOk, IfOk, IfSome, IsOkUnless, ◌↔◌, OnErr, MatchOption, Some, None, true, false, slice_get, if◌then◌else◌, is_some};
 ghost use Rattle.std.specs.List.Sorted.{IsStrictlyIncreasing};
 ghost use Rattle.span.specs.Ids.{rank};
+ghost use Rattle.span.specs.Order.{HasNoneFrom, IsFirstFrom};
 ghost use Rattle.span.specs.State.{SpanState};
 ghost use Rattle.span.specs.PlainMap as plain;
 ghost use Rattle.shard.specs.Group.{GroupState, IsLowestUsable};
@@ -155,6 +156,14 @@ impl<L: Log> Shard<L> {
         self.number
     }
 
+    /// How many spans it has opened: their serials are the numbers below.
+    pub fn opened(&self) -> u32
+        ensures opened { result ≡ self.now.opened }
+        ensures at_most { result ≤ 1024 }
+    {
+        self.opened
+    }
+
     /// Whether it has all the pages that it may have.
     pub fn is_full(&self) -> bool
         ensures { IsTrue result ↔ (self.now.page_limit ≡ length self.now.groups) }
@@ -222,6 +231,17 @@ impl<L: Log> Shard<L> {
         }
         self.rooms.insert(index);
         Freed::Yes(at)
+    }
+
+    /// The key of the span's lowest live slot from this one on, if one is live here. It takes no memory.
+    pub fn first_from(&self, id: SpanId, slot: u32) -> Option<Key>
+        ensures first { MatchOption result (HasNoneFrom (shown self.now) id slot) (IsFirstFrom (shown self.now) id slot) }
+        ensures sound { IsSound self.now }
+    {
+        let Some((index, place)) = self.find(id) else {
+            return None;
+        };
+        self.groups[index].span_at(place).first_from(slot)
     }
 
     /// Keeps the value at the lowest usable slot of the open group of lowest head that has one, and where there

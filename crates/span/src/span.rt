@@ -1,8 +1,9 @@
 // One span: which of its slots are live, the generations that they were given, and the log of all
 // that was done, which is kept or only counted.
-ghost use Rattle.std.specs.Prelude.{◌≡◌, ◌+◌, ◌≤◌, ◌↔◌, IsTrue, OnOk, OnErr, IfOk, [], ◌∷◌, ◌++◌, length, true, false};
+ghost use Rattle.std.specs.Prelude.{◌≡◌, ◌+◌, ◌<◌, ◌≤◌, ◌↔◌, IsTrue, OnOk, OnErr, IfOk, IfSome, MatchOption, [], ◌∷◌, ◌++◌, length, true, false};
 ghost use Rattle.std.specs.Bool.{OnTrue, OnFalse};
 ghost use Rattle.std.specs.FinSet as set;
+ghost use Rattle.span.specs.Order.{HasNoMemberFrom, IsLowestFrom};
 
 use crate::change::Change;
 use crate::generations::{generation_of, give_next, reserve_all};
@@ -43,6 +44,7 @@ impl<L: Log> Model for Span<L> {
 
 impl<L: Log> Span<L> {
     ghost use Rattle.span.specs.Log.{IsLegal, live_slots, worn_slots, puts_of, Holds, was_issued};
+    ghost use Rattle.span.specs.Order.{HoldsNoneFrom, IsFirstHeld};
 
     /// A span to which nothing was done yet, whose log is kept or counted as its type says: as [`Span::new`]. Takes
     /// no memory.
@@ -112,6 +114,23 @@ impl<L: Log> Span<L> {
         ensures { IsTrue result ↔ Holds self.now.log slot generation }
     {
         self.live.contains(slot) && generation_of(&self.generations, slot) == generation
+    }
+
+    /// The key of the lowest live slot from this one on, if one is live. Takes no memory.
+    pub fn first_from(&self, slot: u32) -> Option<Key>
+        ensures first { MatchOption result (HoldsNoneFrom self.now.log slot) (IsFirstHeld self.now.log slot) }
+        ensures span { IfSome result (λ key. key.span ≡ self.now.id) }
+    {
+        let Some(slot) = lowest_from(&self.live, slot) else {
+            return None;
+        };
+        let span = self.id;
+        let generation = generation_of(&self.generations, slot);
+        Some(Key {
+            span,
+            slot,
+            generation,
+        })
     }
 
     /// Frees the key where it is of this span and live, and says whether it was. Takes no memory.
@@ -198,6 +217,22 @@ impl<L: Log> Span<L> {
     {
         self.log.len()
     }
+}
+
+// The lowest slot of the set from this one on. An empty set is not walked.
+fn lowest_from(slots: &Bits256, from: u32) -> Option<u8>
+    ensures lowest { MatchOption result (HasNoMemberFrom slots.now from) (IsLowestFrom slots.now from) }
+    ensures in_range { IfSome result (λ slot. slot < 256) }
+{
+    if slots.count() == 0 {
+        return None;
+    }
+    for slot in from..256 {
+        if slots.contains(slot as u8) {
+            return Some(slot as u8);
+        }
+    }
+    None
 }
 
 impl Span<Kept> {

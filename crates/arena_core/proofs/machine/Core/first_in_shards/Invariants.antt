@@ -1,0 +1,7 @@
+use Rattle.std.proofs.Common.{◌*◌}
+use Rattle.arena_core.specs.NextLive.{HasNoneBetween}
+use Rattle.arena_core.specs.State.{shown}
+use Rattle.arena_core.proofs.machine.Core.first_in_shards.Given as goal
+
+abbrev pub invariant-loop-shard : goal.invariant-loop-shard
+invariant-loop-shard g l = HasNoneBetween (shown l.fn.self) (1024 * l.fn.from) (1024 * l.shard)
