@@ -74,6 +74,12 @@ struct teurlaks_get_reply {
     uint32_t status;
 };
 
+/* The key, where the status is TEURLAKS_OK. */
+struct teurlaks_next_reply {
+    uint32_t status;
+    struct teurlaks_key key;
+};
+
 /* The head of the adopted group, where the status is TEURLAKS_OK. */
 struct teurlaks_adopt_reply {
     uint32_t status;
@@ -124,6 +130,11 @@ struct teurlaks_get_reply teurlaks_get(struct teurlaks_handle *handle, struct te
 
 /* Frees the key, or TEURLAKS_NONE. Takes no memory. */
 uint32_t teurlaks_free(struct teurlaks_handle *handle, struct teurlaks_key key);
+
+/* The live key that comes next after this one, which need not be live, by spans and then by slots; the first one where no key has
+ * these numbers, as where all are 0; TEURLAKS_NONE where no live key is left. So a walk from zeros to TEURLAKS_NONE meets each live key
+ * once, and may free keys on its way. Takes no memory. */
+struct teurlaks_next_reply teurlaks_next(struct teurlaks_handle *handle, struct teurlaks_key after);
 
 /* How much is kept. */
 struct teurlaks_totals_reply teurlaks_totals(struct teurlaks_handle *handle);

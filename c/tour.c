@@ -49,6 +49,17 @@ static void forged_keys(struct teurlaks_handle *core) {
     }
 }
 
+/* Frees all live keys, and says how many there were. */
+static size_t free_all(struct teurlaks_handle *core) {
+    size_t freed = 0;
+    struct teurlaks_next_reply next = {TEURLAKS_OK, {0, 0, 0, 0}};
+    while ((next = teurlaks_next(core, next.key)).status == TEURLAKS_OK) {
+        WANT(teurlaks_free(core, next.key) == TEURLAKS_OK);
+        freed++;
+    }
+    return freed;
+}
+
 static void tour(void) {
     static const char plan[] = "folds 1\n0.0 1.0\nshort 0\nend\n";
     struct teurlaks_handle core = {0};
@@ -99,6 +110,10 @@ static void tour(void) {
     WANT(teurlaks_get(&core, first.key).status == TEURLAKS_NONE);
     WANT(teurlaks_totals(&core).pages == 1 && teurlaks_totals(&core).live == 2);
     if (!has_failed) forged_keys(&core);
+    /* The first live key is that of the group that was folded, at its own slot. */
+    struct teurlaks_next_reply next = teurlaks_next(&core, first.key);
+    WANT(next.status == TEURLAKS_OK && !memcmp(&next.key, &put.key, sizeof put.key));
+    WANT(free_all(&core) == 2 && teurlaks_totals(&core).live == 0);
     teurlaks_drop(&core);
     WANT(!core.at);
 }

@@ -5,6 +5,7 @@ use crate::raw;
 use crate::refused::Refused;
 use std::cell::UnsafeCell;
 use std::fmt;
+use std::iter;
 use std::ptr;
 
 /// The numbers of a core.
@@ -143,6 +144,52 @@ impl Core {
         Some(word)
     }
 
+    /// The live key that comes next after this one, which need not be live, or the first one where none is given. Keys come by the
+    /// ids of their spans and then by slots, wherever folds have brought them.
+    ///
+    /// So a loop that goes from `None` to `None` meets each live key once, and may free keys on its way. Numbers that no key has, of
+    /// [`Key::from_bits`], are as `None`.
+    ///
+    /// ```
+    /// # use teurlaks::{Core, Limits};
+    /// let mut core = Core::new(Limits::default())?;
+    /// for word in 0..3 {
+    ///     core.insert(0, word)?;
+    /// }
+    /// let mut after = None;
+    /// while let Some(key) = core.next_live(after) {
+    ///     core.free(key);
+    ///     after = Some(key);
+    /// }
+    /// assert!(core.is_empty());
+    /// # Ok::<(), teurlaks::Refused>(())
+    /// ```
+    pub fn next_live(&self, after: Option<Key>) -> Option<Key> {
+        let after = after.map_or(NO_KEY, |key| key.0);
+        // SAFETY: as in `insert`.
+        let next = unsafe { raw::teurlaks_next(self.handle.get(), after) };
+        (next.status == raw::OK).then_some(Key(next.key))
+    }
+
+    /// Each live key, in the order of [`Core::next_live`].
+    pub fn keys(&self) -> impl Iterator<Item = Key> + '_ {
+        iter::successors(self.next_live(None), |key| self.next_live(Some(*key)))
+    }
+
+    /// Each live key with its word, in the order of [`Core::next_live`].
+    pub fn iter(&self) -> impl Iterator<Item = (Key, u128)> + '_ {
+        self.keys().filter_map(|key| Some((key, self.get(key)?)))
+    }
+
+    /// Frees each live key, and gives it with its word, in the order of [`Core::next_live`]. Those that are not asked for are freed
+    /// when the iterator is dropped. So an owner of what the words name comes to each of them.
+    pub fn drain(&mut self) -> Drain<'_> {
+        Drain {
+            core: self,
+            after: None,
+        }
+    }
+
     /// Ends a shard: its groups go to the pool, with their pages, and it takes no word again.
     pub fn end(&mut self, shard: u32) -> Result<(), Refused> {
         // SAFETY: as in `insert`.
@@ -262,6 +309,29 @@ impl Drop for Core {
     }
 }
 
+/// Frees the keys of a core, and gives each with its word: of [`Core::drain`].
+#[derive(Debug)]
+pub struct Drain<'c> {
+    core: &'c mut Core,
+    after: Option<Key>,
+}
+
+impl Iterator for Drain<'_> {
+    type Item = (Key, u128);
+
+    fn next(&mut self) -> Option<(Key, u128)> {
+        let key = self.core.next_live(self.after)?;
+        self.after = Some(key);
+        Some((key, self.core.remove(key)?))
+    }
+}
+
+impl Drop for Drain<'_> {
+    fn drop(&mut self) {
+        self.for_each(drop);
+    }
+}
+
 impl fmt::Debug for Core {
     fn fmt(&self, f: &mut fmt::Formatter<'_>) -> fmt::Result {
         f.debug_struct("Core")
@@ -270,6 +340,14 @@ impl fmt::Debug for Core {
             .finish()
     }
 }
+
+// What stands for no key: a walk begins with it.
+const NO_KEY: raw::RawKey = raw::RawKey {
+    shard: 0,
+    slot: 0,
+    serial: 0,
+    generation: 0,
+};
 
 fn done(status: u32) -> Result<(), Refused> {
     match status {

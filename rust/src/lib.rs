@@ -7,7 +7,7 @@ mod raw;
 mod refused;
 mod slab;
 
-pub use crate::core::{Core, Limits, Marked, Stepped};
+pub use crate::core::{Core, Drain, Limits, Marked, Stepped};
 pub use names::{Group, Key};
 pub use refused::Refused;
 pub use slab::Slab;

@@ -42,6 +42,12 @@ pub struct GetReply {
 }
 
 #[repr(C)]
+pub struct NextReply {
+    pub status: u32,
+    pub key: RawKey,
+}
+
+#[repr(C)]
 pub struct AdoptReply {
     pub status: u32,
     pub head: RawSpan,
@@ -81,6 +87,7 @@ extern "C" {
     pub fn teurlaks_put(handle: *mut Handle, shard: u32, value: RawWord) -> PutReply;
     pub fn teurlaks_get(handle: *mut Handle, key: RawKey) -> GetReply;
     pub fn teurlaks_free(handle: *mut Handle, key: RawKey) -> u32;
+    pub fn teurlaks_next(handle: *mut Handle, after: RawKey) -> NextReply;
     pub fn teurlaks_totals(handle: *mut Handle) -> TotalsReply;
     pub fn teurlaks_end(handle: *mut Handle, shard: u32) -> u32;
     pub fn teurlaks_adopt(handle: *mut Handle, shard: u32) -> AdoptReply;

@@ -10,7 +10,8 @@ use std::ops::{Index, IndexMut};
 ///
 /// Each value stands in a table of Rust's, at the place that its key's word names. So any type will do, what is found is a reference, and
 /// each value is dropped once; and no part of this is `unsafe`: were the library wrong, a look-up would fail, and no memory be misused. It
-/// costs one more look-up, and only the words are in the pages that folds give back. Where a value fits into 128 bits and needs no drop,
+/// costs one more look-up, and only the words are in the pages that folds give back. The table has each key beside its value, so `iter` and `Drop` go
+/// over it, and not over the pages. Where a value fits into 128 bits and needs no drop,
 /// [`Core`] keeps it in the word itself.
 ///
 /// ```
@@ -131,6 +132,19 @@ impl<T> Slab<T> {
     /// Takes all values out, and keeps the pages.
     pub fn clear(&mut self) {
         self.retain(|_, _| false);
+    }
+
+    /// Takes all values out, and gives each with the key that it had, in no particular order. The keys are freed at once; values that are
+    /// not asked for are dropped with the iterator.
+    pub fn drain(&mut self) -> impl Iterator<Item = (Key, T)> {
+        self.core.drain().for_each(drop);
+        self.vacant = None;
+        std::mem::take(&mut self.entries)
+            .into_iter()
+            .filter_map(|entry| match entry {
+                Entry::Kept(key, value) => Some((key, value)),
+                Entry::Vacant(_) => None,
+            })
     }
 
     /// How many values there are.

@@ -204,8 +204,8 @@ fn exported() -> Declarations {
             &mut declarations,
         );
     }
-    assert_eq!(declarations.functions.len(), 12);
-    assert_eq!(declarations.structs.len(), 11);
+    assert_eq!(declarations.functions.len(), 13);
+    assert_eq!(declarations.structs.len(), 12);
     declarations
 }
 

@@ -20,6 +20,16 @@ impl Random {
     }
 }
 
+/// By the shard that opened the span, its serial there, and the slot.
+fn sorted<'k>(keys: impl Iterator<Item = &'k Key>) -> impl Iterator<Item = Key> {
+    let mut keys: Vec<Key> = keys.copied().collect();
+    keys.sort_by_key(|key| {
+        let bits = key.to_bits();
+        (bits >> 56, bits >> 32 & 0xffff, bits >> 48 & 0xff)
+    });
+    keys.into_iter()
+}
+
 /// A million puts, frees, look-ups, ends, adoptions and meshes, of live keys, stale ones and made-up ones.
 #[test]
 fn a_million_calls_as_a_map() -> Result<(), Refused> {
@@ -60,6 +70,12 @@ fn a_million_calls_as_a_map() -> Result<(), Refused> {
     }
     assert_eq!(core.len(), map.len());
     assert!(map.iter().all(|(key, word)| core.get(*key) == Some(*word)));
+    // The walk meets each live key once, in order, and a drain frees all.
+    assert!(core.keys().eq(sorted(map.keys())));
+    assert!(core.iter().eq(sorted(map.keys()).map(|key| (key, map[&key]))));
+    let some: Vec<Key> = core.drain().take(100).map(|(key, _)| key).collect();
+    assert!(some.into_iter().eq(sorted(map.keys()).take(100)));
+    assert_eq!((core.len(), core.next_live(None)), (0, None));
     Ok(())
 }
 

@@ -1,6 +1,6 @@
 //! The tests of the crate `slab` 0.4 (MIT), where the two agree.
 //!
-//! Left out, since there is nothing to stand beside them: `vacant_entry`, `vacant_key`, `drain`, `compact`, `shrink_to_fit`,
+//! Left out, since there is nothing to stand beside them: `vacant_entry`, `vacant_key`, `compact`, `shrink_to_fit`,
 //! `from_iter`, `clone`, `with_capacity`, `reserve` and `capacity` (pages come and go by themselves), reversed and sized
 //! iterators, iteration in the order of keys, and that a key is an index that another slab may share. Where `slab` panics at a
 //! key that is not live, or gives another value, this crate answers `None`; `slab[key]` panics in both.
@@ -145,6 +145,21 @@ fn clear() -> Result<(), Refused> {
         slab.insert(i)?;
     }
     assert_eq!((slab.len(), slab.pages()), (4, 1));
+    Ok(())
+}
+
+/// Of `fully_consumed_drain` and `partially_consumed_drain`; a key comes with each value here.
+#[test]
+fn drain() -> Result<(), Refused> {
+    let mut slab = Slab::new()?;
+    let keys = (0..3).map(|i| slab.insert(i)).collect::<Result<Vec<_>, _>>()?;
+    assert!(slab.drain().eq(keys.iter().copied().zip(0..3)));
+    assert!(slab.is_empty() && keys.iter().all(|key| slab.get(*key).is_none()));
+    for i in 0..3 {
+        slab.insert(i)?;
+    }
+    assert_eq!(slab.drain().next().map(|(_, value)| value), Some(0));
+    assert!(slab.is_empty() && slab.iter().next().is_none());
     Ok(())
 }
 

@@ -1,7 +1,8 @@
 -- What the calls do.
-use Rattle.std.specs.Prelude.{◌≡◌, ◌⊎◌, ◌<◌, ◌++◌, ℕ, List, Option, Some, None, true, false, drop, length}
+use Rattle.std.specs.Prelude.{◌≡◌, ◌⊎◌, ◌<◌, ◌++◌, ℕ, List, Option, Some, None, MatchOption, true, false, drop, length}
 use Rattle.span.specs.declared.key.Key.{Key}
 use Rattle.span.specs.Log.{Value}
+use Rattle.span.specs.Order.{HasNoneBeyond, IsNextLive}
 use Rattle.certificate.specs.declared.certificate.Certificate.{Certificate}
 use Rattle.certificate.specs.Text.{IsWritable, certificate_text}
 use Rattle.fold.specs.declared.step.Step.TheVariants.{Folded, Emptied}
@@ -19,6 +20,7 @@ use Rattle.teurlaks_c.specs.declared.replies.RawKey.{RawKey}
 use Rattle.teurlaks_c.specs.declared.replies.RawWord.{RawWord}
 use Rattle.teurlaks_c.specs.declared.replies.PutReply.{PutReply}
 use Rattle.teurlaks_c.specs.declared.replies.GetReply.{GetReply}
+use Rattle.teurlaks_c.specs.declared.replies.NextReply.{NextReply}
 use Rattle.teurlaks_c.specs.declared.replies.AdoptReply.{AdoptReply}
 use Rattle.teurlaks_c.specs.declared.replies.MarkReply.{MarkReply}
 use Rattle.teurlaks_c.specs.declared.replies.StepReply.{StepReply}
@@ -76,6 +78,22 @@ pub record GetsKey (old : Option Held) (key : Key) (found : Option Value) (new :
 abbrev pub Gets : Option Held → RawKey → GetReply → Option Held → Type 0
 Gets old raw says new = (IsNoKey raw × SaysGot says None × (new ≡ old))
     ⊎ ((key : Key) × (found : Option Value) × IsKeyOf raw key × GetsKey old key found new × SaysGot says found)
+
+-- what C reads of a step of a walk
+abbrev pub SaysNext : NextReply → Option Key → Type 0
+SaysNext says (Some key) = (says.status ≡ done) × IsKeyOf says.key key
+SaysNext says None = says.status ≡ none
+
+-- the live key that comes next in the map that the core shows; nothing changes
+pub record NextsKey (old : Option Held) (after found : Option Key) (new : Option Held) : Type 0 where
+  pub held : Held
+  pub is : old ≡ Some held
+  pub same : new ≡ old
+  pub next : MatchOption found (HasNoneBeyond (shown held.core) after) (IsNextLive (shown held.core) after)
+
+-- the live key that comes next after the key with these numbers, or the first one where no key has them; nothing changes
+abbrev pub Nexts : Option Held → RawKey → NextReply → Option Held → Type 0
+Nexts old raw says new = (after found : Option Key) × MatchOption after (IsNoKey raw) (IsKeyOf raw) × NextsKey old after found new × SaysNext says found
 
 -- the key with these numbers is freed, if it is live; else nothing changes
 abbrev pub Frees : Option Held → RawKey → ℕ → Option Held → Type 0

@@ -3,13 +3,13 @@ ghost use Rattle.std.specs.Prelude.{◌≡◌, ◌↔◌, IsSome, None, Option, 
 ghost use Rattle.arena_core.specs.State.{AreWithin, limits_of, new_core};
 ghost use Rattle.arena_core.specs.declared.event.Event.TheVariants as event;
 ghost use Rattle.arena_core.specs.declared.reply.Reply.TheVariants as reply;
-ghost use Rattle.teurlaks_c.specs.Calls.{Counts, Frees, Gets, GetsKey, HasNew, Puts, SaysGot, Steps};
+ghost use Rattle.teurlaks_c.specs.Calls.{Counts, Frees, Gets, GetsKey, HasNew, Nexts, NextsKey, Puts, SaysGot, SaysNext, Steps};
 ghost use Rattle.teurlaks_c.specs.Status.{config, out_of_memory, refusal_status};
 
 use crate::handle::Handle;
 use crate::held::Held;
 use crate::keys::{key_of, raw_of};
-use crate::replies::{GetReply, PutReply, RawKey, RawWord, TotalsReply};
+use crate::replies::{GetReply, NextReply, PutReply, RawKey, RawWord, TotalsReply};
 use crate::status::{CONFIG, NONE, OK, OUT_OF_MEMORY, status_of};
 use crate::words::{raw_word, value_of};
 use arena_core::{Core, CoreError};
@@ -115,6 +115,16 @@ pub extern "C" fn teurlaks_free(alloc: Global, handle: &mut Handle, key: RawKey)
     if free(alloc, handle, &key) { OK } else { NONE }
 }
 
+/// The live key that comes next after this one, by the ids of spans and then by slots, as [`Core::next_live`] answers it; the first one
+/// where no key has these numbers, as where all are 0. `NONE` says that no live key is left. Nothing changes.
+#[unsafe(no_mangle)]
+pub extern "C" fn teurlaks_next(alloc: Global, handle: &mut Handle, after: RawKey) -> NextReply
+    requires live { IsSome handle.old.held }
+    ensures { Nexts handle.old.held after result handle.new.held }
+{
+    next_reply(next(alloc, handle, key_of(after)))
+}
+
 /// How many pages there are, and how many keys are live. Nothing changes.
 #[unsafe(no_mangle)]
 pub extern "C" fn teurlaks_totals(alloc: Global, handle: &mut Handle) -> TotalsReply
@@ -152,6 +162,33 @@ fn free(alloc: Global, handle: &mut Handle, key: &Key) -> bool
     let freed = held.core.free(key);
     *handle = Handle::of(held);
     freed
+}
+
+// The core looks for the live key that comes next.
+fn next(alloc: Global, handle: &mut Handle, after: Option<Key>) -> Option<Key>
+    requires live { IsSome handle.old.held }
+    ensures { NextsKey handle.old.held after result handle.new.held }
+{
+    let held = replace(handle, Handle::none()).into_box(alloc);
+    let found = held.core.next_live(after);
+    *handle = Handle::of(held);
+    found
+}
+
+// The key that comes next, as C has it.
+fn next_reply(found: Option<Key>) -> NextReply
+    ensures { SaysNext result found }
+{
+    let Some(key) = found else {
+        return NextReply {
+            status: NONE,
+            key: no_key(),
+        };
+    };
+    NextReply {
+        status: OK,
+        key: raw_of(key),
+    }
 }
 
 // What was found, as C has it.

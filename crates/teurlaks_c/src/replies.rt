@@ -43,6 +43,14 @@ pub struct GetReply {
     pub status: u32,
 }
 
+/// What a step of a walk answers: the key that comes next where the status is `OK`.
+#[repr(C)]
+#[derive(Clone, Copy)]
+pub struct NextReply {
+    pub status: u32,
+    pub key: RawKey,
+}
+
 /// What an adoption answers: the head of the group where the status is `OK`.
 #[repr(C)]
 #[derive(Clone, Copy)]

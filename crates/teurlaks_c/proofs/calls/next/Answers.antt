@@ -1,0 +1,11 @@
+use Rattle.std.proofs.Common.{ap, sym, ◌∙◌}
+use Rattle.std.specs.Prelude.{Some}
+use Rattle.teurlaks_c.proofs.calls.next.Goals as goal
+
+pub returns : goal.returns
+returns c = record {
+  held = c.deref.result.now;
+  is = ap (λ h. h.held) (sym c.replace.ensures.value) ∙ (sym c.into_box-held.ensures ∙ ap Some (sym c.deref.ensures));
+  same = c.of.ensures ∙ (c.into_box-held.ensures ∙ ap (λ h. h.held) c.replace.ensures.value);
+  next = c.next_live-found.ensures.next;
+}
