@@ -1,4 +1,8 @@
+mod CountedRings
+mod Ended
 mod Frees
+mod Linking
 mod Made
 mod Sending
+mod SettledRings
 mod TendedRings

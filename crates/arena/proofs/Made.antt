@@ -1,5 +1,5 @@
 -- Seats made of rows and columns of ends.
-use Rattle.std.proofs.Common.{◌≡◌, ℕ, zero, suc, ◌+◌, ◌<◌, ◌≤◌, List, [], ◌∷◌, ◌++◌, length, map, get_or, slice_index_or, All, ap, sym, subst, ◌∙◌, refl, arith, inl, inr}
+use Rattle.std.proofs.Common.{◌≡◌, ℕ, suc, ◌+◌, ◌<◌, List, [], ◌∷◌, ◌++◌, length, map, get_or, All, ap, sym, subst, ◌∙◌, refl, arith, inl, inr}
 use Rattle.std.proofs.Math.Seq.{get_or-append_seam}
 use Rattle.std.proofs.lemmas.Bool.{cases_eq}
 use Rattle.std.proofs.lemmas.List.{get_or-map, get_or_append_left, length-map}
@@ -17,7 +17,7 @@ push_each P xs n x long were one k d below =
       | inr other ↦ subst (P k) (sym (get_or_append_left xs (x ∷ []) d k (omega arith))) (were k d (omega arith))
     ]
 
-same_both : {A B C : Type 0} (f : A → C) (g : B → C) (xs : List A) (ys : List B) → length xs ≡ length ys → ((k : ℕ) (d : A) (e : B) → k < length xs → f (get_or xs k d) ≡ g (get_or ys k e)) → map f xs ≡ map g ys
+pub same_both : {A B C : Type 0} (f : A → C) (g : B → C) (xs : List A) (ys : List B) → length xs ≡ length ys → ((k : ℕ) (d : A) (e : B) → k < length xs → f (get_or xs k d) ≡ g (get_or ys k e)) → map f xs ≡ map g ys
 same_both f g [] [] long each = refl
 same_both f g [] (y ∷ ys) long each = absurd (omega arith)
 same_both f g (x ∷ xs) [] long each = absurd (omega arith)

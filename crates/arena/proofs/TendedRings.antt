@@ -1,11 +1,10 @@
 -- Ring after ring.
-use Rattle.std.proofs.Common.{◌≡◌, ℕ, suc, ◌+◌, ◌<◌, ◌≤◌, List, [], ◌∷◌, ◌++◌, length, map, take, get_or, slice_set, All, ap, sym, subst, ◌∙◌, refl, inl, inr, arith, add-one, take-suc, length-append}
+use Rattle.std.proofs.Common.{◌≡◌, ℕ, ◌+◌, ◌<◌, ◌≤◌, List, [], ◌∷◌, ◌++◌, length, get_or, slice_set, ap, sym, subst, ◌∙◌, refl, inl, inr, arith, length-append}
 use Rattle.std.proofs.Math.Seq.{map-set_same, get_or-append_seam}
 use Rattle.std.proofs.lemmas.Bool.{cases_eq, cases_lt}
 use Rattle.std.proofs.lemmas.Grind.{get_or-set_at}
 use Rattle.std.proofs.lemmas.List.{append-nil, get_or-map, get_or-set_other, get_or_append_left, get_or_past, length-map, map-set}
 use Rattle.std.proofs.lemmas.List.Elements.{All-push}
-use Rattle.span.specs.declared.key.Key.{Key}
 use Rattle.span.specs.declared.receipt.Receipt.{Receipt}
 use Rattle.remote_queue.specs.Rings.{Taking}
 use Rattle.arena.specs.Receipts.{AddsFrees, joined}

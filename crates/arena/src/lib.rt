@@ -16,7 +16,8 @@
 //! ```
 //!
 //! A worker may leave a key to the thread of the shard that opened its span (`Seat::free_later`): it goes on a ring from
-//! that worker to that shard, without a lock or memory, and is freed when the shard's thread tends its rings (`Seat::tend`).
+//! that worker to that shard, without a lock or memory, and is freed when the shard's thread tends its rings (`Seat::tend`),
+//! or when all rings are settled, with all seats in one hand ([`Arena::settle`]).
 //!
 //! What is done under a lock is done by one call of a shard, of the pool, `fold_one` or `mark_in` on
 //! what the lock lends ([`sections`]), so the contracts of those calls hold of it, and each look-up,
@@ -34,6 +35,7 @@
 #![tactic(auto)]
 
 mod arena;
+mod counting;
 mod ending;
 mod error;
 mod freeing;
@@ -43,6 +45,7 @@ mod locks;
 mod opening;
 mod seat;
 pub mod sections;
+mod settling;
 mod steward;
 mod tending;
 #[cfg(test)]

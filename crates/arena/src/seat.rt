@@ -1,21 +1,24 @@
 // A worker's place at the arena.
-ghost use Rattle.std.specs.Prelude.{◌≡◌, ◌+◌, ◌-◌, ◌<◌, ◌≤◌, ◌^◌, ◌↔◌, ◌∷◌, ◌++◌, [], IfOk, IfSome, IsOk, IsTrue, MatchResult, OnErr, map, slice_index_or, slice_set, vec_len};
-ghost use Rattle.arena.specs.Receipts.{IsGetBy, done_by, found_by, free_receipt, get_receipt, put_receipt};
-ghost use Rattle.arena.specs.Seats.{KeepsEnds, sending_side, sent_lists};
+ghost use Rattle.std.specs.Prelude.{◌≡◌, ◌+◌, ◌-◌, ◌<◌, ◌≤◌, ◌^◌, ◌↔◌, ◌∷◌, ◌++◌, [], IfOk, IfSome, IsOk, IsTrue, MatchResult, OnErr, Some, length, map, slice_get, slice_index_or, slice_set, sum, vec_capacity, vec_len};
+ghost use Rattle.arena.specs.Receipts.{AddsFrees, IsGetBy, done_by, found_by, free_receipt, get_receipt, joined, put_receipt};
+ghost use Rattle.arena.specs.Seats.{KeepsEnds, in_rings, known_lists, sending_side, sent_lists, taken_lists};
+ghost use Rattle.arena.specs.Settled.{taken_with_known};
 ghost use Rattle.arena.specs.Tended.{IsTended};
 
 use crate::arena::Arena;
 use crate::gate::Gate;
 use crate::limits::Limits;
 use crate::sections::{get_in, get_pool, put_in, unopened_get};
+use crate::settling::{Frees, settle_rings};
 use crate::tending::tend_rings;
 use crate::words::Place;
 use abandoned::{AdoptError, ReceiveError};
-use remote_queue::{Inbox, Outbox};
+use remote_queue::{Inbox, Outbox, finish};
 use shard::PutError;
 use span::{Call, Key, Log, Receipt, SpanId};
 use std::alloc::AllocError;
 use std::marker::Model;
+use std::mem::swap;
 use std::sync::Wait;
 
 /// A worker's place: it puts into the shard of its number, and its receipts carry that number and the section of the run that
@@ -269,6 +272,52 @@ impl Seat {
         Ok(head)
     }
 
+    // How many keys the worker sent to a shard that the shard's end has not taken. That end then knows them.
+    pub(crate) fn count_left(&mut self, shard: usize, inbox: &mut Inbox) -> usize
+        requires { slice_get (map (λ outbox. outbox.ring) self.old.outboxes) shard ≡ Some inbox.old.ring }
+        ensures seat { (sending_side self.new ≡ sending_side self.old) × (self.new.inboxes ≡ self.old.inboxes) }
+        ensures inbox { (inbox.new.ring ≡ inbox.old.ring) × (inbox.new.taken ≡ inbox.old.taken) }
+        ensures left { result ≡ length inbox.new.known }
+        ensures whole { slice_index_or (sent_lists self.old) shard [] ≡ inbox.new.taken ++ inbox.new.known }
+        ensures few { result ≤ 1024 }
+    {
+        count_on(&mut self.outboxes, shard, inbox)
+    }
+
+    // Takes the known keys of each of its rings, and frees each. The receipts are of the section.
+    pub(crate) fn settle<F: Frees>(
+        &mut self,
+        by: &mut F,
+        counts: &[usize],
+        section: u64,
+        receipts: &mut Vec<Receipt>,
+    )
+        requires counts { counts.now ≡ map length (known_lists self.old.inboxes) }
+        requires room { vec_len receipts.old + sum counts.now ≤ vec_capacity receipts.old }
+        ensures seat { (sending_side self.new ≡ sending_side self.old) × (in_rings self.new ≡ in_rings self.old) }
+        ensures taken { taken_lists self.new.inboxes ≡ taken_with_known self.old.inboxes }
+        ensures freed { AddsFrees self.old.worker section (joined (known_lists self.old.inboxes)) receipts.old.items receipts.new.items }
+    {
+        settle_rings(
+            by,
+            &mut self.inboxes,
+            counts,
+            self.worker,
+            section,
+            receipts,
+        );
+    }
+
+    // Gives its takers' ends for others.
+    pub(crate) fn swap_inboxes(&mut self, inboxes: &mut Vec<Inbox>)
+        requires { vec_len inboxes.old ≤ 64 }
+        ensures seat { self.new ≡ record self.old { inboxes = inboxes.old.items } }
+        ensures inboxes { inboxes.new.items ≡ self.old.inboxes }
+        ensures few { vec_len inboxes.new ≤ 64 }
+    {
+        swap(&mut self.inboxes, inboxes);
+    }
+
     // Looks the key up in this place, if its span is there.
     fn get_at<G: Gate, L: Log, R: Wait>(
         &self,
@@ -308,6 +357,19 @@ fn send_on(outboxes: &mut Vec<Outbox>, key: Key) -> Result<(), Key>
     ensures succeeds { 0 < slice_index_or (map (λ outbox. outbox.free) outboxes.old.items) key.span.shard 0 → IsOk result }
 {
     outboxes[key.span.shard as usize].send(key)
+}
+
+// How many keys were sent to a shard that its end has not taken. That end then knows them. The rings and what was sent stay.
+fn count_on(outboxes: &mut Vec<Outbox>, shard: usize, inbox: &mut Inbox) -> usize
+    requires { slice_get (map (λ outbox. outbox.ring) outboxes.old.items) shard ≡ Some inbox.old.ring }
+    ensures len { vec_len outboxes.new ≡ vec_len outboxes.old }
+    ensures outboxes { (map (λ outbox. outbox.ring) outboxes.new.items ≡ map (λ outbox. outbox.ring) outboxes.old.items) × (map (λ outbox. outbox.sent) outboxes.new.items ≡ map (λ outbox. outbox.sent) outboxes.old.items) }
+    ensures inbox { (inbox.new.ring ≡ inbox.old.ring) × (inbox.new.taken ≡ inbox.old.taken) }
+    ensures left { result ≡ length inbox.new.known }
+    ensures whole { slice_index_or (map (λ outbox. outbox.sent) outboxes.old.items) shard [] ≡ inbox.new.taken ++ inbox.new.known }
+    ensures few { result ≤ 1024 }
+{
+    finish(&mut outboxes[shard], inbox)
 }
 
 // What the look-up of a receipt found.

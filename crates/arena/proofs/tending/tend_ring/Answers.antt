@@ -1,4 +1,4 @@
-use Rattle.std.proofs.Common.{◌≡◌, ◌+◌, ◌∙◌, ◌++◌, ◌∷◌, [], ap, sym, rules, arith, refl, length-append, append_assoc}
+use Rattle.std.proofs.Common.{◌∙◌, ◌++◌, ◌∷◌, [], ap, sym, rules, arith, refl, length-append, append_assoc}
 use Rattle.std.proofs.lemmas.List.{append-nil}
 use Rattle.arena.proofs.Frees.{AddsFrees-none, AddsFrees-one, AddsFrees-more}
 use Rattle.arena.proofs.tending.tend_ring.Goals as goal

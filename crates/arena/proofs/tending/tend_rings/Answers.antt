@@ -1,4 +1,4 @@
-use Rattle.std.proofs.Common.{◌≡◌, ◌+◌, ◌<◌, ◌≤◌, length, rules, arith, refl}
+use Rattle.std.proofs.Common.{rules, arith, refl}
 use Rattle.arena.proofs.TendedRings.{tended_none, tended_more}
 use Rattle.arena.proofs.tending.tend_rings.Goals as goal
 

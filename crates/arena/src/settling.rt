@@ -1,0 +1,199 @@
+// Emptying the rings when all seats are in one hand.
+ghost use Rattle.std.specs.Prelude.{◌≡◌, ◌+◌, ◌<◌, ◌≤◌, ◌++◌, ℕ, [], All, IfOk, OnErr, OnOk, length, map, sum, slice_index_or, vec_capacity, vec_items, vec_len};
+ghost use Rattle.arena.specs.Receipts.{AddsFrees, IsFreeBy, joined};
+ghost use Rattle.arena.specs.Seats.{AreLinked, in_rings, known_lists, sending_side, taken_lists};
+ghost use Rattle.arena.specs.Settled.{AreCounted, AreEmptied, AreSameSeats, IsSettled, greatest_section, taken_with_known};
+
+use crate::arena::Arena;
+use crate::counting::count_all;
+use crate::gate::Gate;
+use crate::seat::Seat;
+use remote_queue::Inbox;
+use span::{Key, Log, Receipt};
+use std::alloc::{AllocError, Global};
+use std::sync::Wait;
+
+// Who frees a key wherever its span is.
+pub(crate) trait Frees {
+    // Frees the key for the worker.
+    fn free_key(&mut self, worker: u32, section: u64, key: &Key) -> Receipt
+        ensures { IsFreeBy worker section key.now result };
+}
+
+// Frees keys under the locks of an arena.
+#[derive(Drop)]
+struct UnderLocks<'a, G: Gate, L: Log, R: Wait> {
+    rt: &'a R,
+    arena: &'a Arena<G, L>,
+}
+
+impl<'a, G: Gate, L: Log, R: Wait> Frees for UnderLocks<'a, G, L, R> {
+    fn free_key(&mut self, worker: u32, section: u64, key: &Key) -> Receipt {
+        self.arena.free_wherever(self.rt, worker, section, key)
+    }
+}
+
+impl<G: Gate, L: Log> Arena<G, L> {
+    /// Settles every ring, by shard, then worker, when all seats are in one hand: takes each key that was sent and not yet
+    /// taken, and frees it as [`Seat::free`] does. Each leaves one receipt, in the order in which it was sent, last in the list
+    /// of the worker of the ring's shard, with the greatest section of the seats. It gives how many keys each ring had, by
+    /// shard, then worker.
+    ///
+    /// # Errors
+    ///
+    /// `AllocError` where room for the counts or the receipts was refused. No key was taken then.
+    pub fn settle<R: Wait>(
+        &self,
+        rt: &R,
+        seats: &mut [Seat],
+        receipts: &mut [Vec<Receipt>],
+    ) -> Result<Vec<Vec<usize>>, AllocError>
+        requires seats { length seats.old ≡ self.now.limits.shards }
+        requires linked { AreLinked seats.old }
+        requires lists { length receipts.old ≡ length seats.old }
+        ensures counts { IfOk result (λ counts. vec_len counts ≡ length seats.old) }
+        ensures settled { IfOk result (λ counts. (shard : ℕ) (c d e : _) → shard < length seats.old → IsSettled seats.old shard (greatest_section seats.old) (slice_index_or counts.items shard c).items (slice_index_or receipts.old shard d).items (slice_index_or receipts.new shard e).items) }
+        ensures emptied { OnOk result (AreEmptied seats.old seats.new) }
+        ensures linked { AreLinked seats.new }
+        ensures err { OnErr result (AreSameSeats seats.old seats.new × (map vec_items receipts.new ≡ map vec_items receipts.old)) }
+    {
+        // There are 64 shards at most.
+        let _ = self.limits.shards();
+        let counts = make_room(self.alloc, seats, receipts)?;
+        let section = greatest(seats);
+        let mut locks = UnderLocks { rt, arena: self };
+        settle_seats(&mut locks, seats, counts.as_slice(), section, receipts);
+        Ok(counts)
+    }
+}
+
+// Counts what is left in the rings, and makes room for a receipt of each key. Keys and receipts stay as they are.
+pub(crate) fn make_room(
+    alloc: Global,
+    seats: &mut [Seat],
+    receipts: &mut [Vec<Receipt>],
+) -> Result<Vec<Vec<usize>>, AllocError>
+    requires linked { AreLinked seats.old }
+    requires few { length seats.old ≤ 64 }
+    requires lists { length receipts.old ≡ length seats.old }
+    ensures same { AreSameSeats seats.old seats.new }
+    ensures items { map vec_items receipts.new ≡ map vec_items receipts.old }
+    ensures len { IfOk result (λ counts. vec_len counts ≡ length seats.old) }
+    ensures counted { IfOk result (λ counts. (shard : ℕ) (d : _) → shard < length seats.old → AreCounted seats.old seats.new shard (slice_index_or counts.items shard d).items) }
+    ensures room { IfOk result (λ counts. (shard : ℕ) (d e : _) → shard < length seats.old → vec_len (slice_index_or receipts.new shard d) + sum (slice_index_or counts.items shard e).items ≤ vec_capacity (slice_index_or receipts.new shard d)) }
+{
+    let counts = count_all(alloc, seats)?;
+    reserve_all(receipts, counts.as_slice())?;
+    Ok(counts)
+}
+
+// Takes all that is known to be left in the rings of each shard, and frees it. Each receipt goes last in the list of the shard's
+// worker.
+pub(crate) fn settle_seats<F: Frees>(
+    by: &mut F,
+    seats: &mut [Seat],
+    counts: &[Vec<usize>],
+    section: u64,
+    receipts: &mut [Vec<Receipt>],
+)
+    requires wide { (length counts.now ≡ length seats.old) × (length receipts.old ≡ length seats.old) }
+    requires in_order { (shard : ℕ) (x : _) → shard < length seats.old → (slice_index_or seats.old shard x).worker ≡ shard }
+    requires counts { (shard : ℕ) (x d : _) → shard < length seats.old → (slice_index_or counts.now shard d).items ≡ map length (known_lists (slice_index_or seats.old shard x).inboxes) }
+    requires room { (shard : ℕ) (d e : _) → shard < length seats.old → vec_len (slice_index_or receipts.old shard d) + sum (slice_index_or counts.now shard e).items ≤ vec_capacity (slice_index_or receipts.old shard d) }
+    ensures freed { (shard : ℕ) (x d e : _) → shard < length seats.old → AddsFrees shard section (joined (known_lists (slice_index_or seats.old shard x).inboxes)) (slice_index_or receipts.old shard d).items (slice_index_or receipts.new shard e).items }
+    ensures sending { map sending_side seats.new ≡ map sending_side seats.old }
+    ensures rings { map in_rings seats.new ≡ map in_rings seats.old }
+    ensures taken { map (λ seat. taken_lists seat.inboxes) seats.new ≡ map (λ seat. taken_with_known seat.inboxes) seats.old }
+{
+    for shard in 0..seats.len() {
+        seats[shard].settle(by, counts[shard].as_slice(), section, &mut receipts[shard]);
+    }
+}
+
+// The greatest section of the seats.
+pub(crate) fn greatest(seats: &[Seat]) -> u64
+    ensures { result ≡ greatest_section seats.now }
+{
+    let mut most = 0;
+    for seat in seats {
+        most = most.max(seat.section());
+    }
+    most
+}
+
+// Takes the known keys of each ring, one ring after the other, and frees each.
+pub(crate) fn settle_rings<F: Frees>(
+    by: &mut F,
+    inboxes: &mut Vec<Inbox>,
+    counts: &[usize],
+    worker: u32,
+    section: u64,
+    receipts: &mut Vec<Receipt>,
+)
+    requires counts { counts.now ≡ map length (known_lists inboxes.old.items) }
+    requires room { vec_len receipts.old + sum counts.now ≤ vec_capacity receipts.old }
+    ensures len { vec_len inboxes.new ≡ vec_len inboxes.old }
+    ensures rings { map (λ inbox. inbox.ring) inboxes.new.items ≡ map (λ inbox. inbox.ring) inboxes.old.items }
+    ensures taken { taken_lists inboxes.new.items ≡ taken_with_known inboxes.old.items }
+    ensures freed { AddsFrees worker section (joined (known_lists inboxes.old.items)) receipts.old.items receipts.new.items }
+{
+    for from in 0..counts.len() {
+        settle_ring(
+            by,
+            &mut inboxes[from],
+            counts[from],
+            worker,
+            section,
+            receipts,
+        );
+    }
+}
+
+// Takes the known keys of a ring, and frees each.
+fn settle_ring<F: Frees>(
+    by: &mut F,
+    inbox: &mut Inbox,
+    left: usize,
+    worker: u32,
+    section: u64,
+    receipts: &mut Vec<Receipt>,
+)
+    requires left { left ≡ length inbox.old.known }
+    requires room { vec_len receipts.old + left ≤ vec_capacity receipts.old }
+    ensures room { (vec_len receipts.new ≡ vec_len receipts.old + left) × (vec_capacity receipts.new ≡ vec_capacity receipts.old) }
+    ensures ring { inbox.new.ring ≡ inbox.old.ring }
+    ensures taken { inbox.new.taken ≡ inbox.old.taken ++ inbox.old.known }
+    ensures freed { AddsFrees worker section inbox.old.known receipts.old.items receipts.new.items }
+{
+    for _ in 0..left {
+        let key = inbox.take_known();
+        receipts.push_reserved(by.free_key(worker, section, &key));
+    }
+}
+
+// Room for as many receipts as each row counts. What the lists have stays.
+fn reserve_all(receipts: &mut [Vec<Receipt>], counts: &[Vec<usize>]) -> Result<(), AllocError>
+    requires wide { length counts.now ≡ length receipts.old }
+    requires few { All (λ row. All (λ count. count ≤ 1024) row.items × (vec_len row ≤ 64)) counts.now }
+    ensures items { map vec_items receipts.new ≡ map vec_items receipts.old }
+    ensures room { OnOk result ((shard : ℕ) (d e : _) → shard < length receipts.old → vec_len (slice_index_or receipts.new shard d) + sum (slice_index_or counts.now shard e).items ≤ vec_capacity (slice_index_or receipts.new shard d)) }
+{
+    for shard in 0..receipts.len() {
+        let more = total(counts[shard].as_slice());
+        receipts[shard].reserve(more)?;
+    }
+    Ok(())
+}
+
+// The sum of a row of counts.
+fn total(counts: &[usize]) -> usize
+    requires few { All (λ count. count ≤ 1024) counts.now }
+    requires short { length counts.now ≤ 64 }
+    ensures { result ≡ sum counts.now }
+{
+    let mut all = 0;
+    for count in counts {
+        all += *count;
+    }
+    all
+}
