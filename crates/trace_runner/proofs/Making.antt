@@ -1,7 +1,7 @@
 -- Calls that are made one after another.
-use Rattle.std.proofs.Common.{◌≡◌, ℕ, suc, Bool, true, false, cond, length, arith, List, [], ◌∷◌, ◌++◌, map, refl, sym, ap, subst, ◌∙◌, append_assoc}
-use Rattle.std.proofs.lemmas.List.{map-append, append-nil}
-use Rattle.std.proofs.lemmas.List.Elements.{filter_map-append}
+use Rattle.std.proofs.Common.{◌≡◌, ℕ, Bool, true, false, cond, length, arith, List, [], ◌∷◌, ◌++◌, map, refl, sym, ap, subst, ◌∙◌}
+use Rattle.std.proofs.lemmas.Grind.{flat_map-append}
+use Rattle.std.proofs.lemmas.List.{map-append, length-map}
 use Rattle.std.proofs.lemmas.List.Sums.{fold-append}
 use Rattle.arena_core.proofs.Limits.{limits-CoreRun}
 use Rattle.arena_core.proofs.Lists.{each-append}
@@ -9,12 +9,12 @@ use Rattle.arena_core.specs.State.{CoreState, Limits, shown}
 use Rattle.arena_core.specs.Step.{CoreStep, CoreRun}
 use Rattle.arena_core.specs.Plain.{ErasedStep, PlainRun, erased, is_plain}
 use Rattle.arena_core.specs.Sound.{IsSound}
-use Rattle.trace_runner.specs.Made.{Asked, Calls, Keyless, Leaves, Made, Called, Unbound, Left, Did, asked_of, core_after, event_made, reply_made, events_of, replies_of}
-use Rattle.trace_runner.specs.News.{News, with_all_made, with_made}
+use Rattle.trace_runner.specs.Made.{Asked, Calls, Keyless, Leaves, CalledEvent, Called, Made, IsAsAsked, all_called, asked_of, core_called, event_called, events_of, no_call, one_call, replies_of, reply_called}
+use Rattle.trace_runner.specs.News.{News, with_all_made, with_called, with_made}
 use Rattle.trace_runner.specs.Kept.{Kept, keeping}
 use Rattle.trace_runner.specs.Recalls.{Carries, Makes, MakesLine, news_at, settling_with}
 use Rattle.trace_runner.proofs.Recalling.{keeping-append, keeping-none}
-use Rattle.trace_runner.specs.Runs.{Happens, IsAnswered, IsTold, ends_asked, finishing, stepping}
+use Rattle.trace_runner.specs.Runs.{AreSteps, Happens, IsAnswered, IsTold, ends_asked, finishing, stepping}
 use Rattle.trace_runner.specs.declared.plans.Plans.{Plans}
 use Rattle.trace_text.specs.declared.line.Call.{Call}
 use Rattle.trace_text.specs.declared.line.Line.TheVariants as line
@@ -47,24 +47,20 @@ erased-append (e ∷ es) fs (r ∷ rs) ss same =
     ap (λ more. cond (is_plain e) ((e, r) ∷ more) more) (erased-append es fs rs ss (omega arith)) ∙ cond-append (is_plain e) (e, r) (erased es rs) (erased fs ss)
 
 -- each event has its reply
-replies-length : (made : List Made) → length (events_of made) ≡ length (replies_of made)
-replies-length [] = refl
-replies-length (Called event reply core ∷ made) = ap suc (replies-length made)
-replies-length (Unbound ∷ made) = replies-length made
-replies-length (Left ∷ made) = replies-length made
+replies-length : (called : List CalledEvent) → length (events_of called) ≡ length (replies_of called)
+replies-length called = length-map called event_called ∙ sym (length-map called reply_called)
 
 -- the core that two lists leave, one after the other
-pub core_after-append : (core : CoreState) (first second : List Made) → core_after core (first ++ second) ≡ core_after (core_after core first) second
-core_after-append core [] second = refl
-core_after-append core (Called event reply after ∷ first) second = core_after-append after first second
-core_after-append core (Unbound ∷ first) second = core_after-append core first second
-core_after-append core (Left ∷ first) second = core_after-append core first second
+pub core_called-append : (core : CoreState) (first second : List CalledEvent) → core_called core (first ++ second) ≡ core_called (core_called core first) second
+core_called-append core [] second = refl
+core_called-append core (Called event reply after ∷ first) second = core_called-append after first second
 
-Happens-append : (core : CoreState) (first second : List Made) → Happens core first → Happens (core_after core first) second → Happens core (first ++ second)
+Happens-append : (core : CoreState) (first second : List CalledEvent) → Happens core first → Happens (core_called core first) second → Happens core (first ++ second)
 Happens-append core [] second before after = after
 Happens-append core (Called event reply next ∷ first) second before after = (before.0, Happens-append next first second before.1 after)
-Happens-append core (Unbound ∷ first) second before after = Happens-append core first second before after
-Happens-append core (Left ∷ first) second before after = Happens-append core first second before after
+
+pub all_called-append : (first second : List Made) → all_called (first ++ second) ≡ all_called first ++ all_called second
+all_called-append first second = flat_map-append (λ (m : Made). m.called) first second
 
 -- one event, as the plain map has it
 erased-one : (limits : Limits) (a b : PlainMap) (event : Event) (reply : Reply) → ErasedStep limits a event reply b → PlainRun limits a (erased (event ∷ []) (reply ∷ [])) b
@@ -79,40 +75,57 @@ erased-one limits a b Mark reply step = step
 erased-one limits a b Step reply step = step
 erased-one limits a b Close reply step = step
 
-pub IsAnswered-none : (core : CoreState) → IsAnswered core [] core
-IsAnswered-none core = record { each = tt; last = refl; core = refl; plain = refl; told = tt }
+pub AreSteps-none : (core : CoreState) → AreSteps core [] core
+AreSteps-none core = record { each = tt; last = refl; core = refl; plain = refl; told = tt }
 
-pub IsAnswered-one : (event : Event) (reply : Reply) (old new : CoreState) → CoreStep old event reply new → IsSound new → ErasedStep old.limits (shown old) event reply (shown new) → IsTold reply
-    → IsAnswered old (Called event reply new ∷ []) new
-IsAnswered-one event reply old new step sound plain told = record { each = (step, tt); last = refl; core = (new, step, sound, refl); plain = erased-one old.limits (shown old) (shown new) event reply plain; told = (told, tt) }
+pub AreSteps-one : (event : Event) (reply : Reply) (old new : CoreState) → CoreStep old event reply new → IsSound new → ErasedStep old.limits (shown old) event reply (shown new) → IsTold reply
+    → AreSteps old (Called event reply new ∷ []) new
+AreSteps-one event reply old new step sound plain told = record { each = (step, tt); last = refl; core = (new, step, sound, refl); plain = erased-one old.limits (shown old) (shown new) event reply plain; told = (told, tt) }
 
-pub IsAnswered-append : (a b c : CoreState) (first second : List Made) → IsAnswered a first b → IsAnswered b second c → IsAnswered a (first ++ second) c
-IsAnswered-append a b c first second before after =
-    let events = filter_map-append event_made first second in
-    let replies = filter_map-append reply_made first second in
+pub AreSteps-append : (a b c : CoreState) (first second : List CalledEvent) → AreSteps a first b → AreSteps b second c → AreSteps a (first ++ second) c
+AreSteps-append a b c first second before after =
+    let events = map-append event_called first second in
+    let replies = map-append reply_called first second in
     record {
       each = Happens-append a first second before.each (subst (λ (core : CoreState). Happens core second) before.last after.each);
-      last = after.last ∙ ap (λ core. core_after core second) before.last ∙ sym (core_after-append a first second);
+      last = after.last ∙ ap (λ core. core_called core second) before.last ∙ sym (core_called-append a first second);
       core = rw (events, replies) (CoreRun-append a b c (events_of first) (events_of second) (replies_of first) (replies_of second) before.core after.core);
       plain = rw (events, replies, erased-append (events_of first) (events_of second) (replies_of first) (replies_of second) (replies-length first)) (PlainRun-append a.limits (shown a) (shown b) (shown c) (erased (events_of first) (replies_of first)) (erased (events_of second) (replies_of second)) before.plain
           (subst (λ limits. PlainRun limits (shown b) (erased (events_of second) (replies_of second)) (shown c)) (limits-CoreRun a b (events_of first) (replies_of first) before.core) after.plain));
       told = rw replies (each-append IsTold (replies_of first) (replies_of second) before.told after.told);
     }
 
+pub IsAnswered-none : (core : CoreState) → IsAnswered core [] core
+IsAnswered-none core = record { steps = AreSteps-none core; asked = tt }
+
+-- nothing was called
+pub IsAnswered-no_call : (asked : Asked) (core : CoreState) → IsAsAsked (no_call asked) → IsAnswered core (no_call asked ∷ []) core
+IsAnswered-no_call asked core fits = record { steps = AreSteps-none core; asked = (fits, tt) }
+
+pub IsAnswered-one : (event : Event) (reply : Reply) (old new : CoreState) → CoreStep old event reply new → IsSound new → ErasedStep old.limits (shown old) event reply (shown new) → IsTold reply
+    → IsAnswered old (one_call event reply new ∷ []) new
+IsAnswered-one event reply old new step sound plain told = record { steps = AreSteps-one event reply old new step sound plain told; asked = ((refl, tt), tt) }
+
+pub IsAnswered-append : (a b c : CoreState) (first second : List Made) → IsAnswered a first b → IsAnswered b second c → IsAnswered a (first ++ second) c
+IsAnswered-append a b c first second before after = record {
+  steps = subst (λ (called : List CalledEvent). AreSteps a called c) (sym (all_called-append first second)) (AreSteps-append a b c (all_called first) (all_called second) before.steps after.steps);
+  asked = each-append IsAsAsked first second before.asked after.asked;
+}
+
 -- one call, of which the answer is kept
 pub Makes-called : (number : ℕ) (event : Event) (reply : Reply) (old new : CoreState) (before after : Kept)
-    → CoreStep old event reply new → IsSound new → ErasedStep old.limits (shown old) event reply (shown new) → IsTold reply → after ≡ keeping number before (Called event reply new ∷ [])
+    → CoreStep old event reply new → IsSound new → ErasedStep old.limits (shown old) event reply (shown new) → IsTold reply → after ≡ keeping number before (one_call event reply new ∷ [])
     → Makes number (Calls event ∷ []) old before new after
 Makes-called number event reply old new before after step sound plain told kept =
-    (Called event reply new ∷ [], refl, IsAnswered-one event reply old new step sound plain told, kept)
+    (one_call event reply new ∷ [], refl, IsAnswered-one event reply old new step sound plain told, kept)
 
 -- no call, since its key was never given out
-pub Makes-unbound : (number : ℕ) (core : CoreState) (before after : Kept) → after ≡ keeping number before (Unbound ∷ []) → Makes number (Keyless ∷ []) core before core after
-Makes-unbound number core before after kept = (Unbound ∷ [], refl, record { each = tt; last = refl; core = refl; plain = refl; told = tt }, kept)
+pub Makes-unbound : (number : ℕ) (core : CoreState) (before after : Kept) → after ≡ keeping number before (no_call Keyless ∷ []) → Makes number (Keyless ∷ []) core before core after
+Makes-unbound number core before after kept = (no_call Keyless ∷ [], refl, IsAnswered-no_call Keyless core tt, kept)
 
 -- no call, since the thread ends
-pub Makes-left : (number : ℕ) (core : CoreState) (before after : Kept) → after ≡ keeping number before (Left ∷ []) → Makes number (Leaves ∷ []) core before core after
-Makes-left number core before after kept = (Left ∷ [], refl, record { each = tt; last = refl; core = refl; plain = refl; told = tt }, kept)
+pub Makes-left : (number : ℕ) (core : CoreState) (before after : Kept) → after ≡ keeping number before (no_call Leaves ∷ []) → Makes number (Leaves ∷ []) core before core after
+Makes-left number core before after kept = (no_call Leaves ∷ [], refl, IsAnswered-no_call Leaves core tt, kept)
 
 pub Makes-none : (number : ℕ) (core : CoreState) (kept : Kept) → Makes number [] core kept core kept
 Makes-none number core kept = ([], refl, IsAnswered-none core, sym (keeping-none number kept))
@@ -133,8 +146,8 @@ Carries-none core news = ([], refl, IsAnswered-none core, refl)
 
 -- one event, and the news with what it tells
 pub Carries-one : (event : Event) (reply : Reply) (old new : CoreState) (before after : News) → CoreStep old event reply new → IsSound new → ErasedStep old.limits (shown old) event reply (shown new) → IsTold reply
-    → after ≡ with_made before (Called event reply new) → Carries (Calls event ∷ []) old before new after
-Carries-one event reply old new before after step sound plain told news = (Called event reply new ∷ [], refl, IsAnswered-one event reply old new step sound plain told, news)
+    → after ≡ with_called before (Called event reply new) → Carries (Calls event ∷ []) old before new after
+Carries-one event reply old new before after step sound plain told news = (one_call event reply new ∷ [], refl, IsAnswered-one event reply old new step sound plain told, news)
 
 pub Carries-append : (first second : List Asked) (a b c : CoreState) (x y z : News) → Carries first a x b y → Carries second b y c z → Carries (first ++ second) a x c z
 Carries-append first second a b c x y z (made, asks, answered, news) (more, asks_more, answered_more, news_more) = (

@@ -5,8 +5,8 @@ use Rattle.std.proofs.lemmas.List.{length-map}
 use Rattle.arena_core.specs.State.{CoreState}
 use Rattle.arena_core.specs.declared.event.Event.TheVariants.{Close, Mark, Step}
 use Rattle.arena_core.specs.declared.reply.Reply.TheVariants.{Marked, Stepped}
-use Rattle.trace_runner.specs.Made.{Called, Did, Made}
-use Rattle.trace_runner.specs.News.{News, all_news, news_of, no_news, with_all_made, with_answers, with_line, with_made}
+use Rattle.trace_runner.specs.Made.{CalledEvent, Called, Did, Made}
+use Rattle.trace_runner.specs.News.{News, all_news, news_of, no_news, with_all_made, with_answers, with_called, with_line, with_made}
 use Rattle.trace_runner.specs.Report.{AreInOrder}
 use Rattle.trace_runner.specs.Runs.{IsRun, answers_from, on_line}
 use Rattle.trace_runner.specs.declared.report.PlanNote.{PlanNote}
@@ -22,12 +22,22 @@ abbrev IsOrdered : News → Type 0
 IsOrdered n = AreInOrder 0 n.above n.notes
 
 -- what is told of plans leaves the count of the answers, and its note stands behind them all
+with_called-keeps : (n : News) (called : CalledEvent) → ((with_called n called).above ≡ n.above) × (IsOrdered n → IsOrdered (with_called n called))
+with_called-keeps n (Called Step (Stepped abandoned owned outcome) core) = (refl, λ order. order)
+with_called-keeps n (Called Close reply core) = (refl, AreInOrder-push 0 n.notes _)
+with_called-keeps n (Called Mark (Marked c) core) = (refl, AreInOrder-push 0 n.notes _)
+with_called-keeps n (Called Mark reply core) = (refl, AreInOrder-push 0 n.notes _)
+with_called-keeps n called = (refl, λ order. order)
+
+with_all_called-keeps : (n : News) (called : List CalledEvent) → ((fold with_called n called).above ≡ n.above) × (IsOrdered n → IsOrdered (fold with_called n called))
+with_all_called-keeps n [] = (refl, λ order. order)
+with_all_called-keeps n (c ∷ called) =
+    let first = with_called-keeps n c in
+    let more = with_all_called-keeps (with_called n c) called in
+    (more.0 ∙ first.0, λ order. more.1 (first.1 order))
+
 with_made-keeps : (n : News) (made : Made) → ((with_made n made).above ≡ n.above) × (IsOrdered n → IsOrdered (with_made n made))
-with_made-keeps n (Called Step (Stepped abandoned owned outcome) core) = (refl, λ order. order)
-with_made-keeps n (Called Close reply core) = (refl, AreInOrder-push 0 n.notes _)
-with_made-keeps n (Called Mark (Marked c) core) = (refl, AreInOrder-push 0 n.notes _)
-with_made-keeps n (Called Mark reply core) = (refl, AreInOrder-push 0 n.notes _)
-with_made-keeps n made = (refl, λ order. order)
+with_made-keeps n made = with_all_called-keeps n made.called
 
 pub above-all_made : (n : News) (made : List Made) → (with_all_made n made).above ≡ n.above
 above-all_made n [] = refl

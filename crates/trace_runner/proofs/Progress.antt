@@ -1,14 +1,14 @@
 -- One more line is run.
-use Rattle.std.proofs.Common.{◌≡◌, ℕ, ◌+◌, ◌<◌, ◌≤◌, ◌&&◌, ◌||◌, nat_lt, nat_le, not, Bool, true, false, filter, List, [], ◌∷◌, ◌++◌, map, length, take, get_or, Some, None, slice_get, refl, sym, ap, ap₂, subst, ◌∙◌, arith, inl, inr, append_assoc, length-append, add-zero}
-use Rattle.std.proofs.Math.Seq.{get_or-append_seam, take-length}
+use Rattle.std.proofs.Common.{◌≡◌, ℕ, ◌+◌, ◌<◌, ◌≤◌, ◌&&◌, ◌||◌, nat_lt, nat_le, not, Bool, true, false, filter, List, [], ◌∷◌, ◌++◌, map, length, take, Some, None, slice_get, refl, sym, ap, ap₂, subst, ◌∙◌, arith, inl, inr, append_assoc, length-append, add-zero}
+use Rattle.std.proofs.Math.Seq.{take-length}
 use Rattle.std.specs.List.{range_with_len}
 use Rattle.std.specs.Option.{option_map, option_map_or}
-use Rattle.std.proofs.lemmas.Bool.{cases_lt, cases_Bool, eqb-true}
+use Rattle.std.proofs.lemmas.Bool.{cases_Bool, eqb-true}
 use Rattle.std.proofs.lemmas.Bool.Decides.{nat_tests}
 use Rattle.std.proofs.lemmas.Grind.{flat_map-append}
 use Rattle.std.proofs.lemmas.List.Sums.{fold-append}
 use Rattle.std.proofs.lemmas.List.Elements.{filter-append}
-use Rattle.std.proofs.lemmas.List.{append-nil, get_or_append_left, length-map, length_push, take-append-le}
+use Rattle.std.proofs.lemmas.List.{append-nil, length-map, length_push}
 use Rattle.arena_core.specs.State.{CoreState}
 use Rattle.trace_runner.specs.Barrier.{is_barrier, leavers, open_lines}
 use Rattle.trace_text.specs.Causes.{ends, has_ended, first_cause, is_adopt, thread_of}
@@ -170,9 +170,9 @@ module _ (h : Header) (replies : Bool) (lines : List Line) (count : ℕ) (old co
       let called_all = IsAnswered-append old core makes.called_core (all_made come.done) (settled ++ made) come.answered called in
       let does : Does h.shards lines old come.done l did = record {
         settled = asks_settled ∙ ap (λ (f : ℕ → Bool). settling_with (filter f (range_with_len 0 h.shards)) core l) leaving_is
-            ∙ ap (λ ls. settling_at h.shards ls core l) (sym above) ∙ ap (λ c. settling_at h.shards (take (length come.done) lines) c l) come.answered.last;
+            ∙ ap (λ ls. settling_at h.shards ls core l) (sym above) ∙ ap (λ c. settling_at h.shards (take (length come.done) lines) c l) come.answered.steps.last;
         calls = asks;
-        plans = asks_planned ∙ ap (λ c. planning_at c l) called_all.last;
+        plans = asks_planned ∙ ap (λ c. planning_at c l) called_all.steps.last;
       } in
       let keyed = Keyed-asked lines come.done l made asks in
       let keys : after.keys ≡ kept.keys ++ keys_of made = ap (λ (k : Kept). k.keys) more in
@@ -222,7 +222,7 @@ module _ (h : Header) (replies : Bool) (lines : List Line) (count : ℕ) (old co
         last = made;
         lines_do = subst (λ (some : List Line). DoLines h.shards lines old some [] come.done) whole come.lines_do;
         settled = asks ∙ ap (λ (f : ℕ → Bool). finishing core.plan ++ ends_asked (filter f (range_with_len 0 h.shards))) leaving_is ∙ ap (λ ls. finishing core.plan ++ ends_asked (leavers h.shards ls)) whole
-            ∙ ap (λ (c : CoreState). finishing c.plan ++ ends_asked (leavers h.shards lines)) come.answered.last;
+            ∙ ap (λ (c : CoreState). finishing c.plan ++ ends_asked (leavers h.shards lines)) come.answered.steps.last;
         answered = IsAnswered-append old core new (all_made come.done) made come.answered answered;
         answers_are = refl;
         calls_are = calls_are;

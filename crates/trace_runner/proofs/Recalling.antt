@@ -1,5 +1,5 @@
 -- What a run keeps of its replies, one line more, and how a key is found in it.
-use Rattle.std.proofs.Common.{zero, suc, ◌≡◌, ℕ, ◌+◌, ◌<◌, ◌≤◌, Bool, true, false, cond, not, List, [], ◌∷◌, ◌++◌, map, length, take, drop, filter, Option, Some, None, slice_get, refl, sym, ap, subst, ◌∙◌, ◌-◌, append_assoc, arith, inl, inr, length-append, add-zero, unwrap_or, option_map, option_and_then}
+use Rattle.std.proofs.Common.{zero, suc, ◌≡◌, ℕ, ◌+◌, ◌<◌, Bool, true, false, cond, not, List, [], ◌∷◌, ◌++◌, map, length, take, drop, filter, Option, Some, None, slice_get, refl, sym, ap, subst, ◌∙◌, ◌-◌, append_assoc, arith, inl, inr, length-append, add-zero, unwrap_or, option_map, option_and_then}
 use Rattle.std.specs.List.{flat_map, range_with_len}
 use Rattle.std.specs.Option.{option_map_or, option_or}
 use Rattle.std.specs.Str.{bytes_eq}
@@ -10,12 +10,15 @@ use Rattle.std.proofs.lemmas.List.Elements.{filter-append}
 use Rattle.std.proofs.lemmas.List.FromFn.{length-range_with_len}
 use Rattle.std.proofs.lemmas.Option.{slice_get-map}
 use Rattle.span.specs.declared.key.Key.{Key}
+use Rattle.arena_core.specs.State.{CoreState}
+use Rattle.arena_core.specs.declared.event.Event.{Event}
 use Rattle.arena_core.specs.declared.event.Event.TheVariants as event
 use Rattle.arena_core.specs.declared.reply.Refusal.TheVariants.{NothingToAdopt}
+use Rattle.arena_core.specs.declared.reply.Reply.{Reply}
 use Rattle.arena_core.specs.declared.reply.Reply.TheVariants.{Issued, Found, Freed, Refused}
 use Rattle.trace_runner.specs.Kept.{FindsAt, FindsOne, Kept, Recalls, answer_key, is_put, keeping, kept_none, kept_of, keys_of, told_of}
-use Rattle.trace_runner.specs.Made.{Asked, Calls, Did, Made, Called, Unbound, Left, asked_of}
-use Rattle.trace_runner.specs.Runs.{answer_to, answers_from, asked_by, key_at, key_bound, key_made, on_key, on_line}
+use Rattle.trace_runner.specs.Made.{Asked, Calls, Did, Made, asked_of, one_call}
+use Rattle.trace_runner.specs.Runs.{answer_told, answers_from, asked_by, key_at, key_bound, key_made, on_key, on_line}
 use Rattle.trace_runner.specs.declared.report.LineAnswer.{LineAnswer}
 use Rattle.trace_text.specs.Causes.{binding_at, binding_from, binding_of, first_cause, has_key, has_range, keys_at, keys_in, marks, marks_at}
 use Rattle.trace_text.specs.Earlier.{key_count}
@@ -100,16 +103,14 @@ kept_of-none true = refl
 kept_of-none false = refl
 
 -- the key that an answer names is that of the put
-pub answer_key-to : (m : Made) → answer_key (answer_to m) ≡ key_made m
-answer_key-to (Called event (Issued key) core) = refl
-answer_key-to (Called event (Found (Some value)) core) = refl
-answer_key-to (Called event (Found None) core) = refl
-answer_key-to (Called event (Freed true) core) = refl
-answer_key-to (Called event (Freed false) core) = refl
-answer_key-to (Called event (Refused NothingToAdopt) core) = refl
-answer_key-to (Called event reply core) = refl
-answer_key-to Unbound = refl
-answer_key-to Left = refl
+pub answer_key-told : (event : Event) (reply : Reply) (core : CoreState) → answer_key (answer_told reply) ≡ key_made (one_call event reply core)
+answer_key-told event (Issued key) core = refl
+answer_key-told event (Found (Some value)) core = refl
+answer_key-told event (Found None) core = refl
+answer_key-told event (Freed true) core = refl
+answer_key-told event (Freed false) core = refl
+answer_key-told event (Refused NothingToAdopt) core = refl
+answer_key-told event reply core = refl
 
 told_all : (replies : Bool) (number : ℕ) (before all : List LineAnswer) (made : List Made) → all ≡ before ++ map (on_line number) made
     → (cond replies all []) ≡ (cond replies before []) ++ told_of replies number made

@@ -7,7 +7,7 @@ use Rattle.certificate.specs.declared.certificate.Certificate.{Certificate}
 use Rattle.arena_core.specs.State.{CoreState, pages}
 use Rattle.arena_core.specs.declared.event.Event.TheVariants as event
 use Rattle.arena_core.specs.declared.reply.Reply.TheVariants as reply
-use Rattle.trace_runner.specs.Made.{Did, Made, Called}
+use Rattle.trace_runner.specs.Made.{CalledEvent, Called, Did, Made}
 use Rattle.trace_runner.specs.declared.report.MarkNews.{MarkNews}
 use Rattle.trace_runner.specs.declared.report.PlanNews.{PlanNews}
 use Rattle.trace_runner.specs.declared.report.PlanNews.TheVariants.{Marked, TooMany, Closed}
@@ -45,12 +45,15 @@ mark_news mark c core = record {
 }
 
 -- one event more; it is news where it is a step, a close or a mark
+abbrev pub with_called : News → CalledEvent → News
+with_called n (Called event.Step (reply.Stepped abandoned owned outcome) core) = record n { taken = n.taken ++ record { abandoned = abandoned; owned = owned; outcome = outcome } ∷ [] }
+with_called n (Called event.Close reply core) = record n { taken = []; notes = n.notes ++ note n (Closed (record { mark = n.marks; steps = n.taken; pages = pages core })) ∷ [] }
+with_called n (Called event.Mark (reply.Marked c) core) = record n { marks = n.marks + 1; notes = n.notes ++ note n (Marked (mark_news (n.marks + 1) c core)) ∷ []; certificate = certificate_text c }
+with_called n (Called event.Mark reply core) = record n { marks = n.marks + 1; notes = n.notes ++ note n (TooMany (n.marks + 1)) ∷ [] }
+with_called n called = n
+
 abbrev pub with_made : News → Made → News
-with_made n (Called event.Step (reply.Stepped abandoned owned outcome) core) = record n { taken = n.taken ++ record { abandoned = abandoned; owned = owned; outcome = outcome } ∷ [] }
-with_made n (Called event.Close reply core) = record n { taken = []; notes = n.notes ++ note n (Closed (record { mark = n.marks; steps = n.taken; pages = pages core })) ∷ [] }
-with_made n (Called event.Mark (reply.Marked c) core) = record n { marks = n.marks + 1; notes = n.notes ++ note n (Marked (mark_news (n.marks + 1) c core)) ∷ []; certificate = certificate_text c }
-with_made n (Called event.Mark reply core) = record n { marks = n.marks + 1; notes = n.notes ++ note n (TooMany (n.marks + 1)) ∷ [] }
-with_made n made = n
+with_made n made = fold with_called n made.called
 
 abbrev pub with_all_made : News → List Made → News
 with_all_made n made = fold with_made n made

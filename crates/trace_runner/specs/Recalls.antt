@@ -1,23 +1,21 @@
 -- What a run keeps of what its lines did.
-use Rattle.std.specs.Prelude.{◌≡◌, ◌<◌, ◌≤◌, ◌+◌, ◌++◌, ◌&&◌, ◌||◌, ◌==◌, nat_eq, nat_lt, ℕ, Bool, true, false, not, List, [], length, map, take, slice_get, slice_index, if◌then◌else◌, Option, Some, None, option_and_then}
+use Rattle.std.specs.Prelude.{◌≡◌, ◌<◌, ◌≤◌, ◌++◌, ◌&&◌, ◌||◌, ◌==◌, nat_eq, nat_lt, ℕ, Bool, true, false, not, List, [], length, map, take, slice_get, if◌then◌else◌, Some, None}
 use Rattle.std.specs.HashSet as bag
 use Rattle.std.specs.HashSet.{HashSet}
 use Rattle.std.specs.Option.{option_map, option_map_or}
-use Rattle.span.specs.declared.key.Key.{Key}
 use Rattle.trace_runner.specs.Barrier.{is_barrier, open_lines}
 use Rattle.trace_text.specs.Causes.{has_ended, is_call, is_call_over, keys_in, thread_of}
 use Rattle.arena_core.specs.State.{CoreState}
 use Rattle.trace_runner.specs.Made.{Asked, Did, Made, all_made, asked_of}
 use Rattle.trace_runner.specs.Kept.{Kept, Recalls, keeping, kept_of}
 use Rattle.trace_runner.specs.News.{News, news_of, with_all_made}
-use Rattle.trace_runner.specs.Runs.{DoLines, IsAnswered, answers_from, ends_asked, finishing, key_made, on_line, pairs_left_of, planning_at}
+use Rattle.trace_runner.specs.Runs.{DoLines, IsAnswered, ends_asked, finishing, pairs_left_of, planning_at}
 use Rattle.trace_runner.specs.declared.plans.Plans.{Plans}
 use Rattle.arena_core.specs.declared.event.Event.{Event}
 use Rattle.arena_core.specs.declared.event.Event.TheVariants.{Put, Later, Settle, End, Adopt, Mark, Step, Close}
 use Rattle.arena_core.specs.declared.reply.Reply.{Reply}
 use Rattle.arena_core.specs.declared.reply.Reply.TheVariants.{Sent, Settled, Marked, Stepped, NoPairLeft, Closed, NoPlan, Refused}
 use Rattle.arena_core.specs.declared.reply.Refusal.TheVariants.{Ended, PlanOpen, TooMany, RingFull, Config}
-use Rattle.trace_runner.specs.declared.report.LineAnswer.{LineAnswer}
 use Rattle.trace_text.specs.declared.line.Line.{Line}
 
 -- ---- what is done at a line

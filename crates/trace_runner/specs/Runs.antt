@@ -3,7 +3,7 @@ use Rattle.std.specs.Prelude.{◌≡◌, ◌+◌, ◌-◌, ℕ, true, false, nat
 use Rattle.std.specs.List.{AllByRecursion, range_with_len}
 use Rattle.span.specs.declared.key.Key.{Key}
 use Rattle.trace_runner.specs.Barrier.{is_barrier, leavers}
-use Rattle.trace_runner.specs.Made.{Asked, Calls, Keyless, Leaves, Made, Called, Unbound, Left, Did, all_made, asked_of, core_after, events_of, replies_of}
+use Rattle.trace_runner.specs.Made.{Asked, Calls, Keyless, Leaves, CalledEvent, Called, Made, Did, IsAsAsked, all_called, all_made, asked_of, core_after, core_called, events_of, replies_of}
 use Rattle.trace_runner.specs.News.{News, all_news}
 use Rattle.trace_text.specs.Causes.{binding_of}
 use Rattle.arena_core.specs.State.{CoreState, OpenPlan, shown}
@@ -26,10 +26,14 @@ use Rattle.trace_text.specs.declared.name.Reference.{Reference}
 
 -- ---- what a line asks for
 
+-- the key that an event gave out, where it was a put and is the first
+abbrev pub key_given : List CalledEvent → Option Key
+key_given (Called event (Issued key) core ∷ called) = Some key
+key_given called = None
+
 -- the key that a put gave out
 abbrev pub key_made : Made → Option Key
-key_made (Called event (Issued key) core) = Some key
-key_made made = None
+key_made made = key_given made.called
 
 -- what the put at a place of the line that binds a name gave out
 abbrev pub key_bound : List Did → ℕ → Binding → Option Key
@@ -112,19 +116,22 @@ IsTold NoPlan = ⊥
 IsTold reply = Unit {0}
 
 -- each event was a step of the core, which left it as it says
-abbrev pub Happens : CoreState → List Made → Type 0
+abbrev pub Happens : CoreState → List CalledEvent → Type 0
 Happens core [] = Unit {0}
-Happens core (Called event reply after ∷ made) = CoreStep core event reply after × Happens after made
-Happens core (Unbound ∷ made) = Happens core made
-Happens core (Left ∷ made) = Happens core made
+Happens core (Called event reply after ∷ called) = CoreStep core event reply after × Happens after called
 
--- the core answers the calls so, which without ends, adoptions and what is done with plans is a run of the plain map that it shows
+-- the core answers the events so, which without ends, adoptions and what is done with plans is a run of the plain map that it shows
+pub record AreSteps (old : CoreState) (called : List CalledEvent) (new : CoreState) : Type 0 where
+  pub each : Happens old called
+  pub last : new ≡ core_called old called
+  pub core : CoreRun old (events_of called) (replies_of called) new
+  pub plain : PlainRun old.limits (shown old) (erased (events_of called) (replies_of called)) (shown new)
+  pub told : AllByRecursion IsTold (replies_of called)
+
+-- for all that was asked the core was called as often as its replies decide, and answered so
 pub record IsAnswered (old : CoreState) (made : List Made) (new : CoreState) : Type 0 where
-  pub each : Happens old made
-  pub last : new ≡ core_after old made
-  pub core : CoreRun old (events_of made) (replies_of made) new
-  pub plain : PlainRun old.limits (shown old) (erased (events_of made) (replies_of made)) (shown new)
-  pub told : AllByRecursion IsTold (replies_of made)
+  pub steps : AreSteps old (all_called made) new
+  pub asked : AllByRecursion IsAsAsked made
 
 -- after what was done from the core on, the line did this
 pub record Does (shards : ℕ) (lines : List Line) (start : CoreState) (done : List Did) (line : Line) (did : Did) : Type 0 where
@@ -139,20 +146,28 @@ DoLines shards all start (line ∷ lines) done after = (did : Did) × Does shard
 
 -- ---- the answers that the report tells
 
+-- what is told of the reply to an event
+abbrev pub answer_told : Reply → Answer
+answer_told (Issued key) = answer.Key key
+answer_told (Found (Some value)) = answer.Value value
+answer_told (Found None) = answer.Absent
+answer_told (Freed true) = answer.Freed
+answer_told (Freed false) = answer.NotFreed
+answer_told ShardEnded = answer.Ended
+answer_told (Adopted head) = answer.Adopted head
+answer_told (Refused NothingToAdopt) = answer.NothingToAdopt
+answer_told (Refused cause) = answer.PagesSpent
+-- no event of a line has another reply
+answer_told reply = answer.Unbound
+
+-- the reply to one thing that was asked for, after the events that were called
+abbrev pub answer_of : Asked → List CalledEvent → Answer
+answer_of (Calls event) (Called done reply core ∷ more) = answer_told reply
+answer_of Leaves called = answer.Ended
+answer_of asked called = answer.Unbound
+
 abbrev pub answer_to : Made → Answer
-answer_to (Called event (Issued key) core) = answer.Key key
-answer_to (Called event (Found (Some value)) core) = answer.Value value
-answer_to (Called event (Found None) core) = answer.Absent
-answer_to (Called event (Freed true) core) = answer.Freed
-answer_to (Called event (Freed false) core) = answer.NotFreed
-answer_to (Called event ShardEnded core) = answer.Ended
-answer_to (Called event (Adopted head) core) = answer.Adopted head
-answer_to (Called event (Refused NothingToAdopt) core) = answer.NothingToAdopt
-answer_to (Called event (Refused cause) core) = answer.PagesSpent
--- no call of a line has another reply
-answer_to (Called event reply core) = answer.Unbound
-answer_to Unbound = answer.Unbound
-answer_to Left = answer.Ended
+answer_to made = answer_of made.asked made.called
 
 -- an answer on the line of that number
 abbrev pub on_line : ℕ → Made → LineAnswer

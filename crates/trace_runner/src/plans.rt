@@ -5,7 +5,7 @@ ghost use Rattle.arena_core.specs.declared.event.Event.TheVariants as event;
 ghost use Rattle.arena_core.specs.declared.reply.Reply.TheVariants as reply;
 ghost use Rattle.certificate.specs.Text.{IsWritable};
 ghost use Rattle.trace_runner.specs.Made.{Calls, Called};
-ghost use Rattle.trace_runner.specs.News.{no_news, with_made};
+ghost use Rattle.trace_runner.specs.News.{no_news, with_called};
 ghost use Rattle.trace_runner.specs.Recalls.{Carries, KeepsShards, KnowsPlan, news_at};
 ghost use Rattle.trace_runner.specs.Runs.{finishing, stepping};
 
@@ -186,7 +186,7 @@ impl Plans {
     ) -> Result<(), AllocError>
         requires few { self.old.marks + 1 < 2 ^ 64 }
         requires writable { IsWritable certificate }
-        ensures news { OnOk result (news_at above self.new ≡ with_made (news_at above self.old) (Called event.Mark (reply.Marked certificate) core.now)) }
+        ensures news { OnOk result (news_at above self.new ≡ with_called (news_at above self.old) (Called event.Mark (reply.Marked certificate) core.now)) }
         ensures left { OnOk result (self.new.left ≡ Some (length certificate.plan)) }
         ensures marks { OnOk result (self.new.marks ≡ self.old.marks + 1) }
     {

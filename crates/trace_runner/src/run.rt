@@ -9,11 +9,10 @@ ghost use Rattle.trace_runner.specs.Recalls.{CanLeave, Carries, EndsBelow, EndsO
 ghost use Rattle.trace_text.specs.Places.{place_at};
 ghost use Rattle.trace_runner.specs.declared.report.LineAnswer.{LineAnswer};
 ghost use Rattle.trace_text.specs.Causes.{call_ends, ends, first_cause, is_adopt, is_call_over};
-ghost use Rattle.trace_runner.specs.Made.{Did, Called, Calls, Keyless, Leaves};
+ghost use Rattle.trace_runner.specs.Made.{Did, Calls, Keyless, Leaves};
 ghost use Rattle.trace_runner.specs.News.{News};
-ghost use Rattle.trace_runner.specs.Runs.{IsRun, answer_to, asked_by, asked_by_call, ends_asked, finishing, on_key, IsTold, key_at, key_of};
+ghost use Rattle.trace_runner.specs.Runs.{IsRun, answer_told, asked_by, asked_by_call, ends_asked, finishing, on_key, IsTold, key_at, key_of};
 ghost use Rattle.arena_core.specs.declared.event.Event.TheVariants as event;
-ghost use Rattle.arena_core.specs.declared.event.Event.{Event};
 
 use crate::plans::Plans;
 use crate::replies::Replies;
@@ -396,7 +395,7 @@ fn adoptions(lines: &[Line]) -> usize
 fn answer_to(reply: Reply) -> Result<Answer, AllocError>
     requires { IsServed reply }
     ensures told { OnOk result (IsTold reply) }
-    ensures answer { (event : Event) (core : CoreState) → IfOk result (λ answer. answer ≡ answer_to (Called event reply core)) }
+    ensures answer { IfOk result (λ answer. answer ≡ answer_told reply) }
 {
     match reply {
         Reply::Issued(key) => Ok(Answer::Key(key)),

@@ -6,7 +6,7 @@ use Rattle.arena_core.specs.declared.reply.Reply.TheVariants as reply
 use Rattle.arena_core.specs.declared.reply.Refusal.{Refusal}
 use Rattle.arena_core.specs.declared.reply.Refusal.TheVariants as refusal
 use Rattle.trace_runner.specs.Made.{Called}
-use Rattle.trace_runner.specs.News.{News, with_made}
+use Rattle.trace_runner.specs.News.{News, with_called}
 use Rattle.trace_runner.specs.Recalls.{news_at}
 use Rattle.trace_runner.proofs.Making.{Carries-one}
 use Rattle.trace_runner.proofs.PlanSteps.{KeepsShards-marked, News-same}
@@ -30,4 +30,4 @@ returns-in-Refused-TooMany-clause-made c =
     let w = c.in-Refused-TooMany in
     on_ok_weaker c.tell.result (λ told. Carries-one event.Mark (reply.Refused refusal.TooMany) c.args.core.now c.step.new.self before after
     (subst (λ (r : Refusal). CoreStep c.args.core.now event.Mark (reply.Refused r) c.step.new.self) w.field-0-is w.ensures.exact) w.ensures.sound w.ensures.plain tt
-    (News-same after (with_made before (Called event.Mark (reply.Refused refusal.TooMany) c.step.new.self)) refl c.tell.ensures.marks c.tell.ensures.taken told (ap (λ text. text.items) c.tell.ensures.certificate))) c.tell.ensures.told
+    (News-same after (with_called before (Called event.Mark (reply.Refused refusal.TooMany) c.step.new.self)) refl c.tell.ensures.marks c.tell.ensures.taken told (ap (λ text. text.items) c.tell.ensures.certificate))) c.tell.ensures.told

@@ -1,6 +1,6 @@
 use Rattle.std.proofs.Common.{ap}
 use Rattle.trace_runner.specs.Kept.{kept_in}
-use Rattle.trace_runner.specs.Made.{Called}
+use Rattle.trace_runner.specs.Made.{one_call}
 use Rattle.trace_runner.proofs.Making.{Makes-called}
 use Rattle.trace_runner.proofs.Recalling.{keeping-other}
 use Rattle.trace_runner.proofs.Serving.{IsServed-step, KeepsPlan-step}
@@ -11,10 +11,10 @@ answer_to-requires c = IsServed-step _ _ c.args.event c.step-reply.result c.requ
 
 pub returns-clause-made : goal.returns-clause-made
 returns-clause-made c =
-    let answered = c.in_ok-answer.ensures.answer c.args.event c.step-reply.new.self in
+    let answered = c.in_ok-answer.ensures.answer in
     Makes-called c.args.number c.args.event c.step-reply.result c.args.self.now.core c.step-reply.new.self (kept_in c.args.self.now.replies) (kept_in c.tell.new.self)
     c.step-reply.ensures.exact c.step-reply.ensures.sound c.step-reply.ensures.plain c.in_ok-answer.ensures.told
-    (keeping-other c.args.number (kept_in c.args.self.now.replies) (kept_in c.tell.new.self) (Called c.args.event c.step-reply.result c.step-reply.new.self)
+    (keeping-other c.args.number (kept_in c.args.self.now.replies) (kept_in c.tell.new.self) (one_call c.args.event c.step-reply.result c.step-reply.new.self)
     c.in_ok-tell.ensures.count c.tell.ensures.asked (rw answered at c.in_ok-tell.ensures.told) c.requires.kind (ap (λ v. v.items) c.tell.ensures.keys))
 
 pub returns-in_err-answer-clause-shards : goal.returns-in_err-answer-clause-shards

@@ -1,10 +1,10 @@
 use Rattle.std.proofs.Common.{ap, refl}
 use Rattle.trace_runner.specs.Kept.{kept_in}
-use Rattle.trace_runner.specs.Made.{Left}
+use Rattle.trace_runner.specs.Made.{Leaves, no_call}
 use Rattle.trace_runner.proofs.Making.{Makes-left}
 use Rattle.trace_runner.proofs.Recalling.{keeping-other}
 use Rattle.trace_runner.proofs.run.Run.leave.Goals as goal
 
 pub returns-clause-made : goal.returns-clause-made
 returns-clause-made c = Makes-left c.args.number c.args.self.now.core (kept_in c.args.self.now.replies) (kept_in c.tell.new.self)
-    (keeping-other c.args.number (kept_in c.args.self.now.replies) (kept_in c.tell.new.self) Left c.in_ok-tell.ensures.count c.tell.ensures.asked c.in_ok-tell.ensures.told refl (ap (λ v. v.items) c.tell.ensures.keys))
+    (keeping-other c.args.number (kept_in c.args.self.now.replies) (kept_in c.tell.new.self) (no_call Leaves) c.in_ok-tell.ensures.count c.tell.ensures.asked c.in_ok-tell.ensures.told refl (ap (λ v. v.items) c.tell.ensures.keys))

@@ -1,10 +1,10 @@
 use Rattle.std.proofs.Common.{ap, refl}
 use Rattle.trace_runner.specs.Kept.{kept_in}
-use Rattle.trace_runner.specs.Made.{Unbound}
+use Rattle.trace_runner.specs.Made.{Keyless, no_call}
 use Rattle.trace_runner.proofs.Making.{Makes-unbound}
 use Rattle.trace_runner.proofs.Recalling.{keeping-other}
 use Rattle.trace_runner.proofs.run.Run.skip.Goals as goal
 
 pub returns-clause-made : goal.returns-clause-made
 returns-clause-made c = Makes-unbound c.args.number c.args.self.now.core (kept_in c.args.self.now.replies) (kept_in c.tell.new.self)
-    (keeping-other c.args.number (kept_in c.args.self.now.replies) (kept_in c.tell.new.self) Unbound c.in_ok-tell.ensures.count c.tell.ensures.asked c.in_ok-tell.ensures.told refl (ap (λ v. v.items) c.tell.ensures.keys))
+    (keeping-other c.args.number (kept_in c.args.self.now.replies) (kept_in c.tell.new.self) (no_call Keyless) c.in_ok-tell.ensures.count c.tell.ensures.asked c.in_ok-tell.ensures.told refl (ap (λ v. v.items) c.tell.ensures.keys))
