@@ -1,9 +1,11 @@
 // What a thread was told.
 ghost use Rattle.std.specs.Prelude.{◌≡◌, ◌++◌, OnOk, map};
-ghost use Rattle.thread_runner.specs.Told.{answer_of, call_line, call_lines, diary_lines, first_of, other_line, rest_of};
+ghost use Rattle.thread_runner.specs.Told.{answer_of, call_line, call_lines, diary_lines, first_of, is_free, other_line, rest_of, told_by};
 
+use arena::{Arena, Gate, Seat};
 use span::{Call, Receipt, SpanId};
 use std::alloc::{AllocError, Global};
+use std::sync::Wait;
 use trace_runner::{Answer, LineAnswer};
 
 /// What a line came to other than by a call on a key.
@@ -19,6 +21,12 @@ pub enum Other {
     Adopted(SpanId),
     /// A shard found no group to adopt.
     NothingToAdopt,
+    /// A key was sent off to be freed later.
+    Sent,
+    /// The ring for a key that was to be freed later had no room.
+    RingFull,
+    /// So many keys that had come in were taken, and freed where they were live.
+    Settled(usize),
 }
 
 /// What a line came to other than by a call on a key, with its place in the trace.
@@ -37,8 +45,9 @@ pub(crate) struct Diary {
     replies: bool,
     /// The receipts of all calls on keys, in order.
     receipts: Vec<Receipt>,
-    /// Of each of them the number of its line, where the report has replies.
-    lines: Vec<usize>,
+    /// Of each of them the number of its line, where the report has replies; none for a key that came in on a ring, whose
+    /// free has no reply of its own.
+    lines: Vec<Option<usize>>,
     /// What the other lines came to, where the report has replies.
     others: Vec<OtherLine>,
     /// How many replies there are.
@@ -60,7 +69,7 @@ impl Diary {
     /// Keeps the receipt of a call on the line of that number.
     pub(crate) fn keep(&mut self, line: usize, receipt: Receipt) -> Result<(), AllocError> {
         if self.replies {
-            self.lines.push(line)?;
+            self.lines.push(Some(line))?;
         }
         self.receipts.push(receipt)?;
         self.calls = self.calls.saturating_add(1);
@@ -74,6 +83,25 @@ impl Diary {
         }
         self.calls = self.calls.saturating_add(1);
         Ok(())
+    }
+
+    /// Frees the keys that have come in on the rings to the seat's shard, keeps their receipts, and says how many there were.
+    pub(crate) fn tend<R: Wait, G: Gate>(
+        &mut self,
+        rt: &R,
+        seat: &mut Seat,
+        arena: &Arena<G>,
+    ) -> Result<usize, AllocError>
+        requires { seat.old.limits ≡ arena.now.limits }
+        ensures { seat.new.limits ≡ seat.old.limits }
+    {
+        let count = seat.tend(rt, arena, &mut self.receipts)?;
+        if self.replies {
+            for _ in 0..count {
+                self.lines.push(None)?;
+            }
+        }
+        Ok(count)
     }
 
     /// How many replies there are.
@@ -129,10 +157,36 @@ fn call_line(line: usize, receipt: &Receipt) -> LineAnswer
     }
 }
 
-/// Adds a reply for each receipt, on the line whose number stands at its place; 0 where there is none.
+/// Whether a receipt is that of a free.
+fn is_free(receipt: &Receipt) -> bool
+    ensures { result ≡ is_free receipt.now.call }
+{
+    matches!(receipt.call, Call::Freed | Call::NotFreed)
+}
+
+/// Adds the reply of a receipt on the line of that number. A free with no line has none: its key came in on a ring.
+fn push_call(
+    replies: &mut Vec<LineAnswer>,
+    line: Option<usize>,
+    receipt: &Receipt,
+) -> Result<(), AllocError>
+    ensures { OnOk result (replies.new.items ≡ replies.old.items ++ told_by line receipt.now) }
+{
+    match line {
+        Some(line) => replies.push(call_line(line, receipt))?,
+        None => {
+            if !is_free(receipt) {
+                replies.push(call_line(0, receipt))?;
+            }
+        }
+    }
+    Ok(())
+}
+
+/// Adds the replies of receipts, each on the line whose number stands at its place.
 fn push_calls(
     replies: &mut Vec<LineAnswer>,
-    lines: &[usize],
+    lines: &[Option<usize>],
     receipts: &[Receipt],
 ) -> Result<(), AllocError>
     ensures { OnOk result (replies.new.items ≡ replies.old.items ++ call_lines lines.now receipts.now) }
@@ -140,19 +194,19 @@ fn push_calls(
     let mut left = lines;
     for receipt in receipts {
         let (line, rest) = first_line(left);
-        replies.push(call_line(line, receipt))?;
+        push_call(replies, line, receipt)?;
         left = rest;
     }
     Ok(())
 }
 
-/// The first number and those behind it; 0 where there is none.
-fn first_line(lines: &[usize]) -> (usize, &[usize])
+/// The first number and those behind it.
+fn first_line(lines: &[Option<usize>]) -> (Option<usize>, &[Option<usize>])
     ensures first { result.0 ≡ first_of lines.now }
     ensures rest { result.1.now ≡ rest_of lines.now }
 {
     match lines {
-        [] => (0, lines),
+        [] => (None, lines),
         [first, rest @ ..] => (*first, rest),
     }
 }
@@ -169,6 +223,9 @@ fn other_line(told: &OtherLine) -> LineAnswer
             Other::Ended => Answer::Ended,
             Other::Adopted(head) => Answer::Adopted(head),
             Other::NothingToAdopt => Answer::NothingToAdopt,
+            Other::Sent => Answer::Sent,
+            Other::RingFull => Answer::RingFull,
+            Other::Settled(count) => Answer::Settled(count),
         },
     }
 }

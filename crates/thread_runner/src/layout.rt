@@ -66,6 +66,7 @@ fn keys_bound(call: &Call) -> usize {
     match call {
         Call::Put { .. } => 1,
         Call::Fill { count, .. } => *count as usize,
-        Call::Get { .. } | Call::Free { .. } | Call::Sweep { .. } | Call::End => 0,
+        Call::Get { .. } | Call::Free { .. } | Call::Sweep { .. } => 0,
+        Call::Later { .. } | Call::Tend | Call::End => 0,
     }
 }

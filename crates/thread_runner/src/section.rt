@@ -205,11 +205,26 @@ impl<'a, G: Gate + Sync> Crew<'a, G> {
         Ok(())
     }
 
-    // Settles the section that was run: its plan is ended, which is told at the line of that place, and shards are abandoned.
+    // Frees the keys that wait on all rings, by shard.
+    fn settle_rings<R: Wait>(&mut self, rt: &R) -> Result<(), AllocError> {
+        for thread in 0..self.text.trace.header.shards {
+            for worker in self.workers.iter_mut() {
+                if worker.thread() == thread {
+                    worker.settle(rt)?;
+                }
+            }
+        }
+        Ok(())
+    }
+
+    // Settles the section that was run: its plan is ended, which is told at the line of that place, shards are abandoned, and
+    // the rings are emptied.
     fn settle<R: Wait>(&mut self, rt: &R, place: usize) -> Result<(), Halt> {
         self.hand_over()?;
         self.close(rt, place)?;
-        self.abandon(rt)
+        self.abandon(rt)?;
+        self.settle_rings(rt)?;
+        Ok(())
     }
 
     // Makes the adoption of the line at that place.

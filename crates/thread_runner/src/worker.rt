@@ -107,6 +107,11 @@ impl<'a, G: Gate> Worker<'a, G> {
                 self.free(rt, number, key)
             }
             Call::Sweep { name, from, to } => self.sweep(rt, keys, number, name, *from, *to),
+            Call::Later { key } => {
+                let key = self.key_of(keys, key);
+                self.later(number, key)
+            }
+            Call::Tend => self.tend(rt, number),
             Call::End => {
                 self.leaves = true;
                 self.other(number, Other::Ended)
@@ -201,6 +206,33 @@ impl<'a, G: Gate> Worker<'a, G> {
             let key = self.key_at(keys, name, index);
             self.free(rt, number, key)?;
         }
+        Ok(())
+    }
+
+    // Leaves the key to be freed later, where it was given out.
+    fn later(&mut self, number: usize, key: Option<Key>) -> Result<(), Halt> {
+        let Some(key) = key else {
+            return self.other(number, Other::Unbound);
+        };
+        if !self.seat.has_shard_of(&key) {
+            return Err(Halt::Doubled);
+        }
+        match self.seat.free_later(key) {
+            Ok(()) => self.other(number, Other::Sent),
+            Err(_) => self.other(number, Other::RingFull),
+        }
+    }
+
+    // Frees the keys that have come in on the rings to its shard.
+    fn tend<R: Wait>(&mut self, rt: &R, number: usize) -> Result<(), Halt> {
+        let count = self.diary.tend(rt, &mut self.seat, self.arena)?;
+        self.other(number, Other::Settled(count))
+    }
+
+    /// Frees the keys that wait on the rings to its shard, where all workers have come in. No key is sent meanwhile, so one
+    /// look at each ring takes them all.
+    pub(crate) fn settle<R: Wait>(&mut self, rt: &R) -> Result<(), AllocError> {
+        self.diary.tend(rt, &mut self.seat, self.arena)?;
         Ok(())
     }
 

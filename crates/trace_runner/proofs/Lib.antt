@@ -11,3 +11,5 @@ pub mod Progress
 pub mod Reporting
 pub mod Serving
 pub mod PlanSteps
+pub mod Draining
+pub mod Homes

@@ -14,7 +14,7 @@ use Rattle.trace_runner.specs.News.{News, with_all_made, with_called, with_made}
 use Rattle.trace_runner.specs.Kept.{Kept, keeping}
 use Rattle.trace_runner.specs.Recalls.{Carries, Makes, MakesLine, news_at, settling_with}
 use Rattle.trace_runner.proofs.Recalling.{keeping-append, keeping-none}
-use Rattle.trace_runner.specs.Runs.{AreSteps, Happens, IsAnswered, IsTold, ends_asked, finishing, stepping}
+use Rattle.trace_runner.specs.Runs.{AreSteps, Happens, IsAnswered, IsTold, ends_asked, finishing, rings_asked, stepping}
 use Rattle.trace_runner.specs.declared.plans.Plans.{Plans}
 use Rattle.trace_text.specs.declared.line.Call.{Call}
 use Rattle.trace_text.specs.declared.line.Line.TheVariants as line
@@ -164,8 +164,8 @@ Carries-end shard old new news step sound plain = Carries-one (End shard) ShardE
 
 -- ---- what a line asks for, by its kind
 
-module _ (number : ℕ) (threads : List ℕ) (old : CoreState) (before : Kept) (plans : Plans) where
-  pub MakesLine-silent : MakesLine number (settling_with threads old line.Silent) [] line.Silent old before (news_at before.count plans) old before (news_at before.count plans)
+module _ (number shards : ℕ) (threads : List ℕ) (old : CoreState) (before : Kept) (plans : Plans) where
+  pub MakesLine-silent : MakesLine number (settling_with shards threads old line.Silent) [] line.Silent old before (news_at before.count plans) old before (news_at before.count plans)
   MakesLine-silent = record {
     settled_core = old;
     called_core = old;
@@ -177,7 +177,7 @@ module _ (number : ℕ) (threads : List ℕ) (old : CoreState) (before : Kept) (
 
   pub MakesLine-call : (thread : ℕ) (call : Call) (asked : List Asked) (mid new : CoreState) (after : Kept) (plans_after : Plans)
       → Makes number asked old before mid after → Carries (stepping mid.plan) mid (news_at after.count plans) new (news_at after.count plans_after)
-      → MakesLine number (settling_with threads old (line.Call thread call)) asked (line.Call thread call) old before (news_at before.count plans) new after (news_at after.count plans_after)
+      → MakesLine number (settling_with shards threads old (line.Call thread call)) asked (line.Call thread call) old before (news_at before.count plans) new after (news_at after.count plans_after)
   MakesLine-call thread call asked mid new after plans_after makes follows = record {
     settled_core = old;
     called_core = mid;
@@ -187,9 +187,9 @@ module _ (number : ℕ) (threads : List ℕ) (old : CoreState) (before : Kept) (
     plans = follows;
   }
 
-  module _ (mid : CoreState) (settled : Plans) (settles : Carries (finishing old.plan ++ ends_asked threads) old (news_at before.count plans) mid (news_at before.count settled)) where
+  module _ (mid : CoreState) (settled : Plans) (settles : Carries (finishing old.plan ++ (ends_asked threads ++ rings_asked shards)) old (news_at before.count plans) mid (news_at before.count settled)) where
     pub MakesLine-adopt : (shard : ℕ) (asked : List Asked) (new : CoreState) (after : Kept) → Makes number asked mid before new after
-        → MakesLine number (settling_with threads old (line.Adopt shard)) asked (line.Adopt shard) old before (news_at before.count plans) new after (news_at after.count settled)
+        → MakesLine number (settling_with shards threads old (line.Adopt shard)) asked (line.Adopt shard) old before (news_at before.count plans) new after (news_at after.count settled)
     MakesLine-adopt shard asked new after makes = record {
       settled_core = mid;
       called_core = new;
@@ -200,7 +200,7 @@ module _ (number : ℕ) (threads : List ℕ) (old : CoreState) (before : Kept) (
     }
 
     pub MakesLine-mark : (new : CoreState) (plans_after : Plans) → Carries (Calls Mark ∷ []) mid (news_at before.count settled) new (news_at before.count plans_after)
-        → MakesLine number (settling_with threads old line.Mark) [] line.Mark old before (news_at before.count plans) new before (news_at before.count plans_after)
+        → MakesLine number (settling_with shards threads old line.Mark) [] line.Mark old before (news_at before.count plans) new before (news_at before.count plans_after)
     MakesLine-mark new plans_after marks = record {
       settled_core = mid;
       called_core = mid;

@@ -9,24 +9,27 @@ use Rattle.std.proofs.lemmas.Grind.{flat_map-append}
 use Rattle.std.proofs.lemmas.List.Sums.{fold-append}
 use Rattle.std.proofs.lemmas.List.Elements.{filter-append}
 use Rattle.std.proofs.lemmas.List.{append-nil, length-map, length_push}
-use Rattle.arena_core.specs.State.{CoreState}
+use Rattle.arena_core.specs.State.{CoreState, Limits}
+use Rattle.arena_core.proofs.Limits.{limits-CoreRun}
+use Rattle.arena_core.proofs.Lists.{each-append}
 use Rattle.trace_runner.specs.Barrier.{is_barrier, leavers, open_lines}
 use Rattle.trace_text.specs.Causes.{ends, has_ended, first_cause, is_adopt, thread_of}
 use Rattle.trace_runner.specs.Recalls.{CanLeave, Carries, EndsBelow, HasCome, IsReady, KnowsPlan, MakesLine, Serves, news_at, settling_with}
-use Rattle.trace_runner.specs.Kept.{FindsAt, Kept, keeping, kept_none, kept_of, keys_of}
+use Rattle.trace_runner.specs.Kept.{AreHome, FindsAt, IsHome, Kept, keeping, kept_none, kept_of, keys_of}
 use Rattle.trace_text.specs.Places.{place_at}
 use Rattle.trace_runner.specs.Made.{Did, all_made, asked_of, made_by}
 use Rattle.trace_runner.specs.News.{News, news_of, no_news, with_all_made, with_answers, with_line}
-use Rattle.trace_runner.specs.Runs.{DoLines, Does, IsRun, answers_from, asked_by, calls_at, calls_in, ends_asked, finishing, on_line, pairs_left_of, planning_at, settling_at}
+use Rattle.trace_runner.specs.Runs.{DoLines, Does, IsRun, answers_from, asked_by, calls_at, calls_in, ends_asked, finishing, on_line, pairs_left_of, planning_at, rings_asked, settling_at}
 use Rattle.trace_runner.specs.declared.plans.Plans.{Plans}
 use Rattle.trace_text.specs.declared.header.Header.{Header}
-use Rattle.trace_text.specs.declared.line.Call.TheVariants.{Put, Fill, Get, Free, Sweep, End}
+use Rattle.trace_text.specs.declared.line.Call.TheVariants.{Put, Fill, Get, Free, Sweep, Later, Tend, End}
 use Rattle.trace_text.specs.declared.line.Line.{Line}
 use Rattle.trace_text.specs.declared.line.Line.TheVariants as line
 use Rattle.trace_runner.proofs.Barriers.{has_ended-open, has_ended-open-push}
 use Rattle.trace_text.proofs.Clips.{AllFine, all_fine}
 use Rattle.trace_text.proofs.Knowing.{has_ended-push, keys_in-push}
 use Rattle.trace_runner.proofs.Making.{IsAnswered-append, IsAnswered-none}
+use Rattle.trace_runner.proofs.Homes.{AreHome-answered}
 use Rattle.trace_runner.proofs.Notes.{above-all_made}
 use Rattle.trace_runner.proofs.Recalling.{FindsAt-fine, Keyed-asked, Recalls-none, Recalls-push, kept_of-none, kept_of-push, length-Keyed, take_line}
 use Rattle.trace_text.proofs.Texts.{first_cause-none}
@@ -89,6 +92,8 @@ ends-thread (line.Call thread (Fill name n v)) t e = cc
 ends-thread (line.Call thread (Get key)) t e = cc
 ends-thread (line.Call thread (Free key)) t e = cc
 ends-thread (line.Call thread (Sweep name from to)) t e = cc
+ends-thread (line.Call thread (Later key)) t e = cc
+ends-thread (line.Call thread Tend) t e = cc
 ends-thread (line.Call thread End) t e = ap Some (eqb-true thread t e)
 ends-thread (line.Adopt s) t e = cc
 ends-thread line.Mark t e = cc
@@ -97,7 +102,7 @@ ends-thread line.Mark t e = cc
 calls_of_line : (shards : ℕ) (all : List Line) (start : CoreState) (done : List Did) (l : Line) (did : Did) → Does shards all start done l did → length did.calls ≡ calls_at l did + length (filter is_adopt (l ∷ []))
 calls_of_line shards all start done l did does = by_line l (sym (length-map did.calls asked_of) ∙ ap length does.calls)
   where
-    by_line : (l : Line) → length did.calls ≡ length (asked_by all done l) → length did.calls ≡ calls_at l did + length (filter is_adopt (l ∷ []))
+    by_line : (l : Line) → length did.calls ≡ length (asked_by shards all done l) → length did.calls ≡ calls_at l did + length (filter is_adopt (l ∷ []))
     by_line line.Silent e = e
     by_line (line.Call t c) e = sym (add-zero (length did.calls))
     by_line (line.Adopt s) e = e
@@ -148,6 +153,7 @@ module _ (h : Header) (replies : Bool) (lines : List Line) (count : ℕ) (old co
       | inr stays ↦ stays
     ];
     leavers = HasCome-CanLeave;
+    enough = come.enough;
   }
 
   leaving_is : leaving ≡ has_ended (open_lines (take count lines))
@@ -155,7 +161,7 @@ module _ (h : Header) (replies : Bool) (lines : List Line) (count : ℕ) (old co
 
   -- once the next line was run
   pub HasCome-more : (l : Line) (new : CoreState) (after : Kept) (now : ℕ → Bool) (plans_now : Plans) → slice_get lines count ≡ Some l → first_cause h (take count lines) l ≡ None
-      → MakesLine (count + 6) (settling_with (filter leaving (range_with_len 0 h.shards)) core l) (asked_by lines come.done l) l core kept (news_at kept.count plans) new after (news_at after.count plans_now)
+      → MakesLine (count + 6) (settling_with h.shards (filter leaving (range_with_len 0 h.shards)) core l) (asked_by h.shards lines come.done l) l core kept (news_at kept.count plans) new after (news_at after.count plans_now)
       → EndsBelow core h.shards (λ t. is_barrier l && leaving t) new → ((t : ℕ) → now t ≡ (not (is_barrier l) && (ends t l || leaving t)))
       → KnowsPlan plans_now new → plans_now.marks ≤ plans.marks + 1
       → HasCome replies h.shards lines (count + 1) old new after now plans_now
@@ -169,12 +175,12 @@ module _ (h : Header) (replies : Bool) (lines : List Line) (count : ℕ) (old co
       let called = IsAnswered-append core makes.settled_core makes.called_core settled made answered_settled answered in
       let called_all = IsAnswered-append old core makes.called_core (all_made come.done) (settled ++ made) come.answered called in
       let does : Does h.shards lines old come.done l did = record {
-        settled = asks_settled ∙ ap (λ (f : ℕ → Bool). settling_with (filter f (range_with_len 0 h.shards)) core l) leaving_is
+        settled = asks_settled ∙ ap (λ (f : ℕ → Bool). settling_with h.shards (filter f (range_with_len 0 h.shards)) core l) leaving_is
             ∙ ap (λ ls. settling_at h.shards ls core l) (sym above) ∙ ap (λ c. settling_at h.shards (take (length come.done) lines) c l) come.answered.steps.last;
         calls = asks;
         plans = asks_planned ∙ ap (λ c. planning_at c l) called_all.steps.last;
       } in
-      let keyed = Keyed-asked lines come.done l made asks in
+      let keyed = Keyed-asked h.shards lines come.done l made asks in
       let keys : after.keys ≡ kept.keys ++ keys_of made = ap (λ (k : Kept). k.keys) more in
       let number : count + 6 ≡ length come.done + 6 = ap (λ n. n + 6) (sym come.count_is) in
       let waits : (t : ℕ) → has_ended (open_lines (take (count + 1) lines)) t ≡ (not (is_barrier l) && (ends t l || has_ended (open_lines (take count lines)) t)) =
@@ -197,6 +203,8 @@ module _ (h : Header) (replies : Bool) (lines : List Line) (count : ℕ) (old co
         knows = knows;
         marks = omega (arith, marks, come.marks);
         enough = rw ended.limits come.enough;
+        home = rw (ended.limits, keys) (each-append (IsHome core.limits.shards) kept.keys (keys_of made) come.home
+            (subst (λ (limits : Limits). AreHome limits.shards (keys_of made)) (limits-CoreRun core makes.settled_core _ _ answered_settled.steps.core) (AreHome-answered makes.settled_core makes.called_core made answered)));
         leaving_are = λ t. left t ∙ ap (λ b. not (is_barrier l) && (ends t l || b)) (come.leaving_are t) ∙ sym (waits t);
         ended_are = λ t below.
             let less : nat_lt t h.shards ≡ true = grind (arith, nat_tests, below) in
@@ -214,15 +222,15 @@ module _ (h : Header) (replies : Bool) (lines : List Line) (count : ℕ) (old co
       ap (λ (k : Kept). k.count) come.kept_is ∙ subst (λ (d : List Did). length (answers_from 6 d) ≡ calls_in lines d + length (filter is_adopt lines)) (sym rest.1) (rest.2 6)
 
   -- once the last section is settled, the run is whole
-  pub HasCome-IsRun : (new : CoreState) (calls : ℕ) (news : News) → count ≡ length lines → Carries (finishing core.plan ++ ends_asked (filter leaving (range_with_len 0 h.shards))) core (news_at kept.count plans) new news → calls ≡ calls_in lines come.done
+  pub HasCome-IsRun : (new : CoreState) (calls : ℕ) (news : News) → count ≡ length lines → Carries (finishing core.plan ++ (ends_asked (filter leaving (range_with_len 0 h.shards)) ++ rings_asked h.shards)) core (news_at kept.count plans) new news → calls ≡ calls_in lines come.done
       → IsRun h.shards lines old new (answers_from 6 come.done) calls news
   HasCome-IsRun new calls news all (made, asks, answered, told) calls_are =
       let whole : take count lines ≡ lines = ap (λ n. take n lines) all ∙ take-length lines in record {
         done = come.done;
         last = made;
         lines_do = subst (λ (some : List Line). DoLines h.shards lines old some [] come.done) whole come.lines_do;
-        settled = asks ∙ ap (λ (f : ℕ → Bool). finishing core.plan ++ ends_asked (filter f (range_with_len 0 h.shards))) leaving_is ∙ ap (λ ls. finishing core.plan ++ ends_asked (leavers h.shards ls)) whole
-            ∙ ap (λ (c : CoreState). finishing c.plan ++ ends_asked (leavers h.shards lines)) come.answered.steps.last;
+        settled = asks ∙ ap (λ (f : ℕ → Bool). finishing core.plan ++ (ends_asked (filter f (range_with_len 0 h.shards)) ++ rings_asked h.shards)) leaving_is ∙ ap (λ ls. finishing core.plan ++ (ends_asked (leavers h.shards ls) ++ rings_asked h.shards)) whole
+            ∙ ap (λ (c : CoreState). finishing c.plan ++ (ends_asked (leavers h.shards lines) ++ rings_asked h.shards)) come.answered.steps.last;
         answered = IsAnswered-append old core new (all_made come.done) made come.answered answered;
         answers_are = refl;
         calls_are = calls_are;
@@ -240,6 +248,7 @@ HasCome-start h replies lines core leaving plans serves none news left = record 
   recalls = Recalls-none [];
   long = refl;
   enough = serves.enough;
+  home = tt;
   leaving_are = none;
   ended_are = serves.running;
   news_are = news;

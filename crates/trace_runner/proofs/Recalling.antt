@@ -13,9 +13,9 @@ use Rattle.span.specs.declared.key.Key.{Key}
 use Rattle.arena_core.specs.State.{CoreState}
 use Rattle.arena_core.specs.declared.event.Event.{Event}
 use Rattle.arena_core.specs.declared.event.Event.TheVariants as event
-use Rattle.arena_core.specs.declared.reply.Refusal.TheVariants.{NothingToAdopt}
+use Rattle.arena_core.specs.declared.reply.Refusal.TheVariants.{NothingToAdopt, RingFull}
 use Rattle.arena_core.specs.declared.reply.Reply.{Reply}
-use Rattle.arena_core.specs.declared.reply.Reply.TheVariants.{Issued, Found, Freed, Refused}
+use Rattle.arena_core.specs.declared.reply.Reply.TheVariants.{Issued, Found, Freed, Refused, Sent}
 use Rattle.trace_runner.specs.Kept.{FindsAt, FindsOne, Kept, Recalls, answer_key, is_put, keeping, kept_none, kept_of, keys_of, told_of}
 use Rattle.trace_runner.specs.Made.{Asked, Calls, Did, Made, asked_of, one_call}
 use Rattle.trace_runner.specs.Runs.{answer_told, answers_from, asked_by, key_at, key_bound, key_made, on_key, on_line}
@@ -25,7 +25,7 @@ use Rattle.trace_text.specs.Earlier.{key_count}
 use Rattle.trace_text.specs.Places.{first_of, place_at}
 use Rattle.trace_text.specs.declared.header.Header.{Header}
 use Rattle.trace_text.specs.declared.line.Binding.{Binding}
-use Rattle.trace_text.specs.declared.line.Call.TheVariants.{Put, Fill, Get, Free, Sweep, End}
+use Rattle.trace_text.specs.declared.line.Call.TheVariants.{Put, Fill, Get, Free, Sweep, Later, Tend, End}
 use Rattle.trace_text.specs.declared.line.Keys.{Keys}
 use Rattle.trace_text.specs.declared.line.Keys.TheVariants.{One, Many}
 use Rattle.trace_text.specs.declared.line.Line.{Line}
@@ -110,6 +110,8 @@ answer_key-told event (Found None) core = refl
 answer_key-told event (Freed true) core = refl
 answer_key-told event (Freed false) core = refl
 answer_key-told event (Refused NothingToAdopt) core = refl
+answer_key-told event (Refused RingFull) core = refl
+answer_key-told event Sent core = refl
 answer_key-told event reply core = refl
 
 told_all : (replies : Bool) (number : ℕ) (before all : List LineAnswer) (made : List Made) → all ≡ before ++ map (on_line number) made
@@ -167,6 +169,10 @@ free_is_no_put : (o : Option Key) → is_put (on_key event.Free o) ≡ false
 free_is_no_put None = refl
 free_is_no_put (Some key) = refl
 
+later_is_no_put : (thread : ℕ) (o : Option Key) → is_put (on_key (event.Later thread) o) ≡ false
+later_is_no_put thread None = refl
+later_is_no_put thread (Some key) = refl
+
 -- a line that binds a name has its keys, in order, and any other line has none
 abbrev pub Keyed : Line → List Made → Type 0
 Keyed (line.Call t (Put name v)) made = (keys_of made ≡ map key_made made) × (length made ≡ 1)
@@ -179,19 +185,21 @@ asks_some made asked is puts = keys_of-all made (subst AllPuts (sym is) puts)
 asks_none : (made : List Made) (asked : List Asked) → map asked_of made ≡ asked → NoPuts asked → keys_of made ≡ []
 asks_none made asked is puts = keys_of-no made (subst NoPuts (sym is) puts)
 
-pub Keyed-asked : (all : List Line) (done : List Did) (l : Line) (made : List Made) → map asked_of made ≡ asked_by all done l → Keyed l made
-Keyed-asked all done line.Silent made is = asks_none made [] is tt
-Keyed-asked all done line.Mark made is = asks_none made [] is tt
-Keyed-asked all done (line.Adopt s) made is = asks_none made _ is (refl, tt)
-Keyed-asked all done (line.Call t (Put name v)) made is = (asks_some made _ is (refl, tt), sym (length-map made asked_of) ∙ ap length is)
-Keyed-asked all done (line.Call t (Fill name n v)) made is = (
+pub Keyed-asked : (shards : ℕ) (all : List Line) (done : List Did) (l : Line) (made : List Made) → map asked_of made ≡ asked_by shards all done l → Keyed l made
+Keyed-asked shards all done line.Silent made is = asks_none made [] is tt
+Keyed-asked shards all done line.Mark made is = asks_none made [] is tt
+Keyed-asked shards all done (line.Adopt s) made is = asks_none made _ is (refl, tt)
+Keyed-asked shards all done (line.Call t (Put name v)) made is = (asks_some made _ is (refl, tt), sym (length-map made asked_of) ∙ ap length is)
+Keyed-asked shards all done (line.Call t (Fill name n v)) made is = (
   asks_some made _ is (AllPuts-map (λ i. Calls (event.Put t (v + i))) (λ i. refl) (range_with_len 0 n)),
   sym (length-map made asked_of) ∙ ap length is ∙ length-map (range_with_len 0 n) (λ i. Calls (event.Put t (v + i))) ∙ length-range_with_len 0 n,
 )
-Keyed-asked all done (line.Call t (Get key)) made is = asks_none made _ is (get_is_no_put _, tt)
-Keyed-asked all done (line.Call t (Free key)) made is = asks_none made _ is (free_is_no_put _, tt)
-Keyed-asked all done (line.Call t (Sweep name from to)) made is = asks_none made _ is (NoPuts-map _ (λ place. free_is_no_put _) (range_with_len from (to - from)))
-Keyed-asked all done (line.Call t End) made is = asks_none made _ is (refl, tt)
+Keyed-asked shards all done (line.Call t (Get key)) made is = asks_none made _ is (get_is_no_put _, tt)
+Keyed-asked shards all done (line.Call t (Free key)) made is = asks_none made _ is (free_is_no_put _, tt)
+Keyed-asked shards all done (line.Call t (Sweep name from to)) made is = asks_none made _ is (NoPuts-map _ (λ place. free_is_no_put _) (range_with_len from (to - from)))
+Keyed-asked shards all done (line.Call t (Later key)) made is = asks_none made _ is (later_is_no_put t _, tt)
+Keyed-asked shards all done (line.Call t Tend) made is = asks_none made _ is (refl, tt)
+Keyed-asked shards all done (line.Call t End) made is = asks_none made _ is (refl, tt)
 
 as_many : (made : List Made) (n : ℕ) → (keys_of made ≡ map key_made made) × (length made ≡ n) → length (keys_of made) ≡ n
 as_many made n keyed = ap length keyed.0 ∙ length-map made key_made ∙ keyed.1
@@ -205,6 +213,8 @@ length-Keyed (line.Call t (Fill name n v)) made keyed = as_many made n keyed
 length-Keyed (line.Call t (Get key)) made keyed = ap length keyed
 length-Keyed (line.Call t (Free key)) made keyed = ap length keyed
 length-Keyed (line.Call t (Sweep name from to)) made keyed = ap length keyed
+length-Keyed (line.Call t (Later key)) made keyed = ap length keyed
+length-Keyed (line.Call t Tend) made keyed = ap length keyed
 length-Keyed (line.Call t End) made keyed = ap length keyed
 
 -- ---- the keys of a name
@@ -258,6 +268,8 @@ IsBound-at place section first name (line.Call t (Fill bound n v)) made b keyed 
 IsBound-at place section first name (line.Call t (Get key)) made b keyed e = cc
 IsBound-at place section first name (line.Call t (Free key)) made b keyed e = cc
 IsBound-at place section first name (line.Call t (Sweep bound from to)) made b keyed e = cc
+IsBound-at place section first name (line.Call t (Later key)) made b keyed e = cc
+IsBound-at place section first name (line.Call t Tend) made b keyed e = cc
 IsBound-at place section first name (line.Call t End) made b keyed e = cc
 
 pub Recalls-none : (keys : List (Option Key)) → Recalls [] [] keys
@@ -344,7 +356,11 @@ module _ (h : Header) (lines : List Line) (n : ℕ) (done : List Did) (keys : Li
   FindsAt-fine (line.Adopt s) fine = tt
   FindsAt-fine (line.Call t (Put name v)) fine = tt
   FindsAt-fine (line.Call t (Fill name m v)) fine = tt
+  FindsAt-fine (line.Call t Tend) fine = tt
   FindsAt-fine (line.Call t End) fine = tt
+  FindsAt-fine (line.Call t (Later key)) fine =
+      let (b, is, has) = known (has_key key.index) (binding_of key.name (take n lines)) (all_fine h (take n lines) (line.Call t (Later key)) (first_cause-none h (take n lines) (line.Call t (Later key)) fine).1).known in
+      one_found key.name b (unwrap_or key.index 0) is (below_count key.index b.keys has)
   FindsAt-fine (line.Call t (Get key)) fine =
       let (b, is, has) = known (has_key key.index) (binding_of key.name (take n lines)) (all_fine h (take n lines) (line.Call t (Get key)) (first_cause-none h (take n lines) (line.Call t (Get key)) fine).1).known in
       one_found key.name b (unwrap_or key.index 0) is (below_count key.index b.keys has)

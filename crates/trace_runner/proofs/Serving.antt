@@ -13,8 +13,8 @@ use Rattle.trace_runner.specs.Recalls.{EndsOne, IsOpen, IsServed, KeepsPlan, Kee
 use Rattle.arena_core.specs.declared.event.Event.{Event}
 use Rattle.arena_core.specs.declared.event.Event.TheVariants.{Put, Get, Free, Later, Settle, End, Adopt, Mark, Step, Close}
 use Rattle.arena_core.specs.declared.reply.Reply.{Reply}
-use Rattle.arena_core.specs.declared.reply.Reply.TheVariants.{Issued, Found, Freed, ShardEnded, Adopted, Refused}
-use Rattle.arena_core.specs.declared.reply.Refusal.TheVariants.{OutOfMemory, PagesSpent, Ended, PlanOpen, NothingToAdopt, Config}
+use Rattle.arena_core.specs.declared.reply.Reply.TheVariants.{Issued, Found, Freed, Sent, ShardEnded, Adopted, Refused}
+use Rattle.arena_core.specs.declared.reply.Refusal.TheVariants.{OutOfMemory, PagesSpent, Ended, PlanOpen, NothingToAdopt, RingFull, Config}
 
 -- the shard of this number is there and has ended
 abbrev pub ended_in : List ShardState → ℕ → Bool
@@ -59,7 +59,7 @@ module _ (old : CoreState) (number : ℕ) (before after : ShardState) (here : sl
 KeepsShards-same : (old new : CoreState) → new ≡ old → KeepsShards old new
 KeepsShards-same old new same = record { limits = ap (λ (c : CoreState). c.limits) same; ended = λ number. ap (λ c. ended_at c number) same }
 
-KeepsPlan-same : (old new : CoreState) → new ≡ old → KeepsPlan old new
+pub KeepsPlan-same : (old new : CoreState) → new ≡ old → KeepsPlan old new
 KeepsPlan-same old new same = record { shards = KeepsShards-same old new same; plan = ap (λ (c : CoreState). c.plan) same }
 
 ended-Puts : (old new : ShardState) (value : ℕ) (key : Key) (at : ℕ) → Puts old value key at new → new.ended ≡ old.ended
@@ -80,7 +80,9 @@ KeepsPlan-step old new (Get key) (Found value) may step = KeepsPlan-same old new
 KeepsPlan-step old new (Free key) (Freed true) may (inl step) = subst (KeepsPlan old) (sym step.rest) (record { shards = KeepsShards-with_shard old step.number step.before step.after step.here (ended-Frees step.before step.after key step.at step.frees); plan = refl })
 KeepsPlan-step old new (Free key) (Freed true) may (inr step) = subst (KeepsPlan old) (sym step.rest) (record { shards = record { limits = refl; ended = λ number. refl }; plan = refl })
 KeepsPlan-step old new (Free key) (Freed false) may step = KeepsPlan-same old new step.1
-KeepsPlan-step old new (Later worker key) reply may step = absurd may
+KeepsPlan-step old new (Later worker key) Sent may step = subst (KeepsPlan old) (sym step.rest) (record { shards = record { limits = refl; ended = λ number. refl }; plan = refl })
+KeepsPlan-step old new (Later worker key) (Refused RingFull) may step = KeepsPlan-same old new step.1
+KeepsPlan-step old new (Later worker key) (Refused Config) may step = KeepsPlan-same old new step.1
 KeepsPlan-step old new (Settle worker shard) reply may step = absurd may
 KeepsPlan-step old new (End shard) reply may step = absurd may
 KeepsPlan-step old new (Adopt shard) (Adopted head) may step =
@@ -122,7 +124,9 @@ IsServed-step old new (Put shard value) (Refused OutOfMemory) may step = tt
 IsServed-step old new (Put shard value) (Issued key) may step = tt
 IsServed-step old new (Get key) (Found value) may step = tt
 IsServed-step old new (Free key) (Freed freed) may step = tt
-IsServed-step old new (Later worker key) reply may step = absurd may
+IsServed-step old new (Later worker key) Sent may step = tt
+IsServed-step old new (Later worker key) (Refused RingFull) may step = tt
+IsServed-step old new (Later worker key) (Refused Config) may step = elim step.0 [ inl outside ↦ omega (arith, may.0, outside) | inr outside ↦ omega (arith, may.1, outside) ]
 IsServed-step old new (Settle worker shard) reply may step = absurd may
 IsServed-step old new (End shard) reply may step = absurd may
 IsServed-step old new (Adopt shard) (Refused Config) may step = omega (arith, may.0.within, step.0)

@@ -32,6 +32,9 @@ CanLeave-kept shards old new leaving keeps can thread below leaves = IsOpen-kept
 pub EndsBelow-after : (old mid new : CoreState) (bound : ℕ) (test : ℕ → Bool) → KeepsShards old mid → EndsBelow mid bound test new → EndsBelow old bound test new
 EndsBelow-after old mid new bound test keeps ended = record { limits = ended.limits ∙ keeps.limits; ended = λ number. ended.ended number ∙ ap (λ b. (nat_lt number bound && test number) || b) (keeps.ended number) }
 
+pub EndsBelow-before : (old mid new : CoreState) (bound : ℕ) (test : ℕ → Bool) → EndsBelow old bound test mid → KeepsShards mid new → EndsBelow old bound test new
+EndsBelow-before old mid new bound test ended keeps = record { limits = keeps.limits ∙ ended.limits; ended = λ number. keeps.ended number ∙ ended.ended number }
+
 pub EndsBelow-none : (core : CoreState) (test : ℕ → Bool) → EndsBelow core 0 test core
 EndsBelow-none core test = record { limits = refl; ended = λ number. let e : nat_lt number 0 ≡ false = grind (arith, nat_tests) in rw e refl }
 

@@ -1,6 +1,6 @@
 -- What a run keeps of the replies to its lines.
 use Rattle.std.specs.Prelude.{◌≡◌, ◌<◌, ◌≤◌, ◌+◌, ◌++◌, ℕ, Bool, true, false, List, [], filter, length, map, slice_get, if◌then◌else◌, Option, Some, None, unwrap_or}
-use Rattle.std.specs.List.{flat_map}
+use Rattle.std.specs.List.{AllByRecursion, flat_map}
 use Rattle.span.specs.declared.key.Key.{Key}
 use Rattle.trace_runner.specs.Made.{Asked, Calls, Did, Made, asked_of}
 use Rattle.trace_runner.specs.Runs.{answers_from, key_at, key_bound, key_made, on_line}
@@ -8,7 +8,7 @@ use Rattle.trace_text.specs.Causes.{binding_of}
 use Rattle.trace_text.specs.Earlier.{key_count}
 use Rattle.trace_text.specs.declared.line.Binding.{Binding}
 use Rattle.trace_text.specs.declared.line.Call.{Call}
-use Rattle.trace_text.specs.declared.line.Call.TheVariants.{Get, Free, Sweep}
+use Rattle.trace_text.specs.declared.line.Call.TheVariants.{Get, Free, Sweep, Later}
 use Rattle.trace_text.specs.declared.line.Line.{Line}
 use Rattle.trace_text.specs.declared.line.Line.TheVariants as line
 use Rattle.arena_core.specs.declared.event.Event.TheVariants.{Put}
@@ -61,16 +61,27 @@ keeping number kept made = record kept { keys = kept.keys ++ keys_of made; count
 abbrev pub kept_of : Bool → List Did → Kept
 kept_of asked done = record { keys = flat_map (λ did. keys_of did.calls) done; count = length (answers_from 6 done); asked = asked; told = if asked then answers_from 6 done else [] }
 
+-- ---- whose keys they are
+
+-- a shard of that many opened the key's span, if there is a key
+abbrev pub IsHome : (shards : ℕ) → Option Key → Type 0
+IsHome shards None = Unit {0}
+IsHome shards (Some key) = key.span.shard < shards
+
+abbrev pub AreHome : (shards : ℕ) → List (Option Key) → Type 0
+AreHome shards keys = AllByRecursion (IsHome shards) keys
+
 -- ---- how a key is found
 
 -- at that place behind the first stands the key of the name
 abbrev pub FindsOne : List Line → List Did → List (Option Key) → (first : ℕ) → List ℕ → ℕ → Type 0
 FindsOne lines done keys first name place = slice_get keys (first + place) ≡ Some (key_at lines done name place)
 
--- so do all keys that the call reads or frees
+-- so do all keys that the call reads, frees or sends off
 abbrev pub Finds : List Line → List Did → List (Option Key) → (first : ℕ) → Call → Type 0
 Finds lines done keys first (Get key) = FindsOne lines done keys first key.name (unwrap_or key.index 0)
 Finds lines done keys first (Free key) = FindsOne lines done keys first key.name (unwrap_or key.index 0)
+Finds lines done keys first (Later key) = FindsOne lines done keys first key.name (unwrap_or key.index 0)
 Finds lines done keys first (Sweep name from to) = (place : ℕ) → from ≤ place → place < to → FindsOne lines done keys first name place
 Finds lines done keys first _ = Unit {0}
 

@@ -1,8 +1,9 @@
 -- What is asked of the core and what comes of it.
-use Rattle.std.specs.Prelude.{◌≡◌, List, [], ◌∷◌, ◌++◌, Some, None, map}
-use Rattle.std.specs.List.{flat_map}
+use Rattle.std.specs.Prelude.{◌≡◌, ℕ, Bool, true, false, filter, length, List, [], ◌∷◌, ◌++◌, Some, None, map}
+use Rattle.std.specs.List.{flat_map, range_with_len}
 use Rattle.arena_core.specs.State.{CoreState}
 use Rattle.arena_core.specs.declared.event.Event.{Event}
+use Rattle.arena_core.specs.declared.event.Event.TheVariants.{Settle}
 use Rattle.arena_core.specs.declared.reply.Reply.{Reply}
 use Rattle.arena_core.specs.declared.reply.Reply.TheVariants.{Settled}
 
@@ -23,12 +24,15 @@ pub data Asked : Type 0 where
   Keyless : Asked
   -- no event yet: the thread ends, and its shard is abandoned at the barrier
   Leaves : Asked
+  -- the keys that wait on the rings from so many workers to a shard are freed, by worker
+  Tends : (workers shard : ℕ) → Asked
 
 -- the events that it takes, in order
 abbrev pub requests_of : Asked → List Request
 requests_of (Calls event) = Once event ∷ []
 requests_of Keyless = []
 requests_of Leaves = []
+requests_of (Tends workers shard) = map (λ worker. UntilNone (Settle worker shard)) (range_with_len 0 workers)
 
 -- ---- what came of it
 
@@ -63,7 +67,7 @@ no_call asked = record { asked = asked; called = [] }
 
 -- what was done at a line
 pub record Did : Type 0 where
-  -- where a barrier begins: the end of the open plan, and the shards that were abandoned
+  -- where a barrier begins: the end of the open plan, the shards that were abandoned, and the keys that were freed from the rings
   pub settled : List Made
   -- what the line asks for, with a reply each
   pub calls : List Made
@@ -92,6 +96,15 @@ event_called (Called event reply core) = event
 
 abbrev pub reply_called : CalledEvent → Reply
 reply_called (Called event reply core) = reply
+
+-- a key that waited was freed from its ring
+abbrev pub takes_key : CalledEvent → Bool
+takes_key (Called event (Settled (Some key)) core) = true
+takes_key called = false
+
+-- how many were
+abbrev pub keys_taken : List CalledEvent → ℕ
+keys_taken called = length (filter takes_key called)
 
 -- the events, and their replies
 abbrev pub events_of : List CalledEvent → List Event

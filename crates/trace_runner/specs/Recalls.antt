@@ -1,21 +1,22 @@
 -- What a run keeps of what its lines did.
-use Rattle.std.specs.Prelude.{◌≡◌, ◌<◌, ◌≤◌, ◌++◌, ◌&&◌, ◌||◌, ◌==◌, nat_eq, nat_lt, ℕ, Bool, true, false, not, List, [], length, map, take, slice_get, if◌then◌else◌, Some, None}
+use Rattle.std.specs.Prelude.{◌≡◌, ◌<◌, ◌≤◌, ◌++◌, ◌&&◌, ◌||◌, ◌==◌, nat_eq, nat_lt, ℕ, Bool, true, false, not, List, [], ◌∷◌, length, map, take, slice_get, if◌then◌else◌, Some, None}
 use Rattle.std.specs.HashSet as bag
 use Rattle.std.specs.HashSet.{HashSet}
 use Rattle.std.specs.Option.{option_map, option_map_or}
+use Rattle.span.specs.declared.key.Key.{Key}
 use Rattle.trace_runner.specs.Barrier.{is_barrier, open_lines}
 use Rattle.trace_text.specs.Causes.{has_ended, is_call, is_call_over, keys_in, thread_of}
 use Rattle.arena_core.specs.State.{CoreState}
-use Rattle.trace_runner.specs.Made.{Asked, Did, Made, all_made, asked_of}
-use Rattle.trace_runner.specs.Kept.{Kept, Recalls, keeping, kept_of}
+use Rattle.trace_runner.specs.Made.{Asked, AreAsRequested, CalledEvent, Called, Did, Made, Request, all_made, asked_of, keys_taken}
+use Rattle.trace_runner.specs.Kept.{AreHome, Kept, Recalls, keeping, kept_of}
 use Rattle.trace_runner.specs.News.{News, news_of, with_all_made}
-use Rattle.trace_runner.specs.Runs.{DoLines, IsAnswered, ends_asked, finishing, pairs_left_of, planning_at}
+use Rattle.trace_runner.specs.Runs.{AreSteps, DoLines, IsAnswered, ends_asked, finishing, pairs_left_of, planning_at, rings_asked}
 use Rattle.trace_runner.specs.declared.plans.Plans.{Plans}
 use Rattle.arena_core.specs.declared.event.Event.{Event}
 use Rattle.arena_core.specs.declared.event.Event.TheVariants.{Put, Later, Settle, End, Adopt, Mark, Step, Close}
 use Rattle.arena_core.specs.declared.reply.Reply.{Reply}
-use Rattle.arena_core.specs.declared.reply.Reply.TheVariants.{Sent, Settled, Marked, Stepped, NoPairLeft, Closed, NoPlan, Refused}
-use Rattle.arena_core.specs.declared.reply.Refusal.TheVariants.{Ended, PlanOpen, TooMany, RingFull, Config}
+use Rattle.arena_core.specs.declared.reply.Reply.TheVariants.{Settled, Marked, Stepped, NoPairLeft, Closed, NoPlan, Refused}
+use Rattle.arena_core.specs.declared.reply.Refusal.TheVariants.{Ended, PlanOpen, TooMany, Config}
 use Rattle.trace_text.specs.declared.line.Line.{Line}
 
 -- ---- what is done at a line
@@ -37,9 +38,21 @@ pub record MakesLine (number : ℕ) (settled asked : List Asked) (line : Line) (
   pub makes : Makes number asked settled_core before called_core after
   pub plans : Carries (planning_at called_core line) called_core (record news { above = after.count }) new news_after
 
+-- the oldest key of the ring from the worker to the shard was freed, or none waited there
+abbrev pub SettlesNext : (worker shard : ℕ) → CoreState → Bool → CoreState → Type 0
+SettlesNext worker shard old true new = (key : Key) × AreSteps old (Called (Settle worker shard) (Settled (Some key)) new ∷ []) new
+SettlesNext worker shard old false new = AreSteps old (Called (Settle worker shard) (Settled None) new ∷ []) new
+
+-- what was requested was called, as often as the replies decide, and so many keys were freed by it
+pub record Drains (requests : List Request) (old new : CoreState) (count : ℕ) : Type 0 where
+  pub called : List CalledEvent
+  pub asked : AreAsRequested requests called
+  pub steps : AreSteps old called new
+  pub count_is : count ≡ keys_taken called
+
 -- what settles the section, where a barrier begins at the line and the threads leave
-abbrev pub settling_with : List ℕ → CoreState → Line → List Asked
-settling_with threads core line = if is_barrier line then finishing core.plan ++ ends_asked threads else []
+abbrev pub settling_with : (shards : ℕ) → List ℕ → CoreState → Line → List Asked
+settling_with shards threads core line = if is_barrier line then finishing core.plan ++ (ends_asked threads ++ rings_asked shards) else []
 
 -- ---- the shards that have ended, and the open plan
 
@@ -72,11 +85,11 @@ pub record EndsBelow (old : CoreState) (bound : ℕ) (test : ℕ → Bool) (new 
   pub limits : new.limits ≡ old.limits
   pub ended : (number : ℕ) → ended_at new number ≡ ((nat_lt number bound && test number) || ended_at old number)
 
--- the event may be called for a line: its shard is open, and no plan is where it would be in the way; the barrier alone ends shards, steps and closes
+-- the event may be called for a line: its shard is open, or its worker and shard are there, and no plan is where it would be in the way; the barrier alone ends shards, steps and closes
 abbrev pub MayCall : CoreState → Event → Type 0
 MayCall core (Put shard value) = IsOpen core shard
 MayCall core (Adopt shard) = IsOpen core shard × (core.plan ≡ None)
-MayCall core (Later worker key) = ⊥
+MayCall core (Later worker key) = (worker < core.limits.shards) × (key.span.shard < core.limits.shards)
 MayCall core (Settle worker shard) = ⊥
 MayCall core (End shard) = ⊥
 MayCall core Mark = ⊥
@@ -89,9 +102,7 @@ abbrev pub IsServed : Reply → Type 0
 IsServed (Refused Ended) = ⊥
 IsServed (Refused PlanOpen) = ⊥
 IsServed (Refused TooMany) = ⊥
-IsServed (Refused RingFull) = ⊥
 IsServed (Refused Config) = ⊥
-IsServed Sent = ⊥
 IsServed (Settled key) = ⊥
 IsServed (Marked certificate) = ⊥
 IsServed (Stepped abandoned owned step) = ⊥
@@ -118,12 +129,13 @@ has set thread = bag.contains nat_eq set thread
 abbrev pub CanLeave : (shards : ℕ) → CoreState → (leaving : ℕ → Bool) → Type 0
 CanLeave shards core leaving = (thread : ℕ) → thread < shards → leaving thread ≡ true → IsOpen core thread
 
--- the line may be run: its numbers are within their ranges, and its thread or shard is open and does not leave
+-- the line may be run: its numbers are within their ranges, its thread or shard is open and does not leave, and the core has all shards
 pub record IsReady (shards : ℕ) (core : CoreState) (leaving : ℕ → Bool) (line : Line) : Type 0 where
   pub within : is_call is_call_over line ≡ false
   pub running : (thread : ℕ) → thread_of line ≡ Some thread → IsOpen core thread
   pub stays : (thread : ℕ) → thread_of line ≡ Some thread → leaving thread ≡ false
   pub leavers : CanLeave shards core leaving
+  pub enough : shards ≤ core.limits.shards
 
 -- ---- how far a run has come
 
@@ -137,6 +149,7 @@ pub record HasCome (replies : Bool) (shards : ℕ) (lines : List Line) (count : 
   pub recalls : Recalls (take count lines) done kept.keys
   pub long : length kept.keys ≡ keys_in (take count lines)
   pub enough : shards ≤ core.limits.shards
+  pub home : AreHome core.limits.shards kept.keys
   -- the threads that leave are those that ended behind the last barrier, and the shards of those that ended above it have ended
   pub leaving_are : (thread : ℕ) → leaving thread ≡ has_ended (open_lines (take count lines)) thread
   pub ended_are : (thread : ℕ) → thread < shards → ended_at core thread ≡ (has_ended (take count lines) thread && not (has_ended (open_lines (take count lines)) thread))

@@ -29,6 +29,9 @@ answer_text answer.Unbound = codes "unbound"
 answer_text answer.Ended = codes "ended"
 answer_text (answer.Adopted head) = codes "adopted " ++ id_text head
 answer_text answer.NothingToAdopt = codes "refused nothing"
+answer_text answer.Sent = codes "sent"
+answer_text answer.RingFull = codes "full"
+answer_text (answer.Settled count) = codes "settled " ++ decimal count
 
 -- the line's number, a space, the answer
 abbrev pub answer_line : LineAnswer → List ℕ

@@ -3,7 +3,7 @@ use Rattle.std.specs.Prelude.{◌≡◌, ◌+◌, ◌-◌, ℕ, true, false, nat
 use Rattle.std.specs.List.{AllByRecursion, range_with_len}
 use Rattle.span.specs.declared.key.Key.{Key}
 use Rattle.trace_runner.specs.Barrier.{is_barrier, leavers}
-use Rattle.trace_runner.specs.Made.{Asked, Calls, Keyless, Leaves, CalledEvent, Called, Made, Did, IsAsAsked, all_called, all_made, asked_of, core_after, core_called, events_of, replies_of}
+use Rattle.trace_runner.specs.Made.{Asked, Calls, Keyless, Leaves, Tends, CalledEvent, Called, Made, Did, IsAsAsked, all_called, all_made, asked_of, core_after, core_called, events_of, keys_taken, replies_of}
 use Rattle.trace_runner.specs.News.{News, all_news}
 use Rattle.trace_text.specs.Causes.{binding_of}
 use Rattle.arena_core.specs.State.{CoreState, OpenPlan, shown}
@@ -11,15 +11,15 @@ use Rattle.arena_core.specs.Step.{CoreRun, CoreStep}
 use Rattle.arena_core.specs.Plain.{PlainRun, erased}
 use Rattle.arena_core.specs.declared.event.Event.{Event}
 use Rattle.arena_core.specs.declared.event.Event.TheVariants as event
-use Rattle.arena_core.specs.declared.reply.Refusal.TheVariants.{PagesSpent, TooMany, NothingToAdopt}
+use Rattle.arena_core.specs.declared.reply.Refusal.TheVariants.{PagesSpent, TooMany, NothingToAdopt, RingFull}
 use Rattle.arena_core.specs.declared.reply.Reply.{Reply}
-use Rattle.arena_core.specs.declared.reply.Reply.TheVariants.{Issued, Found, Freed, ShardEnded, Adopted, NoPairLeft, NoPlan, Refused}
+use Rattle.arena_core.specs.declared.reply.Reply.TheVariants.{Issued, Found, Freed, Sent, ShardEnded, Adopted, NoPairLeft, NoPlan, Refused}
 use Rattle.trace_runner.specs.declared.report.Answer.{Answer}
 use Rattle.trace_runner.specs.declared.report.Answer.TheVariants as answer
 use Rattle.trace_runner.specs.declared.report.LineAnswer.{LineAnswer}
 use Rattle.trace_text.specs.declared.line.Binding.{Binding}
 use Rattle.trace_text.specs.declared.line.Call.{Call}
-use Rattle.trace_text.specs.declared.line.Call.TheVariants.{Put, Fill, Get, Free, Sweep, End}
+use Rattle.trace_text.specs.declared.line.Call.TheVariants.{Put, Fill, Get, Free, Sweep, Later, Tend, End}
 use Rattle.trace_text.specs.declared.line.Line.{Line}
 use Rattle.trace_text.specs.declared.line.Line.TheVariants as line
 use Rattle.trace_text.specs.declared.name.Reference.{Reference}
@@ -53,19 +53,21 @@ on_key event None = Keyless
 on_key event (Some key) = Calls (event key)
 
 -- what a thread's call asks for, in order, after what the lines above it have done
-abbrev pub asked_by_call : List Line → List Did → ℕ → Call → List Asked
-asked_by_call lines done thread (Put name value) = Calls (event.Put thread value) ∷ []
-asked_by_call lines done thread (Fill name count value) = map (λ i. Calls (event.Put thread (value + i))) (range_with_len 0 count)
-asked_by_call lines done thread (Get key) = on_key event.Get (key_of lines done key) ∷ []
-asked_by_call lines done thread (Free key) = on_key event.Free (key_of lines done key) ∷ []
-asked_by_call lines done thread (Sweep name from to) = map (λ place. on_key event.Free (key_at lines done name place)) (range_with_len from (to - from))
-asked_by_call lines done thread End = Leaves ∷ []
+abbrev pub asked_by_call : (shards : ℕ) → List Line → List Did → ℕ → Call → List Asked
+asked_by_call shards lines done thread (Put name value) = Calls (event.Put thread value) ∷ []
+asked_by_call shards lines done thread (Fill name count value) = map (λ i. Calls (event.Put thread (value + i))) (range_with_len 0 count)
+asked_by_call shards lines done thread (Get key) = on_key event.Get (key_of lines done key) ∷ []
+asked_by_call shards lines done thread (Free key) = on_key event.Free (key_of lines done key) ∷ []
+asked_by_call shards lines done thread (Sweep name from to) = map (λ place. on_key event.Free (key_at lines done name place)) (range_with_len from (to - from))
+asked_by_call shards lines done thread (Later key) = on_key (event.Later thread) (key_of lines done key) ∷ []
+asked_by_call shards lines done thread Tend = Tends shards thread ∷ []
+asked_by_call shards lines done thread End = Leaves ∷ []
 
 -- the same for a line; an adoption is made at the barrier that it begins or goes on with
-abbrev pub asked_by : List Line → List Did → Line → List Asked
-asked_by lines done (line.Call thread call) = asked_by_call lines done thread call
-asked_by lines done (line.Adopt shard) = Calls (event.Adopt shard) ∷ []
-asked_by lines done _ = []
+abbrev pub asked_by : (shards : ℕ) → List Line → List Did → Line → List Asked
+asked_by shards lines done (line.Call thread call) = asked_by_call shards lines done thread call
+asked_by shards lines done (line.Adopt shard) = Calls (event.Adopt shard) ∷ []
+asked_by shards lines done _ = []
 
 -- how many pairs of the plan are not done with
 abbrev pub pairs_left_of : OpenPlan → ℕ
@@ -85,9 +87,13 @@ finishing (Some plan) = replicate (pairs_left_of plan) (Calls event.Step) ++ Cal
 abbrev pub ends_asked : List ℕ → List Asked
 ends_asked threads = map (λ thread. Calls (event.End thread)) threads
 
--- what a barrier or the end of the text begins with: the end of the open plan, and then those of the shards of the threads that ended in the section, ascending
+-- the keys that wait on all rings, by shard, then by worker
+abbrev pub rings_asked : (shards : ℕ) → List Asked
+rings_asked shards = map (λ shard. Tends shards shard) (range_with_len 0 shards)
+
+-- what a barrier or the end of the text begins with: the end of the open plan, then those of the shards of the threads that ended in the section, ascending, and then the keys of all rings
 abbrev pub settling : (shards : ℕ) → List Line → CoreState → List Asked
-settling shards above core = finishing core.plan ++ ends_asked (leavers shards above)
+settling shards above core = finishing core.plan ++ (ends_asked (leavers shards above) ++ rings_asked shards)
 
 -- the same where a barrier begins at a line; behind its first line nothing is left of it
 abbrev pub settling_at : (shards : ℕ) → List Line → CoreState → Line → List Asked
@@ -105,11 +111,12 @@ planning_at core _ = []
 
 -- ---- what a line did
 
--- no refused allocation, no shard that is not there or has ended, and no plan that is missed or in the way: of the refusals, only those of a page, of an adoption that finds nothing and of a mark that sees too much come
+-- no refused allocation, no shard that is not there or has ended, and no plan that is missed or in the way: of the refusals, only those of a page, of an adoption that finds nothing, of a mark that sees too much and of a ring that is full come
 abbrev pub IsTold : Reply → Type 0
 IsTold (Refused PagesSpent) = Unit {0}
 IsTold (Refused TooMany) = Unit {0}
 IsTold (Refused NothingToAdopt) = Unit {0}
+IsTold (Refused RingFull) = Unit {0}
 IsTold (Refused cause) = ⊥
 IsTold NoPairLeft = ⊥
 IsTold NoPlan = ⊥
@@ -136,7 +143,7 @@ pub record IsAnswered (old : CoreState) (made : List Made) (new : CoreState) : T
 -- after what was done from the core on, the line did this
 pub record Does (shards : ℕ) (lines : List Line) (start : CoreState) (done : List Did) (line : Line) (did : Did) : Type 0 where
   pub settled : map asked_of did.settled ≡ settling_at shards (take (length done) lines) (core_after start (all_made done)) line
-  pub calls : map asked_of did.calls ≡ asked_by lines done line
+  pub calls : map asked_of did.calls ≡ asked_by shards lines done line
   pub plans : map asked_of did.plans ≡ planning_at (core_after start (all_made done ++ (did.settled ++ did.calls))) line
 
 -- after what was done, the lines do this one after another
@@ -153,9 +160,11 @@ answer_told (Found (Some value)) = answer.Value value
 answer_told (Found None) = answer.Absent
 answer_told (Freed true) = answer.Freed
 answer_told (Freed false) = answer.NotFreed
+answer_told Sent = answer.Sent
 answer_told ShardEnded = answer.Ended
 answer_told (Adopted head) = answer.Adopted head
 answer_told (Refused NothingToAdopt) = answer.NothingToAdopt
+answer_told (Refused RingFull) = answer.RingFull
 answer_told (Refused cause) = answer.PagesSpent
 -- no event of a line has another reply
 answer_told reply = answer.Unbound
@@ -164,6 +173,7 @@ answer_told reply = answer.Unbound
 abbrev pub answer_of : Asked → List CalledEvent → Answer
 answer_of (Calls event) (Called done reply core ∷ more) = answer_told reply
 answer_of Leaves called = answer.Ended
+answer_of (Tends workers shard) called = answer.Settled (keys_taken called)
 answer_of asked called = answer.Unbound
 
 abbrev pub answer_to : Made → Answer

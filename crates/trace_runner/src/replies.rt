@@ -1,8 +1,8 @@
 //! What a run keeps of the replies to its lines.
 
-ghost use Rattle.std.specs.Prelude.{◌≡◌, ◌+◌, ◌++◌, ◌∷◌, [], Option, OnOk, Some, length, slice_get, if◌then◌else◌};
+ghost use Rattle.std.specs.Prelude.{◌≡◌, ◌+◌, ◌++◌, ◌∷◌, [], ℕ, Option, OnOk, Some, length, slice_get, if◌then◌else◌};
 ghost use Rattle.span.specs.declared.key.Key.{Key};
-ghost use Rattle.trace_runner.specs.Kept.{answer_key, kept_in, kept_none};
+ghost use Rattle.trace_runner.specs.Kept.{AreHome, IsHome, answer_key, kept_in, kept_none};
 
 use crate::report::{Answer, LineAnswer};
 use span::Key;
@@ -52,7 +52,8 @@ impl Replies {
     /// The key that stands so far behind that place among the keys of all puts; none where the put was refused, or stands
     /// no such.
     pub(crate) fn key(&self, first: usize, place: u32) -> Option<Key>
-        ensures { (found : Option Key) → slice_get self.now.keys.items (first + place) ≡ Some found → result ≡ found }
+        ensures found { (found : Option Key) → slice_get self.now.keys.items (first + place) ≡ Some found → result ≡ found }
+        ensures home { (shards : ℕ) → AreHome shards self.now.keys.items → IsHome shards result }
     {
         let place = first.checked_add(place as usize)?;
         *self.keys.get(place)?

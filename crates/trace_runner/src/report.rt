@@ -31,6 +31,12 @@ pub enum Answer {
     Adopted(SpanId),
     /// A shard found no group to adopt.
     NothingToAdopt,
+    /// A key was sent off to be freed later.
+    Sent,
+    /// The ring for a key that was to be freed later had no room.
+    RingFull,
+    /// So many keys that had come in were taken, and freed where they were live.
+    Settled(usize),
 }
 
 impl Answer {

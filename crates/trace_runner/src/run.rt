@@ -4,19 +4,20 @@ ghost use Rattle.std.specs.Prelude.{◌≡◌, ◌+◌, ◌-◌, ◌≤◌, ◌^
 ghost use Rattle.std.specs.List.{range_with_len};
 ghost use Rattle.arena_core.specs.State.{CoreState};
 ghost use Rattle.trace_runner.specs.Barrier.{is_barrier};
-ghost use Rattle.trace_runner.specs.Kept.{Finds, FindsAt, FindsOne, is_put, kept_in};
+ghost use Rattle.trace_runner.specs.Kept.{AreHome, Finds, FindsAt, FindsOne, IsHome, is_put, kept_in};
 ghost use Rattle.trace_runner.specs.Recalls.{CanLeave, Carries, EndsBelow, EndsOne, HasCome, IsOpen, IsReady, IsServed, KeepsPlan, KnowsPlan, Makes, MakesLine, MayCall, Serves, has, news_at, settling_with};
 ghost use Rattle.trace_text.specs.Places.{place_at};
 ghost use Rattle.trace_runner.specs.declared.report.LineAnswer.{LineAnswer};
 ghost use Rattle.trace_text.specs.Causes.{call_ends, ends, first_cause, is_adopt, is_call_over};
-ghost use Rattle.trace_runner.specs.Made.{Did, Calls, Keyless, Leaves};
+ghost use Rattle.trace_runner.specs.Made.{Did, Calls, Keyless, Leaves, Tends};
 ghost use Rattle.trace_runner.specs.News.{News};
-ghost use Rattle.trace_runner.specs.Runs.{IsRun, answer_told, asked_by, asked_by_call, ends_asked, finishing, on_key, IsTold, key_at, key_of};
+ghost use Rattle.trace_runner.specs.Runs.{IsRun, answer_told, asked_by, asked_by_call, ends_asked, finishing, on_key, IsTold, key_at, key_of, rings_asked};
 ghost use Rattle.arena_core.specs.declared.event.Event.TheVariants as event;
 
 use crate::plans::Plans;
 use crate::replies::Replies;
 use crate::report::{Answer, LineAnswer, PlanNote};
+use crate::rings::{settle_rings, settle_shard};
 use arena_core::{Core, Event, Refusal, Reply};
 use span::{Counted, Key};
 use std::alloc::{AllocError, Global};
@@ -122,7 +123,8 @@ impl<'t> Run<'t> {
 
     /// The key that a reference names, where the first key of its name has that place.
     fn key_of(&self, first: usize, reference: &Reference) -> Option<Key>
-        ensures { (done : List Did) → FindsOne self.now.trace.now.lines.items done self.now.replies.keys.items first reference.now.name (unwrap_or reference.now.index 0) → result ≡ key_of self.now.trace.now.lines.items done reference.now }
+        ensures found { (done : List Did) → FindsOne self.now.trace.now.lines.items done self.now.replies.keys.items first reference.now.name (unwrap_or reference.now.index 0) → result ≡ key_of self.now.trace.now.lines.items done reference.now }
+        ensures home { (shards : ℕ) → AreHome shards self.now.replies.keys.items → IsHome shards result }
     {
         self.replies.key(first, reference.index.unwrap_or(0))
     }
@@ -172,6 +174,44 @@ impl<'t> Run<'t> {
         Ok(())
     }
 
+    /// Leaves the key to be freed later, where it was given out.
+    fn later(&mut self, number: usize, thread: u32, key: Option<Key>) -> Result<(), AllocError>
+        requires thread { IsOpen self.old.core thread }
+        requires home { IsHome self.old.core.limits.shards key }
+        ensures made { OnOk result (Makes number (on_key (event.Later thread) key ∷ []) self.old.core (kept_in self.old.replies) self.new.core (kept_in self.new.replies)) }
+        ensures shards { KeepsPlan self.old.core self.new.core }
+        ensures plans { self.new.plans ≡ self.old.plans }
+        ensures leaving { self.new.leaving ≡ self.old.leaving }
+        ensures trace { self.new.trace.now ≡ self.old.trace.now }
+    {
+        match key {
+            Some(key) => self.call(
+                number,
+                Event::Later {
+                    worker: thread,
+                    key,
+                },
+            ),
+            None => self.skip(number),
+        }
+    }
+
+    /// Frees the keys that wait on the rings to the thread's shard.
+    fn tend(&mut self, number: usize, thread: u32) -> Result<(), AllocError>
+        requires thread { IsOpen self.old.core thread }
+        requires enough { self.old.trace.now.header.shards ≤ self.old.core.limits.shards }
+        ensures made { OnOk result (Makes number (Tends self.old.trace.now.header.shards thread ∷ []) self.old.core (kept_in self.old.replies) self.new.core (kept_in self.new.replies)) }
+        ensures shards { KeepsPlan self.old.core self.new.core }
+        ensures plans { self.new.plans ≡ self.old.plans }
+        ensures leaving { self.new.leaving ≡ self.old.leaving }
+        ensures trace { self.new.trace.now ≡ self.old.trace.now }
+    {
+        let workers = self.trace.header.shards;
+        let count = settle_shard(&mut self.core, workers, thread)?;
+        self.replies.tell(number, Answer::Settled(count))?;
+        Ok(())
+    }
+
     /// Keeps that the thread has ended. Its shard is abandoned at the barrier.
     fn leave(&mut self, number: usize, thread: u32) -> Result<(), AllocError>
         ensures made { OnOk result (Makes number (Leaves ∷ []) self.old.core (kept_in self.old.replies) self.new.core (kept_in self.new.replies)) }
@@ -195,8 +235,10 @@ impl<'t> Run<'t> {
     ) -> Result<(), AllocError>
         requires thread { IsOpen self.old.core thread }
         requires within { is_call_over call.now ≡ false }
+        requires home { AreHome self.old.core.limits.shards self.old.replies.keys.items }
+        requires enough { self.old.trace.now.header.shards ≤ self.old.core.limits.shards }
         ensures made { (done : List Did) → Finds self.old.trace.now.lines.items done self.old.replies.keys.items first call.now
-            → OnOk result (Makes number (asked_by_call self.old.trace.now.lines.items done thread call.now) self.old.core (kept_in self.old.replies) self.new.core (kept_in self.new.replies)) }
+            → OnOk result (Makes number (asked_by_call self.old.trace.now.header.shards self.old.trace.now.lines.items done thread call.now) self.old.core (kept_in self.old.replies) self.new.core (kept_in self.new.replies)) }
         ensures shards { KeepsPlan self.old.core self.new.core }
         ensures plans { self.new.plans ≡ self.old.plans }
         ensures leaving { OnOk result ((other : ℕ) → has self.new.leaving other ≡ (call_ends other thread call.now || has self.old.leaving other)) }
@@ -214,6 +256,11 @@ impl<'t> Run<'t> {
                 self.free(number, key)
             }
             Call::Sweep { from, to, .. } => self.sweep(number, first, *from, *to),
+            Call::Later { key } => {
+                let key = self.key_of(first, key);
+                self.later(number, thread, key)
+            }
+            Call::Tend => self.tend(number, thread),
             Call::End => self.leave(number, thread),
         }
     }
@@ -259,11 +306,13 @@ impl<'t> Run<'t> {
         Ok(())
     }
 
-    /// Settles the section: ends the open plan, and abandons the shards of the threads that have ended.
+    /// Settles the section: ends the open plan, abandons the shards of the threads that have ended, and frees the keys that
+    /// wait on all rings.
     fn settle(&mut self) -> Result<(), AllocError>
         requires leave { CanLeave self.old.trace.now.header.shards self.old.core (has self.old.leaving) }
         requires knows { KnowsPlan self.old.plans self.old.core }
-        ensures made { OnOk result (Carries (finishing self.old.core.plan ++ ends_asked (filter (has self.old.leaving) (range_with_len 0 self.old.trace.now.header.shards))) self.old.core (news_at self.old.replies.count self.old.plans) self.new.core (news_at self.old.replies.count self.new.plans)) }
+        requires enough { self.old.trace.now.header.shards ≤ self.old.core.limits.shards }
+        ensures made { OnOk result (Carries (finishing self.old.core.plan ++ (ends_asked (filter (has self.old.leaving) (range_with_len 0 self.old.trace.now.header.shards)) ++ rings_asked self.old.trace.now.header.shards)) self.old.core (news_at self.old.replies.count self.old.plans) self.new.core (news_at self.old.replies.count self.new.plans)) }
         ensures shards { OnOk result (EndsBelow self.old.core self.old.trace.now.header.shards (has self.old.leaving) self.new.core) }
         ensures unplanned { OnOk result (self.new.core.plan ≡ None) }
         ensures left { OnOk result (self.new.plans.left ≡ None) }
@@ -273,7 +322,8 @@ impl<'t> Run<'t> {
         ensures trace { self.new.trace.now ≡ self.old.trace.now }
     {
         self.plans.finish(&mut self.core, self.replies.count())?;
-        self.abandon()
+        self.abandon()?;
+        settle_rings(&mut self.core, self.trace.header.shards)
     }
 
     /// Does what the line at that place below the header asks for, and after a thread's line takes a step while a pair
@@ -285,8 +335,9 @@ impl<'t> Run<'t> {
         requires ready { IsReady self.old.trace.now.header.shards self.old.core (has self.old.leaving) line.now }
         requires knows { KnowsPlan self.old.plans self.old.core }
         requires few { self.old.plans.marks ≤ place }
+        requires home { AreHome self.old.core.limits.shards self.old.replies.keys.items }
         ensures made { (done : List Did) → FindsAt self.old.trace.now.lines.items done self.old.replies.keys.items (place_at (take place self.old.trace.now.lines.items) line.now) line.now
-            → OnOk result (MakesLine (place + 6) (settling_with (filter (has self.old.leaving) (range_with_len 0 self.old.trace.now.header.shards)) self.old.core line.now) (asked_by self.old.trace.now.lines.items done line.now) line.now self.old.core (kept_in self.old.replies) (news_at self.old.replies.count self.old.plans) self.new.core (kept_in self.new.replies) (news_at self.new.replies.count self.new.plans)) }
+            → OnOk result (MakesLine (place + 6) (settling_with self.old.trace.now.header.shards (filter (has self.old.leaving) (range_with_len 0 self.old.trace.now.header.shards)) self.old.core line.now) (asked_by self.old.trace.now.header.shards self.old.trace.now.lines.items done line.now) line.now self.old.core (kept_in self.old.replies) (news_at self.old.replies.count self.old.plans) self.new.core (kept_in self.new.replies) (news_at self.new.replies.count self.new.plans)) }
         ensures knows { OnOk result (KnowsPlan self.new.plans self.new.core) }
         ensures marks { OnOk result (self.new.plans.marks ≤ self.old.plans.marks + 1) }
         ensures shards { OnOk result (EndsBelow self.old.core self.old.trace.now.header.shards (λ thread. is_barrier line.now && has self.old.leaving thread) self.new.core) }
@@ -341,8 +392,8 @@ pub struct Ran {
     pub certificate: Vec<u8>,
 }
 
-/// Runs the lines of a trace on the core, one after another. At the end of the text it ends the open plan, and abandons the
-/// shards of the threads that ended after the last mark.
+/// Runs the lines of a trace on the core, one after another. At the end of the text it ends the open plan, abandons the
+/// shards of the threads that ended after the last mark, and frees the keys that wait on rings.
 ///
 /// The error means that memory ran out, in a call or for what is kept of its reply; the core is then dropped.
 pub fn run_lines(
@@ -390,8 +441,8 @@ fn adoptions(lines: &[Line]) -> usize
     count
 }
 
-/// What the report tells of the reply to a call. Of the refusals it tells only that of a page and that of an adoption
-/// which finds nothing; running out of memory ends the run.
+/// What the report tells of the reply to a call. Of the refusals it tells only that of a page, that of an adoption which
+/// finds nothing and that of a full ring; running out of memory ends the run.
 fn answer_to(reply: Reply) -> Result<Answer, AllocError>
     requires { IsServed reply }
     ensures told { OnOk result (IsTold reply) }
@@ -403,21 +454,18 @@ fn answer_to(reply: Reply) -> Result<Answer, AllocError>
         Reply::Found(None) => Ok(Answer::Absent),
         Reply::Freed(true) => Ok(Answer::Freed),
         Reply::Freed(false) => Ok(Answer::NotFreed),
+        Reply::Sent => Ok(Answer::Sent),
         Reply::ShardEnded => Ok(Answer::Ended),
         Reply::Adopted(head) => Ok(Answer::Adopted(head)),
         Reply::Refused(Refusal::PagesSpent) => Ok(Answer::PagesSpent),
         Reply::Refused(Refusal::NothingToAdopt) => Ok(Answer::NothingToAdopt),
+        Reply::Refused(Refusal::RingFull) => Ok(Answer::RingFull),
         Reply::Refused(Refusal::OutOfMemory) => Err(AllocError),
         // A trace asks for its own shards alone, for none that has ended, and adopts where no plan is open.
-        Reply::Refused(
-            Refusal::Ended
-            | Refusal::PlanOpen
-            | Refusal::TooMany
-            | Refusal::RingFull
-            | Refusal::Config,
-        ) => unreachable!(),
-        Reply::Sent | Reply::Settled(_) => unreachable!(),
-        Reply::Marked(_) | Reply::Stepped(..) | Reply::NoPairLeft | Reply::Closed | Reply::NoPlan =>
+        Reply::Refused(Refusal::Ended | Refusal::PlanOpen | Refusal::TooMany | Refusal::Config) =>
             unreachable!(),
+        // The others come of events that rings and plans are asked by.
+        Reply::Settled(_) | Reply::Marked(_) | Reply::Stepped(..) => unreachable!(),
+        Reply::NoPairLeft | Reply::Closed | Reply::NoPlan => unreachable!(),
     }
 }

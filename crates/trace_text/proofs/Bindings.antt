@@ -10,7 +10,7 @@ use Rattle.trace_text.specs.Causes.{binding_at, binding_from, binding_of, binds_
 use Rattle.trace_text.specs.Within.{order_cause}
 use Rattle.trace_text.specs.declared.header.Header.{Header}
 use Rattle.trace_text.specs.declared.line.Call.{Call}
-use Rattle.trace_text.specs.declared.line.Call.TheVariants.{Put, Fill, Get, Free, Sweep, End}
+use Rattle.trace_text.specs.declared.line.Call.TheVariants.{Put, Fill, Get, Free, Sweep, Later, Tend, End}
 use Rattle.trace_text.specs.declared.line.Line.{Line}
 use Rattle.trace_text.specs.declared.line.Line.TheVariants as line
 use Rattle.trace_text.specs.declared.line.Keys.TheVariants.{One, Many}
@@ -62,6 +62,8 @@ fresh_name ls place section first thread name (Fill bound n v) b free e = elim (
 fresh_name ls place section first thread name (Get key) b free e = cc
 fresh_name ls place section first thread name (Free key) b free e = cc
 fresh_name ls place section first thread name (Sweep bound from to) b free e = cc
+fresh_name ls place section first thread name (Later key) b free e = cc
+fresh_name ls place section first thread name Tend b free e = cc
 fresh_name ls place section first thread name End b free e = cc
 
 -- so does a line
@@ -88,6 +90,8 @@ few_call place section first thread name (Fill bound n v) b within e = elim (cho
 few_call place section first thread name (Get key) b within e = cc
 few_call place section first thread name (Free key) b within e = cc
 few_call place section first thread name (Sweep bound from to) b within e = cc
+few_call place section first thread name (Later key) b within e = cc
+few_call place section first thread name Tend b within e = cc
 few_call place section first thread name End b within e = cc
 
 few_at : (place section first : ℕ) (name : List ℕ) (l : Line) (b : Binding) → is_call is_call_over l ≡ false → binding_at place section first name l ≡ Some b → IsFew b.keys

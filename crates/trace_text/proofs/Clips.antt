@@ -14,7 +14,7 @@ use Rattle.trace_text.specs.Causes.{bound_name, read_name, has_key, has_range, h
 use Rattle.trace_text.specs.declared.header.Header.{Header}
 use Rattle.trace_text.specs.declared.name.Reference.{Reference}
 use Rattle.trace_text.specs.declared.line.Call.{Call}
-use Rattle.trace_text.specs.declared.line.Call.TheVariants.{Put, Fill, Get, Free, Sweep, End}
+use Rattle.trace_text.specs.declared.line.Call.TheVariants.{Put, Fill, Get, Free, Sweep, Later, Tend, End}
 use Rattle.trace_text.specs.declared.line.Line.{Line}
 use Rattle.trace_text.specs.declared.line.Line.TheVariants as line
 use Rattle.trace_text.specs.declared.line.Keys.{Keys}
@@ -61,6 +61,8 @@ has_keys-clip (Fill name n v) keys few = refl
 has_keys-clip (Get key) keys few = has_key-clip key.index keys few
 has_keys-clip (Free key) keys few = has_key-clip key.index keys few
 has_keys-clip (Sweep name from to) keys few = has_range-clip from to keys few
+has_keys-clip (Later key) keys few = has_key-clip key.index keys few
+has_keys-clip Tend keys few = refl
 has_keys-clip End keys few = refl
 
 read_name-clip : (c : Call) → read_name (clip_call c) ≡ read_name c
@@ -69,6 +71,8 @@ read_name-clip (Fill name n v) = refl
 read_name-clip (Get key) = refl
 read_name-clip (Free key) = refl
 read_name-clip (Sweep name from to) = refl
+read_name-clip (Later key) = refl
+read_name-clip Tend = refl
 read_name-clip End = refl
 
 bound_name-clip : (c : Call) → bound_name (clip_call c) ≡ bound_name c
@@ -77,6 +81,8 @@ bound_name-clip (Fill name n v) = refl
 bound_name-clip (Get key) = refl
 bound_name-clip (Free key) = refl
 bound_name-clip (Sweep name from to) = refl
+bound_name-clip (Later key) = refl
+bound_name-clip Tend = refl
 bound_name-clip End = refl
 
 over-clip : (c : Call) → is_call_over (clip_call c) ≡ is_call_over c
@@ -85,6 +91,8 @@ over-clip (Fill name n v) = refl
 over-clip (Get key) = refl
 over-clip (Free key) = refl
 over-clip (Sweep name from to) = refl
+over-clip (Later key) = refl
+over-clip Tend = refl
 over-clip End = refl
 
 -- ---- causes
@@ -182,6 +190,8 @@ call_known before (Put name v) few known = refl
 call_known before (Fill name n v) few known = refl
 call_known before (Get key) few known = ap Get (same_reference key (key_known key.index (binding_of key.name before) (few key.name) known))
 call_known before (Free key) few known = ap Free (same_reference key (key_known key.index (binding_of key.name before) (few key.name) known))
+call_known before (Later key) few known = ap Later (same_reference key (key_known key.index (binding_of key.name before) (few key.name) known))
+call_known before Tend few known = refl
 call_known before End few known = refl
 call_known before (Sweep name from to) few known = let near = range_known from to (binding_of name before) (few name) known in ap₂ (λ a b. Sweep name a b) near.0 near.1
 

@@ -12,7 +12,7 @@ use Rattle.std.proofs.lemmas.Slice.Eq.{bytes_eq-Decides}
 use Rattle.std.proofs.lemmas.Bool.{and_parts, cases_Bool}
 use Rattle.trace_text.specs.declared.name.Reference.{Reference}
 use Rattle.trace_text.specs.declared.line.Call.{Call}
-use Rattle.trace_text.specs.declared.line.Call.TheVariants.{Put, Fill, Get, Free, Sweep, End}
+use Rattle.trace_text.specs.declared.line.Call.TheVariants.{Put, Fill, Get, Free, Sweep, Later, Tend, End}
 use Rattle.trace_text.specs.declared.line.Line.{Line}
 use Rattle.trace_text.specs.declared.line.Line.TheVariants as line
 use Rattle.certificate.specs.Number.{number_in, is_numeral}
@@ -42,7 +42,10 @@ SaysCall words call = AreWords words (words_of_call call)
 bare_found : (verb : List ℕ) (w : Call) → bare_call verb ≡ Some w → SaysCall (verb ∷ []) w
 bare_found verb w e = elim (chosen (bytes_eq verb (codes "end")) _ _ (Some w) e) [
   | inl p ↦ let is : End ≡ w = cc p.1 in subst (SaysCall (verb ∷ [])) is (same_bytes verb (codes "end") p.0, tt)
-  | inr p ↦ cc
+  | inr p ↦ elim (chosen (bytes_eq verb (codes "tend")) _ _ (Some w) p.1) [
+    | inl q ↦ let is : Tend ≡ w = cc q.1 in subst (SaysCall (verb ∷ [])) is (same_bytes verb (codes "tend") q.0, tt)
+    | inr q ↦ cc
+  ]
 ]
 
 -- a call on a key, by its verb
@@ -55,7 +58,10 @@ key_found verb key w e = elim (chosen (bytes_eq verb (codes "get")) _ _ (Some w)
   | inl p ↦ one_key Get verb key (codes "get") w (λ k. refl) (same_bytes verb (codes "get") p.0) p.1
   | inr p ↦ elim (chosen (bytes_eq verb (codes "free")) _ _ (Some w) p.1) [
     | inl q ↦ one_key Free verb key (codes "free") w (λ k. refl) (same_bytes verb (codes "free") q.0) q.1
-    | inr q ↦ cc
+    | inr q ↦ elim (chosen (bytes_eq verb (codes "later")) _ _ (Some w) q.1) [
+      | inl r ↦ one_key Later verb key (codes "later") w (λ k. refl) (same_bytes verb (codes "later") r.0) r.1
+      | inr r ↦ cc
+    ]
   ]
 ]
 
@@ -207,6 +213,10 @@ call_again words t (Get key) says = let w = one_more words (Number t) _ says in 
     rw (w.2, u.2, u.3) (thread_again w.0 t _ _ w.3 (rw u.4 refl))
 call_again words t (Free key) says = let w = one_more words (Number t) _ says in let u = two w.1 _ _ w.4 in
     rw (w.2, u.2, u.3) (thread_again w.0 t _ _ w.3 (rw u.4 refl))
+call_again words t (Later key) says = let w = one_more words (Number t) _ says in let u = two w.1 _ _ w.4 in
+    rw (w.2, u.2, u.3) (thread_again w.0 t _ _ w.3 (rw u.4 refl))
+call_again words t Tend says = let w = one_more words (Number t) _ says in let u = one w.1 _ w.4 in
+    rw (w.2, u.1, u.2, not_adopt w.0 t w.3) (thread_again w.0 t _ _ w.3 refl)
 call_again words t End says = let w = one_more words (Number t) _ says in let u = one w.1 _ w.4 in
     rw (w.2, u.1, u.2, not_adopt w.0 t w.3) (thread_again w.0 t _ _ w.3 refl)
 

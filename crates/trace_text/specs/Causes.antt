@@ -6,7 +6,7 @@ use Rattle.std.specs.Str.{bytes_eq}
 use Rattle.trace_text.specs.Form.{HasForm}
 use Rattle.trace_text.specs.declared.header.Header.{Header}
 use Rattle.trace_text.specs.declared.line.Call.{Call}
-use Rattle.trace_text.specs.declared.line.Call.TheVariants.{Put, Fill, Get, Free, Sweep, End}
+use Rattle.trace_text.specs.declared.line.Call.TheVariants.{Put, Fill, Get, Free, Sweep, Later, End}
 use Rattle.trace_text.specs.declared.line.Line.{Line}
 use Rattle.trace_text.specs.declared.line.Line.TheVariants as line
 use Rattle.trace_text.specs.declared.line.Keys.{Keys}
@@ -30,11 +30,12 @@ bound_name (Put name value) = Some name
 bound_name (Fill name count value) = Some name
 bound_name _ = None
 
--- the name whose keys the call reads or frees
+-- the name whose keys the call reads, frees or sends off
 abbrev pub read_name : Call → Option (List ℕ)
 read_name (Get key) = Some key.name
 read_name (Free key) = Some key.name
 read_name (Sweep name from to) = Some name
+read_name (Later key) = Some key.name
 read_name _ = None
 
 -- a plain name needs a put, and an index a fill of more keys
@@ -48,11 +49,12 @@ abbrev pub has_range : ℕ → ℕ → Keys → Bool
 has_range from to One = false
 has_range from to (Many count) = nat_le from to && nat_le to count
 
--- the keys that the call reads or frees are among these
+-- the keys that the call reads, frees or sends off are among these
 abbrev pub has_keys : Call → Keys → Bool
 has_keys (Get key) keys = has_key key.index keys
 has_keys (Free key) keys = has_key key.index keys
 has_keys (Sweep name from to) keys = has_range from to keys
+has_keys (Later key) keys = has_key key.index keys
 has_keys _ keys = true
 
 -- ---- what the lines before it say
@@ -148,7 +150,7 @@ is_call_over _ = false
 abbrev pub binds_again : List Line → Call → Bool
 binds_again before call = option_map_or (λ name. is_some (binding_of name before)) (bound_name call) false
 
--- the call reads or frees keys of a name that those lines do not bind to such keys
+-- the call reads, frees or sends off keys of a name that those lines do not bind to such keys
 abbrev pub reads_unknown : List Line → Call → Bool
 reads_unknown before call = option_map_or (λ name. not (option_map_or (λ b. has_keys call b.keys) (binding_of name before) false)) (read_name call) false
 
@@ -156,7 +158,7 @@ reads_unknown before call = option_map_or (λ name. not (option_map_or (λ b. ha
 abbrev pub is_early : (section thread : ℕ) → Binding → Bool
 is_early section thread b = b.section == section && not (b.thread == thread)
 
--- the thread's call reads or frees keys of a name that another thread binds in the same section
+-- the thread's call reads, frees or sends off keys of a name that another thread binds in the same section
 abbrev pub reads_early : List Line → ℕ → Call → Bool
 reads_early before thread call = option_map_or (λ name. option_map_or (is_early (marks before) thread) (binding_of name before) false) (read_name call) false
 

@@ -7,7 +7,7 @@ use Rattle.trace_text.specs.Reference.{reference_in}
 use Rattle.trace_text.specs.Words.{words_of}
 use Rattle.trace_text.specs.declared.name.Reference.{Reference}
 use Rattle.trace_text.specs.declared.line.Call.{Call}
-use Rattle.trace_text.specs.declared.line.Call.TheVariants.{Put, Fill, Get, Free, Sweep, End}
+use Rattle.trace_text.specs.declared.line.Call.TheVariants.{Put, Fill, Get, Free, Sweep, Later, Tend, End}
 use Rattle.trace_text.specs.declared.line.Line.{Line}
 use Rattle.trace_text.specs.declared.line.Line.TheVariants as line
 
@@ -25,6 +25,8 @@ words_of_call (Fill name count value) = Verb (codes "fill") ∷ Named name ∷ N
 words_of_call (Get key) = Verb (codes "get") ∷ Refers key ∷ []
 words_of_call (Free key) = Verb (codes "free") ∷ Refers key ∷ []
 words_of_call (Sweep name from to) = Verb (codes "sweep") ∷ Named name ∷ Number from ∷ Number to ∷ []
+words_of_call (Later key) = Verb (codes "later") ∷ Refers key ∷ []
+words_of_call Tend = Verb (codes "tend") ∷ []
 words_of_call End = Verb (codes "end") ∷ []
 
 -- the bytes are a word that says this
@@ -60,13 +62,16 @@ with_name call name = if is_name name then Some (call name) else None
 
 -- a call with no more words than its verb
 abbrev pub bare_call : List ℕ → Option Call
-bare_call verb = if bytes_eq verb (codes "end") then Some End else None
+bare_call verb =
+    if bytes_eq verb (codes "end") then Some End
+    else (if bytes_eq verb (codes "tend") then Some Tend else None)
 
 -- a call on a key
 abbrev pub key_call : List ℕ → List ℕ → Option Call
 key_call verb key =
     if bytes_eq verb (codes "get") then option_map Get (reference_in key)
-    else (if bytes_eq verb (codes "free") then option_map Free (reference_in key) else None)
+    else (if bytes_eq verb (codes "free") then option_map Free (reference_in key)
+    else (if bytes_eq verb (codes "later") then option_map Later (reference_in key) else None))
 
 -- a call with a name and a value
 abbrev pub value_call : List ℕ → List ℕ → List ℕ → Option Call

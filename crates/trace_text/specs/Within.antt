@@ -5,7 +5,7 @@ use Rattle.trace_text.specs.Reference.{clip_reference}
 use Rattle.trace_text.specs.Causes.{binds_again, has_ended, holds, is_call, is_call_over, reads_early, reads_unknown}
 use Rattle.trace_text.specs.declared.header.Header.{Header}
 use Rattle.trace_text.specs.declared.line.Call.{Call}
-use Rattle.trace_text.specs.declared.line.Call.TheVariants.{Get, Free, Sweep}
+use Rattle.trace_text.specs.declared.line.Call.TheVariants.{Get, Free, Sweep, Later}
 use Rattle.trace_text.specs.declared.line.Line.{Line}
 use Rattle.trace_text.specs.declared.line.Line.TheVariants as line
 use Rattle.trace_text.specs.declared.cause.Cause.{Cause}
@@ -16,6 +16,7 @@ abbrev pub clip_call : Call → Call
 clip_call (Get key) = Get (clip_reference key)
 clip_call (Free key) = Free (clip_reference key)
 clip_call (Sweep name from to) = Sweep name (clip from) (clip to)
+clip_call (Later key) = Later (clip_reference key)
 clip_call call = call
 
 -- so is the number of a thread or a shard

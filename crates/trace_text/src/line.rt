@@ -15,6 +15,10 @@ pub enum Call {
     Free { key: Reference },
     /// Frees the keys of the name from `from` up to, and without, `to`.
     Sweep { name: Name, from: u32, to: u32 },
+    /// Sends a key off to be freed later, by the thread of the shard that opened its span.
+    Later { key: Reference },
+    /// Frees the keys that wait on the rings to the thread's shard.
+    Tend,
     /// Ends the thread. Its shard is abandoned at the next barrier.
     End,
 }
@@ -86,23 +90,23 @@ impl Call {
         }
     }
 
-    /// The name whose keys the call reads or frees.
+    /// The name whose keys the call reads, frees or sends off.
     pub fn read_name(&self) -> Option<&Name>
         ensures { option_map (λ name. name.now) result ≡ read_name self.now }
     {
         match self {
-            Call::Get { key } | Call::Free { key } => Some(&key.name),
+            Call::Get { key } | Call::Free { key } | Call::Later { key } => Some(&key.name),
             Call::Sweep { name, .. } => Some(name),
             _ => None,
         }
     }
 
-    /// Whether the keys that the call reads or frees are among those.
+    /// Whether the keys that the call reads, frees or sends off are among those.
     pub fn has_keys(&self, keys: Keys) -> bool
         ensures { result ≡ has_keys self.now keys }
     {
         match self {
-            Call::Get { key } | Call::Free { key } => key.is_among(keys),
+            Call::Get { key } | Call::Free { key } | Call::Later { key } => key.is_among(keys),
             Call::Sweep { from, to, .. } => match keys {
                 Keys::One => false,
                 Keys::Many(count) => from <= to && *to <= count,

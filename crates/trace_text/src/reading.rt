@@ -22,6 +22,7 @@ fn bare_call(verb: &[u8]) -> Result<Call, Cause>
 {
     match verb {
         b"end" => Ok(Call::End),
+        b"tend" => Ok(Call::Tend),
         _ => Err(Cause::Form),
     }
 }
@@ -34,6 +35,7 @@ fn key_call(verb: &[u8], key: &[u8]) -> Result<Call, Cause>
     match verb {
         b"get" => Ok(Call::Get { key }),
         b"free" => Ok(Call::Free { key }),
+        b"later" => Ok(Call::Later { key }),
         _ => Err(Cause::Form),
     }
 }

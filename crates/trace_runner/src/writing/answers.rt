@@ -30,6 +30,12 @@ fn push_answer(out: &mut Vec<u8>, answer: Answer) -> Result<(), AllocError>
             push_id(out, head)
         }
         Answer::NothingToAdopt => out.extend_from_slice(b"refused nothing"),
+        Answer::Sent => out.extend_from_slice(b"sent"),
+        Answer::RingFull => out.extend_from_slice(b"full"),
+        Answer::Settled(count) => {
+            out.extend_from_slice(b"settled ")?;
+            push_number(out, count)
+        }
     }
 }
 

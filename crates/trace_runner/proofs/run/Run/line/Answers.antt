@@ -19,7 +19,7 @@ call-requires-clause-may c =
 pub returns-in-Silent-clause-made : goal.returns-in-Silent-clause-made
 returns-in-Silent-clause-made c done finds =
     let threads = filter (has c.args.self.now.leaving) (range_with_len 0 c.args.self.now.trace.now.header.shards) in
-    rw c.in-Silent.is (MakesLine-silent (c.args.place + 6) threads c.args.self.now.core (kept_in c.args.self.now.replies) c.args.self.now.plans)
+    rw c.in-Silent.is (MakesLine-silent (c.args.place + 6) c.args.self.now.trace.now.header.shards threads c.args.self.now.core (kept_in c.args.self.now.replies) c.args.self.now.plans)
 
 pub returns-in_ok-thread_call-in-Call-clause-made : goal.returns-in_ok-thread_call-in-Call-clause-made
 returns-in_ok-thread_call-in-Call-clause-made c done finds =
@@ -27,19 +27,19 @@ returns-in_ok-thread_call-in-Call-clause-made c done finds =
     let follows = rw c.thread_call.ensures.plans at (c.follow.ensures.made c.thread_call.new.self.replies.count) in
     let first = c.place-first.ensures c.args.line.now c.requires.here in
     let found = rw c.in-Call.is at (rw (← first) at finds) in
-    rw c.in-Call.is (on_ok_weaker c.follow.result (MakesLine-call (c.args.place + 6) threads c.args.self.now.core (kept_in c.args.self.now.replies) c.args.self.now.plans c.in-Call.thread _ _ c.thread_call.new.self.core
+    rw c.in-Call.is (on_ok_weaker c.follow.result (MakesLine-call (c.args.place + 6) c.args.self.now.trace.now.header.shards threads c.args.self.now.core (kept_in c.args.self.now.replies) c.args.self.now.plans c.in-Call.thread _ _ c.thread_call.new.self.core
     c.follow.new.core (kept_in c.thread_call.new.self.replies) c.follow.new.self (c.in_ok-thread_call-in-Call.ensures.made done found)) follows)
 
 pub returns-in_ok-settle-in-Adopt-clause-made : goal.returns-in_ok-settle-in-Adopt-clause-made
 returns-in_ok-settle-in-Adopt-clause-made c done finds =
     let threads = filter (has c.args.self.now.leaving) (range_with_len 0 c.args.self.now.trace.now.header.shards) in
     let made = rw c.settle.ensures.replies at c.call.ensures.made in
-    rw (c.in-Adopt.is, c.call.ensures.plans) (on_ok_weaker c.call.result (MakesLine-adopt (c.args.place + 6) threads c.args.self.now.core (kept_in c.args.self.now.replies) c.args.self.now.plans c.settle.new.self.core c.settle.new.self.plans
+    rw (c.in-Adopt.is, c.call.ensures.plans) (on_ok_weaker c.call.result (MakesLine-adopt (c.args.place + 6) c.args.self.now.trace.now.header.shards threads c.args.self.now.core (kept_in c.args.self.now.replies) c.args.self.now.plans c.settle.new.self.core c.settle.new.self.plans
     c.in_ok-settle-in-Adopt.ensures.made c.in-Adopt.shard _ c.call.new.self.core (kept_in c.call.new.self.replies)) made)
 
 pub returns-in_ok-settle-in-Mark-clause-made : goal.returns-in_ok-settle-in-Mark-clause-made
 returns-in_ok-settle-in-Mark-clause-made c done finds =
     let threads = filter (has c.args.self.now.leaving) (range_with_len 0 c.args.self.now.trace.now.header.shards) in
     let marks = rw (c.count.ensures ∙ ap (λ replies. replies.count) c.settle-in-Mark.ensures.replies) at c.mark.ensures.made in
-    rw (c.in-Mark.is, c.settle-in-Mark.ensures.replies) (on_ok_weaker c.mark.result (MakesLine-mark (c.args.place + 6) threads c.args.self.now.core (kept_in c.args.self.now.replies) c.args.self.now.plans c.settle-in-Mark.new.self.core c.settle-in-Mark.new.self.plans
+    rw (c.in-Mark.is, c.settle-in-Mark.ensures.replies) (on_ok_weaker c.mark.result (MakesLine-mark (c.args.place + 6) c.args.self.now.trace.now.header.shards threads c.args.self.now.core (kept_in c.args.self.now.replies) c.args.self.now.plans c.settle-in-Mark.new.self.core c.settle-in-Mark.new.self.plans
     c.in_ok-settle-in-Mark.ensures.made c.mark.new.core c.mark.new.self) marks)

@@ -21,7 +21,7 @@ module _ (c : goal.In_ok-free) where
   freed done name finds =
       let found : FindsOne c.args.self.now.trace.now.lines.items done c.loop-place.self.replies.keys.items c.args.first name c.loop-place.place =
       rw c.loop-place.invariant.keys (finds c.loop-place.place (omega arith) (omega arith)) in
-      rw (← c.key-key.ensures _ found) c.in_ok-free.ensures.made
+      rw (← c.key-key.ensures.found _ found) c.in_ok-free.ensures.made
 
 pub loop-place-preserved : goal.loop-place-preserved
 unfolding asked

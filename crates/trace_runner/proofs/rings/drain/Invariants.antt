@@ -1,0 +1,14 @@
+use Rattle.std.proofs.Common.{length}
+use Rattle.arena_core.specs.Rings.{pending_at}
+use Rattle.trace_runner.specs.Recalls.{KeepsPlan}
+use Rattle.trace_runner.proofs.Draining.{IsDraining}
+use Rattle.trace_runner.proofs.rings.drain.Given as goal
+
+abbrev pub invariant-loop-count : goal.invariant-loop-count
+invariant-loop-count l = record {
+  drains : IsDraining l.worker l.shard l.fn.core l.core l.count;
+  shards : KeepsPlan l.fn.core l.core;
+}
+
+abbrev pub decreases-loop-count : goal.decreases-loop-count
+decreases-loop-count l = length (pending_at l.core.rings l.worker l.shard)
