@@ -196,6 +196,8 @@ impl<L: Log> Shard<L> {
     }
 
     /// The word of the key, where it is live here. It is read in the page, which all spans of a group share.
+    // Inlined, what is found stays in registers: a call passes it through memory, in five words.
+    #[inline(always)]
     pub fn get(&self, key: &Key) -> Found
         ensures found { Gets self.now key.now result }
         ensures plain { value_found result ≡ (shown self.now).value_of key.now }
@@ -215,6 +217,7 @@ impl<L: Log> Shard<L> {
     }
 
     /// Frees the key, where it is live here. It takes no memory.
+    #[inline(always)]
     pub fn free(&mut self, key: &Key) -> Freed
         ensures step { Frees self.old key.now result self.new }
         ensures found { was_freed result ≡ is_some ((shown self.old).value_of key.now) }

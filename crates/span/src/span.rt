@@ -22,11 +22,12 @@ use std::marker::Model;
 /// free takes no memory. A log that is only [`Counted`](crate::Counted) takes none at all.
 #[derive(Drop)]
 pub struct Span<L: Log = Kept> {
+    // A look-up reads these first three, which stand side by side.
     id: SpanId,
-    gens: u32,
     live: Bits256,
-    worn: Bits256,
     generations: Vec<u32>,
+    gens: u32,
+    worn: Bits256,
     log: L,
 }
 
