@@ -1,7 +1,7 @@
 //! Random texts for the check: traces that come to the edges of the rules soon, and texts that are no traces.
 
 use crate::random::Random;
-use crate::written::header;
+use crate::written::header_with;
 use std::fmt::Write;
 
 /// What a text has bound so far.
@@ -35,10 +35,11 @@ pub fn text(seed: u64) -> Vec<u8> {
     let shards = [1, 3, 6, 12, 20][random.below(5)];
     let pages = 1 + random.below(4);
     let gens = [1, 2, 3, 9, u32::MAX][random.below(5)];
+    let ring = 1 + random.below(3);
     let lines = 5 + random.below(80);
     let mut draw = Draw {
         random,
-        text: header(shards, pages, gens),
+        text: header_with(shards, pages, ring, gens),
         shards,
         ended: vec![false; shards],
         bound: Vec::new(),
@@ -73,6 +74,11 @@ impl Draw {
             0 => self.text.push_str("# a remark\n\n"),
             1 | 2 => self.barrier(),
             3 | 4 => self.end(),
+            13..=15 => {
+                if let Some(thread) = self.running() {
+                    self.say(format_args!("{thread} tend"));
+                }
+            }
             5..=12 => {
                 if let Some(thread) = self.running() {
                     self.part(thread);
@@ -164,7 +170,7 @@ impl Draw {
         });
     }
 
-    /// Reads, frees or sweeps a name that this thread may know.
+    /// Reads, frees, sends off or sweeps a name that this thread may know.
     fn use_key(&mut self, thread: usize) {
         let (section, careless) = (self.section, self.careless && self.random.one_in(8));
         let known = |b: &&Bound| careless || b.thread == thread || b.section < section;
@@ -174,7 +180,7 @@ impl Draw {
         }
         let bound = known[self.random.below(known.len())];
         let (name, count) = (bound.name.clone(), bound.count);
-        let word = if self.random.one_in(2) { "get" } else { "free" };
+        let word = ["get", "free", "later"][self.random.below(3)];
         match count {
             None => self.say(format_args!("{thread} {word} {name}")),
             Some(count) if self.random.one_in(3) => {
@@ -191,7 +197,7 @@ impl Draw {
 }
 
 /// Words that stand where others should.
-const WORDS: [&str; 24] = [
+const WORDS: [&str; 26] = [
     "0",
     "1",
     "63",
@@ -205,6 +211,8 @@ const WORDS: [&str; 24] = [
     "put",
     "fill",
     "end",
+    "later",
+    "tend",
     "mark",
     "adopt",
     "n0",

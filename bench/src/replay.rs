@@ -4,6 +4,7 @@ use crate::core::{AdoptError, Core, MarkError, PagesSpent, Stepped};
 use crate::ids::{Key, SpanId};
 use crate::report::{push_id, push_ids, push_key, push_number};
 use crate::trace::{Call, Line, Trace};
+use std::collections::VecDeque;
 use std::io::Write;
 
 /// How to run a trace.
@@ -36,6 +37,10 @@ struct Run<'h> {
     leaving: Vec<usize>,
     /// Lines and shards of the adoptions that wait for their mark.
     adoptions: Vec<(usize, usize)>,
+    /// The keys that wait to be freed, by the shard that opened their span, then by the worker that sent them.
+    rings: Vec<Vec<VecDeque<Key>>>,
+    /// How many keys a ring holds.
+    ring: usize,
 }
 
 pub fn run(trace: &Trace, how: &How) -> Result<Vec<u8>, NotLargest> {
@@ -50,6 +55,8 @@ pub fn run(trace: &Trace, how: &How) -> Result<Vec<u8>, NotLargest> {
         open: None,
         leaving: Vec::new(),
         adoptions: Vec::new(),
+        rings: vec![vec![VecDeque::new(); trace.header.shards]; trace.header.shards],
+        ring: trace.header.ring,
     };
     for (number, line) in &trace.lines {
         run.line(*number, line)?;
@@ -84,6 +91,14 @@ impl Run<'_> {
             Call::Get { key } => self.get(number, key),
             Call::Free { key } => self.free(number, key),
             Call::Sweep { from, to } => (from..to).for_each(|key| self.free(number, key)),
+            Call::Later { key } => self.later(number, thread, key),
+            Call::Tend => {
+                let count = self.tend(thread);
+                self.reply(number, |out| {
+                    out.extend_from_slice(b"settled ");
+                    push_number(out, count);
+                });
+            }
             Call::End => {
                 self.leaving.push(thread);
                 self.reply(number, |out| out.extend_from_slice(b"ended"));
@@ -137,6 +152,34 @@ impl Run<'_> {
         self.reply(number, |out| out.extend_from_slice(text));
     }
 
+    fn later(&mut self, number: usize, thread: usize, place: usize) {
+        let text: &[u8] = match self.keys[place] {
+            None => b"unbound",
+            Some(key) => {
+                let ring = &mut self.rings[usize::from(key.span.shard)][thread];
+                if ring.len() < self.ring {
+                    ring.push_back(key);
+                    b"sent"
+                } else {
+                    b"full"
+                }
+            }
+        };
+        self.reply(number, |out| out.extend_from_slice(text));
+    }
+
+    /// Frees the keys that wait for a shard, by worker; how many there were.
+    fn tend(&mut self, shard: usize) -> u64 {
+        let mut count = 0;
+        for ring in &mut self.rings[shard] {
+            for key in ring.drain(..) {
+                self.core.free(key);
+                count += 1;
+            }
+        }
+        count
+    }
+
     /// Takes a step of the open plan; whether there was one to take.
     fn step(&mut self) -> bool {
         let Some((from, onto, stepped)) = self.core.step() else {
@@ -153,7 +196,7 @@ impl Run<'_> {
         true
     }
 
-    /// The plan is carried out and closed, and the shards of ended threads are abandoned.
+    /// The plan is carried out and closed, the shards of ended threads are abandoned, and all rings are emptied.
     fn finish_section(&mut self) {
         while self.step() {}
         self.out.append(&mut self.steps);
@@ -165,6 +208,9 @@ impl Run<'_> {
         self.leaving.sort_unstable();
         for shard in std::mem::take(&mut self.leaving) {
             self.core.end(shard);
+        }
+        for shard in 0..self.rings.len() {
+            self.tend(shard);
         }
     }
 

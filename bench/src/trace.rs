@@ -49,6 +49,7 @@ impl fmt::Display for Fault {
 pub struct Header {
     pub shards: usize,
     pub pages: usize,
+    pub ring: usize,
     pub gens: u32,
 }
 
@@ -60,6 +61,8 @@ pub enum Call {
     Get { key: usize },
     Free { key: usize },
     Sweep { from: usize, to: usize },
+    Later { key: usize },
+    Tend,
     End,
 }
 
@@ -132,6 +135,8 @@ enum Spelled<'t> {
     Get(Reference<'t>),
     Free(Reference<'t>),
     Sweep(&'t [u8], Number, Number),
+    Later(Reference<'t>),
+    Tend,
     End,
 }
 
@@ -161,6 +166,8 @@ fn form_of(line: &[u8]) -> Option<Form<'_>> {
         [_, b"get", key] => Spelled::Get(Reference::of(key)?),
         [_, b"free", key] => Spelled::Free(Reference::of(key)?),
         [_, b"sweep", name, from, to] => Spelled::Sweep(name_of(name)?, Number::of(from)?, Number::of(to)?),
+        [_, b"later", key] => Spelled::Later(Reference::of(key)?),
+        [_, b"tend"] => Spelled::Tend,
         [_, b"end"] => Spelled::End,
         _ => return None,
     };
@@ -270,6 +277,10 @@ impl<'t> Reader<'t> {
                 key: self.key(key, thread)?,
             },
             Spelled::Sweep(name, from, to) => self.sweep(name, from, to, thread)?,
+            Spelled::Later(key) => Call::Later {
+                key: self.key(key, thread)?,
+            },
+            Spelled::Tend => Call::Tend,
             Spelled::End => {
                 self.ended[thread] = true;
                 Call::End
@@ -338,10 +349,14 @@ fn header<'t>(lines: &mut impl Iterator<Item = &'t [u8]>) -> Result<Header, Faul
     let mut number = |line, word, most| header_number(lines.next(), word, most).map_err(|cause| Fault { line, cause });
     let shards = number(2, "shards", 64)? as usize;
     let pages = number(3, "pages", 1024)? as usize;
-    // The rings are for deferred frees, which have no line yet.
-    number(4, "ring", 1024)?;
+    let ring = number(4, "ring", 1024)? as usize;
     let gens = number(5, "gens", u128::from(u32::MAX))? as u32;
-    Ok(Header { shards, pages, gens })
+    Ok(Header {
+        shards,
+        pages,
+        ring,
+        gens,
+    })
 }
 
 /// The lines of a text: an LF ends one, and opens none behind the last.

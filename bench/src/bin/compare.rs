@@ -3,8 +3,8 @@
 //!
 //! Where there are several largest plans, `meshrun` may choose any: the plain program is given its folds, and says whether they are a
 //! largest plan. All else must be the same byte for byte: the report, standard error, and the status. A run by threads must end with
-//! `audit ok`, and with the serial numbers of live keys and of calls; where a call was refused a page or a group, which another thread's
-//! free can decide, with that of calls.
+//! `audit ok`, and with the serial numbers of live keys and of calls; where a call was refused a page or a group, or a ring was full, which
+//! another thread's free or `tend` can decide, with that of calls.
 
 use beside::drawn;
 use beside::programs::{Programs, Who};
@@ -73,7 +73,8 @@ impl Compare {
     fn agrees_by_threads(&self, trace: &Path) -> io::Result<bool> {
         let serial = answer(self.programs.command(Who::Meshrun, trace, true).output()?);
         let threads = answer(self.programs.by_threads(trace).output()?);
-        let decided = !(serial.1.contains(" refused ") || threads.1.contains(" refused "));
+        let open = |report: &str| report.contains(" refused ") || report.contains(" full\n");
+        let decided = !(open(&serial.1) || open(&threads.1));
         let same = if serial.0 == Some(0) {
             threads.0 == Some(0)
                 && threads.1.ends_with("\naudit ok\n")
@@ -83,8 +84,18 @@ impl Compare {
         };
         if !same {
             println!("differs by threads: {}", trace.display());
-            println!("  threads: {:?} {} {:?}", threads.0, threads.2.trim_end(), totals(&threads.1, true));
-            println!("  serial:  {:?} {} {:?}", serial.0, serial.2.trim_end(), totals(&serial.1, true));
+            println!(
+                "  threads: {:?} {} {:?}",
+                threads.0,
+                threads.2.trim_end(),
+                totals(&threads.1, true)
+            );
+            println!(
+                "  serial:  {:?} {} {:?}",
+                serial.0,
+                serial.2.trim_end(),
+                totals(&serial.1, true)
+            );
         }
         Ok(same)
     }

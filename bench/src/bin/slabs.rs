@@ -87,6 +87,7 @@ fn plain<const LOG: bool>() -> Plain<LOG> {
     Plain(Core::new(Header {
         shards: 1,
         pages: 1024,
+        ring: 1,
         gens: u32::MAX,
     }))
 }
