@@ -1,5 +1,5 @@
 -- The end of an arena.
-use Rattle.std.proofs.Common.{◌≡◌, ℕ, ◌<◌, List, [], ◌∷◌, ◌++◌, length, map, take, get_or, max, fold, ap, sym, subst, ◌∙◌, refl, arith}
+use Rattle.std.proofs.Common.{Result, Ok, Err, OnErr, ◌≡◌, ℕ, ◌<◌, List, [], ◌∷◌, ◌++◌, length, map, take, get_or, max, fold, ap, sym, subst, ◌∙◌, refl, arith}
 use Rattle.std.proofs.lemmas.Simd.{map-map}
 use Rattle.std.proofs.lemmas.List.{get_or-map}
 use Rattle.span.specs.declared.receipt.Receipt.{Receipt}
@@ -45,3 +45,7 @@ all_settled items row a b section counts lists0 lists after x greatest same list
     subst (λ k. IsSettled a s k (row (get_or counts s c)) (items (get_or lists0 s d)) (items (get_or after s e))) sections
     (subst (λ l. IsSettled a s section (row (get_or counts s c)) l (items (get_or after s e))) old
     (settled_from a b s section x (row (get_or counts s c)) (items (get_or lists s d)) (items (get_or after s e)) inside (counted s c below) (freed s x d e inside)))
+
+pub on_err : {A E : Type 0} (P : Type 0) (r : Result A E) → P → OnErr r P
+on_err P (Ok x) holds = tt
+on_err P (Err e) holds = holds

@@ -1,6 +1,7 @@
 mod CountedRings
 mod Ended
 mod Frees
+mod KeptSpans
 mod Linking
 mod Made
 mod Sending

@@ -202,3 +202,8 @@ linked_after seat a b long each linked =
     (map-map (λ (s : SeatState). s.worker) seat b ∙ same_by (λ j. (seat j).worker) a b long (λ i d e h. (each i d e h).worker_is) ∙ sym (map-map (λ (s : SeatState). s.worker) seat a))
     (map-map out_rings seat b ∙ same_by (λ j. out_rings (seat j)) a b long (λ i d e h. (each i d e h).outboxes_are) ∙ sym (map-map out_rings seat a))
     (map-map in_rings seat b ∙ same_by (λ j. in_rings (seat j)) a b long (λ i d e h. (each i d e h).inboxes_are) ∙ sym (map-map in_rings seat a)) linked
+
+-- one seat that keeps its ends leaves all linked
+pub AreLinked-set : (seats : List SeatState) (i : ℕ) (x d : SeatState) → KeepsEnds (get_or seats i d) x → AreLinked seats → AreLinked (slice_set seats i x)
+AreLinked-set seats i x d keeps linked =
+    AreLinked-from seats (slice_set seats i x) (map-set_same (λ (s : SeatState). s.worker) seats i x d keeps.worker_is) (map-set_same out_rings seats i x d keeps.outboxes_are) (map-set_same in_rings seats i x d keeps.inboxes_are) linked

@@ -1,16 +1,16 @@
 // The end of an arena.
-ghost use Rattle.std.specs.Prelude.{◌≡◌, ◌+◌, ◌*◌, ◌≤◌, [], IfErr, IfOk, length};
-ghost use Rattle.span.specs.SpanLogs.{AreLegal, room_for_logs};
+ghost use Rattle.std.specs.Prelude.{◌≡◌, ◌<◌, ℕ, [], IfErr, IfOk, OnErr, length, map, slice_index_or, vec_items, vec_len};
+ghost use Rattle.span.specs.SpanLogs.{AreLegal};
+ghost use Rattle.arena.specs.Seats.{AreLinked};
+ghost use Rattle.arena.specs.Settled.{AreSameSeats, IsSettled, greatest_section};
 
 use crate::arena::Arena;
 use crate::gate::Gate;
 use crate::seat::Seat;
-use abandoned::Pool;
-use shard::{Config, Shard};
-use span::{Kept, SpanLog};
-use std::alloc::{AllocError, Global};
-use std::mem::replace;
-use std::sync::Mutex;
+use crate::settling::{greatest, make_room, settle_seats};
+use crate::unlocked::{Unlocked, unlock};
+use span::{Receipt, SpanLog};
+use std::alloc::AllocError;
 
 /// What an arena leaves when its run is over.
 #[derive(Drop)]
@@ -18,12 +18,11 @@ pub struct Finished {
     /// The log of each span that the shards opened, wherever the span is: in a shard that has ended or has not, as a head
     /// or a guest, or in the pool, with a page or without.
     pub logs: Vec<SpanLog>,
-    /// How many keys were settled from each ring, by its shard and then by its worker. An arena has no rings yet, so there
-    /// are none.
+    /// How many keys were settled from each ring, by its shard and then by its worker.
     pub counts: Vec<Vec<usize>>,
 }
 
-/// An arena and its seats, handed back as they were.
+/// An arena and its seats, handed back with all that they had.
 #[derive(Drop)]
 pub struct Unfinished<G: Gate> {
     /// The arena.
@@ -32,67 +31,84 @@ pub struct Unfinished<G: Gate> {
     pub seats: Vec<Seat>,
 }
 
-/// Takes the arena and its seats apart when no thread works on them any more, and gives the logs of all spans, each with its
-/// greatest generation. The receipts are the caller's. It owns all locks, so it takes none and waits for nobody.
+/// Takes the arena and its seats apart when no thread works on them any more: settles every ring, as [`Arena::settle`] does,
+/// and gives the logs of all spans, each with its greatest generation, and how many keys each ring had. The receipts are the
+/// caller's, a list for each worker; those of the settled keys go last in them. It owns all locks, so it takes none and waits
+/// for nobody.
 ///
 /// # Errors
 ///
-/// Arena and seats, unchanged, where there is no memory for the list of logs.
-pub fn finish<G: Gate>(mut arena: Arena<G>, seats: Vec<Seat>) -> Result<Finished, Unfinished<G>>
+/// Arena and seats, with no key taken, where there is no memory for the counts, the receipts or the logs.
+pub fn finish<G: Gate>(
+    mut arena: Arena<G>,
+    mut seats: Vec<Seat>,
+    receipts: &mut [Vec<Receipt>],
+) -> Result<Finished, Unfinished<G>>
+    requires seats { vec_len seats ≡ arena.limits.shards }
+    requires linked { AreLinked seats.items }
+    requires lists { length receipts.old ≡ vec_len seats }
     ensures legal { IfOk result (λ finished. AreLegal finished.logs.items) }
-    ensures counts { IfOk result (λ finished. finished.counts.items ≡ []) }
+    ensures counts { IfOk result (λ finished. vec_len finished.counts ≡ vec_len seats) }
+    ensures settled { IfOk result (λ finished. (shard : ℕ) (c d e : _) → shard < vec_len seats → IsSettled seats.items shard (greatest_section seats.items) (slice_index_or finished.counts.items shard c).items (slice_index_or receipts.old shard d).items (slice_index_or receipts.new shard e).items) }
     ensures limits { IfErr result (λ back. back.arena.limits ≡ arena.limits) }
-    ensures seats { IfErr result (λ back. back.seats ≡ seats) }
+    ensures seats { IfErr result (λ back. AreSameSeats seats.items back.seats.items) }
+    ensures linked { IfErr result (λ back. AreLinked back.seats.items) }
+    ensures err { OnErr result (map vec_items receipts.new ≡ map vec_items receipts.old) }
 {
-    match logs_of(&mut arena) {
-        Ok(logs) => Ok(Finished {
-            logs,
-            counts: Vec::new(arena.alloc),
+    match settled(&mut arena, seats.as_mut_slice(), receipts) {
+        Ok((unlocked, counts)) => Ok(Finished {
+            logs: unlocked.into_logs(),
+            counts,
         }),
         Err(AllocError) => Err(Unfinished { arena, seats }),
     }
 }
 
-// The logs of all spans of the arena, which has none afterwards. Memory is taken before the first of them leaves.
-fn logs_of<G: Gate>(arena: &mut Arena<G>) -> Result<Vec<SpanLog>, AllocError>
-    ensures legal { IfOk result (λ logs. AreLegal logs.items) }
+/// As [`finish`], but settles no ring: what is still on one is let go with it, and there are no counts. It serves where each
+/// seat has tended its rings until nothing was left.
+///
+/// # Errors
+///
+/// Arena and seats, unchanged, where there is no memory for the logs.
+pub fn finish_unsettled<G: Gate>(
+    mut arena: Arena<G>,
+    seats: Vec<Seat>,
+) -> Result<Finished, Unfinished<G>>
+    ensures legal { IfOk result (λ finished. AreLegal finished.logs.items) }
+    ensures counts { IfOk result (λ finished. finished.counts.items ≡ []) }
+    ensures limits { IfErr result (λ back. back.arena.limits ≡ arena.limits) }
+    ensures seats { IfErr result (λ back. back.seats ≡ seats) }
+{
+    let Ok(unlocked) = unlock(&mut arena) else {
+        return Err(Unfinished { arena, seats });
+    };
+    Ok(Finished {
+        logs: unlocked.into_logs(),
+        counts: Vec::new(arena.alloc),
+    })
+}
+
+// What is behind the locks of the arena, once every ring is settled, and how many keys each ring had. The arena has no span
+// afterwards. All memory is taken before the first key is.
+fn settled<G: Gate>(
+    arena: &mut Arena<G>,
+    seats: &mut [Seat],
+    receipts: &mut [Vec<Receipt>],
+) -> Result<(Unlocked, Vec<Vec<usize>>), AllocError>
+    requires seats { length seats.old ≡ arena.old.limits.shards }
+    requires linked { AreLinked seats.old }
+    requires lists { length receipts.old ≡ length seats.old }
+    ensures counts { IfOk result (λ ended. vec_len ended.1 ≡ length seats.old) }
+    ensures settled { IfOk result (λ ended. (shard : ℕ) (c d e : _) → shard < length seats.old → IsSettled seats.old shard (greatest_section seats.old) (slice_index_or ended.1.items shard c).items (slice_index_or receipts.old shard d).items (slice_index_or receipts.new shard e).items) }
     ensures limits { arena.new.limits ≡ arena.old.limits }
+    ensures linked { OnErr result (AreLinked seats.new) }
+    ensures err { OnErr result (AreSameSeats seats.old seats.new × (map vec_items receipts.new ≡ map vec_items receipts.old)) }
 {
     // There are 64 shards at most.
     let _ = arena.limits.shards();
-    let alloc = arena.alloc;
-    let pool = arena.pool.get_mut();
-    let mut logs = logs_of_shards(alloc, arena.shards.as_mut_slice(), pool.span_count())?;
-    let pool = replace(pool, Pool::new(alloc));
-    pool.into_logs(&mut logs);
-    Ok(logs)
-}
-
-// The logs of all spans of the shards, which have none afterwards, in a list with room for so many more. Each shard is held
-// while those after it are asked, and its logs leave when there is room for all: the last shard's first.
-fn logs_of_shards(
-    alloc: Global,
-    shards: &mut [Mutex<Shard<Kept>>],
-    more: usize,
-) -> Result<Vec<SpanLog>, AllocError>
-    requires few { more + 65536 * length shards.old ≤ 65536 * 65 }
-    ensures room { IfOk result (λ logs. more ≤ room_for_logs logs) }
-    ensures legal { IfOk result (λ logs. AreLegal logs.items) }
-{
-    let Some((first, rest)) = shards.split_first_mut() else {
-        return Vec::with_capacity(alloc, more);
-    };
-    let shard = first.get_mut();
-    let mut logs = logs_of_shards(alloc, rest, more + shard.span_count())?;
-    let shard = replace(shard, empty_shard(alloc));
-    shard.into_logs(&mut logs);
-    Ok(logs)
-}
-
-// A shard with no span, to stand where another has left.
-fn empty_shard(alloc: Global) -> Shard<Kept> {
-    match Shard::new(alloc, 0, 1, 1) {
-        Ok(shard) => shard,
-        Err(Config) => unreachable!(),
-    }
+    let counts = make_room(arena.alloc, seats, receipts)?;
+    let mut unlocked = unlock(arena)?;
+    let section = greatest(seats);
+    settle_seats(&mut unlocked, seats, counts.as_slice(), section, receipts);
+    Ok((unlocked, counts))
 }

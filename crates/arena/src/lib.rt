@@ -50,10 +50,11 @@ mod steward;
 mod tending;
 #[cfg(test)]
 mod tests;
+mod unlocked;
 mod words;
 
 pub use arena::{Arena, Stepped};
-pub use ending::{Finished, Unfinished, finish};
+pub use ending::{Finished, Unfinished, finish, finish_unsettled};
 pub use error::OpenError;
 pub use gate::{Gate, NoGate};
 pub use limits::Limits;

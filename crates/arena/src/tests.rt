@@ -6,7 +6,7 @@
 ghost use Rattle.std.specs.Prelude.{◌≡◌};
 
 use crate::arena::{Arena, Stepped};
-use crate::ending::finish;
+use crate::ending::finish_unsettled;
 use crate::error::OpenError;
 use crate::gate::{Gate, NoGate};
 use crate::seat::Seat;
@@ -538,9 +538,9 @@ fn logs_left<R: Wait>(rt: &R, alloc: Global, two: Two<NoGate, Kept>) -> Option<(
     }
     let mut seats = room_for_seat(alloc)?;
     seats.push(first).ok()?;
-    let finished = match finish(arena, seats) {
+    let finished = match finish_unsettled(arena, seats) {
         Ok(finished) => finished,
-        Err(back) => finish(back.arena, back.seats).ok()?,
+        Err(back) => finish_unsettled(back.arena, back.seats).ok()?,
     };
     let mut changes: usize = 0;
     for log in &finished.logs {

@@ -1,7 +1,7 @@
 // A whole run: the sections of all workers, the steward's marks, and the audit.
 use crate::steward::{Keeper, Marks};
 use crate::worker::{Trouble, Worker};
-use arena::{Arena, NoGate, Seat, finish};
+use arena::{Arena, NoGate, Seat, finish_unsettled};
 use audit::{AuditError, audit};
 use span::{Key, Receipt};
 use std::alloc::{AllocError, Global};
@@ -198,7 +198,7 @@ pub fn run<R: Threads + Wait + Sync>(
     let (sent, taken) = deferred_of(workers.as_slice());
     let (seats, lists) = taken_apart(alloc, workers)?;
     drop(keeper);
-    let Ok(finished) = finish(arena, seats) else {
+    let Ok(finished) = finish_unsettled(arena, seats) else {
         return Err(AllocError);
     };
     let verdict = audit(alloc, finished.logs.as_slice(), lists.as_slice());

@@ -14,7 +14,7 @@ use crate::error::ThreadsError;
 use crate::layout::Layout;
 use crate::section::{Ran, Told, run_sections};
 use crate::worker::Text;
-use arena::{Arena, Gate, NoGate, finish};
+use arena::{Arena, Gate, NoGate, finish_unsettled};
 use audit::{AuditError, audit};
 use span::{Receipt, SpanLog};
 use std::alloc::{AllocError, Global};
@@ -145,7 +145,7 @@ fn replay<R: Threads + Wait + Sync, G: Gate + Sync>(
         live: totals.live,
         calls: calls_of(told.diaries.as_slice()),
     };
-    let Ok(finished) = finish(arena, seats) else {
+    let Ok(finished) = finish_unsettled(arena, seats) else {
         return Err(ThreadsError::OutOfMemory);
     };
     audited(alloc, told, finished.logs.as_slice(), shown, &ending)

@@ -1,0 +1,18 @@
+use Rattle.std.proofs.Common.{[], vec_items}
+use Rattle.arena.proofs.Ended.{all_settled, on_err}
+use Rattle.arena.proofs.Linking.{AreLinked-same, still_in_order}
+use Rattle.arena.proofs.ending.settled.Goals as goal
+
+pub returns-in_err-counts-clause-linked : goal.returns-in_err-counts-clause-linked
+returns-in_err-counts-clause-linked g c = on_err _ _ (AreLinked-same c.args.seats.now c.make_room.new.seats c.make_room.ensures.same c.requires.linked)
+
+pub returns-in_err-unlocked-clause-linked : goal.returns-in_err-unlocked-clause-linked
+returns-in_err-unlocked-clause-linked g c = on_err _ _ (AreLinked-same c.args.seats.now c.make_room.new.seats c.make_room.ensures.same c.requires.linked)
+
+pub settle_seats-requires-clause-in_order : goal.settle_seats-requires-clause-in_order
+settle_seats-requires-clause-in_order g c = still_in_order c.args.seats.now c.make_room.new.seats c.requires.linked c.make_room.ensures.same
+
+pub returns-clause-settled : goal.returns-clause-settled
+returns-clause-settled g c =
+    all_settled vec_items vec_items c.args.seats.now c.make_room.new.seats c.greatest-section.result c.in_ok-counts.counts.items c.args.receipts.now c.make_room.new.receipts c.settle_seats.new.receipts
+    (record { worker = 0; section = 0; limits = c.args.arena.now.limits; outboxes = []; inboxes = [] }) c.greatest-section.ensures c.make_room.ensures.same c.make_room.ensures.items c.requires.lists c.in_ok-counts.ensures.counted c.settle_seats.ensures.freed
