@@ -1,5 +1,5 @@
 -- The live key that comes first in a span.
-use Rattle.std.proofs.Common.{◌≡◌, ◌<◌, ◌≤◌, ◌⊎◌, ℕ, Bool, List, Option, Some, None, IsSomeAnd, true, false, arith, ap, refl, sym, ◌∙◌, inl, inr, is_some}
+use Rattle.std.proofs.Common.{◌≡◌, ◌≤◌, ℕ, Bool, List, Option, Some, None, IsSomeAnd, true, false, arith, ap, refl, sym, ◌∙◌, inl, inr, is_some}
 use Rattle.std.specs.Prelude.{IfSome, MatchOption}
 use Rattle.std.specs.FinMap as map
 use Rattle.std.specs.FinSet.{contains, len}

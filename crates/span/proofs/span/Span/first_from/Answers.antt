@@ -1,5 +1,5 @@
-use Rattle.std.proofs.Common.{◌≡◌, ◌<◌, ap, arith, subst, sym, ◌∙◌, get_or}
-use Rattle.span.specs.Log.{Holds, live_slots}
+use Rattle.std.proofs.Common.{ap, subst, sym, ◌∙◌, get_or}
+use Rattle.span.specs.Log.{Holds}
 use Rattle.span.specs.Order.{HasNoMemberFrom, IsLowestFrom}
 use Rattle.span.proofs.Keeping.{kept-Holds, live-within}
 use Rattle.span.proofs.LegalLogs.{Holds-some}
