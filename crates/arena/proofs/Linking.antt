@@ -207,3 +207,7 @@ linked_after seat a b long each linked =
 pub AreLinked-set : (seats : List SeatState) (i : ℕ) (x d : SeatState) → KeepsEnds (get_or seats i d) x → AreLinked seats → AreLinked (slice_set seats i x)
 AreLinked-set seats i x d keeps linked =
     AreLinked-from seats (slice_set seats i x) (map-set_same (λ (s : SeatState). s.worker) seats i x d keeps.worker_is) (map-set_same out_rings seats i x d keeps.outboxes_are) (map-set_same in_rings seats i x d keeps.inboxes_are) linked
+
+-- the same seat has the same ends
+pub KeepsEnds-same : (a b : SeatState) → b ≡ a → KeepsEnds a b
+KeepsEnds-same a b same = record { worker_is = ap (λ (s : SeatState). s.worker) same; limits_are = ap (λ (s : SeatState). s.limits) same; outboxes_are = ap out_rings same; inboxes_are = ap in_rings same }

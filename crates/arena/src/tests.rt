@@ -3,10 +3,11 @@
 //!
 //! What is called stands in helpers that promise nothing, and the answers are compared at once: a test carries no clauses then,
 //! and has one exit.
-ghost use Rattle.std.specs.Prelude.{◌≡◌};
+ghost use Rattle.std.specs.Prelude.{◌≡◌, length};
+ghost use Rattle.arena.specs.Seats.{AreLinked};
 
 use crate::arena::{Arena, Stepped};
-use crate::ending::finish_unsettled;
+use crate::ending::{finish, finish_unsettled};
 use crate::error::OpenError;
 use crate::gate::{Gate, NoGate};
 use crate::seat::Seat;
@@ -556,5 +557,50 @@ fn leaves_all_logs(rt: HostRuntime) -> Result<(), Fail> {
     };
     let left = logs_left(&rt, rt.alloc(), two);
     assert_eq!(rt; left, Some((2, 3)));
+    Ok(())
+}
+
+// The first of two seats puts a value, and the second leaves its key to the first one's thread. Says whether it came to that.
+fn leaves_one<R: Wait>(rt: &R, arena: &Arena<NoGate>, seats: &mut [Seat]) -> bool
+    requires two { length seats.old ≡ 2 }
+    requires linked { AreLinked seats.old }
+    ensures len { length seats.new ≡ 2 }
+    ensures linked { AreLinked seats.new }
+{
+    if !seats[0].fits(arena) {
+        return false;
+    }
+    let Ok((key, _)) = seats[0].put(rt, arena, 5) else {
+        return false;
+    };
+    if !seats[1].has_shard_of(&key) {
+        return false;
+    }
+    seats[1].free_later(key).is_ok()
+}
+
+// How many keys an arena of two settles from the ring from the second worker to the first shard when it ends, how many receipts
+// it adds for that shard's worker, and how many changes its logs have.
+fn settled_at_the_end<R: Wait>(rt: &R, alloc: Global) -> Option<(usize, usize, usize)> {
+    let Ok((arena, mut seats, _)) = Arena::open(alloc, 2, 4, 4, 9, NoGate) else {
+        return None;
+    };
+    if seats.len() != 2 || arena.limits.shards() != 2 {
+        return None;
+    }
+    if !leaves_one(rt, &arena, seats.as_mut_slice()) {
+        return None;
+    }
+    let mut receipts = vec![in alloc; Vec::new(alloc), Vec::new(alloc)].ok()?;
+    let finished = finish(arena, seats, receipts.as_mut_slice()).ok()?;
+    let count = *finished.counts.first()?.get(1)?;
+    let changes = finished.logs.first()?.changes.len();
+    Some((count, receipts.first()?.len(), changes))
+}
+
+#[test]
+fn settles_at_the_end(rt: HostRuntime) -> Result<(), Fail> {
+    let settled = settled_at_the_end(&rt, rt.alloc());
+    assert_eq!(rt; settled, Some((1, 1, 2)));
     Ok(())
 }
