@@ -1,5 +1,6 @@
 //! That a run of many threads comes to what it ought to.
-use crate::{Told, Trouble, Turn, run};
+use crate::runs::{Told, Turn, run};
+use crate::worker::Trouble;
 use audit::AuditError;
 use std::test::Fail;
 
