@@ -373,6 +373,7 @@ impl<L: Log> Core<L> {
     }
 
     // Takes the oldest key from the ring from this worker to this shard, if one waits there.
+    #[inline(always)]
     fn take_sent(&mut self, worker: u32, shard: u32) -> Result<Option<Key>, Refusal>
         ensures taken { MatchResult result
             (λ found. Takes self.old.rings worker shard found self.new.rings)
@@ -383,7 +384,9 @@ impl<L: Log> Core<L> {
         self.rings.take(worker, shard)
     }
 
-    // Frees the key that has waited longest on the ring from this worker to this shard, if one waits there.
+    // Frees the key that has waited longest on the ring from this worker to this shard, if one waits there. Inlined, since most
+    // rings are empty where all of them are asked.
+    #[inline(always)]
     fn settle(&mut self, worker: u32, shard: u32) -> Result<Option<Key>, Refusal>
         ensures exact { MatchResult result
             (λ settled. CoreStep self.old (event.Settle worker shard) (reply.Settled settled) self.new)

@@ -52,6 +52,7 @@ impl Ring {
     }
 
     // Takes the oldest key, if one waits.
+    #[inline(always)]
     fn take(&mut self) -> Option<Key>
         ensures { MatchOption result
             ((self.old.keys ≡ []) × (self.new ≡ self.old))
@@ -137,6 +138,7 @@ impl Rings {
     /// Takes the oldest key from the ring from this worker to this shard, if one waits there.
     ///
     /// [`Refusal::Config`] comes exactly where there is no such ring.
+    #[inline(always)]
     pub fn take(&mut self, worker: u32, shard: u32) -> Result<Option<Key>, Refusal>
         ensures { MatchResult result
             (λ found. Takes self.old worker shard found self.new)
