@@ -4,15 +4,17 @@ use Rattle.std.specs.Prelude.{◌≢◌, option_map}
 use Rattle.std.specs.Option.{IsSome}
 use Rattle.std.proofs.lemmas.Bool.{cases_eq, cases_lt}
 use Rattle.span.specs.Ids.{rank}
+use Rattle.span.specs.declared.id.SpanId.{SpanId}
 use Rattle.page_table.specs.State.{words_of}
-use Rattle.shard.specs.Moves.{MayTakeIn, TakesIn, WholeState, spans_moved, with_room}
+use Rattle.shard.specs.Moves.{MayTakeIn, TakesIn, with_room}
+use Rattle.groups.specs.Whole.{WholeState, spans_moved}
 use Rattle.shard.specs.Sound.{IsSound as IsSoundShard}
 use Rattle.shard.specs.State.{ShardState}
-use Rattle.shard.proofs.Heads.{one_of_head}
-use Rattle.shard.proofs.Lists.{same_some}
-use Rattle.abandoned.specs.Calls.{Adopts, HasDoubled, IsDoubled, IsFirstPaged, IsLowestPaged, Lifts}
+use Rattle.groups.proofs.Heads.{one_of_head}
+use Rattle.groups.proofs.Lists.{same_some}
+use Rattle.abandoned.specs.Calls.{Adopts, HasDoubled, IsDoubled, IsFirstPaged, IsLowestPaged, Lifts, WouldDouble}
 use Rattle.abandoned.specs.Sound.{IsSound}
-use Rattle.abandoned.specs.State.{Ascend, PoolState, PooledState, spans_of, whole_of}
+use Rattle.abandoned.specs.State.{Ascend, HasNoHead, IsHeadOf, PoolState, PooledState, spans_of, whole_of}
 use Rattle.abandoned.proofs.Heads.{head_id}
 
 some_page : (o : Option ℕ) → o ≡ None → IsSome o → ⊥
@@ -51,6 +53,14 @@ nothing_lowest pool index group lowest none = some_page group.page (none index g
 -- one group has the head
 pub one_head : (pool : PoolState) → IsSound pool → (i j : ℕ) (a b : PooledState) → slice_get pool.groups i ≡ Some a → slice_get pool.groups j ≡ Some b → a.head.id ≡ b.head.id → a ≡ b
 one_head pool sound i j a b at_i at_j same = one_of_head head_id pool.groups sound.ascending i j a b at_i at_j same
+
+-- one group has the head, whose spans are asked
+pub WouldDouble-here : (pool : PoolState) → IsSound pool → (shard : ShardState) (head : SpanId) (index : ℕ) (group : PooledState) → IsHeadOf pool.groups head index group → WouldDouble pool shard head → HasDoubled shard (spans_of group)
+WouldDouble-here pool sound shard head index group from (other, g, its, doubled) =
+    subst (λ (x : PooledState). HasDoubled shard (spans_of x)) (one_head pool sound other index g group its.here from.here (its.head_is ∙ sym from.head_is)) doubled
+
+pub WouldDouble-none : (pool : PoolState) (shard : ShardState) (head : SpanId) → HasNoHead pool.groups head → WouldDouble pool shard head → ⊥
+WouldDouble-none pool shard head none (index, group, its, doubled) = none index group its
 
 still_some : {X : Type 0} (f : ℕ → X) (o : Option ℕ) → IsSome o → IsSome (option_map f o)
 still_some f None some = absurd cc

@@ -8,11 +8,12 @@ use Rattle.std.proofs.lemmas.Option.{slice_get-map}
 use Rattle.std.proofs.lemmas.List.{length-map}
 use Rattle.page_table.specs.State.{TableState, words_of}
 use Rattle.page_table.specs.Words.{Words, blank_page}
-use Rattle.shard.specs.Group.{union_of}
-use Rattle.shard.specs.Moves.{IsSoundWhole, WholeState, spans_moved, whole_of as whole_of_shard}
+use Rattle.groups.specs.Spans.{union_of}
+use Rattle.groups.specs.Whole.{IsSoundWhole, WholeState, spans_moved}
+use Rattle.shard.specs.Moves.{whole_of as whole_of_shard}
 use Rattle.shard.specs.State.{ShardState, spans_in as spans_in_shard}
-use Rattle.shard.proofs.GroupSpans.{times}
-use Rattle.shard.proofs.Lists.{after-insert, get-insert}
+use Rattle.groups.proofs.GroupSpans.{times}
+use Rattle.groups.proofs.Lists.{after-insert, get-insert}
 use Rattle.abandoned.specs.Calls.{HasReceived, IsPooled, TakesAll, TakesIn, with_rooms}
 use Rattle.abandoned.specs.Sound.{IsSound, IsSoundPaged}
 use Rattle.abandoned.specs.State.{PoolState, PooledState, spans_in, spans_of, whole_of}

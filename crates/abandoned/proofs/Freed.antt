@@ -16,15 +16,15 @@ use Rattle.span.specs.declared.id.SpanId.{SpanId}
 use Rattle.span.specs.declared.key.Key.{Key}
 use Rattle.span.proofs.Changes.{IsLegal-push}
 use Rattle.page_table.specs.State.{is_page}
-use Rattle.shard.specs.Group.{AreApart, union_of, with_free}
-use Rattle.shard.specs.Moves.{without_page}
+use Rattle.groups.specs.Spans.{AreApart, union_of, with_free}
+use Rattle.groups.specs.Tables.{without_page}
 use Rattle.shard.specs.declared.shard.Freed.{Freed}
 use Rattle.shard.specs.declared.shard.Freed.TheVariants as freed
-use Rattle.shard.proofs.GroupSpans.{times}
-use Rattle.shard.proofs.Lists.{after-set, before-set, cases-set, count-set, same_some}
-use Rattle.shard.proofs.Logs.{was_held}
-use Rattle.shard.proofs.Removed.{before-remove, cases-remove, count-remove, set-insert}
-use Rattle.shard.proofs.Unions.{live_if_held, lose_held, member_of_union}
+use Rattle.groups.proofs.GroupSpans.{times}
+use Rattle.groups.proofs.Lists.{after-set, before-set, cases-set, count-set, same_some}
+use Rattle.groups.proofs.Logs.{was_held}
+use Rattle.groups.proofs.Removed.{before-remove, cases-remove, count-remove, set-insert}
+use Rattle.groups.proofs.Unions.{live_if_held, lose_held, member_of_union}
 use Rattle.abandoned.specs.Calls.{Frees, IsPlaceFor, Leaves, without_page_of}
 use Rattle.abandoned.specs.Sound.{IsSound, IsSoundGroup, IsSoundPaged, IsSoundSpan}
 use Rattle.abandoned.specs.State.{IsElsewhere, PoolState, PooledState, Stands, spans_of, with_span}

@@ -6,7 +6,7 @@ use Rattle.span.specs.Ids.{rank}
 use Rattle.span.specs.State.{SpanState}
 use Rattle.span.specs.declared.id.SpanId.{SpanId}
 use Rattle.page_table.specs.State.{TableState}
-use Rattle.shard.proofs.Lists.{same_some, set-same}
+use Rattle.groups.proofs.Lists.{same_some, set-same}
 use Rattle.abandoned.specs.Calls.{GivesUp}
 use Rattle.abandoned.specs.Groups.{FreesIn, GroupsState, HasHeadAt, standing}
 use Rattle.abandoned.specs.State.{IsHeadOf, PooledState, spans_of, with_span}

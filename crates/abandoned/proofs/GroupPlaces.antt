@@ -6,8 +6,8 @@ use Rattle.bitmap.specs.Slots.{SlotSet}
 use Rattle.span.specs.Ids.{rank}
 use Rattle.span.specs.declared.id.SpanId.{SpanId}
 use Rattle.shard.specs.Rooms.{has_index}
-use Rattle.shard.proofs.Lists.{cases-set, get-set, in_either, same_some, set-same, there_at}
-use Rattle.shard.proofs.Standing.{id_from_rank}
+use Rattle.groups.proofs.Lists.{cases-set, get-set, in_either, same_some, set-same, there_at}
+use Rattle.groups.proofs.Ranks.{id_from_rank}
 use Rattle.abandoned.specs.Calls.{HasNoPage, IsFirstPaged, IsPlaceFor}
 use Rattle.abandoned.specs.Groups.{HaveSize, Removes, has_page, standing}
 use Rattle.abandoned.specs.Numbers.{HasNoneFrom, IsNext}

@@ -3,7 +3,7 @@ use Rattle.std.proofs.Common.{◌≡◌, ℕ, zero, suc, ◌<◌, ◌≤◌, Lis
 use Rattle.std.proofs.lemmas.Bool.{cases_lt}
 use Rattle.std.proofs.lemmas.Option.{slice_get_within}
 use Rattle.span.specs.Ids.{rank}
-use Rattle.shard.proofs.Lists.{there_at}
+use Rattle.groups.proofs.Lists.{there_at}
 use Rattle.abandoned.specs.State.{Ascend, PooledState}
 
 -- heads that ascend are at most as many as there are ids

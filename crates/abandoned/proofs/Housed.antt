@@ -5,8 +5,9 @@ use Rattle.std.specs.FinMap as map
 use Rattle.std.specs.FinSet as set
 use Rattle.page_table.specs.State.{TableState}
 use Rattle.page_table.specs.Words.{Words}
-use Rattle.shard.specs.Group.{union_of}
-use Rattle.shard.specs.Moves.{WholeState, spans_moved, with_page}
+use Rattle.groups.specs.Spans.{union_of}
+use Rattle.groups.specs.Whole.{WholeState, spans_moved}
+use Rattle.groups.specs.Tables.{with_page}
 use Rattle.abandoned.specs.Calls.{IsPlaceFor, TakesIn}
 use Rattle.abandoned.specs.State.{PooledState}
 use Rattle.abandoned.proofs.TakenIn.{empty_or_not, pooled}

@@ -7,8 +7,8 @@ use Rattle.span.specs.Ids.{rank, same_span}
 use Rattle.span.specs.State.{SpanState}
 use Rattle.span.specs.declared.id.SpanId.{SpanId}
 use Rattle.page_table.specs.State.{TableState, is_page}
-use Rattle.shard.proofs.GroupSpans.{count-spans_insert, times, times-together}
-use Rattle.shard.proofs.Lists.{after-insert, cases-insert, count-insert, get-insert, none_where, pairs-insert}
+use Rattle.groups.proofs.GroupSpans.{count-spans_insert, times, times-together}
+use Rattle.groups.proofs.Lists.{after-insert, cases-insert, count-insert, get-insert, none_where, pairs-insert}
 use Rattle.abandoned.specs.Calls.{IsPlaceFor}
 use Rattle.abandoned.specs.Sound.{IsSound, IsSoundGroup}
 use Rattle.abandoned.specs.State.{IsElsewhere, PoolState, PooledState, spans_of}

@@ -6,12 +6,12 @@ use Rattle.span.specs.Ids.{rank, same_span}
 use Rattle.span.specs.State.{SpanState}
 use Rattle.span.specs.declared.id.SpanId.{SpanId}
 use Rattle.page_table.specs.State.{TableState}
-use Rattle.shard.specs.Directory.{Entries, entered, struck}
-use Rattle.shard.specs.Group.{union_of}
-use Rattle.shard.specs.declared.directory.Place.{Place}
-use Rattle.shard.proofs.FoundGuests.{IsDirectory-come, IsDirectory-gone, found_nowhere, found_there, place_or_head}
-use Rattle.shard.proofs.GuestDirectory.{HaveSameIds, HaveSameIds-same, HaveSameIds-set, IsDirectory-set}
-use Rattle.shard.proofs.Lists.{same_some}
+use Rattle.groups.specs.Directory.{Entries, entered, struck}
+use Rattle.groups.specs.Spans.{union_of}
+use Rattle.groups.specs.declared.directory.Place.{Place}
+use Rattle.groups.proofs.FoundGuests.{IsDirectory-come, IsDirectory-gone, found_nowhere, found_there, place_or_head}
+use Rattle.groups.proofs.GuestDirectory.{HaveSameIds, HaveSameIds-same, HaveSameIds-set, IsDirectory-set}
+use Rattle.groups.proofs.Lists.{same_some}
 use Rattle.abandoned.specs.Calls.{GivesUp}
 use Rattle.abandoned.specs.Groups.{HasHeadAt}
 use Rattle.abandoned.specs.Kept.{KnowsGuests}

@@ -9,11 +9,11 @@ use Rattle.span.specs.State.{SpanState}
 use Rattle.span.specs.declared.id.SpanId.{SpanId}
 use Rattle.span.proofs.Ids.{test_from_same_id}
 use Rattle.page_table.specs.State.{is_page, words_of}
-use Rattle.shard.specs.Group.{union_of}
-use Rattle.shard.specs.Moves.{IsSoundMoved, IsSoundWhole, WholeState}
-use Rattle.shard.proofs.GroupSpans.{count-spans_remove, elsewhere-times, times}
-use Rattle.shard.proofs.Lists.{count-some, same_some}
-use Rattle.shard.proofs.Removed.{after-remove, before-remove, count-remove, pairs-remove}
+use Rattle.groups.specs.Spans.{union_of}
+use Rattle.groups.specs.Whole.{IsSoundMoved, IsSoundWhole, WholeState}
+use Rattle.groups.proofs.GroupSpans.{count-spans_remove, elsewhere-times, times}
+use Rattle.groups.proofs.Lists.{count-some, same_some}
+use Rattle.groups.proofs.Removed.{after-remove, before-remove, count-remove, pairs-remove}
 use Rattle.abandoned.specs.Calls.{Lifts, without_page_of}
 use Rattle.abandoned.specs.Sound.{IsSound, IsSoundGroup, IsSoundPaged}
 use Rattle.abandoned.specs.State.{IsElsewhere, PoolState, PooledState, spans_of, whole_of}

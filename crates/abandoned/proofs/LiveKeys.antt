@@ -7,9 +7,8 @@ use Rattle.std.proofs.lemmas.List.Sums.{sum_by-append}
 use Rattle.span.specs.Log.{live_slots}
 use Rattle.span.specs.State.{SpanState}
 use Rattle.page_table.specs.State.{TableState}
-use Rattle.shard.specs.Group.{union_of}
-use Rattle.shard.specs.State.{live_count}
-use Rattle.shard.proofs.LiveCounts.{len-union_of}
+use Rattle.groups.specs.Spans.{union_of, live_count}
+use Rattle.groups.proofs.LiveCounts.{len-union_of}
 use Rattle.abandoned.specs.Sound.{IsSoundGroup, IsSoundPaged}
 use Rattle.abandoned.specs.State.{PooledState, spans_in, spans_of}
 use Rattle.abandoned.proofs.Passing.{paged}

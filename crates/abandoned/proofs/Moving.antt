@@ -12,13 +12,15 @@ use Rattle.page_table.specs.Words.{Words, blank_page}
 use Rattle.page_table.proofs.Maps.{get-remove}
 use Rattle.std.proofs.lemmas.Bool.{ne_eqb}
 use Rattle.std.specs.FinMap as finite
-use Rattle.shard.specs.Group.{GroupState, spans_of, union_of}
-use Rattle.shard.specs.Moves.{IsSoundWhole, LiftsLast, WholeState, spans_moved, whole_of, without_page}
+use Rattle.shard.specs.Group.{GroupState, spans_of}
+use Rattle.groups.specs.Spans.{union_of}
+use Rattle.groups.specs.Whole.{IsSoundWhole, WholeState, spans_moved}
+use Rattle.shard.specs.Moves.{LiftsLast, whole_of}
+use Rattle.groups.specs.Tables.{without_page}
 use Rattle.shard.specs.Sound.{IsSound as IsSoundShard}
 use Rattle.shard.specs.State.{ShardState, spans_in as spans_in_shard}
-use Rattle.shard.proofs.GroupSpans.{elsewhere-times, times}
-use Rattle.shard.proofs.LastGroup.{get-last}
-use Rattle.shard.proofs.Lists.{count-append, count-some, get_left}
+use Rattle.groups.proofs.GroupSpans.{elsewhere-times, times}
+use Rattle.groups.proofs.Lists.{get-last, count-append, count-some, get_left}
 use Rattle.shard.proofs.PutHere.{other_page}
 use Rattle.span.proofs.Ids.{test_from_same_id}
 use Rattle.abandoned.specs.Calls.{MayTakeIn, TakesAll, TakesIn}

@@ -9,9 +9,9 @@ use Rattle.span.specs.Ids.{rank}
 use Rattle.span.specs.State.{SpanState}
 use Rattle.page_table.specs.State.{TableState, is_page, words_of}
 use Rattle.page_table.specs.Words.{Words, blank_page}
-use Rattle.shard.specs.Group.{union_of}
-use Rattle.shard.specs.Moves.{IsSoundMoved}
-use Rattle.shard.proofs.Lists.{count-two, same_some}
+use Rattle.groups.specs.Spans.{union_of}
+use Rattle.groups.specs.Whole.{IsSoundMoved}
+use Rattle.groups.proofs.Lists.{count-two, same_some}
 use Rattle.abandoned.specs.Sound.{IsSound, IsSoundGroup, IsSoundPaged}
 use Rattle.abandoned.specs.State.{PoolState, PooledState, spans_of}
 

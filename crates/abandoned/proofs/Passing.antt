@@ -10,7 +10,7 @@ use Rattle.bitmap.specs.Slots.{SlotSet}
 use Rattle.span.specs.Log.{live_slots}
 use Rattle.span.specs.State.{SpanState}
 use Rattle.shard.specs.Rooms.{has_index}
-use Rattle.shard.specs.State.{live_count}
+use Rattle.groups.specs.Spans.{live_count}
 use Rattle.abandoned.specs.Groups.{has_page, standing}
 use Rattle.abandoned.specs.Numbers.{HasNoneFrom, IsNext}
 use Rattle.abandoned.specs.State.{PooledState, spans_in, spans_of}

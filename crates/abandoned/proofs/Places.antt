@@ -2,7 +2,7 @@
 use Rattle.std.proofs.Common.{zero, suc, ◌≡◌, ℕ, ◌<◌, ◌≤◌, Bool, true, false, cond, List, [], ◌∷◌, ◌++◌, length, insert, Option, Some, None, set, slice_get, take, ap, sym, ◌∙◌, refl, inl, inr, arith}
 use Rattle.std.specs.Prelude.{filter, remove}
 use Rattle.std.proofs.lemmas.Bool.{cases_lt}
-use Rattle.shard.proofs.Lists.{same_some}
+use Rattle.groups.proofs.Lists.{same_some}
 use Rattle.abandoned.specs.Groups.{standing}
 
 -- how many stand below the place

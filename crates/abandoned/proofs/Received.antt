@@ -10,10 +10,11 @@ use Rattle.span.specs.Ids.{same_span}
 use Rattle.span.specs.State.{SpanState}
 use Rattle.span.proofs.Ids.{same_id_from_test}
 use Rattle.shard.specs.Group.{GroupState, spans_of as spans_in_group}
-use Rattle.shard.specs.Moves.{IsSoundWhole, WholeState, whole_of}
+use Rattle.groups.specs.Whole.{IsSoundWhole, WholeState}
+use Rattle.shard.specs.Moves.{whole_of}
 use Rattle.shard.specs.Sound.{IsSound as IsSoundShard}
 use Rattle.shard.specs.State.{ShardState}
-use Rattle.shard.proofs.GroupSpans.{count-spans_in, times, times-elsewhere}
+use Rattle.groups.proofs.GroupSpans.{count-spans_in, times, times-elsewhere}
 use Rattle.shard.proofs.LiftedGroup.{IsSoundWhole-lifted}
 use Rattle.abandoned.specs.Calls.{IsInPool}
 use Rattle.abandoned.specs.Handover.{AreApart, IsEmptied}

@@ -6,8 +6,8 @@ use Rattle.bitmap.specs.Slots.{IsLowest, SlotSet}
 use Rattle.span.specs.Log.{Holds}
 use Rattle.span.specs.State.{SpanState}
 use Rattle.page_table.specs.State.{HasPage, TableState}
-use Rattle.shard.specs.Group.{union_of}
-use Rattle.shard.proofs.Unions.{live_if_held, member_of_union}
+use Rattle.groups.specs.Spans.{union_of}
+use Rattle.groups.proofs.Unions.{live_if_held, member_of_union}
 use Rattle.abandoned.specs.Calls.{GivesUp, Leaves, without_page_of}
 use Rattle.abandoned.specs.Sound.{IsSound}
 use Rattle.abandoned.specs.State.{PoolState, PooledState, spans_of}

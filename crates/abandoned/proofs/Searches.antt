@@ -2,7 +2,7 @@
 use Rattle.std.proofs.Common.{◌≡◌, ℕ, ◌+◌, ◌<◌, ◌≤◌, List, length, Some, slice_get, ap, sym, subst, ◌∙◌, inl, inr, arith}
 use Rattle.std.proofs.lemmas.Bool.{cases_eq}
 use Rattle.std.proofs.lemmas.Option.{slice_get_within}
-use Rattle.shard.proofs.Lists.{same_some}
+use Rattle.groups.proofs.Lists.{same_some}
 
 module _ {X : Type 0} (P : X → Type 0) where
   pub below_next : (xs : List X) (at : ℕ) (x : X) → slice_get xs at ≡ Some x → (P x → ⊥) → ((other : ℕ) (y : X) → other < at → slice_get xs other ≡ Some y → P y → ⊥)

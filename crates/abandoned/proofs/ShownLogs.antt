@@ -14,17 +14,17 @@ use Rattle.span.specs.State.{SpanState}
 use Rattle.span.specs.declared.key.Key.{Key}
 use Rattle.span.specs.declared.id.SpanId.{SpanId}
 use Rattle.shard.specs.Calls.{value_found, was_freed}
-use Rattle.shard.specs.Group.{with_free}
-use Rattle.shard.specs.Shown.{span_named, value_by, word_of}
+use Rattle.groups.specs.Spans.{with_free}
+use Rattle.groups.specs.Shown.{span_named, value_by, word_of}
 use Rattle.shard.specs.declared.shard.Found.{Found}
 use Rattle.shard.specs.declared.shard.Found.TheVariants.{Gone, NotHere}
 use Rattle.shard.specs.declared.shard.Found.TheVariants as found
 use Rattle.shard.specs.declared.shard.Freed.{Freed}
 use Rattle.shard.specs.declared.shard.Freed.TheVariants as freed
-use Rattle.shard.proofs.GroupSpans.{named_stands, span_named-none, span_named-stands, spans_round}
-use Rattle.shard.proofs.Logged.{logged, logged_by, logged-free, nothing_pending, others, same_plain_map, value_by-mapped}
-use Rattle.shard.proofs.Logs.{is_some-value_in-gone, value_in-gone, value_in-held}
-use Rattle.shard.proofs.Unions.{member_of_union}
+use Rattle.groups.proofs.GroupSpans.{named_stands, span_named-none, span_named-stands, spans_round}
+use Rattle.groups.proofs.Logged.{logged, logged_by, logged-free, nothing_pending, others, same_plain_map, value_by-mapped}
+use Rattle.groups.proofs.Logs.{is_some-value_in-gone, value_in-gone, value_in-held}
+use Rattle.groups.proofs.Unions.{member_of_union}
 use Rattle.abandoned.specs.Calls.{Frees, Gets}
 use Rattle.abandoned.specs.Shown.{shown}
 use Rattle.abandoned.specs.Sound.{IsSound}

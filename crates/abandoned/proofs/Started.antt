@@ -2,7 +2,7 @@
 use Rattle.std.proofs.Common.{false, ◌≡◌, [], Some, None, sym, ◌∙◌, arith}
 use Rattle.std.specs.FinMap as map
 use Rattle.std.specs.Ordering.{nat_cmp}
-use Rattle.shard.specs.State.{no_pages}
+use Rattle.groups.specs.Tables.{no_pages}
 use Rattle.abandoned.specs.Sound.{IsSound}
 
 pub IsSound-new : IsSound (record { groups = []; table = no_pages; has_plan = false })

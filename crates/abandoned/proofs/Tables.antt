@@ -5,7 +5,7 @@ use Rattle.std.specs.Cmp.{nat_cmp_total}
 use Rattle.std.proofs.lemmas.Bool.{cases_eq, ne_eqb}
 use Rattle.page_table.specs.State.{HasPage, TableState, is_page}
 use Rattle.page_table.proofs.Maps.{get-remove, get-unmapped}
-use Rattle.shard.proofs.Lists.{same_some}
+use Rattle.groups.proofs.Lists.{same_some}
 use Rattle.abandoned.specs.Calls.{without_page_of}
 
 -- a page that goes, if there is one

@@ -16,13 +16,14 @@ use Rattle.span.specs.declared.id.SpanId.{SpanId}
 use Rattle.span.proofs.Ids.{test_from_same_id}
 use Rattle.page_table.specs.State.{TableState, is_page, words_of}
 use Rattle.page_table.specs.Words.{Words, blank_page}
-use Rattle.shard.specs.Group.{union_of}
-use Rattle.shard.specs.Moves.{IsSoundMoved, IsSoundWhole, WholeState, spans_moved, with_page}
-use Rattle.shard.proofs.GroupSpans.{count-spans_insert, elsewhere-times, times}
-use Rattle.shard.proofs.Lists.{count-append, count-none, count-some}
-use Rattle.shard.proofs.Mapped.{get-with_mapped_in, get-with_mapped_out, with_mapped-was}
-use Rattle.shard.proofs.Standing.{id_from_rank}
-use Rattle.shard.proofs.Tables.{get-insert_other, get-insert_same}
+use Rattle.groups.specs.Spans.{union_of}
+use Rattle.groups.specs.Whole.{IsSoundMoved, IsSoundWhole, WholeState, spans_moved}
+use Rattle.groups.specs.Tables.{with_page}
+use Rattle.groups.proofs.GroupSpans.{count-spans_insert, elsewhere-times, times}
+use Rattle.groups.proofs.Lists.{count-append, count-none, count-some}
+use Rattle.groups.proofs.Mapped.{get-with_mapped_in, get-with_mapped_out, with_mapped-was}
+use Rattle.groups.proofs.Ranks.{id_from_rank}
+use Rattle.groups.proofs.Tables.{get-insert_other, get-insert_same}
 use Rattle.abandoned.specs.Calls.{TakesAll, TakesIn, less_room, with_rooms}
 use Rattle.abandoned.specs.Sound.{IsSound, IsSoundGroup, IsSoundPaged}
 use Rattle.abandoned.specs.State.{IsElsewhere, PoolState, PooledState, spans_in, spans_of}

@@ -10,13 +10,15 @@ use Rattle.span.specs.declared.id.SpanId.{SpanId}
 use Rattle.span.specs.declared.key.Key.{Key}
 use Rattle.page_table.specs.State.{TableState}
 use Rattle.shard.specs.Group.{GroupState}
-use Rattle.shard.specs.Moves.{IsSoundWhole, TakesIn as TakesInShard, WholeState, spans_moved, whole_of as whole_of_shard, with_room as with_room_in}
-use Rattle.shard.specs.Shown.{issued_by, shown as shown_by_shard, span_named}
+use Rattle.groups.specs.Whole.{IsSoundWhole, WholeState, spans_moved}
+use Rattle.shard.specs.Moves.{TakesIn as TakesInShard, whole_of as whole_of_shard, with_room as with_room_in}
+use Rattle.groups.specs.Shown.{issued_by, span_named}
+use Rattle.shard.specs.Shown.{shown as shown_by_shard}
 use Rattle.shard.specs.Sound.{IsSound as IsSoundShard}
 use Rattle.shard.specs.State.{ShardState, spans_in as spans_in_shard}
-use Rattle.shard.proofs.GroupSpans.{put_in, taken_out, times}
-use Rattle.shard.proofs.Lists.{count-append, find-none}
-use Rattle.shard.proofs.Logged.{logged, logged_by, nothing_pending, same_plain_map}
+use Rattle.groups.proofs.GroupSpans.{put_in, taken_out, times}
+use Rattle.groups.proofs.Lists.{count-append, find-none}
+use Rattle.groups.proofs.Logged.{logged, logged_by, nothing_pending, same_plain_map}
 use Rattle.shard.proofs.MovedGroups.{spans_in-TakesIn}
 use Rattle.shard.proofs.ShownLogs.{shown-logged as shown-logged_shard}
 use Rattle.abandoned.specs.Calls.{Lifts, TakesAll, TakesIn, with_rooms}

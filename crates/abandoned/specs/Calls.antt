@@ -9,10 +9,14 @@ use Rattle.span.specs.Log.{Holds}
 use Rattle.span.specs.State.{SpanState}
 use Rattle.page_table.specs.State.{TableState, word_at, words_of}
 use Rattle.page_table.specs.Words.{Words}
-use Rattle.shard.specs.Group.{GroupState, IsSpanAt, spans_of as spans_in_shard, union_of, with_free}
-use Rattle.shard.specs.Moves.{IsBriefOf, WholeState, TakesIn as TakesInShard, spans_moved, whole_of as whole_of_shard, with_page, with_room as with_room_in, without_page}
+use Rattle.shard.specs.Group.{GroupState, spans_of as spans_in_shard}
+use Rattle.groups.specs.Spans.{IsSpanAt, union_of, with_free}
+use Rattle.groups.specs.Brief.{IsBriefOf}
+use Rattle.groups.specs.Whole.{WholeState, spans_moved}
+use Rattle.shard.specs.Moves.{TakesIn as TakesInShard, whole_of as whole_of_shard, with_room as with_room_in}
+use Rattle.groups.specs.Tables.{with_page, without_page}
 use Rattle.shard.specs.State.{ShardState, IsElsewhere as IsElsewhereInShard}
-use Rattle.shard.specs.declared.brief.Brief.{Brief}
+use Rattle.groups.specs.declared.brief.Brief.{Brief}
 use Rattle.shard.specs.declared.shard.Found.{Found}
 use Rattle.shard.specs.declared.shard.Found.TheVariants.{Value, Gone, NotHere}
 use Rattle.shard.specs.declared.shard.Freed.{Freed}
@@ -186,6 +190,10 @@ IsTaken shard id = (id.shard ≡ shard.number) ⊎ (IsElsewhereInShard shard.gro
 -- one of the spans is in the shard already, or bears its number
 abbrev pub HasDoubled : ShardState → List SpanState → Type 0
 HasDoubled shard spans = (place : ℕ) × (span : SpanState) × (slice_get spans place ≡ Some span) × IsTaken shard span.id
+
+-- a span of the pool's group of the head is in the shard already, or bears its number
+abbrev pub WouldDouble : PoolState → ShardState → SpanId → Type 0
+WouldDouble pool shard head = (index : ℕ) × (group : PooledState) × IsHeadOf pool.groups head index group × HasDoubled shard (spans_of group)
 
 -- a span of the pool's lowest group that has a page is in the shard already, or bears its number
 abbrev pub IsDoubled : PoolState → ShardState → Type 0

@@ -7,6 +7,7 @@ use Rattle.page_table.specs.State.{TableState}
 use Rattle.shard.specs.Rooms.{has_index}
 use Rattle.abandoned.specs.Calls.{GivesUp}
 use Rattle.abandoned.specs.State.{HasNoHead, IsHeadOf, PooledState, with_span}
+use Rattle.span.specs.declared.limits.TheConstants.{ALL_IDS}
 
 -- groups by ascending head, and for how many more there is reserved room
 pub record GroupsState : Type 0 where
@@ -39,7 +40,7 @@ FreesIn old index group place span table new table_now =
 
 -- there are places for all heads, or none, and 256 of them for each part of the set
 pub record HaveSize (places : List (Option PooledState)) (parts : List SlotSet) : Type 0 where
-  pub size : (length places ≡ 0) ⊎ (length places ≡ 65536)
+  pub size : (length places ≡ 0) ⊎ (length places ≡ ALL_IDS)
   pub parts_fit : length places ≡ 256 * length parts
 
 -- there are places for all heads, on which stands what stood before
@@ -48,5 +49,5 @@ pub record AreReady (places : List (Option PooledState)) (parts : List SlotSet) 
   pub was_there : (at : ℕ) (group : PooledState) → slice_get new at ≡ Some (Some group) → slice_get places at ≡ Some (Some group)
   pub same_page : (at : ℕ) → has_page (slice_get new at) ≡ has_page (slice_get places at)
   pub same_index : (at : ℕ) → has_index new_parts at ≡ has_index parts at
-  pub count : length new ≡ 65536
+  pub count : length new ≡ ALL_IDS
   pub parts_fit : length new ≡ 256 * length new_parts

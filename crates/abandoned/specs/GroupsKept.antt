@@ -5,7 +5,8 @@ use Rattle.shard.specs.Rooms.{has_index}
 use Rattle.abandoned.specs.Groups.{GroupsState, HaveSize, has_page, standing}
 use Rattle.abandoned.specs.Numbers.{KnowsParts}
 use Rattle.abandoned.specs.State.{PooledState}
-use Rattle.abandoned.specs.declared.groups.Groups.TheInside.{Inside}
+use Rattle.abandoned.specs.declared.by_head.Groups.TheInside.{Inside}
+use Rattle.span.specs.declared.limits.TheConstants.{ALL_IDS}
 
 -- what contracts see of the fields
 abbrev pub state_of : {L : Type 0} → Inside L → GroupsState
@@ -20,4 +21,4 @@ pub record IsKept {L : Type 0} (g : Inside L) : Type 0 where
   pub filled_known : KnowsParts g.paged.items g.filled
   -- there are places for all heads where room is reserved
   pub sized : HaveSize g.places.items g.paged.items
-  pub room_for_heads : 0 < g.room → length g.places.items ≡ 65536
+  pub room_for_heads : 0 < g.room → length g.places.items ≡ ALL_IDS

@@ -1,6 +1,6 @@
 -- What a pool keeps.
 use Rattle.std.specs.Prelude.{◌≤◌, List}
-use Rattle.shard.specs.Directory.{Entries, IsDirectory}
+use Rattle.groups.specs.Directory.{Entries, IsDirectory}
 use Rattle.abandoned.specs.Sound.{IsSound}
 use Rattle.abandoned.specs.State.{PoolState, PooledState}
 use Rattle.abandoned.specs.declared.pool.Pool.TheInside.{Inside}

@@ -2,7 +2,7 @@
 use Rattle.std.specs.Prelude.{◌||◌, [], Option, None, Some}
 use Rattle.span.specs.Log.{Value}
 use Rattle.span.specs.PlainMap.{PlainMap}
-use Rattle.shard.specs.Shown.{issued_by, span_named, value_by}
+use Rattle.groups.specs.Shown.{issued_by, span_named, value_by}
 use Rattle.abandoned.specs.State.{PoolState, spans_in}
 
 -- the map of the keys of the pool's spans: what their logs leave live, each with the word of its page

@@ -7,8 +7,8 @@ use Rattle.span.specs.Ids.{rank, same_span}
 use Rattle.span.specs.Log.{IsLegal}
 use Rattle.span.specs.State.{SpanState}
 use Rattle.page_table.specs.State.{HasPage, TableState, is_page, words_of}
-use Rattle.shard.specs.Group.{AreApart, union_of}
-use Rattle.shard.specs.Moves.{IsSoundMoved}
+use Rattle.groups.specs.Spans.{AreApart, union_of}
+use Rattle.groups.specs.Whole.{IsSoundMoved}
 use Rattle.abandoned.specs.State.{Ascend, PoolState, PooledState, Stands, paged_groups, spans_in, spans_of}
 
 -- the span is mapped to the page, its log is legal, and the word at each live slot is the log's value

@@ -6,9 +6,8 @@ use Rattle.span.specs.declared.id.SpanId.{SpanId}
 use Rattle.span.specs.Ids.{rank}
 use Rattle.span.specs.State.{SpanState}
 use Rattle.page_table.specs.State.{TableState, words_of}
-use Rattle.shard.specs.Group.{HasNoSpan, SpansState, union_of}
-use Rattle.shard.specs.Moves.{WholeState}
-use Rattle.shard.specs.State.{live_count}
+use Rattle.groups.specs.Spans.{HasNoSpan, SpansState, union_of, live_count}
+use Rattle.groups.specs.Whole.{WholeState}
 
 -- a group of the pool: a head and its guests, and their page, if they have one
 pub record PooledState : Type 0 where

@@ -30,8 +30,8 @@
 //! [`Pool::receive`] and [`Pool::adopt`] change nothing of what pool and shard show together.
 #![tactic(auto)]
 
+mod by_head;
 mod error;
-mod groups;
 mod numbers;
 mod pool;
 mod pooled;

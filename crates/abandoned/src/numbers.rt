@@ -12,7 +12,8 @@ pub(crate) fn mark(parts: &mut Vec<Bits256>, filled: &mut Bits256, number: usize
     requires within { number < 256 * length parts.old.items }
     requires few { length parts.old.items ≤ 256 }
     requires known { KnowsParts parts.old.items filled.old }
-    ensures has { (other : ℕ) → has_index parts.new.items other ≡ (if nat_eq other number then member else has_index parts.old.items other) }
+    ensures has { (other : ℕ) → has_index parts.new.items other
+        ≡ (if nat_eq other number then member else has_index parts.old.items other) }
     ensures len { length parts.new.items ≡ length parts.old.items }
     ensures known { KnowsParts parts.new.items filled.new }
 {
@@ -23,7 +24,8 @@ pub(crate) fn mark(parts: &mut Vec<Bits256>, filled: &mut Bits256, number: usize
 // Takes the number in, or out of the set.
 fn write(parts: &mut Vec<Bits256>, number: usize, member: bool)
     requires { number < 256 * length parts.old.items }
-    ensures has { (other : ℕ) → has_index parts.new.items other ≡ (if nat_eq other number then member else has_index parts.old.items other) }
+    ensures has { (other : ℕ) → has_index parts.new.items other
+        ≡ (if nat_eq other number then member else has_index parts.old.items other) }
     ensures len { length parts.new.items ≡ length parts.old.items }
 {
     let part = &mut parts[number / 256];

@@ -6,17 +6,20 @@ ghost use Rattle.span.specs.Order.{HasNoneFrom, IsFirstFrom};
 ghost use Rattle.span.specs.PlainMap as plain;
 ghost use Rattle.span.specs.State.{SpanState};
 ghost use Rattle.shard.specs.Calls.{value_found, was_freed};
-ghost use Rattle.shard.specs.State.{no_pages};
+ghost use Rattle.groups.specs.Tables.{no_pages};
 ghost use Rattle.abandoned.specs.Calls.{Frees, Gets};
 ghost use Rattle.abandoned.specs.Shown.{shown};
 ghost use Rattle.abandoned.specs.Sound.{IsSound};
 ghost use Rattle.abandoned.specs.State.{IsElsewhere, IsHere, live_keys, paged_groups, summary};
+ghost use Rattle.span.specs.declared.limits.TheConstants.{ALL_IDS};
+ghost use Rattle.bitmap.specs.declared.bits.TheConstants.{SLOTS};
 
-use crate::groups::Groups;
+use crate::by_head::Groups;
 use crate::pooled::Pooled;
 use bitmap::Bits256;
+use groups::{Directory, Place};
 use page_table::Table;
-use shard::{Directory, Found, Freed, Place};
+use shard::{Found, Freed};
 use span::{Kept, Key, Log, SpanId};
 use std::alloc::{AllocError, Global};
 use std::marker::Model;
@@ -118,8 +121,8 @@ impl<L: Log> Pool<L> {
     /// How many keys are live in it.
     pub fn live(&self) -> usize
         ensures live { result ≡ live_keys self.now }
-        ensures at_most { result ≤ 256 * length self.now.groups }
-        ensures groups { length self.now.groups ≤ 65536 }
+        ensures at_most { result ≤ SLOTS * length self.now.groups }
+        ensures groups { length self.now.groups ≤ ALL_IDS }
     {
         self.groups.live()
     }
@@ -131,7 +134,8 @@ impl<L: Log> Pool<L> {
     /// `AllocError` where the list could not grow.
     pub fn groups(&self) -> Result<Vec<(SpanId, Bits256)>, AllocError>
         ensures items { IfOk result (λ groups. groups.items ≡ map summary (paged_groups self.now)) }
-        ensures ascending { IsStrictlyIncreasing (map (λ group. rank group.head.id) (paged_groups self.now)) }
+        ensures ascending { IsStrictlyIncreasing (map (λ group. rank group.head.id)
+            (paged_groups self.now)) }
     {
         self.groups.summaries(self.alloc)
     }
@@ -167,7 +171,8 @@ impl<L: Log> Pool<L> {
     pub fn free(&mut self, key: &Key) -> Freed
         ensures step { Frees self.old key.now result self.new }
         ensures found { was_freed result ≡ is_some ((shown self.old).value_of key.now) }
-        ensures plain { shown self.new ≡ (if was_freed result then plain.without (shown self.old) key.now else shown self.old) }
+        ensures plain { shown self.new ≡ (if was_freed result then plain.without
+            (shown self.old) key.now else shown self.old) }
         ensures sound { IsSound self.new }
     {
         let Some((group, place)) = self.find(key.span) else {
@@ -186,7 +191,8 @@ impl<L: Log> Pool<L> {
 
     /// The key of the span's lowest live slot from this one on, if one is live here. It takes no memory.
     pub fn first_from(&self, id: SpanId, slot: u32) -> Option<Key>
-        ensures first { MatchOption result (HasNoneFrom (shown self.now) id slot) (IsFirstFrom (shown self.now) id slot) }
+        ensures first { MatchOption result (HasNoneFrom (shown self.now) id slot)
+            (IsFirstFrom (shown self.now) id slot) }
         ensures sound { IsSound self.now }
     {
         let Some((group, place)) = self.find(id) else {
@@ -198,7 +204,9 @@ impl<L: Log> Pool<L> {
     // The group that the span of the id stands in, and its place there.
     fn find(&self, id: SpanId) -> Option<(&Pooled<L>, usize)>
         ensures sound { IsSound self.now }
-        ensures place { MatchOption result (IsElsewhere self.now.groups id) (λ at. (index : ℕ) × (span : SpanState) × IsHere self.now.groups id index at.1 at.0.now span) }
+        ensures place { MatchOption result (IsElsewhere self.now.groups id)
+            (λ at. (index : ℕ) × (span : SpanState)
+            × IsHere self.now.groups id index at.1 at.0.now span) }
     {
         let head = Place { head: id, place: 0 };
         let at = self.directory.place_of(id).unwrap_or(head);

@@ -4,15 +4,15 @@ ghost use Rattle.std.specs.Bool.{OnTrue, OnFalse};
 ghost use Rattle.span.specs.Log.{Holds};
 ghost use Rattle.span.specs.State.{SpanState};
 ghost use Rattle.page_table.specs.State.{HasPage};
-ghost use Rattle.shard.specs.Group.{HasNoSpan, IsSpanAt, union_of, with_free_at};
-ghost use Rattle.shard.specs.Moves.{IsBriefOf};
-ghost use Rattle.shard.specs.State.{live_count};
+ghost use Rattle.groups.specs.Spans.{HasNoSpan, IsSpanAt, union_of, with_free_at, live_count};
+ghost use Rattle.groups.specs.Brief.{IsBriefOf};
 ghost use Rattle.abandoned.specs.Calls.{GivesUp};
 ghost use Rattle.abandoned.specs.State.{group_of, spans_of, with_span};
+ghost use Rattle.bitmap.specs.declared.bits.TheConstants.{SLOTS};
 
 use bitmap::Bits256;
+use groups::{Brief, Spans};
 use page_table::{Page, Table};
-use shard::{Brief, Spans};
 use span::{Log, Span, SpanId};
 use std::marker::Model;
 
@@ -110,7 +110,7 @@ impl<L: Log> Pooled<L> {
     /// How many keys are live in the spans.
     pub(crate) fn live(&self) -> usize
         ensures live { result ≡ live_count (spans_of self.now) }
-        ensures at_most { result ≤ 256 }
+        ensures at_most { result ≤ SLOTS }
     {
         self.spans.live()
     }
@@ -134,8 +134,11 @@ impl<L: Log> Pooled<L> {
     ) -> bool
         requires place { place < length (spans_of self.old) }
         requires page { IfSome self.old.page (HasPage table.old) }
-        ensures found { (span : SpanState) → slice_get (spans_of self.old) place ≡ Some span → (IsTrue result ↔ Holds span.log slot generation) }
-        ensures freed { (span : SpanState) → slice_get (spans_of self.old) place ≡ Some span → OnTrue result (GivesUp (with_span self.old place (with_free_at span slot generation)) table.old self.new table.new) }
+        ensures found { (span : SpanState) → slice_get (spans_of self.old) place ≡ Some span
+            → (IsTrue result ↔ Holds span.log slot generation) }
+        ensures freed { (span : SpanState) → slice_get (spans_of self.old) place ≡ Some span
+            → OnTrue result (GivesUp (with_span self.old place (with_free_at span slot generation))
+            table.old self.new table.new) }
         ensures unknown { OnFalse result ((self.new ≡ self.old) × (table.new ≡ table.old)) }
     {
         if !self.spans.free(place, slot, generation) {

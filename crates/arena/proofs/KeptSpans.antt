@@ -6,11 +6,12 @@ use Rattle.span.specs.SpanLogs.{AreLegal}
 use Rattle.span.specs.declared.span_log.SpanLog.{SpanLog}
 use Rattle.span.specs.declared.key.Key.{Key}
 use Rattle.shard.specs.Calls.{Frees}
-use Rattle.shard.specs.Group.{spans_of, with_free, with_span}
+use Rattle.shard.specs.Group.{spans_of, with_span}
+use Rattle.groups.specs.Spans.{with_free}
 use Rattle.shard.specs.State.{ShardState}
 use Rattle.shard.specs.declared.shard.Freed.{Freed}
 use Rattle.shard.specs.declared.shard.Freed.TheVariants as freed
-use Rattle.shard.proofs.Lists.{same_some}
+use Rattle.groups.proofs.Lists.{same_some}
 use Rattle.shard.proofs.Standing.{spans_of-with_span}
 use Rattle.abandoned.specs.Calls.{Frees as FreesPooled}
 use Rattle.abandoned.specs.Sound.{IsSound}

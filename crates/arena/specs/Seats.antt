@@ -1,7 +1,7 @@
 -- What contracts see of a seat, and of seats whose ends of rings belong together.
 use Rattle.std.specs.Prelude.{◌≡◌, ℕ, ◌<◌, All, List, [], length, map, slice_index_or}
 use Rattle.span.specs.declared.key.Key.{Key}
-use Rattle.arena_core.specs.State.{Limits}
+use Rattle.marks.specs.Numbers.{Limits}
 use Rattle.remote_queue.specs.Rings.{Ring, Sending, Taking, cell}
 
 -- the worker's number, the section of the run that it is in, the numbers of its arena, and its ends of rings: to each shard, and from each worker into its own shard

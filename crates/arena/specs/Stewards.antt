@@ -1,10 +1,10 @@
 -- What contracts see of a steward, and what a step does with its plan.
-use Rattle.std.specs.Prelude.{◌≡◌, List, Option, None, Some, IsSome}
+use Rattle.std.specs.Prelude.{◌≡◌, List, Option, None, Some, IsSome, option_map}
 use Rattle.span.specs.declared.id.SpanId.{SpanId}
-use Rattle.arena_core.specs.Marks.{advanced, next_pair}
+use Rattle.marks.specs.Plans.{next_pair, with_next_done, OpenPlan}
 use Rattle.arena.specs.declared.arena.Stepped.{Stepped}
 use Rattle.arena.specs.declared.arena.Stepped.TheVariants.{NoPairLeft, NoPlan, Taken}
-use Rattle.arena_core.specs.State.{Limits, OpenPlan}
+use Rattle.marks.specs.Numbers.{Limits}
 
 -- the numbers of its arena, and the open plan, if there is one
 pub record StewardState : Type 0 where
@@ -17,6 +17,6 @@ begun steward pairs = record steward { plan = Some (record { pairs = pairs; done
 
 -- a step takes the pair that is next, or says that none is left or that no plan is open
 abbrev pub Steps : Option OpenPlan → Stepped → Option OpenPlan → Type 0
-Steps old (Taken abandoned owned step) new = (next_pair old ≡ Some (abandoned, owned)) × (new ≡ advanced old)
+Steps old (Taken abandoned owned step) new = (next_pair old ≡ Some (abandoned, owned)) × (new ≡ option_map with_next_done old)
 Steps old NoPairLeft new = IsSome old × (next_pair old ≡ None) × (new ≡ old)
 Steps old NoPlan new = (old ≡ None) × (new ≡ old)

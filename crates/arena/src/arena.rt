@@ -2,18 +2,17 @@
 ghost use Rattle.std.specs.Prelude.{◌≡◌, ◌≤◌, Err, IfOk, IsSome, None, OnErr, is_some, vec_len};
 ghost use Rattle.certificate.specs.Plans.{IsBestPlanOf, IsCertificateOf, IsShortOf};
 ghost use Rattle.certificate.specs.Text.{IsWritable};
-ghost use Rattle.arena_core.specs.Marks.{next_pair};
+ghost use Rattle.marks.specs.Plans.{next_pair};
 ghost use Rattle.arena.specs.Stewards.{Steps, begun};
 
 use crate::gate::Gate;
-use crate::limits::Limits;
 use crate::locks::{reopen_all, totals_of};
 use crate::steward::Steward;
 use crate::words::{Place, Words};
 use abandoned::Pool;
-use arena_core::{MarkError, Totals, mark_in};
 use certificate::Certificate;
 use fold::{Step, fold_one};
+use marks::{Limits, MarkError, Totals, mark_in};
 use mesh_graph::MOST_GROUPS;
 use shard::Shard;
 use span::{Kept, Log, SpanId};
@@ -55,12 +54,21 @@ impl<G: Gate, L: Log> Arena<G, L> {
     /// As those of [`mark_in`] on what all locks lend: `PlanOpen`, `TooMany`, `Doubled`, and `OutOfMemory` where a growth was
     /// refused. The plan of the steward is as it was.
     pub fn mark<R: Wait>(&self, rt: &R, steward: &mut Steward) -> Result<Certificate, MarkError>
+        // The steward is of this arena.
         requires { steward.old.limits ≡ self.now.limits }
+
+        // The plan, and the certificate that shows it.
         ensures best { IfOk result (λ found. IsBestPlanOf found.snapshot found.plan) }
         ensures short { IfOk result (λ found. IsShortOf found.snapshot found.plan found.short) }
-        ensures certificate { IfOk result (λ found. IsCertificateOf found.snapshot found.plan found.short) }
+        ensures certificate { IfOk result (λ found. IsCertificateOf found.snapshot found.plan
+            found.short) }
         ensures writable { IfOk result IsWritable }
-        ensures begun { IfOk result (λ found. (steward.old.plan ≡ None) × (steward.new ≡ begun steward.old found.plan)) }
+
+        // What the steward keeps of it.
+        ensures begun { IfOk result (λ found. (steward.old.plan ≡ None)
+            × (steward.new ≡ begun steward.old found.plan)) }
+
+        // The refusals.
         ensures plan_open { IsSome steward.old.plan → result ≡ Err MarkError.PlanOpen }
         ensures err { OnErr result (steward.new ≡ steward.old) }
     {

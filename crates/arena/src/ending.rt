@@ -44,12 +44,20 @@ pub fn finish<G: Gate>(
     mut seats: Vec<Seat>,
     receipts: &mut [Vec<Receipt>],
 ) -> Result<Finished, Unfinished<G>>
+    // All seats are here, with their rings and a list each.
     requires seats { vec_len seats ≡ arena.limits.shards }
     requires linked { AreLinked seats.items }
     requires lists { length receipts.old ≡ vec_len seats }
+
+    // What a settled end hands out.
     ensures legal { IfOk result (λ finished. AreLegal finished.logs.items) }
     ensures counts { IfOk result (λ finished. vec_len finished.counts ≡ vec_len seats) }
-    ensures settled { IfOk result (λ finished. (shard : ℕ) (c d e : _) → shard < vec_len seats → IsSettled seats.items shard (greatest_section seats.items) (slice_index_or finished.counts.items shard c).items (slice_index_or receipts.old shard d).items (slice_index_or receipts.new shard e).items) }
+    ensures settled { IfOk result (λ finished. (shard : ℕ) (c d e : _) → shard < vec_len seats
+        → IsSettled seats.items shard (greatest_section seats.items)
+        (slice_index_or finished.counts.items shard c).items
+        (slice_index_or receipts.old shard d).items (slice_index_or receipts.new shard e).items) }
+
+    // What a refusal hands back.
     ensures limits { IfErr result (λ back. back.arena.limits ≡ arena.limits) }
     ensures seats { IfErr result (λ back. AreSameSeats seats.items back.seats.items) }
     ensures linked { IfErr result (λ back. AreLinked back.seats.items) }
@@ -95,14 +103,23 @@ fn settled<G: Gate>(
     seats: &mut [Seat],
     receipts: &mut [Vec<Receipt>],
 ) -> Result<(Unlocked, Vec<Vec<usize>>), AllocError>
+    // All seats are here, with their rings and a list each.
     requires seats { length seats.old ≡ arena.old.limits.shards }
     requires linked { AreLinked seats.old }
     requires lists { length receipts.old ≡ length seats.old }
+
+    // What a settled end hands out.
     ensures counts { IfOk result (λ ended. vec_len ended.1 ≡ length seats.old) }
-    ensures settled { IfOk result (λ ended. (shard : ℕ) (c d e : _) → shard < length seats.old → IsSettled seats.old shard (greatest_section seats.old) (slice_index_or ended.1.items shard c).items (slice_index_or receipts.old shard d).items (slice_index_or receipts.new shard e).items) }
+    ensures settled { IfOk result (λ ended. (shard : ℕ) (c d e : _) → shard < length seats.old
+        → IsSettled seats.old shard (greatest_section seats.old)
+        (slice_index_or ended.1.items shard c).items (slice_index_or receipts.old shard d).items
+        (slice_index_or receipts.new shard e).items) }
+
+    // What a refusal hands back.
     ensures limits { arena.new.limits ≡ arena.old.limits }
     ensures linked { OnErr result (AreLinked seats.new) }
-    ensures err { OnErr result (AreSameSeats seats.old seats.new × (map vec_items receipts.new ≡ map vec_items receipts.old)) }
+    ensures err { OnErr result (AreSameSeats seats.old seats.new
+        × (map vec_items receipts.new ≡ map vec_items receipts.old)) }
 {
     // There are 64 shards at most.
     let _ = arena.limits.shards();

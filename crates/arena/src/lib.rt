@@ -32,6 +32,19 @@
 //! The logs are kept, or only counted, as the arena's type says. With `Counted` it is the arena of a
 //! service that runs for months; its receipts are the caller's to keep or to drop, and it can't be
 //! audited.
+//!
+//! # Examples
+//!
+//! ```text
+//! // Two shards of four pages, rings of four keys, nine generations, and no gate.
+//! let (arena, mut seats, mut steward) = Arena::open(alloc, 2, 4, 4, 9, NoGate)?;
+//! let (key, receipt) = seats[0].put(rt, &arena, 7)?;       // in shard 0, under its lock
+//! let (found, receipt) = seats[1].get(rt, &arena, &key);   // Some(7), wherever the key's span is
+//! seats[1].free_later(key);                                // on the ring to shard 0, without a lock
+//! seats[0].tend(rt, &arena, &mut receipts)?;               // 1: the key is freed
+//! let certificate = arena.mark(rt, &mut steward)?;         // beside the workers
+//! let finished = finish(arena, seats, &mut lists)?;        // the logs of all spans, for an audit
+//! ```
 #![tactic(auto)]
 
 mod arena;
@@ -40,7 +53,6 @@ mod ending;
 mod error;
 mod freeing;
 mod gate;
-mod limits;
 mod locks;
 mod opening;
 mod seat;
@@ -57,6 +69,6 @@ pub use arena::{Arena, Stepped};
 pub use ending::{Finished, Unfinished, finish, finish_unsettled};
 pub use error::OpenError;
 pub use gate::{Gate, NoGate};
-pub use limits::Limits;
+pub use marks::{Limits, MarkError, Totals};
 pub use seat::Seat;
 pub use steward::Steward;

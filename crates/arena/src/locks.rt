@@ -1,7 +1,7 @@
 // What is done under the locks of all shards without memory. Each call takes every lock, ascending, before the first shard is
 // looked at or changed, and lets each go when that shard is done with: the last one first. So all of it stands at one time, when
 // all locks were held.
-use arena_core::Totals;
+use marks::Totals;
 use shard::Shard;
 use span::Log;
 use std::sync::{Mutex, Wait};

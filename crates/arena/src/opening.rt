@@ -1,18 +1,18 @@
 // A new arena, with its seats and its steward.
 ghost use Rattle.std.specs.Prelude.{◌≡◌, ◌≤◌, ◌↔◌, All, IfOk, IsErrOf, None, map, vec_len};
 ghost use Rattle.std.specs.List.{range_with_len};
-ghost use Rattle.arena_core.specs.State.{AreWithin, limits_of};
+ghost use Rattle.marks.specs.Numbers.{AreWithin, limits_of};
 ghost use Rattle.remote_queue.specs.Rings.{AreFreshInboxes, AreFreshOutboxes, AreTransposed, inbox_rings, outbox_rings};
 ghost use Rattle.arena.specs.Seats.{AreLinked, first_standing, standing};
 
 use crate::arena::Arena;
 use crate::error::OpenError;
 use crate::gate::Gate;
-use crate::limits::Limits;
 use crate::seat::Seat;
 use crate::steward::Steward;
 use crate::words::Words;
 use abandoned::Pool;
+use marks::Limits;
 use remote_queue::{LinkError, Links, link};
 use shard::Shard;
 use span::{Kept, Log};
@@ -37,13 +37,22 @@ impl<G: Gate> Arena<G, Kept> {
         gens: u32,
         gate: G,
     ) -> Result<(Arena<G>, Vec<Seat>, Steward), OpenError>
-        ensures config { IsErrOf result OpenError.Config ↔ (AreWithin (limits_of shards page_limit ring_capacity gens) → ⊥) }
-        ensures memory { IsErrOf result OpenError.OutOfMemory → AreWithin (limits_of shards page_limit ring_capacity gens) }
-        ensures numbers { IfOk result (λ opened. opened.0.limits ≡ limits_of shards page_limit ring_capacity gens) }
-        ensures standing { IfOk result (λ opened. map standing opened.1.items ≡ map (first_standing opened.0.limits) (range_with_len 0 shards)) }
+        ensures config { IsErrOf result OpenError.Config
+            ↔ (AreWithin (limits_of shards page_limit ring_capacity gens) → ⊥) }
+        ensures memory { IsErrOf result OpenError.OutOfMemory
+            → AreWithin (limits_of shards page_limit ring_capacity gens) }
+        ensures numbers { IfOk result (λ opened. opened.0.limits
+            ≡ limits_of shards page_limit ring_capacity gens) }
+        ensures standing { IfOk result (λ opened. map standing opened.1.items
+            ≡ map (first_standing opened.0.limits) (range_with_len 0 shards)) }
         ensures linked { IfOk result (λ opened. AreLinked opened.1.items) }
-        ensures fresh { IfOk result (λ opened. All (λ seat. AreFreshOutboxes ring_capacity seat.outboxes × AreFreshInboxes seat.inboxes) opened.1.items) }
-        ensures steward { IfOk result (λ opened. opened.2 ≡ record { limits = opened.0.limits; plan = None }) }
+        ensures fresh { IfOk result (λ opened. All (λ seat.
+            AreFreshOutboxes ring_capacity seat.outboxes × AreFreshInboxes seat.inboxes)
+            opened.1.items) }
+        ensures steward { IfOk result (λ opened. opened.2 ≡ record {
+          limits = opened.0.limits;
+          plan = None;
+        }) }
     {
         Arena::open_with_log(alloc, shards, page_limit, ring_capacity, gens, gate)
     }
@@ -60,13 +69,22 @@ impl<G: Gate, L: Log> Arena<G, L> {
         gens: u32,
         gate: G,
     ) -> Result<(Arena<G, L>, Vec<Seat>, Steward), OpenError>
-        ensures config { IsErrOf result OpenError.Config ↔ (AreWithin (limits_of shards page_limit ring_capacity gens) → ⊥) }
-        ensures memory { IsErrOf result OpenError.OutOfMemory → AreWithin (limits_of shards page_limit ring_capacity gens) }
-        ensures numbers { IfOk result (λ opened. opened.0.limits ≡ limits_of shards page_limit ring_capacity gens) }
-        ensures standing { IfOk result (λ opened. map standing opened.1.items ≡ map (first_standing opened.0.limits) (range_with_len 0 shards)) }
+        ensures config { IsErrOf result OpenError.Config
+            ↔ (AreWithin (limits_of shards page_limit ring_capacity gens) → ⊥) }
+        ensures memory { IsErrOf result OpenError.OutOfMemory
+            → AreWithin (limits_of shards page_limit ring_capacity gens) }
+        ensures numbers { IfOk result (λ opened. opened.0.limits
+            ≡ limits_of shards page_limit ring_capacity gens) }
+        ensures standing { IfOk result (λ opened. map standing opened.1.items
+            ≡ map (first_standing opened.0.limits) (range_with_len 0 shards)) }
         ensures linked { IfOk result (λ opened. AreLinked opened.1.items) }
-        ensures fresh { IfOk result (λ opened. All (λ seat. AreFreshOutboxes ring_capacity seat.outboxes × AreFreshInboxes seat.inboxes) opened.1.items) }
-        ensures steward { IfOk result (λ opened. opened.2 ≡ record { limits = opened.0.limits; plan = None }) }
+        ensures fresh { IfOk result (λ opened. All (λ seat.
+            AreFreshOutboxes ring_capacity seat.outboxes × AreFreshInboxes seat.inboxes)
+            opened.1.items) }
+        ensures steward { IfOk result (λ opened. opened.2 ≡ record {
+          limits = opened.0.limits;
+          plan = None;
+        }) }
     {
         let Some(limits) = Limits::new(shards, page_limit, ring_capacity, gens) else {
             return Err(OpenError::Config);
@@ -81,11 +99,16 @@ impl<G: Gate, L: Log> Arena<G, L> {
 
 // A ring from each worker to each shard.
 fn links_of(alloc: Global, limits: Limits) -> Result<Links, AllocError>
-    ensures workers { IfOk result (λ links. (vec_len links.outboxes ≡ limits.shards) × All (λ column. vec_len column ≡ limits.shards) links.inboxes.items) }
-    ensures shards { IfOk result (λ links. (vec_len links.inboxes ≡ limits.shards) × All (λ row. vec_len row ≡ limits.shards) links.outboxes.items) }
-    ensures rings { IfOk result (λ links. AreTransposed (outbox_rings links.outboxes.items) (inbox_rings links.inboxes.items)) }
-    ensures unsent { IfOk result (λ links. All (λ row. AreFreshOutboxes limits.ring_capacity row.items) links.outboxes.items) }
-    ensures untaken { IfOk result (λ links. All (λ column. AreFreshInboxes column.items) links.inboxes.items) }
+    ensures workers { IfOk result (λ links. (vec_len links.outboxes ≡ limits.shards)
+        × All (λ column. vec_len column ≡ limits.shards) links.inboxes.items) }
+    ensures shards { IfOk result (λ links. (vec_len links.inboxes ≡ limits.shards)
+        × All (λ row. vec_len row ≡ limits.shards) links.outboxes.items) }
+    ensures rings { IfOk result (λ links. AreTransposed (outbox_rings links.outboxes.items)
+        (inbox_rings links.inboxes.items)) }
+    ensures unsent { IfOk result (λ links. All (λ row.
+        AreFreshOutboxes limits.ring_capacity row.items) links.outboxes.items) }
+    ensures untaken { IfOk result (λ links. All (λ column. AreFreshInboxes column.items)
+        links.inboxes.items) }
 {
     let shards = limits.shards() as usize;
     match link(alloc, shards, shards, limits.ring_capacity()) {
@@ -97,14 +120,24 @@ fn links_of(alloc: Global, limits: Limits) -> Result<Links, AllocError>
 
 // A seat for each worker, by number, with the ends of its row and its column.
 fn seats_of(alloc: Global, limits: Limits, links: Links) -> Result<Vec<Seat>, AllocError>
-    requires workers { (vec_len links.outboxes ≡ limits.shards) × All (λ column. vec_len column ≡ limits.shards) links.inboxes.items }
-    requires shards { (vec_len links.inboxes ≡ limits.shards) × All (λ row. vec_len row ≡ limits.shards) links.outboxes.items }
-    requires rings { AreTransposed (outbox_rings links.outboxes.items) (inbox_rings links.inboxes.items) }
-    requires unsent { All (λ row. AreFreshOutboxes limits.ring_capacity row.items) links.outboxes.items }
+    // The rings are those of that many workers and shards, and fresh.
+    requires workers { (vec_len links.outboxes ≡ limits.shards)
+        × All (λ column. vec_len column ≡ limits.shards) links.inboxes.items }
+    requires shards { (vec_len links.inboxes ≡ limits.shards)
+        × All (λ row. vec_len row ≡ limits.shards) links.outboxes.items }
+    requires rings { AreTransposed (outbox_rings links.outboxes.items)
+        (inbox_rings links.inboxes.items) }
+    requires unsent { All (λ row. AreFreshOutboxes limits.ring_capacity row.items)
+        links.outboxes.items }
     requires untaken { All (λ column. AreFreshInboxes column.items) links.inboxes.items }
-    ensures standing { IfOk result (λ seats. map standing seats.items ≡ map (first_standing limits) (range_with_len 0 limits.shards)) }
+
+    // Each seat has its place and its rings.
+    ensures standing { IfOk result (λ seats. map standing seats.items
+        ≡ map (first_standing limits) (range_with_len 0 limits.shards)) }
     ensures linked { IfOk result (λ seats. AreLinked seats.items) }
-    ensures fresh { IfOk result (λ seats. All (λ seat. AreFreshOutboxes limits.ring_capacity seat.outboxes × AreFreshInboxes seat.inboxes) seats.items) }
+    ensures fresh { IfOk result (λ seats. All (λ seat.
+        AreFreshOutboxes limits.ring_capacity seat.outboxes × AreFreshInboxes seat.inboxes)
+        seats.items) }
 {
     let Links {
         outboxes: mut rows,

@@ -4,15 +4,16 @@ ghost use Rattle.arena.specs.Receipts.{AddsFrees, IsGetBy, done_by, found_by, fr
 ghost use Rattle.arena.specs.Seats.{KeepsEnds, in_rings, known_lists, sending_side, sent_lists, taken_lists};
 ghost use Rattle.arena.specs.Settled.{taken_with_known};
 ghost use Rattle.arena.specs.Tended.{IsTended};
+ghost use Rattle.span.specs.declared.limits.TheConstants.{MOST_RING_KEYS, MOST_SHARDS};
 
 use crate::arena::Arena;
 use crate::gate::Gate;
-use crate::limits::Limits;
 use crate::sections::{get_in, get_pool, put_in, unopened_get};
 use crate::settling::{Frees, settle_rings};
 use crate::tending::tend_rings;
 use crate::words::Place;
 use abandoned::{AdoptError, ReceiveError};
+use marks::Limits;
 use remote_queue::{Inbox, Outbox, finish};
 use shard::PutError;
 use span::{Call, Key, Log, Receipt, SpanId};
@@ -33,9 +34,9 @@ pub struct Seat {
     // By worker.
     inboxes: Vec<Inbox>,
     ghost worker_has_shard: { worker < limits.shards },
-    ghost worker_in_range: { worker < 64 },
+    ghost worker_in_range: { worker < MOST_SHARDS },
     ghost outbox_each: { vec_len outboxes ≡ limits.shards },
-    ghost inboxes_few: { vec_len inboxes ≤ 64 },
+    ghost inboxes_few: { vec_len inboxes ≤ MOST_SHARDS },
 }
 
 impl Model for Seat {
@@ -56,10 +57,16 @@ impl Seat {
         inboxes: Vec<Inbox>,
     ) -> Seat
         requires has_shard { worker < limits.shards }
-        requires in_range { worker < 64 }
+        requires in_range { worker < MOST_SHARDS }
         requires outbox_each { vec_len outboxes ≡ limits.shards }
-        requires inboxes_few { vec_len inboxes ≤ 64 }
-        ensures { result ≡ record { worker = worker; section = 0; limits = limits; outboxes = outboxes.items; inboxes = inboxes.items } }
+        requires inboxes_few { vec_len inboxes ≤ MOST_SHARDS }
+        ensures { result ≡ record {
+          worker = worker;
+          section = 0;
+          limits = limits;
+          outboxes = outboxes.items;
+          inboxes = inboxes.items;
+        } }
     {
         Seat {
             worker,
@@ -113,7 +120,8 @@ impl Seat {
         value: u128,
     ) -> Result<(Key, Receipt), PutError>
         requires { self.old.limits ≡ arena.now.limits }
-        ensures receipt { IfOk result (λ put. put.1 ≡ put_receipt self.old.worker self.old.section value put.0 put.1.at) }
+        ensures receipt { IfOk result (λ put. put.1 ≡ put_receipt self.old.worker self.old.section
+            value put.0 put.1.at) }
         ensures seat { self.new ≡ self.old }
     {
         let mut shard = arena.shards[self.worker as usize].lock(rt);
@@ -135,7 +143,8 @@ impl Seat {
         key: &Key,
     ) -> (Option<u128>, Receipt)
         requires { self.old.limits ≡ arena.now.limits }
-        ensures receipt { result.1 ≡ get_receipt self.old.worker self.old.section key.now result.0 result.1.at }
+        ensures receipt { result.1 ≡ get_receipt self.old.worker self.old.section key.now result.0
+            result.1.at }
         ensures seat { self.new ≡ self.old }
     {
         for _ in rt.forever() {
@@ -162,7 +171,8 @@ impl Seat {
         key: &Key,
     ) -> (bool, Receipt)
         requires { self.old.limits ≡ arena.now.limits }
-        ensures receipt { result.1 ≡ free_receipt self.old.worker self.old.section key.now result.0 result.1.at }
+        ensures receipt { result.1 ≡ free_receipt self.old.worker self.old.section key.now result.0
+            result.1.at }
         ensures seat { self.new ≡ self.old }
     {
         let receipt = arena.free_wherever(rt, self.worker, self.section, key);
@@ -188,8 +198,10 @@ impl Seat {
         ensures sent { MatchResult result
             (λ _. sent_lists self.new ≡ slice_set (sent_lists self.old) key.span.shard (slice_index_or (sent_lists self.old) key.span.shard [] ++ key ∷ []))
             (λ back. (back ≡ key) × (sent_lists self.new ≡ sent_lists self.old)) }
-        ensures succeeds { 0 < slice_index_or (map (λ outbox. outbox.free) self.old.outboxes) key.span.shard 0 → IsOk result }
-        ensures seat { KeepsEnds self.old self.new × (self.new.section ≡ self.old.section) × (self.new.inboxes ≡ self.old.inboxes) }
+        ensures succeeds { 0 < slice_index_or (map (λ outbox. outbox.free) self.old.outboxes)
+            key.span.shard 0 → IsOk result }
+        ensures seat { KeepsEnds self.old self.new × (self.new.section ≡ self.old.section)
+            × (self.new.inboxes ≡ self.old.inboxes) }
     {
         send_on(&mut self.outboxes, key)
     }
@@ -208,9 +220,12 @@ impl Seat {
         receipts: &mut Vec<Receipt>,
     ) -> Result<usize, AllocError>
         requires { self.old.limits ≡ arena.now.limits }
-        ensures tended { IfOk result (λ count. IsTended self.old.limits.ring_capacity self.old self.new receipts.old.items receipts.new.items count) }
-        ensures seat { KeepsEnds self.old self.new × (sending_side self.new ≡ sending_side self.old) }
-        ensures err { OnErr result ((self.new ≡ self.old) × (receipts.new.items ≡ receipts.old.items)) }
+        ensures tended { IfOk result (λ count. IsTended self.old.limits.ring_capacity self.old
+            self.new receipts.old.items receipts.new.items count) }
+        ensures seat { KeepsEnds self.old self.new
+            × (sending_side self.new ≡ sending_side self.old) }
+        ensures err { OnErr result ((self.new ≡ self.old)
+            × (receipts.new.items ≡ receipts.old.items)) }
     {
         let most = self.limits.ring_capacity();
         receipts.reserve(self.inboxes.len() * most)?;
@@ -274,12 +289,15 @@ impl Seat {
 
     // How many keys the worker sent to a shard that the shard's end has not taken. That end then knows them.
     pub(crate) fn count_left(&mut self, shard: usize, inbox: &mut Inbox) -> usize
-        requires { slice_get (map (λ outbox. outbox.ring) self.old.outboxes) shard ≡ Some inbox.old.ring }
-        ensures seat { (sending_side self.new ≡ sending_side self.old) × (self.new.inboxes ≡ self.old.inboxes) }
+        requires { slice_get (map (λ outbox. outbox.ring) self.old.outboxes) shard
+            ≡ Some inbox.old.ring }
+        ensures seat { (sending_side self.new ≡ sending_side self.old)
+            × (self.new.inboxes ≡ self.old.inboxes) }
         ensures inbox { (inbox.new.ring ≡ inbox.old.ring) × (inbox.new.taken ≡ inbox.old.taken) }
         ensures left { result ≡ length inbox.new.known }
-        ensures whole { slice_index_or (sent_lists self.old) shard [] ≡ inbox.new.taken ++ inbox.new.known }
-        ensures few { result ≤ 1024 }
+        ensures whole { slice_index_or (sent_lists self.old) shard [] ≡ inbox.new.taken
+            ++ inbox.new.known }
+        ensures few { result ≤ MOST_RING_KEYS }
     {
         count_on(&mut self.outboxes, shard, inbox)
     }
@@ -294,9 +312,11 @@ impl Seat {
     )
         requires counts { counts.now ≡ map length (known_lists self.old.inboxes) }
         requires room { vec_len receipts.old + sum counts.now ≤ vec_capacity receipts.old }
-        ensures seat { (sending_side self.new ≡ sending_side self.old) × (in_rings self.new ≡ in_rings self.old) }
+        ensures seat { (sending_side self.new ≡ sending_side self.old)
+            × (in_rings self.new ≡ in_rings self.old) }
         ensures taken { taken_lists self.new.inboxes ≡ taken_with_known self.old.inboxes }
-        ensures freed { AddsFrees self.old.worker section (joined (known_lists self.old.inboxes)) receipts.old.items receipts.new.items }
+        ensures freed { AddsFrees self.old.worker section
+            (joined (known_lists self.old.inboxes)) receipts.old.items receipts.new.items }
     {
         settle_rings(
             by,
@@ -310,10 +330,10 @@ impl Seat {
 
     // Gives its takers' ends for others.
     pub(crate) fn swap_inboxes(&mut self, inboxes: &mut Vec<Inbox>)
-        requires { vec_len inboxes.old ≤ 64 }
+        requires { vec_len inboxes.old ≤ MOST_SHARDS }
         ensures seat { self.new ≡ record self.old { inboxes = inboxes.old.items } }
         ensures inboxes { inboxes.new.items ≡ self.old.inboxes }
-        ensures few { vec_len inboxes.new ≤ 64 }
+        ensures few { vec_len inboxes.new ≤ MOST_SHARDS }
     {
         swap(&mut self.inboxes, inboxes);
     }
@@ -350,24 +370,31 @@ impl Seat {
 fn send_on(outboxes: &mut Vec<Outbox>, key: Key) -> Result<(), Key>
     requires { key.span.shard < vec_len outboxes.old }
     ensures len { vec_len outboxes.new ≡ vec_len outboxes.old }
-    ensures rings { map (λ outbox. outbox.ring) outboxes.new.items ≡ map (λ outbox. outbox.ring) outboxes.old.items }
+    ensures rings { map (λ outbox. outbox.ring) outboxes.new.items
+        ≡ map (λ outbox. outbox.ring) outboxes.old.items }
     ensures sent { MatchResult result
         (λ _. map (λ outbox. outbox.sent) outboxes.new.items ≡ slice_set (map (λ outbox. outbox.sent) outboxes.old.items) key.span.shard (slice_index_or (map (λ outbox. outbox.sent) outboxes.old.items) key.span.shard [] ++ key ∷ []))
         (λ back. (back ≡ key) × (map (λ outbox. outbox.sent) outboxes.new.items ≡ map (λ outbox. outbox.sent) outboxes.old.items)) }
-    ensures succeeds { 0 < slice_index_or (map (λ outbox. outbox.free) outboxes.old.items) key.span.shard 0 → IsOk result }
+    ensures succeeds { 0 < slice_index_or (map (λ outbox. outbox.free) outboxes.old.items)
+        key.span.shard 0 → IsOk result }
 {
     outboxes[key.span.shard as usize].send(key)
 }
 
 // How many keys were sent to a shard that its end has not taken. That end then knows them. The rings and what was sent stay.
 fn count_on(outboxes: &mut Vec<Outbox>, shard: usize, inbox: &mut Inbox) -> usize
-    requires { slice_get (map (λ outbox. outbox.ring) outboxes.old.items) shard ≡ Some inbox.old.ring }
+    requires { slice_get (map (λ outbox. outbox.ring) outboxes.old.items) shard
+        ≡ Some inbox.old.ring }
     ensures len { vec_len outboxes.new ≡ vec_len outboxes.old }
-    ensures outboxes { (map (λ outbox. outbox.ring) outboxes.new.items ≡ map (λ outbox. outbox.ring) outboxes.old.items) × (map (λ outbox. outbox.sent) outboxes.new.items ≡ map (λ outbox. outbox.sent) outboxes.old.items) }
+    ensures outboxes { (map (λ outbox. outbox.ring) outboxes.new.items
+        ≡ map (λ outbox. outbox.ring) outboxes.old.items)
+        × (map (λ outbox. outbox.sent) outboxes.new.items
+        ≡ map (λ outbox. outbox.sent) outboxes.old.items) }
     ensures inbox { (inbox.new.ring ≡ inbox.old.ring) × (inbox.new.taken ≡ inbox.old.taken) }
     ensures left { result ≡ length inbox.new.known }
-    ensures whole { slice_index_or (map (λ outbox. outbox.sent) outboxes.old.items) shard [] ≡ inbox.new.taken ++ inbox.new.known }
-    ensures few { result ≤ 1024 }
+    ensures whole { slice_index_or (map (λ outbox. outbox.sent) outboxes.old.items) shard []
+        ≡ inbox.new.taken ++ inbox.new.known }
+    ensures few { result ≤ MOST_RING_KEYS }
 {
     finish(&mut outboxes[shard], inbox)
 }

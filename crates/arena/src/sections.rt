@@ -29,12 +29,20 @@ pub fn put_in<L: Log>(
     section: u64,
     value: u128,
 ) -> Result<Receipt, PutError>
+    // The put, and its receipt.
     ensures ok { IfOk result (λ receipt. Puts shard.old value receipt.key receipt.at shard.new) }
-    ensures receipt { IfOk result (λ receipt. receipt ≡ put_receipt worker section value receipt.key receipt.at) }
+    ensures receipt { IfOk result (λ receipt. receipt
+        ≡ put_receipt worker section value receipt.key receipt.at) }
     ensures fresh { IfOk result (λ receipt. (shown shard.old).is_issued receipt.key ≡ false) }
-    ensures plain { IfOk result (λ receipt. shown shard.new ≡ plain.with_put (shown shard.old) receipt.key value) }
+
+    // What callers see of it.
+    ensures plain { IfOk result (λ receipt. shown shard.new
+        ≡ plain.with_put (shown shard.old) receipt.key value) }
     ensures sound { IsSound shard.new }
-    ensures spent { (result ≡ Err PutError.PagesSpent) ↔ ((shard.old.ended ≡ false) × IsSpent shard.old) }
+
+    // The refusals.
+    ensures spent { (result ≡ Err PutError.PagesSpent)
+        ↔ ((shard.old.ended ≡ false) × IsSpent shard.old) }
     ensures ended { (result ≡ Err PutError.Ended) ↔ (shard.old.ended ≡ true) }
     ensures err { OnErr result (shard.new ≡ shard.old) }
 {
@@ -52,7 +60,8 @@ pub fn put_in<L: Log>(
 /// shard has no such span. It takes no memory.
 pub fn get_in<L: Log>(shard: &Shard<L>, worker: u32, section: u64, key: &Key) -> Option<Receipt>
     ensures receipt { TellsGet shard.now worker section key.now result }
-    ensures plain { IfSome result (λ receipt. receipt ≡ get_receipt worker section key.now ((shown shard.now).value_of key.now) receipt.at) }
+    ensures plain { IfSome result (λ receipt. receipt
+        ≡ get_receipt worker section key.now ((shown shard.now).value_of key.now) receipt.at) }
     ensures sound { IsSound shard.now }
 {
     receipt_of_get(shard.get(key), worker, section, key)
@@ -67,8 +76,11 @@ pub fn free_in<L: Log>(
     key: &Key,
 ) -> Option<Receipt>
     ensures receipt { TellsFree shard.old worker section key.now result shard.new }
-    ensures found { IfSome result (λ receipt. receipt ≡ free_receipt worker section key.now (is_some ((shown shard.old).value_of key.now)) receipt.at) }
-    ensures plain { shown shard.new ≡ (if was_done result then plain.without (shown shard.old) key.now else shown shard.old) }
+    ensures found { IfSome result (λ receipt. receipt
+        ≡ free_receipt worker section key.now
+        (is_some ((shown shard.old).value_of key.now)) receipt.at) }
+    ensures plain { shown shard.new ≡ (if was_done result then plain.without
+        (shown shard.old) key.now else shown shard.old) }
     ensures sound { IsSound shard.new }
 {
     receipt_of_free(shard.free(key), worker, section, key)
@@ -78,7 +90,9 @@ pub fn free_in<L: Log>(
 /// pool has no such span. It takes no memory.
 pub fn get_pool<L: Log>(pool: &Pool<L>, worker: u32, section: u64, key: &Key) -> Option<Receipt>
     ensures receipt { TellsGetPooled pool.now worker section key.now result }
-    ensures plain { IfSome result (λ receipt. receipt ≡ get_receipt worker section key.now ((shown_by_pool pool.now).value_of key.now) receipt.at) }
+    ensures plain { IfSome result (λ receipt. receipt
+        ≡ get_receipt worker section key.now
+        ((shown_by_pool pool.now).value_of key.now) receipt.at) }
     ensures sound { IsSoundPool pool.now }
 {
     receipt_of_get(pool.get(key), worker, section, key)
@@ -93,8 +107,11 @@ pub fn free_pool<L: Log>(
     key: &Key,
 ) -> Option<Receipt>
     ensures receipt { TellsFreePooled pool.old worker section key.now result pool.new }
-    ensures found { IfSome result (λ receipt. receipt ≡ free_receipt worker section key.now (is_some ((shown_by_pool pool.old).value_of key.now)) receipt.at) }
-    ensures plain { shown_by_pool pool.new ≡ (if was_done result then plain.without (shown_by_pool pool.old) key.now else shown_by_pool pool.old) }
+    ensures found { IfSome result (λ receipt. receipt
+        ≡ free_receipt worker section key.now
+        (is_some ((shown_by_pool pool.old).value_of key.now)) receipt.at) }
+    ensures plain { shown_by_pool pool.new ≡ (if was_done result then plain.without
+        (shown_by_pool pool.old) key.now else shown_by_pool pool.old) }
     ensures sound { IsSoundPool pool.new }
 {
     receipt_of_free(pool.free(key), worker, section, key)

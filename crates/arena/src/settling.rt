@@ -3,6 +3,7 @@ ghost use Rattle.std.specs.Prelude.{◌≡◌, ◌+◌, ◌<◌, ◌≤◌, ◌+
 ghost use Rattle.arena.specs.Receipts.{AddsFrees, IsFreeBy, joined};
 ghost use Rattle.arena.specs.Seats.{AreLinked, in_rings, known_lists, sending_side, taken_lists};
 ghost use Rattle.arena.specs.Settled.{AreCounted, AreEmptied, AreSameSeats, IsSettled, greatest_section, taken_with_known};
+ghost use Rattle.span.specs.declared.limits.TheConstants.{MOST_RING_KEYS, MOST_SHARDS};
 
 use crate::arena::Arena;
 use crate::counting::count_all;
@@ -48,14 +49,23 @@ impl<G: Gate, L: Log> Arena<G, L> {
         seats: &mut [Seat],
         receipts: &mut [Vec<Receipt>],
     ) -> Result<Vec<Vec<usize>>, AllocError>
+        // All seats are here, with their rings and a list each.
         requires seats { length seats.old ≡ self.now.limits.shards }
         requires linked { AreLinked seats.old }
         requires lists { length receipts.old ≡ length seats.old }
+
+        // Every ring is emptied.
         ensures counts { IfOk result (λ counts. vec_len counts ≡ length seats.old) }
-        ensures settled { IfOk result (λ counts. (shard : ℕ) (c d e : _) → shard < length seats.old → IsSettled seats.old shard (greatest_section seats.old) (slice_index_or counts.items shard c).items (slice_index_or receipts.old shard d).items (slice_index_or receipts.new shard e).items) }
+        ensures settled { IfOk result (λ counts. (shard : ℕ) (c d e : _) → shard < length seats.old
+            → IsSettled seats.old shard (greatest_section seats.old)
+            (slice_index_or counts.items shard c).items (slice_index_or receipts.old shard d).items
+            (slice_index_or receipts.new shard e).items) }
         ensures emptied { OnOk result (AreEmptied seats.old seats.new) }
+
+        // The ends stay together, and a refusal changes nothing.
         ensures linked { AreLinked seats.new }
-        ensures err { OnErr result (AreSameSeats seats.old seats.new × (map vec_items receipts.new ≡ map vec_items receipts.old)) }
+        ensures err { OnErr result (AreSameSeats seats.old seats.new
+            × (map vec_items receipts.new ≡ map vec_items receipts.old)) }
     {
         // There are 64 shards at most.
         let _ = self.limits.shards();
@@ -73,14 +83,21 @@ pub(crate) fn make_room(
     seats: &mut [Seat],
     receipts: &mut [Vec<Receipt>],
 ) -> Result<Vec<Vec<usize>>, AllocError>
+    // All seats are here, with their rings and a list each.
     requires linked { AreLinked seats.old }
-    requires few { length seats.old ≤ 64 }
+    requires few { length seats.old ≤ MOST_SHARDS }
     requires lists { length receipts.old ≡ length seats.old }
+
+    // Nothing changes but room.
     ensures same { AreSameSeats seats.old seats.new }
     ensures items { map vec_items receipts.new ≡ map vec_items receipts.old }
     ensures len { IfOk result (λ counts. vec_len counts ≡ length seats.old) }
-    ensures counted { IfOk result (λ counts. (shard : ℕ) (d : _) → shard < length seats.old → AreCounted seats.old seats.new shard (slice_index_or counts.items shard d).items) }
-    ensures room { IfOk result (λ counts. (shard : ℕ) (d e : _) → shard < length seats.old → vec_len (slice_index_or receipts.new shard d) + sum (slice_index_or counts.items shard e).items ≤ vec_capacity (slice_index_or receipts.new shard d)) }
+    ensures counted { IfOk result (λ counts. (shard : ℕ) (d : _) → shard < length seats.old
+        → AreCounted seats.old seats.new shard (slice_index_or counts.items shard d).items) }
+    ensures room { IfOk result (λ counts. (shard : ℕ) (d e : _) → shard < length seats.old
+        → vec_len (slice_index_or receipts.new shard d) + sum
+        (slice_index_or counts.items shard e).items
+        ≤ vec_capacity (slice_index_or receipts.new shard d)) }
 {
     let counts = count_all(alloc, seats)?;
     reserve_all(receipts, counts.as_slice())?;
@@ -96,14 +113,27 @@ pub(crate) fn settle_seats<F: Frees>(
     section: u64,
     receipts: &mut [Vec<Receipt>],
 )
-    requires wide { (length counts.now ≡ length seats.old) × (length receipts.old ≡ length seats.old) }
-    requires in_order { (shard : ℕ) (x : _) → shard < length seats.old → (slice_index_or seats.old shard x).worker ≡ shard }
-    requires counts { (shard : ℕ) (x d : _) → shard < length seats.old → (slice_index_or counts.now shard d).items ≡ map length (known_lists (slice_index_or seats.old shard x).inboxes) }
-    requires room { (shard : ℕ) (d e : _) → shard < length seats.old → vec_len (slice_index_or receipts.old shard d) + sum (slice_index_or counts.now shard e).items ≤ vec_capacity (slice_index_or receipts.old shard d) }
-    ensures freed { (shard : ℕ) (x d e : _) → shard < length seats.old → AddsFrees shard section (joined (known_lists (slice_index_or seats.old shard x).inboxes)) (slice_index_or receipts.old shard d).items (slice_index_or receipts.new shard e).items }
+    // There is room for the receipts of all counted keys.
+    requires wide { (length counts.now ≡ length seats.old)
+        × (length receipts.old ≡ length seats.old) }
+    requires in_order { (shard : ℕ) (x : _) → shard < length seats.old
+        → (slice_index_or seats.old shard x).worker ≡ shard }
+    requires counts { (shard : ℕ) (x d : _) → shard < length seats.old
+        → (slice_index_or counts.now shard d).items
+        ≡ map length (known_lists (slice_index_or seats.old shard x).inboxes) }
+    requires room { (shard : ℕ) (d e : _) → shard < length seats.old
+        → vec_len (slice_index_or receipts.old shard d) + sum
+        (slice_index_or counts.now shard e).items
+        ≤ vec_capacity (slice_index_or receipts.old shard d) }
+
+    // Each counted key is freed, and has its receipt.
+    ensures freed { (shard : ℕ) (x d e : _) → shard < length seats.old
+        → AddsFrees shard section (joined (known_lists (slice_index_or seats.old shard x).inboxes))
+        (slice_index_or receipts.old shard d).items (slice_index_or receipts.new shard e).items }
     ensures sending { map sending_side seats.new ≡ map sending_side seats.old }
     ensures rings { map in_rings seats.new ≡ map in_rings seats.old }
-    ensures taken { map (λ seat. taken_lists seat.inboxes) seats.new ≡ map (λ seat. taken_with_known seat.inboxes) seats.old }
+    ensures taken { map (λ seat. taken_lists seat.inboxes) seats.new
+        ≡ map (λ seat. taken_with_known seat.inboxes) seats.old }
 {
     for shard in 0..seats.len() {
         seats[shard].settle(by, counts[shard].as_slice(), section, &mut receipts[shard]);
@@ -133,9 +163,11 @@ pub(crate) fn settle_rings<F: Frees>(
     requires counts { counts.now ≡ map length (known_lists inboxes.old.items) }
     requires room { vec_len receipts.old + sum counts.now ≤ vec_capacity receipts.old }
     ensures len { vec_len inboxes.new ≡ vec_len inboxes.old }
-    ensures rings { map (λ inbox. inbox.ring) inboxes.new.items ≡ map (λ inbox. inbox.ring) inboxes.old.items }
+    ensures rings { map (λ inbox. inbox.ring) inboxes.new.items
+        ≡ map (λ inbox. inbox.ring) inboxes.old.items }
     ensures taken { taken_lists inboxes.new.items ≡ taken_with_known inboxes.old.items }
-    ensures freed { AddsFrees worker section (joined (known_lists inboxes.old.items)) receipts.old.items receipts.new.items }
+    ensures freed { AddsFrees worker section (joined (known_lists inboxes.old.items))
+        receipts.old.items receipts.new.items }
 {
     for from in 0..counts.len() {
         settle_ring(
@@ -160,7 +192,8 @@ fn settle_ring<F: Frees>(
 )
     requires left { left ≡ length inbox.old.known }
     requires room { vec_len receipts.old + left ≤ vec_capacity receipts.old }
-    ensures room { (vec_len receipts.new ≡ vec_len receipts.old + left) × (vec_capacity receipts.new ≡ vec_capacity receipts.old) }
+    ensures room { (vec_len receipts.new ≡ vec_len receipts.old + left)
+        × (vec_capacity receipts.new ≡ vec_capacity receipts.old) }
     ensures ring { inbox.new.ring ≡ inbox.old.ring }
     ensures taken { inbox.new.taken ≡ inbox.old.taken ++ inbox.old.known }
     ensures freed { AddsFrees worker section inbox.old.known receipts.old.items receipts.new.items }
@@ -174,9 +207,13 @@ fn settle_ring<F: Frees>(
 // Room for as many receipts as each row counts. What the lists have stays.
 fn reserve_all(receipts: &mut [Vec<Receipt>], counts: &[Vec<usize>]) -> Result<(), AllocError>
     requires wide { length counts.now ≡ length receipts.old }
-    requires few { All (λ row. All (λ count. count ≤ 1024) row.items × (vec_len row ≤ 64)) counts.now }
+    requires few { All (λ row. All (λ count. count ≤ MOST_RING_KEYS) row.items
+        × (vec_len row ≤ MOST_SHARDS)) counts.now }
     ensures items { map vec_items receipts.new ≡ map vec_items receipts.old }
-    ensures room { OnOk result ((shard : ℕ) (d e : _) → shard < length receipts.old → vec_len (slice_index_or receipts.new shard d) + sum (slice_index_or counts.now shard e).items ≤ vec_capacity (slice_index_or receipts.new shard d)) }
+    ensures room { OnOk result ((shard : ℕ) (d e : _) → shard < length receipts.old
+        → vec_len (slice_index_or receipts.new shard d) + sum
+        (slice_index_or counts.now shard e).items
+        ≤ vec_capacity (slice_index_or receipts.new shard d)) }
 {
     for shard in 0..receipts.len() {
         let more = total(counts[shard].as_slice());
@@ -187,8 +224,8 @@ fn reserve_all(receipts: &mut [Vec<Receipt>], counts: &[Vec<usize>]) -> Result<(
 
 // The sum of a row of counts.
 fn total(counts: &[usize]) -> usize
-    requires few { All (λ count. count ≤ 1024) counts.now }
-    requires short { length counts.now ≤ 64 }
+    requires few { All (λ count. count ≤ MOST_RING_KEYS) counts.now }
+    requires short { length counts.now ≤ MOST_SHARDS }
     ensures { result ≡ sum counts.now }
 {
     let mut all = 0;

@@ -3,8 +3,7 @@ ghost use Rattle.std.specs.Prelude.{◌≡◌, ◌↔◌, IfOk, IsTrue, None};
 
 use crate::arena::Arena;
 use crate::gate::Gate;
-use crate::limits::Limits;
-use arena_core::CurrentPlan;
+use marks::{CurrentPlan, Limits};
 use span::Log;
 use std::alloc::{AllocError, Global};
 use std::marker::Model;

@@ -3,6 +3,7 @@ ghost use Rattle.std.specs.Prelude.{◌≡◌, ◌+◌, ◌*◌, ◌≤◌, [], 
 ghost use Rattle.span.specs.SpanLogs.{AreLegal, room_for_logs};
 ghost use Rattle.arena.specs.Receipts.{IsFreeBy};
 ghost use Rattle.arena.specs.SpanCounts.{pooled_spans, spans_of_all};
+ghost use Rattle.span.specs.declared.limits.TheConstants.{ALL_IDS, MOST_SHARDS};
 
 use crate::arena::Arena;
 use crate::gate::Gate;
@@ -79,11 +80,12 @@ fn unlocked_shards(
     more_shards: usize,
     more: usize,
 ) -> Result<(Vec<Shard<Kept>>, Vec<SpanLog>), AllocError>
-    requires few { more + 65536 * length shards.old ≤ 65536 * 65 }
-    requires few_shards { more_shards + length shards.old ≤ 64 }
+    requires few { more + ALL_IDS * length shards.old ≤ ALL_IDS * 65 }
+    requires few_shards { more_shards + length shards.old ≤ MOST_SHARDS }
     ensures shards { IfOk result (λ taken. vec_len taken.0 + more_shards ≤ vec_capacity taken.0) }
     ensures no_log { IfOk result (λ taken. vec_len taken.1 ≡ 0) }
-    ensures room { IfOk result (λ taken. more + spans_of_all taken.0.items ≤ room_for_logs taken.1) }
+    ensures room { IfOk result (λ taken. more + spans_of_all taken.0.items
+        ≤ room_for_logs taken.1) }
 {
     let Some((first, rest)) = shards.split_first_mut() else {
         let taken = Vec::with_capacity(alloc, more_shards)?;

@@ -1,6 +1,7 @@
 // A word for each span that says where the span may be.
 ghost use Rattle.std.specs.Prelude.{◌≤◌};
 ghost use Rattle.arena.specs.Words.{IsPlace};
+ghost use Rattle.span.specs.declared.limits.TheConstants.{MOST_SHARDS};
 
 use shard::Shard;
 use span::{Log, SpanId};
@@ -40,7 +41,7 @@ pub(crate) struct Words {
 impl Words {
     /// The words of the spans of so many shards, of which none is opened.
     pub(crate) fn new(alloc: Global, shards: u32) -> Result<Words, AllocError>
-        requires { shards ≤ 64 }
+        requires { shards ≤ MOST_SHARDS }
     {
         let count = 1024 * shards as usize;
         let mut words = Vec::with_capacity(alloc, count)?;

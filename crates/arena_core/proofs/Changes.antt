@@ -12,7 +12,8 @@ use Rattle.abandoned.specs.State.{PoolState}
 use Rattle.arena_core.specs.Sound.{HasSoundGroups, IsSoundAt}
 use Rattle.arena_core.specs.State.{CoreState, all_spans, opened_by, opened_of, with_pool, with_shard}
 use Rattle.arena_core.proofs.Groups.{IsCall, IsMove, IsPoolCall, own, strays, strays-each, strays-none}
-use Rattle.arena_core.proofs.Lists.{cond-le_one, each-set, slice_get-set_other, slice_get-set_same}
+use Rattle.arena_core.proofs.Lists.{cond-le_one, each-set}
+use Rattle.marks.proofs.Lists.{slice_get-set_other, slice_get-set_same}
 use Rattle.arena_core.proofs.Spans.{named, sum_all, sum_all-with_pool, sum_all-with_shard, sum_in, times, times-parts, times_in, times_in-le}
 
 -- whether a serial is below a number, as a count

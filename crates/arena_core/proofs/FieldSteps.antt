@@ -11,7 +11,7 @@ use Rattle.shard.specs.Calls.{Frees, IsSpent, Puts, was_freed}
 use Rattle.shard.specs.Shown.{shown as shown_by}
 use Rattle.shard.specs.Sound.{IsSound as IsSoundShard}
 use Rattle.shard.specs.State.{ShardState}
-use Rattle.shard.proofs.Lists.{set-same}
+use Rattle.groups.proofs.Lists.{set-same}
 use Rattle.shard.specs.declared.error.PutError.{PutError}
 use Rattle.shard.specs.declared.error.PutError.TheVariants as put_error
 use Rattle.shard.specs.declared.shard.Freed.{Freed}
@@ -31,7 +31,8 @@ use Rattle.arena_core.specs.Kept.{state_of}
 use Rattle.arena_core.specs.Plain.{PlainStep}
 use Rattle.arena_core.specs.Refusals.{refusal_of, refusal_of_adoption, refusal_of_end}
 use Rattle.arena_core.specs.Sound.{IsSound}
-use Rattle.arena_core.specs.State.{CoreState, Limits, has_span}
+use Rattle.arena_core.specs.State.{CoreState, has_span}
+use Rattle.marks.specs.Numbers.{Limits}
 use Rattle.arena_core.specs.Step.{CoreStep, HasClosed}
 use Rattle.arena_core.proofs.Fields.{IsRead, shard-read, state_of-with_both_at, state_of-with_shard_at, with_both_at, with_shard_at}
 use Rattle.arena_core.proofs.Moves.{CoreStep-adopt_refused, CoreStep-end_refused}

@@ -20,10 +20,12 @@ use Rattle.arena_core.specs.declared.machine.Core.TheInside.{Inside}
 use Rattle.arena_core.specs.Kept.{IsKept, state_of}
 use Rattle.arena_core.specs.Moved.{KnowsMoved, Notes}
 use Rattle.arena_core.specs.Sound.{IsSound}
-use Rattle.arena_core.specs.State.{Limits, OpenPlan, has_span, new_core}
+use Rattle.marks.specs.Numbers.{Limits}
+use Rattle.marks.specs.Plans.{OpenPlan}
+use Rattle.arena_core.specs.State.{has_span, new_core}
 use Rattle.arena_core.proofs.FieldSteps.{IsStep-free_home, state_of-both_same, state_of-same}
 use Rattle.arena_core.proofs.Fields.{IsRead, shard-read, with_both_at, with_shard_at}
-use Rattle.arena_core.proofs.Flagged.{with_flags}
+use Rattle.marks.proofs.Flagged.{with_flags}
 use Rattle.arena_core.proofs.Groups.{IsCall-Frees, IsCall-Puts}
 use Rattle.arena_core.proofs.MarkSteps.{with_step_at}
 use Rattle.arena_core.proofs.Noted.{Comes, KnowsMoved-map, KnowsMoved-noted, KnowsMoved-set, has_span-flagged, kept-IsCall, kept-emptied}

@@ -8,10 +8,12 @@ use Rattle.span.specs.declared.id.SpanId.{SpanId}
 use Rattle.span.specs.declared.key.Key.{Key}
 use Rattle.span.specs.Log.{Value as Word}
 use Rattle.span.specs.State.{SpanState}
-use Rattle.shard.specs.Calls.{Puts, Frees, new_group, new_span}
-use Rattle.shard.specs.Group.{GroupState, spans_of, with_free, union_of, with_put, with_span}
+use Rattle.shard.specs.Calls.{Puts, Frees, new_group}
+use Rattle.groups.specs.Spans.{new_span, with_free, union_of, with_put}
+use Rattle.shard.specs.Group.{GroupState, spans_of, with_span}
 use Rattle.page_table.specs.State.{TableState}
-use Rattle.shard.specs.Moves.{TakesIn, WholeState, spans_moved, whole_of, with_room}
+use Rattle.shard.specs.Moves.{TakesIn, whole_of, with_room}
+use Rattle.groups.specs.Whole.{WholeState, spans_moved}
 use Rattle.shard.specs.State.{ShardState}
 use Rattle.shard.specs.declared.shard.Freed.TheVariants.{Yes}
 use Rattle.shard.proofs.Standing.{spans_of-with_span}

@@ -1,5 +1,4 @@
 pub mod Changes
-pub mod Closings
 pub mod FieldSteps
 pub mod Fields
 pub mod FieldsKept
@@ -11,7 +10,7 @@ pub mod LiveKeys
 pub mod LiveKeysShown
 pub mod Logged
 pub mod MarkSteps
-pub mod Marks
+pub mod Distinct
 pub mod Moved
 pub mod Moves
 pub mod NextLive

@@ -1,11 +1,11 @@
 -- Counts, sums and searches in lists.
-use Rattle.std.proofs.Common.{◌≡◌, ◌≢◌, ℕ, zero, suc, ◌+◌, ◌≤◌, Bool, true, false, cond, List, [], ◌∷◌, ◌++◌, refl, sym, ap, subst, ◌∙◌, arith, Option, Some, None, set, map, slice_get, length, is_some}
-use Rattle.std.specs.Prelude.{find, filter, count_by, sum_by, insert, option_map, remove}
+use Rattle.std.proofs.Common.{◌≡◌, ℕ, zero, suc, ◌+◌, ◌≤◌, Bool, true, false, cond, List, [], ◌∷◌, ◌++◌, refl, sym, ap, subst, ◌∙◌, arith, Option, Some, None, set, map, slice_get, length, is_some}
+use Rattle.std.specs.Prelude.{find, filter, count_by, sum_by, insert, remove}
 use Rattle.std.specs.List.{AllByRecursion, flat_map}
 use Rattle.std.proofs.lemmas.List.Sums.{count_by-le-length, length-filter, sum_by-append, sum_by-cons, sum_by-insert, sum_by-remove, sum_by-set}
-use Rattle.std.proofs.lemmas.Option.{get_or_from_slice_get, slice_get-map, slice_get_within}
+use Rattle.std.proofs.lemmas.Option.{get_or_from_slice_get, slice_get_within}
 use Rattle.std.proofs.option.Match.{None-if_not_some}
-use Rattle.shard.proofs.Lists.{count-cons, find-none, none_where, one_where}
+use Rattle.groups.proofs.Lists.{count-cons, find-none, none_where, one_where}
 
 pub cond-le_one : (b : Bool) → cond {A = ℕ} b 1 0 ≤ 1
 cond-le_one true = omega arith
@@ -32,21 +32,6 @@ pub sum_by-set_at : {X : Type 0} (f : X → ℕ) (xs : List X) (i : ℕ) (x y : 
 sum_by-set_at f xs i x y here =
     ap (λ z. sum_by f (set xs i y) + f z) (sym (get_or_from_slice_get xs i x x here))
     ∙ sum_by-set f xs i y x (slice_get_within xs i x here)
-
-pub slice_get-map_at : {X Y : Type 0} (f : X → Y) (xs : List X) (i : ℕ) (x : X) → slice_get xs i ≡ Some x → slice_get (map f xs) i ≡ Some (f x)
-slice_get-map_at f xs i x here = slice_get-map f xs i ∙ ap (option_map f) here
-
-pub slice_get-set_same : {X : Type 0} (xs : List X) (i : ℕ) (x y : X) → slice_get xs i ≡ Some x → slice_get (set xs i y) i ≡ Some y
-slice_get-set_same [] i x y here = absurd cc
-slice_get-set_same (z ∷ xs) zero x y here = refl
-slice_get-set_same (z ∷ xs) (suc i) x y here = slice_get-set_same xs i x y here
-
-pub slice_get-set_other : {X : Type 0} (xs : List X) (i j : ℕ) (y : X) → j ≢ i → slice_get (set xs i y) j ≡ slice_get xs j
-slice_get-set_other [] i j y differ = refl
-slice_get-set_other (z ∷ xs) zero zero y differ = absurd (differ refl)
-slice_get-set_other (z ∷ xs) zero (suc j) y differ = refl
-slice_get-set_other (z ∷ xs) (suc i) zero y differ = refl
-slice_get-set_other (z ∷ xs) (suc i) (suc j) y differ = slice_get-set_other xs i j y (λ e. differ (ap suc e))
 
 -- what holds at each place still holds after a write
 pub each-set : {X : Type 0} (P : ℕ → X → Type 0) (xs : List X) (i : ℕ) (y : X) → P i y → ((j : ℕ) (z : X) → slice_get xs j ≡ Some z → P j z)

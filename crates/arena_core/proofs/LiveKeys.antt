@@ -21,8 +21,8 @@ use Rattle.span.specs.Ids.{same_span}
 use Rattle.span.specs.Log.{Contents, Held, IsLegal, changed, live_slots, replay, value_if, value_in}
 use Rattle.span.specs.PlainMap.{same_key}
 use Rattle.span.specs.State.{SpanState}
-use Rattle.shard.specs.State.{live_count}
-use Rattle.shard.proofs.Lists.{count-append, count-cons, count-none, find-none, one_where}
+use Rattle.groups.specs.Spans.{live_count}
+use Rattle.groups.proofs.Lists.{count-append, count-cons, count-none, find-none, one_where}
 use Rattle.arena_core.proofs.Lists.{count_by-map, count_by-same}
 use Rattle.arena_core.proofs.Spans.{is_named}
 

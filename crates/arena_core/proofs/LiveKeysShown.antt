@@ -9,7 +9,7 @@ use Rattle.span.specs.PlainMap.{same_key}
 use Rattle.span.specs.State.{SpanState}
 use Rattle.shard.specs.Group.{spans_of}
 use Rattle.shard.specs.State.{ShardState, spans_in}
-use Rattle.shard.proofs.Logged.{logged_by}
+use Rattle.groups.proofs.Logged.{logged_by}
 use Rattle.abandoned.specs.State.{spans_in as pooled_spans, spans_of as pooled_spans_of}
 use Rattle.arena_core.specs.Sound.{HasSoundGroups}
 use Rattle.arena_core.specs.State.{CoreState, HasKeys, all_spans, live_keys, shard_spans, shown}

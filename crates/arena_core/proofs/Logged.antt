@@ -5,9 +5,10 @@ use Rattle.span.specs.declared.key.Key.{Key}
 use Rattle.span.specs.Log.{value_in, was_issued}
 use Rattle.span.specs.PlainMap.{PlainMap}
 use Rattle.span.specs.State.{SpanState}
-use Rattle.shard.specs.Shown.{issued_by, shown as shown_by, span_named}
+use Rattle.groups.specs.Shown.{issued_by, span_named}
+use Rattle.shard.specs.Shown.{shown as shown_by}
 use Rattle.shard.specs.State.{spans_in}
-use Rattle.shard.proofs.Logged.{logged_by, same_plain_map}
+use Rattle.groups.proofs.Logged.{logged_by, same_plain_map}
 use Rattle.shard.proofs.ShownLogs.{shown-logged}
 use Rattle.abandoned.specs.Shown.{shown as shown_by_pool}
 use Rattle.abandoned.specs.State.{spans_in as pooled_spans}

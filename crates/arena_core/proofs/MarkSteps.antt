@@ -2,6 +2,7 @@
 use Rattle.std.proofs.Common.{◌≡◌, ℕ, ◌<◌, Bool, true, false, refl, sym, ap, subst, ◌∙◌, arith, List, Option, Some, None, slice_get, set, length, map, get_or}
 use Rattle.std.proofs.Math.ListN.{length-set}
 use Rattle.std.proofs.lemmas.Option.{get_or_from_slice_get, slice_get_within}
+use Rattle.std.specs.Prelude.{option_map}
 use Rattle.std.specs.Vec.{with_item}
 use Rattle.std.proofs.lemmas.List.{length-map}
 use Rattle.span.specs.declared.id.SpanId.{SpanId}
@@ -9,27 +10,29 @@ use Rattle.shard.specs.Closes.{opened_group}
 use Rattle.shard.specs.Group.{GroupState, occupied}
 use Rattle.shard.specs.Sound.{IsSound as IsSoundShard}
 use Rattle.shard.specs.State.{ShardState}
-use Rattle.shard.proofs.Lists.{set-same}
+use Rattle.groups.proofs.Lists.{set-same}
 use Rattle.abandoned.specs.Sound.{IsSound as IsSoundPool}
 use Rattle.abandoned.specs.State.{PoolState}
 use Rattle.fold.specs.Folds.{Steps}
 use Rattle.fold.specs.declared.step.Step.{Step as Outcome}
 use Rattle.certificate.specs.declared.certificate.Certificate.{Certificate}
-use Rattle.arena_core.specs.Closings.{AreOpen, closed_as_planned, closed_onto, reopened}
+use Rattle.marks.specs.Closings.{AreOpen, closed_as_planned, closed_onto, reopened}
 use Rattle.arena_core.specs.Kept.{state_of}
-use Rattle.arena_core.specs.Marks.{IsLargest, advanced, next_pair, with_plan_told}
+use Rattle.marks.specs.Seen.{IsLargest, with_plan_told}
+use Rattle.marks.specs.Plans.{next_pair, plans_onto, with_next_done, OpenPlan}
 use Rattle.arena_core.specs.Moved.{StandsIn}
-use Rattle.arena_core.specs.Plan.{IsNext, IsOwned, plans_onto}
+use Rattle.arena_core.specs.Plan.{IsNext, IsOwned}
 use Rattle.arena_core.specs.Sound.{HasSoundGroups, IsSound}
-use Rattle.arena_core.specs.State.{CoreState, OpenPlan, has_span, shown, with_plan, with_pool, with_shard}
+use Rattle.arena_core.specs.State.{CoreState, has_span, shown, with_plan, with_pool, with_shard}
 use Rattle.arena_core.specs.Step.{with_plan_closed}
 use Rattle.arena_core.specs.declared.event.Event.TheVariants.{Step}
 use Rattle.arena_core.specs.declared.machine.Core.TheInside.{Inside}
 use Rattle.arena_core.specs.declared.reply.Reply.TheVariants.{Stepped}
-use Rattle.arena_core.proofs.Flagged.{HasSoundGroups-flagged, map_back, shown-flagged, with_all_flags}
-use Rattle.arena_core.proofs.Lists.{slice_get-map_at}
+use Rattle.arena_core.proofs.Flagged.{HasSoundGroups-flagged, shown-flagged, with_all_flags}
+use Rattle.marks.proofs.Flagged.{map_back}
+use Rattle.marks.proofs.Lists.{slice_get-map_at}
 use Rattle.arena_core.proofs.PlanMarks.{IsUnderWay-marked}
-use Rattle.arena_core.proofs.PlanSteps.{AreAllClosedAsPlanned, IsSoundStep, KeepsPlan-none}
+use Rattle.arena_core.proofs.PlanSteps.{AreAllClosedAsPlanned, IsSoundStep, HasSoundPlan-none}
 use Rattle.arena_core.proofs.Stepping.{IsSoundStep-Steps, waits}
 use Rattle.arena_core.proofs.Steps.{has_span-here}
 
@@ -101,7 +104,7 @@ module _ (old : CoreState) (sound : IsSound old) where
   pub IsSound-closed : IsSound (with_plan_closed old)
   IsSound-closed = record {
     groups = HasSoundGroups-retold (with_all_flags (λ group. false) old) false None (HasSoundGroups-flagged (λ group. false) old sound.groups);
-    plan = KeepsPlan-none (with_plan_closed old) refl refl (λ number shard here index group at.
+    plan = HasSoundPlan-none (with_plan_closed old) refl refl (λ number shard here index group at.
         let (was, there, is) = map_back reopened old.shards number shard here in
         let (before, stood, same) = map_back opened_group was.groups index group (subst (λ (s : ShardState). slice_get s.groups index ≡ Some group) (sym is) at) in
         subst (λ (g : GroupState). g.closed ≡ false) same refl);
@@ -164,12 +167,12 @@ state_of-with_step_at c number after pool plan whereabouts = λ i. record {
 }
 
 pub IsSoundStep-fold_fields : {L : Type 0} (c : Inside L) (plan : OpenPlan) (pair : SpanId × SpanId) (number : ℕ) (before after : ShardState) (pool : PoolState) (current : Option OpenPlan) (whereabouts : List (Option ℕ)) (step : Outcome) → IsSound (state_of c) → IsNext (state_of c) plan pair
-    → StandsIn c.shards.items pair.1 number → before ≡ get_or c.shards.items number before → Steps c.pool before pair.0 pair.1 step pool after → IsSoundShard after → IsSoundPool pool → current ≡ advanced c.plan
+    → StandsIn c.shards.items pair.1 number → before ≡ get_or c.shards.items number before → Steps c.pool before pair.0 pair.1 step pool after → IsSoundShard after → IsSoundPool pool → current ≡ option_map with_next_done c.plan
     → IsSoundStep (state_of c) Step (Stepped pair.0 pair.1 step) (state_of (with_step_at c number after pool current whereabouts))
 IsSoundStep-fold_fields c plan pair number before after pool current whereabouts step sound next there read steps sound_after sound_pool current_is =
     let named = shard-named (state_of c) pair.1 number before there read in
     subst (IsSoundStep (state_of c) Step (Stepped pair.0 pair.1 step)) (sym (state_of-with_step_at c number after pool current whereabouts))
-    (subst (λ p. IsSoundStep (state_of c) Step (Stepped pair.0 pair.1 step) (with_plan (with_pool (with_shard (state_of c) number after) pool) p)) (sym (current_is ∙ ap advanced next.plan_is))
+    (subst (λ p. IsSoundStep (state_of c) Step (Stepped pair.0 pair.1 step) (with_plan (with_pool (with_shard (state_of c) number after) pool) p)) (sym (current_is ∙ ap (option_map with_next_done) next.plan_is))
     (IsSoundStep-Steps (state_of c) sound plan pair next number before named.0 named.1 step after pool steps sound_after sound_pool))
 
 -- a step that wants memory leaves the fields as they were

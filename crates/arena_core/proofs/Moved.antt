@@ -13,8 +13,8 @@ use Rattle.shard.specs.declared.shard.Found.{Found}
 use Rattle.shard.specs.declared.shard.Found.TheVariants as found
 use Rattle.shard.specs.declared.shard.Freed.{Freed}
 use Rattle.shard.specs.declared.shard.Freed.TheVariants as freed
-use Rattle.shard.proofs.Lists.{count-none, find-none, same_some}
-use Rattle.shard.proofs.Standing.{id_from_rank}
+use Rattle.groups.proofs.Lists.{count-none, find-none, same_some}
+use Rattle.groups.proofs.Ranks.{id_from_rank}
 use Rattle.abandoned.specs.Shown.{shown as shown_by_pool}
 use Rattle.arena_core.specs.Moved.{KnowsMoved, StandsIn, StandsInNoOther, named, named_by}
 use Rattle.arena_core.specs.Sound.{HasSoundGroups}

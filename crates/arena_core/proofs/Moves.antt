@@ -23,8 +23,8 @@ use Rattle.arena_core.specs.declared.reply.Refusal.TheVariants as refusal
 use Rattle.arena_core.specs.declared.reply.Reply.TheVariants as reply
 use Rattle.arena_core.specs.Refusals.{refusal_of_adoption, refusal_of_end}
 use Rattle.arena_core.specs.Sound.{HasSoundGroups, IsSound}
-use Rattle.arena_core.specs.Plan.{AreClosedAsPlanned}
-use Rattle.arena_core.specs.State.{CoreState, OpenPlan, with_pool, with_shard}
+use Rattle.marks.specs.Plans.{AreClosedAsPlanned, OpenPlan}
+use Rattle.arena_core.specs.State.{CoreState, with_pool, with_shard}
 use Rattle.arena_core.specs.Step.{CoreStep, HasClosed, MayTake}
 use Rattle.arena_core.proofs.Changes.{HasSoundGroups-moved, sum_all-moved}
 use Rattle.arena_core.proofs.Groups.{IsMove-Adopts, IsMove-Receives}

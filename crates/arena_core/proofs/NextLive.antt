@@ -11,8 +11,8 @@ use Rattle.span.specs.Order.{HasNoneBeyond, HasNoneFrom, IsAfter, IsFirstFrom, I
 use Rattle.span.specs.PlainMap.{PlainMap}
 use Rattle.shard.specs.Shown.{shown as shown_by}
 use Rattle.shard.specs.State.{ShardState}
-use Rattle.shard.proofs.Lists.{found_at, same_some}
-use Rattle.shard.proofs.Standing.{id_from_rank}
+use Rattle.groups.proofs.Lists.{found_at, same_some}
+use Rattle.groups.proofs.Ranks.{id_from_rank}
 use Rattle.abandoned.specs.Shown.{shown as shown_by_pool}
 use Rattle.arena_core.specs.Moved.{KnowsMoved, named}
 use Rattle.arena_core.specs.NextLive.{HasNoneBetween, HasNoneIn, IsFirstLive}

@@ -9,13 +9,15 @@ use Rattle.span.specs.Ids.{rank}
 use Rattle.span.specs.State.{SpanState}
 use Rattle.span.proofs.Ids.{same_id_from_test}
 use Rattle.shard.specs.Calls.{Ascend}
-use Rattle.shard.specs.Group.{GroupState, IsSpanAt, spans_of}
-use Rattle.shard.specs.Moves.{HasNoHead, HasNoMember, IsBriefHere, IsHeadOf, IsMemberAt, WholeState, spans_moved, with_guests, with_room}
-use Rattle.shard.specs.Shown.{span_named}
+use Rattle.shard.specs.Group.{GroupState, spans_of}
+use Rattle.groups.specs.Spans.{IsSpanAt}
+use Rattle.shard.specs.Moves.{HasNoHead, HasNoMember, IsBriefHere, IsHeadOf, IsMemberAt, with_guests, with_room}
+use Rattle.groups.specs.Whole.{WholeState, spans_moved}
+use Rattle.groups.specs.Shown.{span_named}
 use Rattle.shard.specs.State.{ShardState, spans_in}
-use Rattle.shard.specs.declared.brief.Brief.{Brief}
+use Rattle.groups.specs.declared.brief.Brief.{Brief}
 use Rattle.shard.proofs.HeadsHere.{same_group}
-use Rattle.shard.proofs.Lists.{cases-set, found_at, get-insert, get-set, same_some}
+use Rattle.groups.proofs.Lists.{cases-set, found_at, get-insert, get-set, same_some}
 use Rattle.abandoned.specs.Calls.{Adopts}
 use Rattle.abandoned.specs.State.{PoolState}
 use Rattle.fold.specs.Folds.{Folds, Steps}
@@ -26,9 +28,10 @@ use Rattle.arena_core.specs.Moved.{KnowsMoved, Notes, StandsIn, named}
 use Rattle.arena_core.specs.Sound.{HasSoundGroups}
 use Rattle.arena_core.specs.State.{CoreState, has_span, opened_by, opened_of}
 use Rattle.arena_core.proofs.Changes.{at_most_once, opened-somewhere}
-use Rattle.arena_core.proofs.Flagged.{map_back, spans_in-flagged, with_flags}
+use Rattle.marks.proofs.Flagged.{map_back, spans_in-flagged, with_flags}
 use Rattle.arena_core.proofs.Groups.{IsCall, own, sum_in-TakesIn}
-use Rattle.arena_core.proofs.Lists.{find-counted, slice_get-set_other, slice_get-set_same}
+use Rattle.arena_core.proofs.Lists.{find-counted}
+use Rattle.marks.proofs.Lists.{slice_get-set_other, slice_get-set_same}
 use Rattle.arena_core.proofs.Moved.{named-set, named-set_here}
 use Rattle.arena_core.proofs.Spans.{has_span-counted, is_named, named as count_named, shard_with-here, times-parts, times_in, times_in-found, times_in-le, times_owned}
 use Rattle.arena_core.proofs.Steps.{has_span-here}

@@ -6,9 +6,10 @@ use Rattle.span.specs.declared.id.SpanId.{SpanId}
 use Rattle.span.specs.declared.key.Key.{Key}
 use Rattle.span.specs.Log.{Value}
 use Rattle.span.specs.PlainMap.{PlainMap}
-use Rattle.shard.specs.Shown.{shown as shown_by, issued_by, value_by}
+use Rattle.shard.specs.Shown.{shown as shown_by}
+use Rattle.groups.specs.Shown.{issued_by, value_by}
 use Rattle.shard.specs.State.{ShardState}
-use Rattle.shard.proofs.Lists.{find-none}
+use Rattle.groups.proofs.Lists.{find-none}
 use Rattle.abandoned.specs.Shown.{shown as shown_by_pool}
 use Rattle.abandoned.specs.State.{PoolState, spans_in as pooled_spans}
 use Rattle.arena_core.specs.State.{CoreState, has_span, shard_with, shown, shown_at}

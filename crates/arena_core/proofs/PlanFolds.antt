@@ -8,12 +8,13 @@ use Rattle.span.specs.State.{SpanState}
 use Rattle.shard.specs.Group.{GroupState}
 use Rattle.shard.specs.Moves.{IsHeadOf}
 use Rattle.shard.specs.State.{ShardState}
-use Rattle.shard.proofs.Lists.{cases-set, same_some}
+use Rattle.groups.proofs.Lists.{cases-set, same_some}
 use Rattle.abandoned.specs.State.{IsHeadOf as IsPooledHeadOf, PoolState, PooledState}
-use Rattle.shard.proofs.Removed.{after-remove}
-use Rattle.arena_core.specs.Plan.{IsCarriedOut, IsEmptied, IsGuest, IsOwned, IsPooled, IsUnderWay, IsWaiting, is_planned, with_next_done}
-use Rattle.arena_core.specs.State.{CoreState, OpenPlan, with_plan, with_pool, with_shard}
-use Rattle.arena_core.proofs.Lists.{slice_get-set_other, slice_get-set_same}
+use Rattle.groups.proofs.Removed.{after-remove}
+use Rattle.arena_core.specs.Plan.{IsCarriedOut, IsEmptyInPool, IsGuest, IsOwned, IsPooled, IsUnderWay, IsWaiting}
+use Rattle.marks.specs.Plans.{is_planned, with_next_done, OpenPlan}
+use Rattle.arena_core.specs.State.{CoreState, with_plan, with_pool, with_shard}
+use Rattle.marks.proofs.Lists.{slice_get-set_other, slice_get-set_same}
 use Rattle.arena_core.proofs.PlanSteps.{AreAllClosedAsPlanned, AreAllClosedAsPlanned-set}
 
 get-append : {X : Type 0} (xs ys : List X) (at : ℕ) (x : X) → slice_get ys at ≡ Some x → slice_get (xs ++ ys) (length xs + at) ≡ Some x
@@ -151,7 +152,7 @@ module _ (old : CoreState) (plan : OpenPlan) (pair : SpanId × SpanId) (number :
 
 -- a pair whose abandoned group is empty
 
-module _ (old : CoreState) (plan : OpenPlan) (under : IsUnderWay old plan) (pair : SpanId × SpanId) (next : slice_get plan.pairs plan.done ≡ Some pair) (emptied : IsEmptied old pair) where
+module _ (old : CoreState) (plan : OpenPlan) (under : IsUnderWay old plan) (pair : SpanId × SpanId) (next : slice_get plan.pairs plan.done ≡ Some pair) (emptied : IsEmptyInPool old pair) where
   abbrev passed : CoreState
   passed = with_plan old (Some (with_next_done plan))
 

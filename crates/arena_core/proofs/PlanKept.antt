@@ -1,9 +1,8 @@
 -- What an event that is no fold does to the groups that an open plan names: each stays, and none grows.
 use Rattle.std.proofs.Common.{◌≡◌, ◌≢◌, ℕ, zero, suc, Bool, true, false, ◌||◌, List, [], ◌∷◌, ◌⊎◌, inl, inr, refl, sym, ap, subst, ◌∙◌, Option, Some, None, set, slice_get, insert}
 use Rattle.std.specs.FinSet as set_of
-use Rattle.std.specs.FinSet.{contains}
+use Rattle.std.specs.FinSet.{contains, contains-union, contains-remove}
 use Rattle.std.specs.Cmp.{nat_cmp_total}
-use Rattle.std.specs.FinSet.{contains-union, contains-remove}
 use Rattle.std.proofs.Math.Bool.{or-true}
 use Rattle.std.proofs.lemmas.Bool.{and_parts, cases_eq}
 use Rattle.bitmap.specs.Slots.{SlotSet, AreDisjoint}
@@ -15,11 +14,12 @@ use Rattle.span.specs.Log.{Value as Word, live_slots}
 use Rattle.span.specs.State.{SpanState}
 use Rattle.span.proofs.Slots.{live_slots-free}
 use Rattle.shard.specs.Calls.{Frees, Puts}
-use Rattle.shard.specs.Group.{GroupState, IsSpanAt, occupied, spans_of, union_of, with_free, with_put, with_span}
-use Rattle.shard.specs.Moves.{WholeState}
+use Rattle.shard.specs.Group.{GroupState, occupied, spans_of, with_span}
+use Rattle.groups.specs.Spans.{IsSpanAt, union_of, with_free, with_put}
+use Rattle.groups.specs.Whole.{WholeState}
 use Rattle.shard.specs.State.{ShardState}
 use Rattle.shard.specs.declared.shard.Freed.TheVariants.{Yes}
-use Rattle.shard.proofs.Lists.{after-insert, after-set, same_some}
+use Rattle.groups.proofs.Lists.{after-insert, after-set, same_some}
 use Rattle.shard.proofs.Standing.{spans_of-with_span}
 use Rattle.abandoned.specs.Calls.{Frees as FreesPooled, Receives, TakesAll, TakesIn, with_rooms}
 use Rattle.abandoned.specs.Sound.{IsSound as IsSoundPool}
@@ -28,9 +28,10 @@ use Rattle.abandoned.proofs.Freed.{groups-Leaves}
 use Rattle.abandoned.proofs.Released.{has_page_if_held}
 use Rattle.abandoned.proofs.Standing.{page-with_span}
 use Rattle.abandoned.proofs.TakenIn.{empty_or_not}
-use Rattle.arena_core.specs.Plan.{IsCarriedOut, IsOwned, IsPooled, IsUnderWay, IsWaiting, plans_onto}
-use Rattle.arena_core.specs.State.{CoreState, OpenPlan}
-use Rattle.arena_core.proofs.Lists.{slice_get-set_other, slice_get-set_same}
+use Rattle.arena_core.specs.Plan.{IsCarriedOut, IsOwned, IsPooled, IsUnderWay, IsWaiting}
+use Rattle.marks.specs.Plans.{plans_onto, OpenPlan}
+use Rattle.arena_core.specs.State.{CoreState}
+use Rattle.marks.proofs.Lists.{slice_get-set_other, slice_get-set_same}
 use Rattle.arena_core.proofs.Spans.{same_span-self}
 
 -- sets of slots

@@ -20,9 +20,11 @@ use Rattle.abandoned.specs.State.{PooledState, summary as pooled_summary}
 use Rattle.mesh_graph.specs.Groups.{Groups, any_compatible, are_compatible}
 use Rattle.mesh_graph.specs.declared.entry.Entry.{Entry}
 use Rattle.certificate.specs.Plans.{IsPlanOf, sides_of}
-use Rattle.arena_core.specs.Plan.{IsOwned, IsPooled, IsUnderWay, IsWaiting, abandoned_entries, entry_of, owned_entries}
+use Rattle.arena_core.specs.Plan.{IsOwned, IsPooled, IsUnderWay, IsWaiting}
+use Rattle.marks.specs.Seen.{abandoned_entries, entry_of, owned_entries}
 use Rattle.arena_core.specs.State.{CoreState}
-use Rattle.arena_core.proofs.Lists.{each-append, slice_get-map_at}
+use Rattle.arena_core.proofs.Lists.{each-append}
+use Rattle.marks.proofs.Lists.{slice_get-map_at}
 
 -- lists
 

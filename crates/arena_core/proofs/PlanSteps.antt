@@ -9,22 +9,24 @@ use Rattle.span.specs.Log.{Value as Word}
 use Rattle.span.specs.PlainMap.{with_put as with_key, without}
 use Rattle.span.proofs.Ids.{same_id_from_test}
 use Rattle.shard.specs.Calls.{Frees, Puts, new_group, was_freed}
-use Rattle.shard.specs.Group.{GroupState, with_free, with_put, with_span}
+use Rattle.shard.specs.Group.{GroupState, with_span}
+use Rattle.groups.specs.Spans.{with_free, with_put}
 use Rattle.shard.specs.State.{ShardState}
 use Rattle.shard.specs.Shown.{shown as shown_by}
 use Rattle.shard.specs.Sound.{IsSound as IsSoundShard}
 use Rattle.shard.specs.declared.shard.Freed.{Freed}
 use Rattle.shard.specs.declared.shard.Freed.TheVariants as freed
 use Rattle.shard.specs.declared.shard.Freed.TheVariants.{Yes}
-use Rattle.shard.proofs.Lists.{cases-insert, cases-set}
+use Rattle.groups.proofs.Lists.{cases-insert, cases-set}
 use Rattle.abandoned.specs.Calls.{Adopts, Frees as FreesPooled, Receives}
 use Rattle.abandoned.specs.Shown.{shown as shown_by_pool}
 use Rattle.abandoned.specs.Sound.{IsSound as IsSoundPool}
 use Rattle.abandoned.specs.State.{PoolState}
-use Rattle.arena_core.specs.Plan.{AreClosedAsPlanned, IsOwned, IsUnderWay, KeepsPlan, is_planned, plans_onto}
+use Rattle.marks.specs.Plans.{AreClosedAsPlanned, is_planned, plans_onto, OpenPlan}
+use Rattle.arena_core.specs.Plan.{IsOwned, IsUnderWay, HasSoundPlan}
 use Rattle.arena_core.specs.Plain.{ErasedStep}
 use Rattle.arena_core.specs.Sound.{AreRings, IsSound}
-use Rattle.arena_core.specs.State.{CoreState, OpenPlan, has_span, opened_by, opened_of, shown, with_pool, with_shard}
+use Rattle.arena_core.specs.State.{CoreState, has_span, opened_by, opened_of, shown, with_pool, with_shard}
 use Rattle.arena_core.specs.Step.{CoreStep, HasClosed}
 use Rattle.arena_core.specs.declared.event.Event.{Event}
 use Rattle.arena_core.specs.declared.event.Event.TheVariants.{Put, Free, End, Adopt}
@@ -43,7 +45,7 @@ pub record IsSoundStep (old : CoreState) (event : Event) (answer : Reply) (new :
   pub exact : CoreStep old event answer new
   pub plain : ErasedStep old.limits (shown old) event answer (shown new)
 
-with_plan_kept : (old : CoreState) (event : Event) (answer : Reply) (new : CoreState) → IsStep old event answer new → KeepsPlan new → AreRings new.limits new.rings → IsSoundStep old event answer new
+with_plan_kept : (old : CoreState) (event : Event) (answer : Reply) (new : CoreState) → IsStep old event answer new → HasSoundPlan new → AreRings new.limits new.rings → IsSoundStep old event answer new
 with_plan_kept old event answer new step keeps rings = record { kept = record { groups = step.kept; plan = keeps; rings = rings }; exact = step.exact; plain = step.plain }
 
 abbrev pub AreAllClosedAsPlanned : Option OpenPlan → List ShardState → Type 0
@@ -58,8 +60,8 @@ closed_if_planned : (core : CoreState) (plan : OpenPlan) → AreAllClosedAsPlann
 closed_if_planned core plan all k pair at group is = all is.number is.shard is.shard_is is.index group is.head_of.here ∙ ap (plans_onto plan.pairs) is.head_of.head_is ∙ plans_onto-pair plan.pairs k pair at
 
 -- where the plan stays and the groups that it names stay, all that holds of it holds still
-pub KeepsPlan-kept : (old new : CoreState) → KeepsPlan old → new.plan ≡ old.plan → new.pool.has_plan ≡ old.pool.has_plan → KeepsPooled old.pool.groups new.pool.groups → KeepsAllClosed old.shards new.shards → AreAllClosedAsPlanned old.plan new.shards → KeepsPlan new
-KeepsPlan-kept old new keeps plan_is told pooled owned closed = record {
+pub HasSoundPlan-kept : (old new : CoreState) → HasSoundPlan old → new.plan ≡ old.plan → new.pool.has_plan ≡ old.pool.has_plan → KeepsPooled old.pool.groups new.pool.groups → KeepsAllClosed old.shards new.shards → AreAllClosedAsPlanned old.plan new.shards → HasSoundPlan new
+HasSoundPlan-kept old new keeps plan_is told pooled owned closed = record {
   told = told ∙ keeps.told ∙ ap is_some (sym plan_is);
   closed = subst (λ plan. AreAllClosedAsPlanned plan new.shards) (sym plan_is) closed;
   under_way = subst (λ plan. MatchOption plan (Unit {0}) (IsUnderWay new)) (sym plan_is) (by_plan old.plan keeps.closed keeps.under_way);
@@ -70,8 +72,8 @@ KeepsPlan-kept old new keeps plan_is told pooled owned closed = record {
     by_plan (Some plan) all under = IsUnderWay-kept old new pooled owned plan (closed_if_planned old plan all) under
 
 -- without a plan, no group is closed
-pub KeepsPlan-none : (new : CoreState) → new.plan ≡ None → new.pool.has_plan ≡ false → AreAllClosedAsPlanned None new.shards → KeepsPlan new
-KeepsPlan-none new plan_is told closed = record {
+pub HasSoundPlan-none : (new : CoreState) → new.plan ≡ None → new.pool.has_plan ≡ false → AreAllClosedAsPlanned None new.shards → HasSoundPlan new
+HasSoundPlan-none new plan_is told closed = record {
   told = told ∙ ap is_some (sym plan_is);
   closed = subst (λ plan. AreAllClosedAsPlanned plan new.shards) (sym plan_is) closed;
   under_way = subst (λ plan. MatchOption plan (Unit {0}) (IsUnderWay new)) (sym plan_is) tt;
@@ -120,9 +122,9 @@ AreClosedAsPlanned-Puts plan before after value key at (running, inr (full, page
       | inr (inr high) ↦ all high.0 now high.3
     ]
 
-pub KeepsPlan-Puts : (old : CoreState) → IsSound old → (number : ℕ) (value : Word) (key : Key) (at : ℕ) (before after : ShardState) → slice_get old.shards number ≡ Some before → Puts before value key at after → KeepsPlan (with_shard old number after)
-KeepsPlan-Puts old sound number value key at before after here puts =
-    KeepsPlan-kept old (with_shard old number after) sound.plan refl refl (KeepsPooled-same old.pool.groups) (KeepsAllClosed-set old.shards number before after here (KeepsClosed-Puts before after value key at puts))
+pub HasSoundPlan-Puts : (old : CoreState) → IsSound old → (number : ℕ) (value : Word) (key : Key) (at : ℕ) (before after : ShardState) → slice_get old.shards number ≡ Some before → Puts before value key at after → HasSoundPlan (with_shard old number after)
+HasSoundPlan-Puts old sound number value key at before after here puts =
+    HasSoundPlan-kept old (with_shard old number after) sound.plan refl refl (KeepsPooled-same old.pool.groups) (KeepsAllClosed-set old.shards number before after here (KeepsClosed-Puts before after value key at puts))
     (AreAllClosedAsPlanned-set old.plan old.shards number after sound.plan.closed (AreClosedAsPlanned-Puts old.plan before after value key at puts fresh (sound.plan.closed number before here)))
   where
     fresh : before.opened ≤ key.span.serial → key.span.shard ≡ before.number → is_planned old.plan key.span ≡ false
@@ -140,29 +142,29 @@ AreClosedAsPlanned-Frees plan before after key at (index, place, group, span, he
       | inr old ↦ all other now old.1
     ]
 
-pub KeepsPlan-Frees : (old : CoreState) → IsSound old → (number : ℕ) (key : Key) (at : ℕ) (before after : ShardState) → slice_get old.shards number ≡ Some before → Frees before key (Yes at) after → KeepsPlan (with_shard old number after)
-KeepsPlan-Frees old sound number key at before after here frees =
-    KeepsPlan-kept old (with_shard old number after) sound.plan refl refl (KeepsPooled-same old.pool.groups) (KeepsAllClosed-set old.shards number before after here (KeepsClosed-Frees before after key at frees))
+pub HasSoundPlan-Frees : (old : CoreState) → IsSound old → (number : ℕ) (key : Key) (at : ℕ) (before after : ShardState) → slice_get old.shards number ≡ Some before → Frees before key (Yes at) after → HasSoundPlan (with_shard old number after)
+HasSoundPlan-Frees old sound number key at before after here frees =
+    HasSoundPlan-kept old (with_shard old number after) sound.plan refl refl (KeepsPooled-same old.pool.groups) (KeepsAllClosed-set old.shards number before after here (KeepsClosed-Frees before after key at frees))
     (AreAllClosedAsPlanned-set old.plan old.shards number after sound.plan.closed (AreClosedAsPlanned-Frees old.plan before after key at frees (sound.plan.closed number before here)))
 
-pub KeepsPlan-FreesPooled : (old : CoreState) → IsSound old → (key : Key) (at : ℕ) (pool : PoolState) → FreesPooled old.pool key (Yes at) pool → KeepsPlan (with_pool old pool)
-KeepsPlan-FreesPooled old sound key at pool frees =
-    KeepsPlan-kept old (with_pool old pool) sound.plan refl (has_plan-Frees old.pool pool key at sound.groups.pool frees) (KeepsPooled-Frees old.pool pool key at sound.groups.pool frees) (KeepsAllClosed-same old.shards) sound.plan.closed
+pub HasSoundPlan-FreesPooled : (old : CoreState) → IsSound old → (key : Key) (at : ℕ) (pool : PoolState) → FreesPooled old.pool key (Yes at) pool → HasSoundPlan (with_pool old pool)
+HasSoundPlan-FreesPooled old sound key at pool frees =
+    HasSoundPlan-kept old (with_pool old pool) sound.plan refl (has_plan-Frees old.pool pool key at sound.groups.pool frees) (KeepsPooled-Frees old.pool pool key at sound.groups.pool frees) (KeepsAllClosed-same old.shards) sound.plan.closed
 
 -- ends
 
-pub KeepsPlan-Receives : (old : CoreState) → IsSound old → (number : ℕ) (before after : ShardState) (pool : PoolState) → slice_get old.shards number ≡ Some before → ((index : ℕ) (group : GroupState) → slice_get before.groups index ≡ Some group → group.closed ≡ false)
-    → Receives old.pool before pool after → KeepsPlan (with_pool (with_shard old number after) pool)
-KeepsPlan-Receives old sound number before after pool here unclosed receives =
-    KeepsPlan-kept old (with_pool (with_shard old number after) pool) sound.plan refl (has_plan-Receives old.pool pool before after receives) (KeepsPooled-Receives old.pool pool before after receives)
+pub HasSoundPlan-Receives : (old : CoreState) → IsSound old → (number : ℕ) (before after : ShardState) (pool : PoolState) → slice_get old.shards number ≡ Some before → ((index : ℕ) (group : GroupState) → slice_get before.groups index ≡ Some group → group.closed ≡ false)
+    → Receives old.pool before pool after → HasSoundPlan (with_pool (with_shard old number after) pool)
+HasSoundPlan-Receives old sound number before after pool here unclosed receives =
+    HasSoundPlan-kept old (with_pool (with_shard old number after) pool) sound.plan refl (has_plan-Receives old.pool pool before after receives) (KeepsPooled-Receives old.pool pool before after receives)
     (KeepsAllClosed-set old.shards number before after here (λ index group at closed. absurd (let both : true ≡ false = sym closed ∙ unclosed index group at in cc)))
     (AreAllClosedAsPlanned-set old.plan old.shards number after sound.plan.closed (λ index group at. absurd (none-some group (ap (λ (s : ShardState). slice_get s.groups index) (sym receives.after) ∙ at))))
 
 -- adoptions
 
-pub KeepsPlan-Adopts : (old : CoreState) → IsSound old → old.plan ≡ None → (number : ℕ) (head : SpanId) (before after : ShardState) (pool : PoolState) → slice_get old.shards number ≡ Some before → Adopts old.pool before head pool after → KeepsPlan (with_pool (with_shard old number after) pool)
-KeepsPlan-Adopts old sound no_plan number head before after pool here adopts =
-    KeepsPlan-none (with_pool (with_shard old number after) pool) no_plan told (AreAllClosedAsPlanned-set None old.shards number after all adopted)
+pub HasSoundPlan-Adopts : (old : CoreState) → IsSound old → old.plan ≡ None → (number : ℕ) (head : SpanId) (before after : ShardState) (pool : PoolState) → slice_get old.shards number ≡ Some before → Adopts old.pool before head pool after → HasSoundPlan (with_pool (with_shard old number after) pool)
+HasSoundPlan-Adopts old sound no_plan number head before after pool here adopts =
+    HasSoundPlan-none (with_pool (with_shard old number after) pool) no_plan told (AreAllClosedAsPlanned-set None old.shards number after all adopted)
   where
     told : pool.has_plan ≡ false
     told = let (index, group, head_of, whole_is, after_is) = adopts.lifts in ap (λ (p : PoolState). p.has_plan) after_is ∙ sound.plan.told ∙ ap is_some no_plan
@@ -184,7 +186,7 @@ pub IsSoundStep-Puts : (old : CoreState) (number : ℕ) (value : Word) (key : Ke
     → (shown_by before).is_issued key ≡ false → shown_by after ≡ with_key (shown_by before) key value → IsSoundShard after
     → IsSoundStep old (Put number value) (reply.Issued key) (with_shard old number after)
 IsSoundStep-Puts old number value key at before after sound here puts fresh plain sound_after =
-    with_plan_kept old (Put number value) (reply.Issued key) (with_shard old number after) (IsStep-Puts old number value key at before after sound.groups here puts fresh plain sound_after) (KeepsPlan-Puts old sound number value key at before after here puts) sound.rings
+    with_plan_kept old (Put number value) (reply.Issued key) (with_shard old number after) (IsStep-Puts old number value key at before after sound.groups here puts fresh plain sound_after) (HasSoundPlan-Puts old sound number value key at before after here puts) sound.rings
 
 -- a key that is not live is not freed
 pub IsSoundStep-dead : (old : CoreState) (key : Key) → IsSound old → (shown old).value_of key ≡ None → IsSoundStep old (Free key) (reply.Freed false) old
@@ -196,11 +198,11 @@ pub IsSoundStep-Frees : (old : CoreState) (key : Key) (number : ℕ) (before aft
 IsSoundStep-Frees old key number before after answer sound here has frees found plain sound_after =
     with_plan_kept old (Free key) (reply.Freed (was_freed answer)) (with_shard old number after) (IsStep-Frees old key number before after answer sound.groups here has frees found plain sound_after) (by_answer answer frees) sound.rings
   where
-    same : after ≡ before → KeepsPlan (with_shard old number after)
-    same is = subst KeepsPlan (sym (with_shard-same old number before after here is)) sound.plan
+    same : after ≡ before → HasSoundPlan (with_shard old number after)
+    same is = subst HasSoundPlan (sym (with_shard-same old number before after here is)) sound.plan
 
-    by_answer : (a : Freed) → Frees before key a after → KeepsPlan (with_shard old number after)
-    by_answer (freed.Yes at) f = KeepsPlan-Frees old sound number key at before after here f
+    by_answer : (a : Freed) → Frees before key a after → HasSoundPlan (with_shard old number after)
+    by_answer (freed.Yes at) f = HasSoundPlan-Frees old sound number key at before after here f
     by_answer (freed.No at) (index, place, group, span, there, dead, at_is, is) = same is
     by_answer freed.NotHere (elsewhere, is) = same is
 
@@ -210,11 +212,11 @@ pub IsSoundStep-FreesPooled : (old : CoreState) (key : Key) (pool : PoolState) (
 IsSoundStep-FreesPooled old key pool answer sound pooled frees found plain sound_pool =
     with_plan_kept old (Free key) (reply.Freed (was_freed answer)) (with_pool old pool) (IsStep-FreesPooled old key pool answer sound.groups pooled frees found plain sound_pool) (by_answer answer frees) sound.rings
   where
-    same : pool ≡ old.pool → KeepsPlan (with_pool old pool)
-    same is = subst KeepsPlan (sym (with_pool-same old pool is)) sound.plan
+    same : pool ≡ old.pool → HasSoundPlan (with_pool old pool)
+    same is = subst HasSoundPlan (sym (with_pool-same old pool is)) sound.plan
 
-    by_answer : (a : Freed) → FreesPooled old.pool key a pool → KeepsPlan (with_pool old pool)
-    by_answer (freed.Yes at) f = KeepsPlan-FreesPooled old sound key at pool f
+    by_answer : (a : Freed) → FreesPooled old.pool key a pool → HasSoundPlan (with_pool old pool)
+    by_answer (freed.Yes at) f = HasSoundPlan-FreesPooled old sound key at pool f
     by_answer (freed.No at) (index, place, group, span, there, dead, at_is, is) = same is
     by_answer freed.NotHere (elsewhere, is) = same is
 
@@ -222,9 +224,9 @@ pub IsSoundStep-Receives : (old : CoreState) (number : ℕ) (before after : Shar
     → Receives old.pool before pool after → IsSoundShard after → IsSoundPool pool
     → IsSoundStep old (End number) reply.ShardEnded (with_pool (with_shard old number after) pool)
 IsSoundStep-Receives old number before after pool sound here none_closed receives sound_after sound_pool =
-    with_plan_kept old (End number) reply.ShardEnded (with_pool (with_shard old number after) pool) (IsStep-Receives old number before after pool sound.groups here none_closed receives sound_after sound_pool) (KeepsPlan-Receives old sound number before after pool here (unclosed before.groups none_closed) receives) sound.rings
+    with_plan_kept old (End number) reply.ShardEnded (with_pool (with_shard old number after) pool) (IsStep-Receives old number before after pool sound.groups here none_closed receives sound_after sound_pool) (HasSoundPlan-Receives old sound number before after pool here (unclosed before.groups none_closed) receives) sound.rings
 
 pub IsSoundStep-Adopts : (old : CoreState) (number : ℕ) (head : SpanId) (before after : ShardState) (pool : PoolState) → IsSound old → old.plan ≡ None → slice_get old.shards number ≡ Some before → before.ended ≡ false → Adopts old.pool before head pool after → IsSoundShard after → IsSoundPool pool
     → IsSoundStep old (Adopt number) (reply.Adopted head) (with_pool (with_shard old number after) pool)
 IsSoundStep-Adopts old number head before after pool sound no_plan here running adopts sound_after sound_pool =
-    with_plan_kept old (Adopt number) (reply.Adopted head) (with_pool (with_shard old number after) pool) (IsStep-Adopts old number head before after pool sound.groups no_plan here running adopts sound_after sound_pool) (KeepsPlan-Adopts old sound no_plan number head before after pool here adopts) sound.rings
+    with_plan_kept old (Adopt number) (reply.Adopted head) (with_pool (with_shard old number after) pool) (IsStep-Adopts old number head before after pool sound.groups no_plan here running adopts sound_after sound_pool) (HasSoundPlan-Adopts old sound no_plan number head before after pool here adopts) sound.rings

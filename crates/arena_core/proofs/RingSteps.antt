@@ -3,7 +3,7 @@ use Rattle.std.proofs.Common.{◌≡◌, ℕ, ◌<◌, ◌≤◌, List, [], ◌�
 use Rattle.std.proofs.lemmas.Bool.{cases_lt}
 use Rattle.std.proofs.lemmas.Option.{get_or_from_slice_get, slice_get_past}
 use Rattle.span.specs.declared.key.Key.{Key}
-use Rattle.shard.proofs.Lists.{set-same}
+use Rattle.groups.proofs.Lists.{set-same}
 use Rattle.arena_core.specs.declared.reply.Refusal.{Refusal}
 use Rattle.arena_core.specs.declared.reply.Refusal.TheVariants.{RingFull}
 use Rattle.arena_core.specs.Rings.{CannotSend, RingState, Sends, Takes, ring_at, ring_in, with_ring_at}

@@ -5,15 +5,17 @@ use Rattle.std.proofs.lemmas.Bool.{cases_eq, ne_eqb}
 use Rattle.std.proofs.lemmas.List.{length-replicate}
 use Rattle.std.proofs.lemmas.Option.{get_or_from_slice_get, slice_get_cases}
 use Rattle.span.specs.PlainMap.{with_pending}
-use Rattle.shard.proofs.Lists.{same_some}
-use Rattle.shard.proofs.Logged.{same_plain_map}
+use Rattle.groups.proofs.Lists.{same_some}
+use Rattle.groups.proofs.Logged.{same_plain_map}
 use Rattle.arena_core.specs.Plain.{IsOutside}
 use Rattle.arena_core.specs.Rings.{RingState, keys_of, new_ring, new_rings, pending_at, ring_at, ring_in, with_ring_at}
 use Rattle.arena_core.specs.Sound.{AreRings, IsSound}
-use Rattle.arena_core.specs.State.{CoreState, Limits, shown, with_rings}
-use Rattle.arena_core.proofs.Lists.{each-set, slice_get-set_other, slice_get-set_same}
+use Rattle.arena_core.specs.State.{CoreState, shown, with_rings}
+use Rattle.marks.specs.Numbers.{Limits}
+use Rattle.arena_core.proofs.Lists.{each-set}
+use Rattle.marks.proofs.Lists.{slice_get-set_other, slice_get-set_same}
 use Rattle.arena_core.proofs.PlanKept.{KeepsAllClosed-same, KeepsPooled-same}
-use Rattle.arena_core.proofs.PlanSteps.{KeepsPlan-kept}
+use Rattle.arena_core.proofs.PlanSteps.{HasSoundPlan-kept}
 
 -- new rings
 
@@ -131,7 +133,7 @@ IsOutside-none limits rings worker shard are none = by_shard (slice_get_cases ri
 pub IsSound-with_rings : (core : CoreState) (rings : List (List RingState)) → IsSound core → AreRings core.limits rings → IsSound (with_rings core rings)
 IsSound-with_rings core rings sound are = record {
   groups = record { within = sound.groups.within; count = sound.groups.count; shards = sound.groups.shards; pool = sound.groups.pool; gens = sound.groups.gens; once = sound.groups.once };
-  plan = KeepsPlan-kept core (with_rings core rings) sound.plan refl refl (KeepsPooled-same core.pool.groups) (KeepsAllClosed-same core.shards) sound.plan.closed;
+  plan = HasSoundPlan-kept core (with_rings core rings) sound.plan refl refl (KeepsPooled-same core.pool.groups) (KeepsAllClosed-same core.shards) sound.plan.closed;
   rings = are;
 }
 

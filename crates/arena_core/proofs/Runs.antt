@@ -7,7 +7,8 @@ use Rattle.arena_core.specs.declared.event.Event.TheVariants.{Put, Get, Free, La
 use Rattle.arena_core.specs.declared.reply.Reply.{Reply}
 use Rattle.arena_core.specs.Plain.{ErasedStep, PlainRun, PlainStep, erased, is_plain}
 use Rattle.arena_core.specs.Sound.{IsSound}
-use Rattle.arena_core.specs.State.{CoreState, Limits, shown}
+use Rattle.arena_core.specs.State.{CoreState, shown}
+use Rattle.marks.specs.Numbers.{Limits}
 use Rattle.arena_core.specs.Step.{Answers, CoreRun, CoreStep}
 use Rattle.arena_core.proofs.Limits.{limits-CoreRun}
 

@@ -8,14 +8,16 @@ use Rattle.span.specs.declared.key.Key.{Key}
 use Rattle.span.specs.Ids.{same_span}
 use Rattle.span.specs.Log.{Value}
 use Rattle.span.specs.PlainMap.{PlainMap, same_key, with_put, without}
-use Rattle.shard.specs.Shown.{shown as shown_by, span_named}
+use Rattle.shard.specs.Shown.{shown as shown_by}
+use Rattle.groups.specs.Shown.{span_named}
 use Rattle.shard.specs.State.{ShardState, spans_in}
-use Rattle.shard.proofs.Logged.{same_plain_map}
+use Rattle.groups.proofs.Logged.{same_plain_map}
 use Rattle.abandoned.specs.Shown.{shown as shown_by_pool}
 use Rattle.abandoned.specs.State.{PoolState, spans_in as pooled_spans}
 use Rattle.arena_core.specs.Rings.{pending_at}
 use Rattle.arena_core.specs.State.{CoreState, has_span, shard_with, shown, shown_at, with_pool, with_shard}
-use Rattle.arena_core.proofs.Lists.{count_by-found, count_by-missed, find-counted, slice_get-set_same, sum_by-set_at}
+use Rattle.arena_core.proofs.Lists.{count_by-found, count_by-missed, find-counted, sum_by-set_at}
+use Rattle.marks.proofs.Lists.{slice_get-set_same}
 use Rattle.arena_core.proofs.Owners.{bit, bit-injective, code, code-injective, issued-missed, issued-sum, issued-unpooled, value-missed, value-sum, value-unpooled}
 use Rattle.arena_core.proofs.Spans.{find-same, is_named, same_span-self, shard_with-here, shard_with-nowhere, times, times-parts, times_in-missed, times_pooled}
 

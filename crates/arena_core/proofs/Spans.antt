@@ -8,7 +8,7 @@ use Rattle.span.specs.Ids.{same_span}
 use Rattle.span.specs.State.{SpanState}
 use Rattle.span.proofs.Ids.{same_id_from_test, test_from_same_id}
 use Rattle.shard.specs.State.{ShardState, spans_in}
-use Rattle.shard.proofs.Lists.{count-append, count-none, find-none}
+use Rattle.groups.proofs.Lists.{count-append, count-none, find-none}
 use Rattle.abandoned.specs.State.{PoolState, spans_in as pooled_spans}
 use Rattle.arena_core.specs.State.{CoreState, all_spans, has_span, shard_spans, shard_with, with_pool, with_shard}
 use Rattle.arena_core.proofs.Lists.{count_by-found, count_by-missed, find-counted, sum_by-flat_map, sum_by-set_at}

@@ -10,12 +10,14 @@ use Rattle.span.specs.State.{SpanState}
 use Rattle.shard.specs.Sound.{IsSound as IsSoundShard}
 use Rattle.shard.specs.Group.{GroupState}
 use Rattle.shard.specs.State.{ShardState}
-use Rattle.shard.proofs.Logged.{same_plain_map}
+use Rattle.groups.proofs.Logged.{same_plain_map}
 use Rattle.abandoned.specs.State.{PoolState}
 use Rattle.abandoned.proofs.Started.{IsSound-new}
 use Rattle.arena_core.specs.Rings.{RingState, new_rings}
 use Rattle.arena_core.specs.Sound.{HasSoundGroups, IsSound, IsSoundAt}
-use Rattle.arena_core.specs.State.{AreWithin, CoreState, Limits, all_spans, OpenPlan, limits_of, new_core, new_pool, new_shard, opened_by, shard_spans, shard_with, shown, shown_at}
+use Rattle.marks.specs.Numbers.{AreWithin, Limits, limits_of}
+use Rattle.arena_core.specs.State.{CoreState, all_spans, new_core, new_pool, new_shard, opened_by, shard_spans, shard_with, shown, shown_at}
+use Rattle.marks.specs.Plans.{OpenPlan}
 use Rattle.arena_core.proofs.Changes.{indicator, past-indicator}
 use Rattle.arena_core.proofs.Groups.{strays, strays-each}
 use Rattle.arena_core.proofs.RingsKept.{AreRings-new, pending_at-new}

@@ -5,12 +5,14 @@ use Rattle.std.proofs.lemmas.Option.{none-some}
 use Rattle.bitmap.specs.Slots.{SlotSet, AreDisjoint}
 use Rattle.bitmap.specs.Operations.{AreDisjoint-at, AreDisjoint-by_slot}
 use Rattle.span.specs.declared.id.SpanId.{SpanId}
-use Rattle.shard.specs.Group.{GroupState, occupied, union_of}
-use Rattle.shard.specs.Moves.{IsHeadOf, WholeState}
+use Rattle.shard.specs.Group.{GroupState, occupied}
+use Rattle.groups.specs.Spans.{union_of}
+use Rattle.shard.specs.Moves.{IsHeadOf}
+use Rattle.groups.specs.Whole.{WholeState}
 use Rattle.shard.specs.Sound.{IsSound as IsSoundShard}
 use Rattle.shard.specs.State.{ShardState}
 use Rattle.shard.proofs.HeadsHere.{same_group}
-use Rattle.shard.proofs.Lists.{same_some}
+use Rattle.groups.proofs.Lists.{same_some}
 use Rattle.abandoned.specs.Sound.{IsSound as IsSoundPool}
 use Rattle.abandoned.specs.State.{PoolState, PooledState, spans_of as pooled_spans_of}
 use Rattle.abandoned.proofs.Adopted.{one_head}
@@ -19,9 +21,10 @@ use Rattle.fold.specs.Folds.{Folds, Steps}
 use Rattle.fold.proofs.Sums.{gens-Folds, number-Folds, opened-Folds, page_limit-Folds, sum_by-Folds, sum_by-Folds_shard}
 use Rattle.fold.specs.declared.step.Step.{Step as Outcome}
 use Rattle.fold.specs.declared.step.Step.TheVariants.{Absent, Emptied, Clash, Folded}
-use Rattle.arena_core.specs.Plan.{IsEmptied, IsNext, IsUnderWay, IsWaiting, with_next_done}
+use Rattle.arena_core.specs.Plan.{IsEmptyInPool, IsNext, IsUnderWay, IsWaiting}
+use Rattle.marks.specs.Plans.{with_next_done, OpenPlan}
 use Rattle.arena_core.specs.Sound.{IsSound}
-use Rattle.arena_core.specs.State.{CoreState, OpenPlan, has_span, with_plan, with_pool, with_shard}
+use Rattle.arena_core.specs.State.{CoreState, has_span, with_plan, with_pool, with_shard}
 use Rattle.arena_core.specs.declared.event.Event.TheVariants.{Step}
 use Rattle.arena_core.specs.declared.reply.Reply.TheVariants.{Stepped}
 use Rattle.arena_core.proofs.Changes.{HasSoundGroups-moved, at_most_once, sum_all-moved}
@@ -137,7 +140,7 @@ module _ (old : CoreState) (sound : IsSound old) (plan : OpenPlan) (pair : SpanI
     both_same : (after : ShardState) (pool : PoolState) → pool ≡ old.pool → after ≡ before → with_pool (with_shard old number after) pool ≡ old
     both_same after pool pool_is shard_is = ap (λ p. with_pool (with_shard old number after) p) pool_is ∙ with_shard-same old number before after here shard_is
 
-    emptied : IsEmptied old pair → IsSoundStep old Step (Stepped pair.0 pair.1 Emptied) (with_plan old (Some (with_next_done plan)))
+    emptied : IsEmptyInPool old pair → IsSoundStep old Step (Stepped pair.0 pair.1 Emptied) (with_plan old (Some (with_next_done plan)))
     emptied empty = record {
       kept = record {
         groups = record { within = sound.groups.within; count = sound.groups.count; shards = sound.groups.shards; pool = sound.groups.pool; gens = sound.groups.gens; once = sound.groups.once };

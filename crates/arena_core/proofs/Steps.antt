@@ -15,8 +15,8 @@ use Rattle.shard.specs.declared.error.PutError.{PutError}
 use Rattle.shard.specs.declared.error.PutError.TheVariants as put_error
 use Rattle.shard.specs.declared.shard.Freed.{Freed}
 use Rattle.shard.specs.declared.shard.Freed.TheVariants as freed
-use Rattle.shard.proofs.GroupSpans.{elsewhere-times}
-use Rattle.shard.proofs.Lists.{set-same}
+use Rattle.groups.proofs.GroupSpans.{elsewhere-times}
+use Rattle.groups.proofs.Lists.{set-same}
 use Rattle.shard.proofs.ShownLogs.{span_named-elsewhere, span_named-here}
 use Rattle.span.specs.State.{SpanState}
 use Rattle.abandoned.specs.Calls.{Frees as FreesPooled, HasDoubled, IsDoubled, IsInPool}

@@ -1,6 +1,4 @@
-pub mod Closings
 pub mod Kept
-pub mod Marks
 pub mod Moved
 pub mod NextLive
 pub mod Plain

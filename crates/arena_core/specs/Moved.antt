@@ -1,4 +1,4 @@
--- Where spans stand that left the shard which opened them.
+-- Where spans stand that left the shard which opened them. No public clause cites this module.
 use Rattle.std.specs.Prelude.{◌≡◌, ◌≢◌, ◌⊎◌, ◌<◌, ◌≤◌, ℕ, true, List, length, Option, None, Some, slice_get}
 use Rattle.span.specs.declared.id.SpanId.{SpanId}
 use Rattle.span.specs.Ids.{rank}

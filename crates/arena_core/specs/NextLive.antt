@@ -1,4 +1,4 @@
--- The live key that comes first in a range of spans, or in what one shard shows.
+-- The live key that comes first in a range of spans, or in what one shard shows. No public clause cites this module.
 use Rattle.std.specs.Prelude.{◌≡◌, ◌⊎◌, ℕ, ◌<◌, ◌≤◌, List, None, Some, IsSome, slice_get}
 use Rattle.span.specs.declared.id.SpanId.{SpanId}
 use Rattle.span.specs.declared.key.Key.{Key}

@@ -7,7 +7,7 @@ use Rattle.arena_core.specs.declared.event.Event.TheVariants.{Put, Get, Free, La
 use Rattle.arena_core.specs.declared.reply.Reply.{Reply}
 use Rattle.arena_core.specs.declared.reply.Reply.TheVariants.{Issued, Found, Freed, Sent, Settled, Refused}
 use Rattle.arena_core.specs.declared.reply.Refusal.TheVariants.{OutOfMemory, PagesSpent, Ended, RingFull, Config}
-use Rattle.arena_core.specs.State.{Limits}
+use Rattle.marks.specs.Numbers.{Limits}
 
 -- the product has no such worker, or no such shard
 abbrev pub IsOutside : Limits → ℕ → ℕ → Type 0

@@ -6,8 +6,8 @@ use Rattle.abandoned.specs.declared.error.AdoptError.{AdoptError}
 use Rattle.abandoned.specs.declared.error.AdoptError.TheVariants as adopt
 use Rattle.abandoned.specs.declared.error.ReceiveError.{ReceiveError}
 use Rattle.abandoned.specs.declared.error.ReceiveError.TheVariants as receive
-use Rattle.arena_core.specs.declared.error.MarkError.{MarkError}
-use Rattle.arena_core.specs.declared.error.MarkError.TheVariants as mark
+use Rattle.marks.specs.declared.error.MarkError.{MarkError}
+use Rattle.marks.specs.declared.error.MarkError.TheVariants as mark
 use Rattle.arena_core.specs.declared.reply.Refusal.{Refusal}
 use Rattle.arena_core.specs.declared.reply.Refusal.TheVariants.{OutOfMemory, PagesSpent, Ended, PlanOpen, TooMany, NothingToAdopt}
 

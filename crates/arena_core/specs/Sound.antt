@@ -6,9 +6,10 @@ use Rattle.span.specs.State.{SpanState}
 use Rattle.shard.specs.Sound.{IsSound as IsSoundShard}
 use Rattle.shard.specs.State.{ShardState, spans_in}
 use Rattle.abandoned.specs.Sound.{IsSound as IsSoundPool}
-use Rattle.arena_core.specs.Plan.{KeepsPlan}
+use Rattle.arena_core.specs.Plan.{HasSoundPlan}
 use Rattle.arena_core.specs.Rings.{RingState, ring_at}
-use Rattle.arena_core.specs.State.{Limits, AreWithin, CoreState, all_spans, opened_by}
+use Rattle.marks.specs.Numbers.{Limits, AreWithin}
+use Rattle.arena_core.specs.State.{CoreState, all_spans, opened_by}
 
 -- the shard has this number and the limits of the core, and is sound
 pub record IsSoundAt (limits : Limits) (number : ℕ) (shard : ShardState) : Type 0 where
@@ -39,5 +40,5 @@ pub record AreRings (limits : Limits) (rings : List (List RingState)) : Type 0 w
 -- the groups are sound, the closed ones are those that the open plan plans, and the rings are those of the numbers
 pub record IsSound (core : CoreState) : Type 0 where
   pub groups : HasSoundGroups core
-  pub plan : KeepsPlan core
+  pub plan : HasSoundPlan core
   pub rings : AreRings core.limits core.rings

@@ -1,38 +1,19 @@
 -- What contracts see of a core, and the plain map that it shows.
-use Rattle.std.specs.Prelude.{◌≡◌, ℕ, ◌+◌, ◌-◌, ◌^◌, ◌≤◌, Bool, false, List, [], ◌++◌, map, length, find, is_some, slice_get, slice_set, count_by, sum_by, if◌then◌else◌, Option, Some, None}
+use Rattle.std.specs.Prelude.{◌≡◌, ℕ, ◌+◌, Bool, false, List, [], ◌++◌, map, length, find, is_some, slice_get, slice_set, count_by, sum_by, if◌then◌else◌, Option, Some, None}
 use Rattle.std.specs.List.{flat_map, range_with_len}
 use Rattle.span.specs.declared.id.SpanId.{SpanId}
 use Rattle.span.specs.declared.key.Key.{Key}
 use Rattle.span.specs.PlainMap.{PlainMap, same_key}
 use Rattle.span.specs.State.{SpanState}
-use Rattle.shard.specs.Shown.{shown as shown_by, span_named}
-use Rattle.shard.specs.State.{ShardState, no_pages, spans_in, live_keys as live_keys_of}
+use Rattle.shard.specs.Shown.{shown as shown_by}
+use Rattle.groups.specs.Shown.{span_named}
+use Rattle.shard.specs.State.{ShardState, spans_in, live_keys as live_keys_of}
+use Rattle.groups.specs.Tables.{no_pages}
 use Rattle.abandoned.specs.Shown.{shown as shown_by_pool}
 use Rattle.abandoned.specs.State.{PoolState, paged_groups, spans_in as pooled_spans, live_keys as live_keys_pooled}
+use Rattle.marks.specs.Numbers.{Limits}
+use Rattle.marks.specs.Plans.{OpenPlan}
 use Rattle.arena_core.specs.Rings.{RingState, new_rings, pending_at}
-
--- the numbers of the product: how many shards, how many pages a shard may have, how many entries a ring holds, and the greatest generation
-pub record Limits : Type 0 where
-  pub shards : ℕ
-  pub page_limit : ℕ
-  pub ring_capacity : ℕ
-  pub gens : ℕ
-
--- the numbers of the product, in the order in which a caller gives them
-abbrev pub limits_of : ℕ → ℕ → ℕ → ℕ → Limits
-limits_of shards page_limit ring_capacity gens = record { shards = shards; page_limit = page_limit; ring_capacity = ring_capacity; gens = gens }
-
--- each number of the product is within its range
-pub record AreWithin (limits : Limits) : Type 0 where
-  pub shards : (1 ≤ limits.shards) × (limits.shards ≤ 64)
-  pub page_limit : (1 ≤ limits.page_limit) × (limits.page_limit ≤ 1024)
-  pub ring_capacity : (1 ≤ limits.ring_capacity) × (limits.ring_capacity ≤ 1024)
-  pub gens : (1 ≤ limits.gens) × (limits.gens ≤ 2 ^ 32 - 1)
-
--- an open plan of folds: its pairs, each an abandoned group and the owned group that it is to be folded onto, by their heads, and how many of them, from the first on, are done with
-pub record OpenPlan : Type 0 where
-  pub pairs : List (SpanId × SpanId)
-  pub done : ℕ
 
 -- a core: the numbers of the product, the shards by their numbers, the pool of the groups whose shards have ended, the open plan, if there is one, and the rings of keys that wait to be freed, by shard, then by worker
 pub record CoreState : Type 0 where

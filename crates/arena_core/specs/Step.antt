@@ -20,11 +20,12 @@ use Rattle.arena_core.specs.declared.reply.Reply.{Reply}
 use Rattle.arena_core.specs.declared.reply.Reply.TheVariants.{Issued, Found, Freed, Sent, Settled, ShardEnded, Adopted, Marked, Stepped, NoPairLeft, Closed, NoPlan, Refused}
 use Rattle.arena_core.specs.declared.reply.Refusal.TheVariants.{OutOfMemory, PagesSpent, Ended, PlanOpen, TooMany, NothingToAdopt, RingFull, Config}
 use Rattle.arena_core.specs.Sound.{IsSound}
-use Rattle.arena_core.specs.Closings.{closed_onto, reopened}
-use Rattle.arena_core.specs.Marks.{AreTooMany, IsLargest, with_plan_told}
-use Rattle.arena_core.specs.Plan.{IsCarriedOut, IsEmptied, IsNext, with_next_done}
+use Rattle.marks.specs.Closings.{closed_onto, reopened}
+use Rattle.marks.specs.Seen.{AreTooMany, IsLargest, with_plan_told}
+use Rattle.arena_core.specs.Plan.{IsCarriedOut, IsEmptyInPool, IsNext}
+use Rattle.marks.specs.Plans.{with_next_done, OpenPlan}
 use Rattle.arena_core.specs.Rings.{RingState, ring_at, with_keys, with_ring_at}
-use Rattle.arena_core.specs.State.{CoreState, OpenPlan, shown, with_plan, with_pool, with_rings, with_shard}
+use Rattle.arena_core.specs.State.{CoreState, shown, with_plan, with_pool, with_rings, with_shard}
 use Rattle.arena_core.specs.Plain.{IsOutside, PlainRun, erased}
 
 -- the shard of this number, which has not ended
@@ -178,7 +179,7 @@ pub record FoldsNext (old : CoreState) (pair : SpanId × SpanId) (new : CoreStat
 pub record PassesNext (old : CoreState) (pair : SpanId × SpanId) (new : CoreState) : Type 0 where
   pub plan : OpenPlan
   pub next : IsNext old plan pair
-  pub emptied : IsEmptied old pair
+  pub emptied : IsEmptyInPool old pair
   pub rest : new ≡ with_plan old (Some (with_next_done plan))
 
 -- the pair is carried out where it can be, and never met as one that can't

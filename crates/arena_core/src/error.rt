@@ -1,7 +1,6 @@
-// Why no core was made, and why a mark was refused.
+// Why no core was made.
 ghost use Rattle.std.specs.Prelude.{◌≡◌};
 ghost use Rattle.arena_core.specs.declared.error.CoreError.TheVariants as core_error;
-ghost use Rattle.arena_core.specs.declared.error.MarkError.TheVariants as mark_error;
 
 use std::alloc::AllocError;
 use thiserror::Error;
@@ -22,30 +21,5 @@ impl From<AllocError> for CoreError {
 
     fn from(_: AllocError) -> CoreError {
         CoreError::OutOfMemory
-    }
-}
-
-/// Why a mark was refused. Pool and shards are as they were before.
-#[derive(Clone, Copy, PartialEq, Eq, Debug, Error)]
-pub enum MarkError {
-    /// Memory ran out, while no plan is open and no side has too many groups.
-    #[error("out of memory: free some and try again")]
-    OutOfMemory,
-    /// Two groups of one side have the same head.
-    #[error("two groups of one side have the same head")]
-    Doubled,
-    /// A plan is open.
-    #[error("a plan is open: close it first")]
-    PlanOpen,
-    /// A side has more than 4,096 groups.
-    #[error("a side has more than 4096 groups, too many for a plan")]
-    TooMany,
-}
-
-impl From<AllocError> for MarkError {
-    ghost from_gives = { λ _ error. error ≡ mark_error.OutOfMemory };
-
-    fn from(_: AllocError) -> MarkError {
-        MarkError::OutOfMemory
     }
 }

@@ -26,33 +26,37 @@
 //! The public facts: without ends, adoptions, marks, steps and closes, the replies are those of a
 //! plain map of keys, which knows what is pending, and no pages, groups or plans (`specs/Plain.antt`), and those events
 //! change nothing of the map that the core shows. A mark that is not refused plans as many folds as
-//! any plan, shown by the short set, and the whole can be written as a certificate (`specs/Marks.antt`);
+//! any plan, shown by the short set, and the whole can be written as a certificate (`specs/Seen.antt` of the crate `marks`);
 //! what it plans is carried out (`specs/Plan.antt`). Each step is besides an exact step of shards and
 //! pool (`specs/Step.antt`), and leads from a sound core to a sound core (`specs/Sound.antt`).
 //!
-//! The core's mark is [`mark_in`] on its own pool and shards. It can be called on any that are lent
-//! ([`LendsShard`]), as behind the guards of locks, and then with a [`CurrentPlan`] that the caller keeps.
+//! The core's mark is that of the crate `marks` on its own pool and shards.
+//!
+//! # Examples
+//!
+//! ```text
+//! let mut core = Core::new(alloc, 2, 4, 4, 9)?;  // two shards of four pages, rings of four keys, nine generations
+//! let key = core.put(0, 7)?;                     // 0.0/0/1
+//! core.step(Event::End { shard: 0 });            // its group goes to the pool
+//! core.put(1, 8)?;                               // slot 0 of shard 1's page, so no fold is planned
+//! core.step(Event::Adopt { shard: 1 });          // and so shard 1 adopts the group, with its page
+//! core.get(&key);                                // Some(7), as ever
+//! core.free(&key);                               // true
+//! core.get(&key);                                // None, now and for ever
+//! ```
 #![tactic(auto)]
 
-mod closing;
-mod current_plan;
 mod error;
 mod event;
-mod lends_shard;
 mod machine;
-mod marking;
 mod reply;
 mod rings;
 #[cfg(test)]
 mod tests;
-mod totals;
 mod whereabouts;
 
-pub use current_plan::CurrentPlan;
-pub use error::{CoreError, MarkError};
+pub use error::CoreError;
 pub use event::Event;
-pub use lends_shard::LendsShard;
 pub use machine::Core;
-pub use marking::mark_in;
+pub use marks::Totals;
 pub use reply::{Refusal, Reply};
-pub use totals::Totals;

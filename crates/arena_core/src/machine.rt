@@ -1,35 +1,31 @@
-// The core: all shards as one value that takes events.
-ghost use Rattle.std.specs.Prelude.{◌≡◌, ◌≢◌, ◌↔◌, ◌⊎◌, ◌<◌, ◌≤◌, ℕ, IfOk, OnOk, OnErr, IsErrOf, IsTrue, MatchResult, Some, None, true, false, map, length, slice_get, slice_set};
+// The core: all shards as one value that takes events. What it does with each kind of them stands in the files below.
+ghost use Rattle.std.specs.Prelude.{◌≡◌, ◌↔◌, ◌<◌, ◌≤◌, ℕ, IfOk, OnOk, OnErr, IsErrOf, IsTrue, map};
 ghost use Rattle.std.specs.List.{range_with_len};
-ghost use Rattle.shard.specs.Calls.{value_found, was_freed};
 ghost use Rattle.shard.specs.Sound.{IsSound as IsSoundShard};
 ghost use Rattle.span.specs.PlainMap.{empty_map};
-ghost use Rattle.abandoned.specs.Calls.{Adopts, HasNothingToAdopt, IsDoubled, IsInPool, Receives};
-ghost use Rattle.abandoned.specs.Sound.{IsSound as IsSoundPool};
-ghost use Rattle.abandoned.specs.State.{PoolState};
-ghost use Rattle.arena_core.specs.Moved.{StandsIn, StandsInNoOther};
 ghost use Rattle.arena_core.specs.Sound.{IsSound};
-ghost use Rattle.arena_core.specs.State.{AreWithin, HasKeys, limits_of, live_keys, new_core, new_shard, pages, shown, with_rings};
+ghost use Rattle.marks.specs.Numbers.{AreWithin, limits_of};
+ghost use Rattle.arena_core.specs.State.{HasKeys, live_keys, new_core, new_shard, pages, shown};
 ghost use Rattle.arena_core.specs.Step.{Answers, CoreStep};
-ghost use Rattle.arena_core.specs.Plain.{ErasedStep, IsOutside, PlainStep};
-ghost use Rattle.arena_core.specs.Rings.{Takes};
-ghost use Rattle.arena_core.specs.declared.event.Event.TheVariants as event;
-ghost use Rattle.arena_core.specs.declared.reply.Reply.TheVariants as reply;
+ghost use Rattle.arena_core.specs.Plain.{ErasedStep};
+ghost use Rattle.span.specs.declared.limits.TheConstants.{MOST_PAGES, MOST_SHARDS};
 
-use crate::current_plan::CurrentPlan;
 use crate::error::CoreError;
 use crate::event::Event;
-use crate::reply::{Refusal, Reply, adopt_refusal, end_refusal};
+use crate::reply::{Refusal, Reply};
 use crate::rings::Rings;
-use crate::totals::Totals;
 use crate::whereabouts::Whereabouts;
 use abandoned::Pool;
-use shard::{Found, Freed, Shard};
-use span::{Kept, Key, Log, SpanId};
+use marks::{CurrentPlan, Limits, Totals};
+use shard::Shard;
+use span::{Kept, Log};
 use std::alloc::{AllocError, Global};
 use std::marker::Model;
 
-mod marks;
+mod deferred;
+mod ends;
+mod keys;
+mod plans;
 mod walk;
 
 /// All shards, the pool and the rings of deferred frees as one value, which takes events one after another and answers replies.
@@ -86,7 +82,8 @@ impl Core<Kept> {
             ↔ (AreWithin (limits_of shards page_limit ring_capacity gens) → ⊥) }
         ensures memory { IsErrOf result CoreError.OutOfMemory
             → AreWithin (limits_of shards page_limit ring_capacity gens) }
-        ensures ok { IfOk result (λ core. core ≡ new_core (limits_of shards page_limit ring_capacity gens)) }
+        ensures ok { IfOk result
+            (λ core. core ≡ new_core (limits_of shards page_limit ring_capacity gens)) }
         ensures empty { IfOk result (λ core. shown core ≡ empty_map) }
         ensures sound { IfOk result IsSound }
     {
@@ -107,7 +104,8 @@ impl<L: Log> Core<L> {
             ↔ (AreWithin (limits_of shards page_limit ring_capacity gens) → ⊥) }
         ensures memory { IsErrOf result CoreError.OutOfMemory
             → AreWithin (limits_of shards page_limit ring_capacity gens) }
-        ensures ok { IfOk result (λ core. core ≡ new_core (limits_of shards page_limit ring_capacity gens)) }
+        ensures ok { IfOk result
+            (λ core. core ≡ new_core (limits_of shards page_limit ring_capacity gens)) }
         ensures empty { IfOk result (λ core. shown core ≡ empty_map) }
         ensures sound { IfOk result IsSound }
     {
@@ -230,260 +228,13 @@ impl<L: Log> Core<L> {
         }
         totals
     }
-
-    /// Keeps the value in the shard of this number, at the slot that the shard chooses, and answers its key.
-    ///
-    /// What [`Core::step`] does with [`Event::Put`], without a reply to take apart. It is refused as that is: by
-    /// [`Refusal::Config`] where there is no such shard, by [`Refusal::Ended`] where it has ended, by
-    /// [`Refusal::PagesSpent`] where it needs a page that it may not have, and by [`Refusal::OutOfMemory`] only where
-    /// none of these holds.
-    #[inline(always)]
-    pub fn put(&mut self, number: u32, value: u128) -> Result<Key, Refusal>
-        ensures exact { MatchResult result
-            (λ key. CoreStep self.old (event.Put number value) (reply.Issued key) self.new)
-            (λ refusal. CoreStep self.old (event.Put number value) (reply.Refused refusal) self.new) }
-        ensures plain { MatchResult result
-            (λ key. PlainStep self.old.limits (shown self.old) (event.Put number value) (reply.Issued key) (shown self.new))
-            (λ refusal. PlainStep self.old.limits (shown self.old) (event.Put number value) (reply.Refused refusal) (shown self.new)) }
-        ensures sound { IsSound self.new }
-    {
-        let Some(shard) = self.shards.get_mut(number as usize) else {
-            return Err(Refusal::Config);
-        };
-        let (key, _) = shard.put(value)?;
-        Ok(key)
-    }
-
-    /// The value of the key, where it is live: what [`Core::step`] answers to [`Event::Get`]. It takes no memory.
-    #[inline(always)]
-    pub fn get(&self, key: &Key) -> Option<u128>
-        ensures value { result ≡ (shown self.now).value_of key.now }
-        ensures sound { IsSound self.now }
-    {
-        let Some(shard) = self.shards.get(key.span.shard as usize) else {
-            return None;
-        };
-        match shard.get(key) {
-            Found::Value(value, _) => Some(value),
-            Found::Gone(_) => None,
-            Found::NotHere => self.get_moved(key),
-        }
-    }
-
-    // The word of the key, where it is live, and the shard that opened its span does not have the span.
-    fn get_moved(&self, key: &Key) -> Option<u128>
-        requires { StandsIn self.now.shards key.now.span key.now.span.shard → ⊥ }
-        ensures value { result ≡ (shown self.now).value_of key.now }
-    {
-        match self.get_taken_in(key) {
-            Found::Value(value, _) => Some(value),
-            Found::Gone(_) => None,
-            Found::NotHere => value_of(self.pool.get(key)),
-        }
-    }
-
-    // What the shard finds that took the key's span in last, if one did.
-    fn get_taken_in(&self, key: &Key) -> Found
-        ensures value { result ≢ Found.NotHere → value_found result ≡ (shown self.now).value_of key.now }
-        ensures not_here { result ≡ Found.NotHere → StandsInNoOther self.now.shards key.now.span }
-    {
-        let Some(number) = self.whereabouts.shard_of(key.span) else {
-            return Found::NotHere;
-        };
-        let Some(shard) = self.shards.get(number) else {
-            return Found::NotHere;
-        };
-        shard.get(key)
-    }
-
-    /// Frees the key, where it is live, and says whether it was: what [`Core::step`] does with [`Event::Free`]. It takes
-    /// no memory.
-    #[inline(always)]
-    pub fn free(&mut self, key: &Key) -> bool
-        ensures exact { CoreStep self.old (event.Free key.now) (reply.Freed result) self.new }
-        ensures plain { PlainStep self.old.limits (shown self.old) (event.Free key.now) (reply.Freed result) (shown self.new) }
-        ensures sound { IsSound self.new }
-    {
-        let Some(shard) = self.shards.get_mut(key.span.shard as usize) else {
-            return false;
-        };
-        let freed = shard.free(key);
-        if matches!(freed, Freed::NotHere) {
-            return self.free_moved(key);
-        }
-        was_done(freed)
-    }
-
-    // Frees the key, where it is live, and the shard that opened its span does not have the span.
-    fn free_moved(&mut self, key: &Key) -> bool
-        requires { StandsIn self.old.shards key.now.span key.now.span.shard → ⊥ }
-        ensures exact { CoreStep self.old (event.Free key.now) (reply.Freed result) self.new }
-        ensures plain { PlainStep self.old.limits (shown self.old) (event.Free key.now) (reply.Freed result) (shown self.new) }
-        ensures sound { IsSound self.new }
-    {
-        let freed = self.free_taken_in(key);
-        if matches!(freed, Freed::NotHere) {
-            return was_done(self.pool.free(key));
-        }
-        was_done(freed)
-    }
-
-    // Frees the key in the shard that took its span in last, if one did.
-    fn free_taken_in(&mut self, key: &Key) -> Freed
-        ensures exact { result ≢ Freed.NotHere → CoreStep self.old (event.Free key.now) (reply.Freed (was_freed result)) self.new }
-        ensures plain { result ≢ Freed.NotHere → PlainStep self.old.limits (shown self.old) (event.Free key.now) (reply.Freed (was_freed result)) (shown self.new) }
-        ensures sound { IsSound self.new }
-        ensures not_here { result ≡ Freed.NotHere → StandsInNoOther self.old.shards key.now.span × (self.new ≡ self.old) }
-    {
-        let Some(number) = self.whereabouts.shard_of(key.span) else {
-            return Freed::NotHere;
-        };
-        let Some(shard) = self.shards.get_mut(number) else {
-            return Freed::NotHere;
-        };
-        shard.free(key)
-    }
-
-    // The number of the shard that has the span.
-    fn number_of(&self, id: SpanId) -> usize
-        requires { (number : ℕ) × StandsIn self.now.shards id number }
-        ensures { StandsIn self.now.shards id result }
-    {
-        let home = id.shard as usize;
-        if self.shards[home].has(id) {
-            return home;
-        }
-        let Some(number) = self.whereabouts.shard_of(id) else {
-            unreachable!();
-        };
-        number
-    }
-
-    // Puts the key last on the ring from this worker to the shard that opened the key's span.
-    fn later(&mut self, worker: u32, key: Key) -> Result<(), Refusal>
-        ensures exact { MatchResult result
-            (λ _. CoreStep self.old (event.Later worker key) reply.Sent self.new)
-            (λ refusal. CoreStep self.old (event.Later worker key) (reply.Refused refusal) self.new) }
-        ensures plain { MatchResult result
-            (λ _. PlainStep self.old.limits (shown self.old) (event.Later worker key) reply.Sent (shown self.new))
-            (λ refusal. PlainStep self.old.limits (shown self.old) (event.Later worker key) (reply.Refused refusal) (shown self.new)) }
-        ensures sound { IsSound self.new }
-    {
-        self.rings.send(worker, key)
-    }
-
-    // Takes the oldest key from the ring from this worker to this shard, if one waits there.
-    #[inline(always)]
-    fn take_sent(&mut self, worker: u32, shard: u32) -> Result<Option<Key>, Refusal>
-        ensures taken { MatchResult result
-            (λ found. Takes self.old.rings worker shard found self.new.rings)
-            (λ refusal. (refusal ≡ Refusal.Config) × IsOutside self.old.limits worker shard × (self.new ≡ self.old)) }
-        ensures rest { self.new ≡ with_rings self.old self.new.rings }
-        ensures sound { IsSound self.new }
-    {
-        self.rings.take(worker, shard)
-    }
-
-    // Frees the key that has waited longest on the ring from this worker to this shard, if one waits there. Inlined, since most
-    // rings are empty where all of them are asked.
-    #[inline(always)]
-    fn settle(&mut self, worker: u32, shard: u32) -> Result<Option<Key>, Refusal>
-        ensures exact { MatchResult result
-            (λ settled. CoreStep self.old (event.Settle worker shard) (reply.Settled settled) self.new)
-            (λ refusal. CoreStep self.old (event.Settle worker shard) (reply.Refused refusal) self.new) }
-        ensures plain { MatchResult result
-            (λ settled. PlainStep self.old.limits (shown self.old) (event.Settle worker shard) (reply.Settled settled) (shown self.new))
-            (λ refusal. PlainStep self.old.limits (shown self.old) (event.Settle worker shard) (reply.Refused refusal) (shown self.new)) }
-        ensures sound { IsSound self.new }
-    {
-        let Some(key) = self.take_sent(worker, shard)? else {
-            return Ok(None);
-        };
-        self.free(&key);
-        Ok(Some(key))
-    }
-
-    // Ends the shard of this number: its groups go to the pool.
-    fn end(&mut self, number: u32) -> Result<(), Refusal>
-        ensures exact { MatchResult result
-            (λ _. CoreStep self.old (event.End number) reply.ShardEnded self.new)
-            (λ refusal. CoreStep self.old (event.End number) (reply.Refused refusal) self.new) }
-        ensures same { shown self.new ≡ shown self.old }
-        ensures sound { IsSound self.new }
-    {
-        let Some(shard) = self.shards.get_mut(number as usize) else {
-            return Err(Refusal::Config);
-        };
-        match self.pool.receive(shard) {
-            Ok(()) => {}
-            Err(error) => return Err(end_refusal(error)),
-        }
-        Ok(())
-    }
-
-    // Why no group is adopted by a shard that there is not.
-    fn no_adopter(&self, number: u32) -> Refusal
-        requires { self.now.limits.shards ≤ number }
-        ensures { CoreStep self.now (event.Adopt number) (reply.Refused result) self.now }
-    {
-        if self.plan.is_open() {
-            return Refusal::PlanOpen;
-        }
-        if self.pool.pages() == 0 {
-            return Refusal::NothingToAdopt;
-        }
-        Refusal::Config
-    }
-
-    // Moves the pool's group of lowest head that has a page to the shard of this number, and notes that its spans are
-    // there.
-    fn adopt(&mut self, number: u32) -> Result<SpanId, Refusal>
-        ensures exact { MatchResult result
-            (λ head. CoreStep self.old (event.Adopt number) (reply.Adopted head) self.new)
-            (λ refusal. CoreStep self.old (event.Adopt number) (reply.Refused refusal) self.new) }
-        ensures same { shown self.new ≡ shown self.old }
-        ensures sound { IsSound self.new }
-    {
-        let Some(shard) = self.shards.get_mut(number as usize) else {
-            return Err(self.no_adopter(number));
-        };
-        let head = match self.pool.adopt(shard) {
-            Ok(head) => head,
-            Err(error) => return Err(adopt_refusal(error)),
-        };
-        self.whereabouts.note(number as u8, shard, head, 0);
-        Ok(head)
-    }
-}
-
-// The value that was found.
-fn value_of(found: Found) -> Option<u128>
-    ensures { result ≡ value_found found }
-{
-    match found {
-        Found::Value(value, _) => Some(value),
-        Found::Gone(_) | Found::NotHere => None,
-    }
-}
-
-// Whether the free was done.
-fn was_done(freed: Freed) -> bool
-    ensures { result ≡ was_freed freed }
-{
-    match freed {
-        Freed::Yes(_) => true,
-        Freed::No(_) | Freed::NotHere => false,
-    }
 }
 
 // Whether each number of the product is within its range.
 fn are_within(shards: u32, page_limit: usize, ring_capacity: usize, gens: u32) -> bool
     ensures { IsTrue result ↔ AreWithin (limits_of shards page_limit ring_capacity gens) }
 {
-    matches!(shards, 1..=64)
-        && matches!(page_limit, 1..=1024)
-        && matches!(ring_capacity, 1..=1024)
-        && gens >= 1
+    Limits::new(shards, page_limit, ring_capacity, gens).is_some()
 }
 
 // So many new shards, by their numbers.
@@ -493,8 +244,8 @@ fn new_shards<L: Log>(
     page_limit: usize,
     gens: u32,
 ) -> Result<Vec<Shard<L>>, AllocError>
-    requires count { count ≤ 64 }
-    requires pages { (1 ≤ page_limit) × (page_limit ≤ 1024) }
+    requires count { count ≤ MOST_SHARDS }
+    requires pages { (1 ≤ page_limit) × (page_limit ≤ MOST_PAGES) }
     requires gens { 1 ≤ gens }
     ensures shards { IfOk result
         (λ shards. shards.items ≡ map (new_shard page_limit gens) (range_with_len 0 count)) }

@@ -2,10 +2,10 @@
 ghost use Rattle.std.specs.Prelude.{◌≡◌, ◌≢◌, Some};
 ghost use Rattle.arena_core.specs.Refusals.{refusal_of, refusal_of_adoption, refusal_of_end, refusal_of_mark};
 
-use crate::error::MarkError;
 use abandoned::{AdoptError, ReceiveError};
 use certificate::Certificate;
 use fold::Step;
+use marks::MarkError;
 use shard::PutError;
 use span::{Key, SpanId};
 use thiserror::Error;

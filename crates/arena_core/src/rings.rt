@@ -24,7 +24,8 @@ impl Model for Ring {
 
     ghost view = { λ r. record { capacity = r.capacity; keys = r.keys.items } };
 
-    ghost invariant = { λ r. (r.capacity ≤ deque_capacity r.keys) × (length r.keys.items ≤ r.capacity) };
+    ghost invariant = { λ r. (r.capacity ≤ deque_capacity r.keys)
+        × (length r.keys.items ≤ r.capacity) };
 }
 
 impl Ring {
@@ -41,8 +42,10 @@ impl Ring {
     // Puts the key last, where there is room. It takes no memory.
     fn send(&mut self, key: Key) -> Result<(), Refusal>
         ensures { MatchResult result
-            (λ _. (length self.old.keys < self.old.capacity) × (self.new ≡ record self.old { keys = self.old.keys ++ key ∷ [] }))
-            (λ refusal. (refusal ≡ Refusal.RingFull) × (length self.old.keys ≡ self.old.capacity) × (self.new ≡ self.old)) }
+            (λ _. (length self.old.keys < self.old.capacity)
+            × (self.new ≡ record self.old { keys = self.old.keys ++ key ∷ [] }))
+            (λ refusal. (refusal ≡ Refusal.RingFull) × (length self.old.keys ≡ self.old.capacity)
+            × (self.new ≡ self.old)) }
     {
         if self.keys.len() >= self.capacity {
             return Err(Refusal::RingFull);
@@ -142,7 +145,8 @@ impl Rings {
     pub fn take(&mut self, worker: u32, shard: u32) -> Result<Option<Key>, Refusal>
         ensures { MatchResult result
             (λ found. Takes self.old worker shard found self.new)
-            (λ refusal. (refusal ≡ Refusal.Config) × (ring_at self.old worker shard ≡ None) × (self.new ≡ self.old)) }
+            (λ refusal. (refusal ≡ Refusal.Config) × (ring_at self.old worker shard ≡ None)
+            × (self.new ≡ self.old)) }
     {
         let Some(inbox) = self.inboxes.get_mut(shard as usize) else {
             return Err(Refusal::Config);

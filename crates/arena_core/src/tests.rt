@@ -3,12 +3,12 @@ use crate::error::CoreError;
 use crate::event::Event;
 use crate::machine::Core;
 use crate::reply::{Refusal, Reply};
-use crate::totals::Totals;
 use fold::Step;
+use marks::Totals;
 use span::{Counted, Key, Log, SpanId};
 use std::alloc::Global;
 
-mod marks;
+mod plans;
 
 fn key(shard: u32, serial: u32, slot: u8, generation: u32) -> Option<Key> {
     Key::new(SpanId::new(shard, serial)?, slot, generation)

@@ -3,6 +3,7 @@ ghost use Rattle.std.specs.Prelude.{◌≡◌, ◌≤◌, ◌*◌, IfOk, None, S
 ghost use Rattle.shard.specs.Sound.{IsSound};
 ghost use Rattle.span.specs.Ids.{rank};
 ghost use Rattle.arena_core.specs.Moved.{Notes, named};
+ghost use Rattle.span.specs.declared.limits.TheConstants.{MOST_SHARDS, MOST_SPANS};
 
 use shard::Shard;
 use span::{Log, SpanId};
@@ -30,8 +31,8 @@ impl Model for Whereabouts {
 impl Whereabouts {
     /// Names no shard, for any of the spans of that many shards. All memory is taken here.
     pub fn new(alloc: Global, shards: u32) -> Result<Whereabouts, AllocError>
-        requires { shards ≤ 64 }
-        ensures { IfOk result (λ whereabouts. whereabouts ≡ replicate (1024 * shards) None) }
+        requires { shards ≤ MOST_SHARDS }
+        ensures { IfOk result (λ whereabouts. whereabouts ≡ replicate (MOST_SPANS * shards) None) }
     {
         Ok(Whereabouts {
             shards: vec![in alloc; None; 1024 * shards as usize]?,

@@ -2,7 +2,7 @@
 use Rattle.std.proofs.Common.{zero, suc, ◌≡◌, ℕ, ◌+◌, ◌-◌, ◌<◌, ◌≤◌, true, false, List, [], ◌∷◌, ◌++◌, length, take, get_or, Option, Some, None, option_map, slice_get, sym, subst, ap, refl, ◌∙◌, inl, inr, arith, eq-eqb, ltb, ltb-true, ltb-false}
 use Rattle.std.specs.FinMap as map
 use Rattle.std.specs.List.{AllWithin}
-use Rattle.std.specs.List.Sorted.{IsPermutation}
+use Rattle.std.specs.List.Sorted.{IsNonDecreasingBy, IsPermutation}
 use Rattle.std.proofs.lemmas.Bool.{cases_lt, ne_eqb}
 use Rattle.std.proofs.lemmas.List.{length-append}
 use Rattle.std.proofs.lemmas.Option.{same_Some, slice_get_cases, slice_get_within, slice_get_read, get_or_from_slice_get}
@@ -13,7 +13,7 @@ use Rattle.span.specs.Log.{Held, replay, value_if}
 use Rattle.audit.specs.declared.slot.SlotChange.{SlotChange}
 use Rattle.audit.specs.Receipts.{value_after}
 use Rattle.audit.specs.Changes.{slot_of, left_by, parts}
-use Rattle.audit.specs.Slots.{slot_rank, change_rank, HasChanges, IsBySlot, IsQuiet, IsLast}
+use Rattle.audit.specs.Slots.{slot_rank, change_rank, HasChanges, IsBySlot, IsQuiet, IsLast, IsSplitAt}
 use Rattle.audit.proofs.Flat.{get_left, get_right}
 use Rattle.audit.proofs.Replies.{Holding, Holding-more, held_none}
 
@@ -127,6 +127,50 @@ module _ (changes : List Change) (found : List SlotChange) (by : IsBySlot change
               let most = below_last there.0 there.1 there.2 there.3 in
               omega (arith, there.4, there.5);
         }
+
+-- the same, by a rank that is that of the slot and the place
+module _ (changes : List Change) (found : List SlotChange) (by : IsBySlot changes found) (slot at n rank : ℕ) (small : at < 18446744073709551616) (is : rank ≡ slot_rank slot at) (split : IsSplitAt found rank n) where
+  low_split : (k : ℕ) (x : SlotChange) → k < n → slice_get found k ≡ Some x → change_rank x < slot_rank slot at
+  low_split k x less at_x = let below = split.low k x less at_x in omega (arith, is)
+
+  high_split : (k : ℕ) (x : SlotChange) → n ≤ k → slice_get found k ≡ Some x → slot_rank slot at ≤ change_rank x
+  high_split k x from at_x = let above = split.high k x from at_x in omega (arith, is)
+
+  pub quiet_split : n ≡ 0 → IsQuiet changes slot 0 at
+  quiet_split none = quiet_first changes found by slot at n small low_split high_split none
+
+  pub quiet_split_other : (x : SlotChange) → 1 ≤ n → slice_get found (n - 1) ≡ Some x → (x.slot ≡ slot → ⊥) → IsQuiet changes slot 0 at
+  quiet_split_other x some at_x other = quiet_other changes found by slot at n small low_split high_split x some at_x other
+
+  pub last_split : (x : SlotChange) → 1 ≤ n → slice_get found (n - 1) ≡ Some x → x.slot ≡ slot → IsLast changes slot at x.place
+  last_split x some at_x same = last_here changes found by slot at n small low_split high_split x some at_x same
+
+-- changes in order are split where the rank stands between two neighbours
+pub IsSplitAt-between : (found : List SlotChange) (rank n : ℕ) → IsNonDecreasingBy change_rank found → n ≤ length found
+    → ((x : SlotChange) → 1 ≤ n → slice_get found (n - 1) ≡ Some x → change_rank x < rank) → ((x : SlotChange) → slice_get found n ≡ Some x → rank ≤ change_rank x) → IsSplitAt found rank n
+IsSplitAt-between found rank n sorted inside before after = record {
+  bound = inside;
+  low = λ k x less at. elim (slice_get_cases found (n - 1)).1 [
+    | inl last ↦
+        let least = before last.0 (omega arith) last.2 in
+        let up = sorted k (n - 1) x (omega arith) (omega arith) in
+        let is_x : get_or found k x ≡ x = get_or_from_slice_get found k x x at in
+        let is_last : get_or found (n - 1) x ≡ last.0 = get_or_from_slice_get found (n - 1) last.0 x last.2 in
+        let below : change_rank x ≤ change_rank last.0 = rw (is_x, is_last) at up in
+        omega arith
+    | inr past ↦ absurd (omega (arith, past.0))
+  ];
+  high = λ k x from at. elim (slice_get_cases found n).1 [
+    | inl next ↦
+        let most = after next.0 next.2 in
+        let up = sorted n k x (omega arith) (slice_get_within found k x at) in
+        let is_x : get_or found k x ≡ x = get_or_from_slice_get found k x x at in
+        let is_next : get_or found n x ≡ next.0 = get_or_from_slice_get found n next.0 x next.2 in
+        let above : change_rank next.0 ≤ change_rank x = rw (is_next, is_x) at up in
+        omega arith
+    | inr past ↦ absurd (let within = slice_get_within found k x at in omega (arith, past.0))
+  ];
+}
 
 -- what a partition point says of the elements before it, and from it on
 pub low_from : (found : List SlotChange) (rank n : ℕ) → AllWithin (λ y. ltb (change_rank y) rank ≡ true) found 0 n

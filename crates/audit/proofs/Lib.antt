@@ -10,5 +10,7 @@ pub mod Legality
 pub mod Flat
 pub mod LogTable
 pub mod BySlot
+pub mod Sorting
 pub mod Entered
 pub mod Between
+pub mod Judging

@@ -5,6 +5,7 @@ use Rattle.std.specs.FinMap as map
 use Rattle.span.specs.declared.change.Change.{Change}
 use Rattle.span.specs.declared.change.Change.TheVariants.{Put, Free}
 use Rattle.span.specs.Log.{Held, replay, puts_of}
+use Rattle.bitmap.specs.declared.bits.TheConstants.{SLOTS}
 
 -- the slot of a change
 abbrev pub slot_of : Change → ℕ
@@ -27,8 +28,8 @@ parts held = (held.generation, held.value)
 
 -- the list has what each slot holds after the changes
 abbrev pub AreAfter : List Change → List (Option (ℕ × ℕ)) → Type 0
-AreAfter changes held = (slot : ℕ) → slot < 256 → slice_index_or held slot None ≡ option_map parts (map.get (replay changes) slot)
+AreAfter changes held = (slot : ℕ) → slot < SLOTS → slice_index_or held slot None ≡ option_map parts (map.get (replay changes) slot)
 
 -- the list has how many puts of each slot the changes have
 abbrev pub AreIssued : List Change → List ℕ → Type 0
-AreIssued changes issued = (slot : ℕ) → slot < 256 → slice_index_or issued slot 0 ≡ puts_of slot changes
+AreIssued changes issued = (slot : ℕ) → slot < SLOTS → slice_index_or issued slot 0 ≡ puts_of slot changes

@@ -6,3 +6,4 @@ pub mod Changes
 pub mod Tables
 pub mod Slots
 pub mod Order
+pub mod Judged

@@ -1,6 +1,6 @@
 -- A log's changes by slot, among which the last one of a slot is found by halving.
-use Rattle.std.specs.Prelude.{◌≡◌, ℕ, ◌+◌, ◌*◌, ◌<◌, ◌≤◌, Some, List, slice_get}
-use Rattle.std.specs.List.Sorted.{IsNonDecreasingBy}
+use Rattle.std.specs.Prelude.{◌≡◌, ℕ, ◌+◌, ◌*◌, ◌<◌, ◌≤◌, Some, List, length, slice_get}
+use Rattle.std.specs.List.Sorted.{IsNonDecreasingBy, IsPermutation}
 use Rattle.span.specs.declared.change.Change.{Change}
 use Rattle.span.specs.declared.span_log.SpanLog.{SpanLog}
 use Rattle.audit.specs.declared.slot.SlotChange.{SlotChange}
@@ -29,6 +29,21 @@ pub record HasChanges (changes : List Change) (found : List SlotChange) : Type 0
 pub record IsBySlot (changes : List Change) (found : List SlotChange) : Type 0 where
   pub has : HasChanges changes found
   pub sorted : IsNonDecreasingBy change_rank found
+
+-- for each log its changes
+abbrev pub HaveChanges : List SpanLog → List (List SlotChange) → Type 0
+HaveChanges logs lists = (j : ℕ) (log : SpanLog) (found : List SlotChange) → slice_get logs j ≡ Some log → slice_get lists j ≡ Some found → HasChanges log.changes.items found
+
+-- the same changes, in order
+pub record IsSortedFrom (old new : List SlotChange) : Type 0 where
+  pub permutation : IsPermutation old new
+  pub sorted : IsNonDecreasingBy change_rank new
+
+-- the first n of the changes stand before the rank, and the others don't
+pub record IsSplitAt (found : List SlotChange) (rank n : ℕ) : Type 0 where
+  pub bound : n ≤ length found
+  pub low : (k : ℕ) (x : SlotChange) → k < n → slice_get found k ≡ Some x → change_rank x < rank
+  pub high : (k : ℕ) (x : SlotChange) → n ≤ k → slice_get found k ≡ Some x → rank ≤ change_rank x
 
 -- for each log its changes by slot
 abbrev pub AreBySlot : List SpanLog → List (List SlotChange) → Type 0

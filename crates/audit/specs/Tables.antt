@@ -7,10 +7,11 @@ use Rattle.span.specs.Ids.{rank}
 use Rattle.span.specs.declared.span_log.SpanLog.{SpanLog}
 use Rattle.audit.specs.Receipts.{log_of, makes_change}
 use Rattle.audit.specs.Agreement.{CallMakes}
+use Rattle.span.specs.declared.limits.TheConstants.{ALL_IDS}
 
 -- of the first logs, at the rank of each span the index of its log, and nothing at the rank of a span without one
 pub record IsTableBelow (logs : List SpanLog) (n : ℕ) (table : List (Option ℕ)) : Type 0 where
-  pub len : length table ≡ 65536
+  pub len : length table ≡ ALL_IDS
   pub here : (span : SpanId) (j : ℕ) → slice_index_or table (rank span) None ≡ Some j → (j < n) × (log : SpanLog) × (slice_get logs j ≡ Some log) × (log.span ≡ span)
   pub all : (j : ℕ) (log : SpanLog) → j < n → slice_get logs j ≡ Some log → slice_index_or table (rank log.span) None ≡ Some j
 

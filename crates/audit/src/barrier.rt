@@ -25,8 +25,8 @@ fn stands_between(
     }
 }
 
-// The same of each call of a worker.
-fn stand_between(
+/// The same of each call of a worker.
+pub fn stand_between(
     logs: &[SpanLog],
     table: &[Option<usize>],
     rows: &[Vec<Option<u64>>],
@@ -34,7 +34,8 @@ fn stand_between(
 ) -> bool
     requires table { IsTable logs.now table.now }
     requires len { length rows.now ≡ length logs.now }
-    ensures { IsTrue result ↔ ((i : ℕ) (receipt : Receipt) → slice_get list.now i ≡ Some receipt → StandsBetween logs.now (map vec_items rows.now) receipt) }
+    ensures { IsTrue result ↔ ((i : ℕ) (receipt : Receipt) → slice_get list.now i ≡ Some receipt
+        → StandsBetween logs.now (map vec_items rows.now) receipt) }
 {
     for receipt in list {
         if !stands_between(logs, table, rows, receipt) {

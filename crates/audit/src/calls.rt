@@ -4,16 +4,17 @@ ghost use Rattle.span.specs.Ids.{rank};
 ghost use Rattle.audit.specs.Receipts.{changes_after, makes_change};
 ghost use Rattle.audit.specs.Agreement.{CallMakes};
 ghost use Rattle.audit.specs.Changes.{slot_of, left_by, issued_by};
+ghost use Rattle.span.specs.declared.limits.TheConstants.{ALL_IDS};
 
-use span::{Call, Change, Key, Receipt, SpanId};
+use span::{ALL_IDS, Call, Change, Key, Receipt, SpanId};
 
 /// How many spans there can be.
-pub const SPANS: usize = 65536;
+pub const SPANS: usize = ALL_IDS as usize;
 
 /// The place of a span in a table of all spans.
 pub fn place_of(span: SpanId) -> usize
     ensures place { result ≡ rank span }
-    ensures in_range { result < 65536 }
+    ensures in_range { result < ALL_IDS }
 {
     span.rank() as usize
 }

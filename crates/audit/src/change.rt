@@ -83,7 +83,8 @@ fn enter_lists(
     requires len { vec_len rows.old ≡ length logs.now }
     requires rows { AreEntered logs.now [] (map vec_items rows.old.items) }
     ensures len { vec_len rows.new ≡ length logs.now }
-    ensures entered { WereEntered logs.now (flat_map vec_items lists.now) (map vec_items rows.new.items) result }
+    ensures entered { WereEntered logs.now (flat_map vec_items lists.now)
+        (map vec_items rows.new.items) result }
 {
     for list in lists {
         if !enter_list(logs, table, rows, list.as_slice()) {

@@ -63,7 +63,9 @@ fn first_fault(
     logs: &[SpanLog],
     receipts: &[Vec<Receipt>],
 ) -> Result<Option<AuditCause>, AllocError>
-    ensures { IfOk result (λ cause. MatchOption cause (Agreement logs.now (map vec_items receipts.now)) (FailsFirst logs.now (map vec_items receipts.now))) }
+    ensures { IfOk result (λ cause. MatchOption cause
+        (Agreement logs.now (map vec_items receipts.now))
+        (FailsFirst logs.now (map vec_items receipts.now))) }
 {
     let Some(table) = table_of_legal(alloc, logs)? else {
         return Ok(Some(AuditCause::Log));

@@ -33,7 +33,8 @@ fn may_follow(
     gens: u32,
     change: &Change,
 ) -> bool
-    ensures { (before : List Change) → AreAfter before held.now → AreIssued before issued.now → (IsTrue result ↔ IsLegalAfter gens before change.now) }
+    ensures { (before : List Change) → AreAfter before held.now → AreIssued before issued.now
+        → (IsTrue result ↔ IsLegalAfter gens before change.now) }
 {
     let here = held[usize::from(slot_of(change))];
     let last = issued[usize::from(slot_of(change))];
@@ -51,8 +52,10 @@ fn may_follow(
 
 // Enters the change into what the slots hold and have issued.
 fn enter(held: &mut [Option<(u32, u128)>; 256], issued: &mut [u32; 256], change: &Change)
-    ensures held { (before : List Change) → AreAfter before held.old → AreAfter (before ++ change.now ∷ []) held.new }
-    ensures issued { (before : List Change) (gens : ℕ) → AreIssued before issued.old → IsLegalAfter gens before change.now → AreIssued (before ++ change.now ∷ []) issued.new }
+    ensures held { (before : List Change) → AreAfter before held.old
+        → AreAfter (before ++ change.now ∷ []) held.new }
+    ensures issued { (before : List Change) (gens : ℕ) → AreIssued before issued.old
+        → IsLegalAfter gens before change.now → AreIssued (before ++ change.now ∷ []) issued.new }
 {
     let slot = usize::from(slot_of(change));
     held[slot] = left_by(change);
@@ -77,7 +80,8 @@ fn is_legal(gens: u32, changes: &[Change]) -> bool
 
 // Whether each log is legal for the greatest generation that it names.
 fn logs_are_legal(logs: &[SpanLog]) -> bool
-    ensures { IsTrue result ↔ ((i : ℕ) (log : SpanLog) → slice_get logs.now i ≡ Some log → IsLegal log.gens log.changes.items) }
+    ensures { IsTrue result ↔ ((i : ℕ) (log : SpanLog) → slice_get logs.now i ≡ Some log
+        → IsLegal log.gens log.changes.items) }
 {
     for log in logs {
         if !is_legal(log.gens, log.changes.as_slice()) {
@@ -92,7 +96,8 @@ pub fn table_of_legal(
     alloc: Global,
     logs: &[SpanLog],
 ) -> Result<Option<Vec<Option<usize>>>, AllocError>
-    ensures { IfOk result (λ table. MatchOption table (LogsAreLegal logs.now → ⊥) (λ table. LogsAreLegal logs.now × IsTable logs.now table.items)) }
+    ensures { IfOk result (λ table. MatchOption table (LogsAreLegal logs.now → ⊥)
+        (λ table. LogsAreLegal logs.now × IsTable logs.now table.items)) }
 {
     let Some(table) = table_of(alloc, logs)? else {
         return Ok(None);

@@ -22,19 +22,35 @@
 //!
 //! A receipt is looked at once for each part of the agreement, and finds its span's log by a table.
 //! A look-up finds the last change of its slot by halving, among the log's changes sorted by slot.
+//!
+//! # Examples
+//!
+//! ```
+//! // What the workers were told, a list for each, and the logs of all spans that they worked on.
+//! match audit(alloc, logs, receipts) {
+//!     Ok(()) => {} // each span has one history that all of them saw
+//!     Err(AuditError::Fault(cause)) => {} // the first part in which receipts and logs disagree
+//!     Err(AuditError::OutOfMemory) => {}
+//! }
+//! ```
 #![tactic(auto)]
 
 mod barrier;
+mod by_threads;
 mod calls;
 mod change;
 mod fault;
+mod first;
 mod legal;
 mod log;
 mod order;
+mod records;
 mod reply;
 mod section;
 mod slot;
 #[cfg(test)]
 mod tests;
+mod verdict;
 
+pub use by_threads::audit_by_threads;
 pub use fault::{AuditCause, AuditError, audit};

@@ -10,14 +10,16 @@ use std::alloc::{AllocError, Global};
 // For each span, that it has no log.
 fn no_logs(alloc: Global, spans: usize) -> Result<Vec<Option<usize>>, AllocError>
     ensures len { IfOk result (λ table. vec_len table ≡ spans) }
-    ensures none { IfOk result (λ table. (place : ℕ) → slice_index_or table.items place None ≡ None) }
+    ensures none { IfOk result (λ table. (place : ℕ)
+        → slice_index_or table.items place None ≡ None) }
 {
     vec![in alloc; None; spans]
 }
 
 /// For each span, by rank, the index of its log, if it has one. `None` where a span has two.
 pub fn table_of(alloc: Global, logs: &[SpanLog]) -> Result<Option<Vec<Option<usize>>>, AllocError>
-    ensures { IfOk result (λ table. MatchOption table (HaveOneSpanEach logs.now → ⊥) (λ table. IsTable logs.now table.items)) }
+    ensures { IfOk result (λ table. MatchOption table (HaveOneSpanEach logs.now → ⊥)
+        (λ table. IsTable logs.now table.items)) }
 {
     let mut table = no_logs(alloc, SPANS)?;
     for i in 0..logs.len() {

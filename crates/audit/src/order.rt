@@ -2,6 +2,7 @@
 ghost use Rattle.std.specs.Prelude.{◌≡◌, ◌↔◌, ◌<◌, ◌≤◌, IsTrue, IfOk, ℕ, vec_len, map, vec_items, length};
 ghost use Rattle.audit.specs.Agreement.{WorkersAreInOrder, IsInOrder};
 ghost use Rattle.audit.specs.Order.{GoesBack, IsClear, IsLeftFrom};
+ghost use Rattle.span.specs.declared.limits.TheConstants.{ALL_IDS};
 
 use crate::calls::{SPANS, changes_after, place_of};
 use span::Receipt;
@@ -28,11 +29,11 @@ fn goes_back(list: &[Receipt], i: usize) -> bool
 
 // Whether the calls of one worker stand in the order of its list. The table then has what its calls left.
 fn is_in_order(left: &mut Vec<u128>, list: &[Receipt]) -> bool
-    requires len { vec_len left.old ≡ 65536 }
+    requires len { vec_len left.old ≡ ALL_IDS }
     requires clear { IsClear left.old.items }
     ensures exact { IsTrue result ↔ IsInOrder list.now }
     ensures left { IsTrue result → IsLeftFrom list.now 0 left.new.items }
-    ensures len { vec_len left.new ≡ 65536 }
+    ensures len { vec_len left.new ≡ ALL_IDS }
 {
     for i in 0..list.len() {
         if goes_back(list, i) {
@@ -50,15 +51,23 @@ fn is_in_order(left: &mut Vec<u128>, list: &[Receipt]) -> bool
 
 // Takes what the calls left out of the table.
 fn clear(left: &mut Vec<u128>, list: &[Receipt])
-    requires len { vec_len left.old ≡ 65536 }
+    requires len { vec_len left.old ≡ ALL_IDS }
     requires left { IsLeftFrom list.now 0 left.old.items }
     ensures clear { IsClear left.new.items }
-    ensures len { vec_len left.new ≡ 65536 }
+    ensures len { vec_len left.new ≡ ALL_IDS }
 {
     for i in 0..list.len() {
         let place = place_of(list[i].key.span);
         left[place] = 0;
     }
+}
+
+/// Whether the calls of one worker stand in the order of its list.
+pub fn list_is_in_order(alloc: Global, list: &[Receipt]) -> Result<bool, AllocError>
+    ensures { IfOk result (λ yes. IsTrue yes ↔ IsInOrder list.now) }
+{
+    let mut left = no_changes(alloc, SPANS)?;
+    Ok(is_in_order(&mut left, list))
 }
 
 /// Whether the calls of each worker stand in the order of its list.

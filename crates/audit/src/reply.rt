@@ -7,18 +7,25 @@ ghost use Rattle.audit.specs.Slots.{AreBySlot, IsBySlot};
 ghost use Rattle.audit.specs.Tables.{IsTable};
 
 use crate::calls::left_by;
+use crate::first::Firsts;
 use crate::log::index_of;
 use crate::slot::{SlotChange, all_by_slot, last_before};
 use span::{Call, Change, Key, Receipt, SpanLog};
 use std::alloc::{AllocError, Global};
 
 // The value that the key has after the changes before the place.
-fn value_after(changes: &[Change], order: &[SlotChange], at: usize, key: &Key) -> Option<u128>
+fn value_after(
+    changes: &[Change],
+    order: &[SlotChange],
+    guess: usize,
+    at: usize,
+    key: &Key,
+) -> Option<u128>
     requires order { IsBySlot changes.now order.now }
     requires inside { at ≤ length changes.now }
     ensures { result ≡ value_after (take at changes.now) key.now }
 {
-    let last = last_before(order, key.slot, at)?;
+    let last = last_before(order, key.slot, at, guess)?;
     match left_by(&changes[last]) {
         Some((generation, value)) if generation == key.generation => Some(value),
         _ => None,
@@ -42,6 +49,7 @@ fn is_answered(call: Call, value: Option<u128>) -> bool
 fn is_answered_after(
     changes: &[Change],
     order: &[SlotChange],
+    guess: usize,
     at: usize,
     key: &Key,
     call: Call,
@@ -52,7 +60,7 @@ fn is_answered_after(
 {
     match call {
         Call::Put { .. } => true,
-        _ => is_answered(call, value_after(changes, order, at, key)),
+        _ => is_answered(call, value_after(changes, order, guess, at, key)),
     }
 }
 
@@ -61,6 +69,7 @@ fn is_right_reply(
     logs: &[SpanLog],
     table: &[Option<usize>],
     orders: &[Vec<SlotChange>],
+    firsts: &Firsts,
     receipt: &Receipt,
 ) -> bool
     requires table { IsTable logs.now table.now }
@@ -78,26 +87,29 @@ fn is_right_reply(
     is_answered_after(
         changes,
         orders[j].as_slice(),
+        firsts.guess(j, &receipt.key),
         receipt.at,
         &receipt.key,
         receipt.call,
     )
 }
 
-// Whether each call of a worker was answered as its span's log says.
-fn list_is_right(
+/// Whether each call of a worker was answered as its span's log says.
+pub fn list_is_right(
     logs: &[SpanLog],
     table: &[Option<usize>],
     orders: &[Vec<SlotChange>],
+    firsts: &Firsts,
     list: &[Receipt],
 ) -> bool
     requires table { IsTable logs.now table.now }
     requires len { length orders.now ≡ length logs.now }
     requires orders { AreBySlot logs.now (map vec_items orders.now) }
-    ensures { IsTrue result ↔ ((i : ℕ) (receipt : Receipt) → slice_get list.now i ≡ Some receipt → IsRightReply logs.now receipt) }
+    ensures { IsTrue result ↔ ((i : ℕ) (receipt : Receipt) → slice_get list.now i ≡ Some receipt
+        → IsRightReply logs.now receipt) }
 {
     for receipt in list {
-        if !is_right_reply(logs, table, orders, receipt) {
+        if !is_right_reply(logs, table, orders, firsts, receipt) {
             return false;
         }
     }
@@ -109,6 +121,7 @@ fn lists_are_right(
     logs: &[SpanLog],
     table: &[Option<usize>],
     orders: &[Vec<SlotChange>],
+    firsts: &Firsts,
     lists: &[Vec<Receipt>],
 ) -> bool
     requires table { IsTable logs.now table.now }
@@ -117,7 +130,7 @@ fn lists_are_right(
     ensures { IsTrue result ↔ RepliesAreRight logs.now (map vec_items lists.now) }
 {
     for list in lists {
-        if !list_is_right(logs, table, orders, list.as_slice()) {
+        if !list_is_right(logs, table, orders, firsts, list.as_slice()) {
             return false;
         }
     }
@@ -135,5 +148,7 @@ pub fn replies_are_right(
     ensures { IfOk result (λ yes. IsTrue yes ↔ RepliesAreRight logs.now (map vec_items lists.now)) }
 {
     let orders = all_by_slot(alloc, logs)?;
-    Ok(lists_are_right(logs, table, orders.as_slice(), lists))
+    let orders = orders.as_slice();
+    let firsts = Firsts::of(alloc, orders)?;
+    Ok(lists_are_right(logs, table, orders, &firsts, lists))
 }

@@ -29,7 +29,8 @@ pub fn empty_rows(alloc: Global, logs: &[SpanLog]) -> Result<Vec<Vec<Option<u64>
 pub fn mark(row: &mut Vec<Option<u64>>, at: usize, section: u64) -> bool
     ensures marked { IsTrue result → (at < length row.old.items) × (slice_index_or row.old.items at None ≡ None)
         × (row.new.items ≡ slice_set row.old.items at (Some section)) }
-    ensures taken { result ≡ false → at < length row.old.items → (s : ℕ) × (slice_index_or row.old.items at None ≡ Some s) }
+    ensures taken { result ≡ false → at < length row.old.items → (s : ℕ)
+        × (slice_index_or row.old.items at None ≡ Some s) }
 {
     if row.len() <= at || row[at].is_some() {
         return false;

@@ -1,11 +1,17 @@
 // A log's changes by slot.
-ghost use Rattle.std.specs.Prelude.{◌≡◌, ◌≤◌, IfOk, MatchOption, ℕ, List, length, map, vec_len, vec_items};
+ghost use Rattle.std.specs.Prelude.{◌≡◌, ◌≤◌, ◌<◌, ◌-◌, IfOk, IsTrue, MatchOption, ℕ, List, Some, length, map, slice_get, slice_index_or, vec_len, vec_items};
+ghost use Rattle.std.specs.List.Sorted.{IsNonDecreasingBy};
 ghost use Rattle.span.specs.declared.change.Change.{Change};
-ghost use Rattle.audit.specs.Slots.{change_rank, slot_rank, HasChanges, IsBySlot, AreBySlot, IsQuiet, IsLast};
+ghost use Rattle.audit.specs.Slots.{change_rank, slot_rank, HasChanges, HaveChanges, IsBySlot, IsSortedFrom, AreBySlot, IsQuiet, IsLast, IsSplitAt};
 
 use crate::calls::slot_of;
 use span::{Change, SpanLog};
 use std::alloc::{AllocError, Global};
+use std::thread;
+use std::thread::Threads;
+
+// At most so many threads sort.
+const SORTERS: usize = 16;
 
 /// Where a change stands: its slot, and its place in the log.
 #[derive(Clone, Copy)]
@@ -33,12 +39,19 @@ fn slot_changes(alloc: Global, changes: &[Change]) -> Result<Vec<SlotChange>, Al
     Ok(found)
 }
 
+// Puts changes in order, by slot, and those of a slot by place.
+fn sort(found: &mut Vec<SlotChange>)
+    ensures { IsSortedFrom found.old.items found.new.items }
+{
+    found.sort_unstable_by_key(|change| slot_rank(change.slot, change.place));
+}
+
 // The changes of the log by slot, and those of a slot in their order.
 fn by_slot(alloc: Global, changes: &[Change]) -> Result<Vec<SlotChange>, AllocError>
     ensures { IfOk result (λ found. IsBySlot changes.now found.items) }
 {
     let mut found = slot_changes(alloc, changes)?;
-    found.sort_unstable_by_key(|change| slot_rank(change.slot, change.place));
+    sort(&mut found);
     Ok(found)
 }
 
@@ -54,13 +67,128 @@ pub fn all_by_slot(alloc: Global, logs: &[SpanLog]) -> Result<Vec<Vec<SlotChange
     Ok(orders)
 }
 
-/// The place of the last change of the slot before the place, if there is one.
-pub fn last_before(found: &[SlotChange], slot: u8, at: usize) -> Option<usize>
+// For each log its changes, in order.
+fn all_slot_changes(alloc: Global, logs: &[SpanLog]) -> Result<Vec<Vec<SlotChange>>, AllocError>
+    ensures len { IfOk result (λ found. vec_len found ≡ length logs.now) }
+    ensures each { IfOk result (λ found. HaveChanges logs.now (map vec_items found.items)) }
+{
+    let mut found = Vec::with_capacity(alloc, logs.len())?;
+    for log in logs {
+        found.push(slot_changes(alloc, log.changes.as_slice())?)?;
+    }
+    Ok(found)
+}
+
+// Puts the changes of each log in order, on a few threads.
+fn sort_all<R: Threads + Sync>(rt: &R, found: &mut [Vec<SlotChange>])
+    ensures { (j : ℕ) (d : _) → j < length found.old
+        → IsSortedFrom (vec_items (slice_index_or found.old j d))
+        (vec_items (slice_index_or found.new j d)) }
+{
+    thread::for_each_mut(
+        rt,
+        found,
+        SORTERS,
+        &|_place: usize, changes: &mut Vec<SlotChange>|
+            ensures { IsSortedFrom changes.entry.now.items changes.exit.now.items }
+        { sort(changes) },
+    );
+}
+
+/// As [`all_by_slot`], with logs sorted side by side.
+pub fn all_by_slot_by_threads<R: Threads + Sync>(
+    rt: &R,
+    alloc: Global,
+    logs: &[SpanLog],
+) -> Result<Vec<Vec<SlotChange>>, AllocError>
+    ensures len { IfOk result (λ orders. vec_len orders ≡ length logs.now) }
+    ensures each { IfOk result (λ orders. AreBySlot logs.now (map vec_items orders.items)) }
+{
+    let mut orders = all_slot_changes(alloc, logs)?;
+    sort_all(rt, orders.as_mut_slice());
+    Ok(orders)
+}
+
+// The place of a change among all changes by slot.
+fn change_rank(change: &SlotChange) -> u128
+    ensures { result ≡ change_rank change.now }
+{
+    slot_rank(change.slot, change.place)
+}
+
+// Whether the last of the first `n` changes by slot, if there is one, stands before the rank.
+fn ends_before(found: &[SlotChange], rank: u128, n: usize) -> bool
+    requires { n ≤ length found.now }
+    ensures { IsTrue result → (x : SlotChange) → 1 ≤ n → slice_get found.now (n - 1) ≡ Some x
+        → change_rank x < rank }
+{
+    if n == 0 {
+        return true;
+    }
+    let last = change_rank(&found[n - 1]);
+    if rank <= last {
+        return false;
+    }
+    true
+}
+
+// Whether the change behind the first `n`, if there is one, does not stand before the rank.
+fn goes_on_from(found: &[SlotChange], rank: u128, n: usize) -> bool
+    requires { n ≤ length found.now }
+    ensures { IsTrue result → (x : SlotChange) → slice_get found.now n ≡ Some x
+        → rank ≤ change_rank x }
+{
+    if n == found.len() {
+        return true;
+    }
+    let next = change_rank(&found[n]);
+    if next < rank {
+        return false;
+    }
+    true
+}
+
+// Whether the first `n` of the changes by slot stand before the rank, and the others don't.
+fn is_split_at(found: &[SlotChange], rank: u128, n: usize) -> bool
+    requires { IsNonDecreasingBy change_rank found.now }
+    ensures { IsTrue result → IsSplitAt found.now rank n }
+{
+    if found.len() < n {
+        return false;
+    }
+    if !ends_before(found, rank, n) {
+        return false;
+    }
+    if !goes_on_from(found, rank, n) {
+        return false;
+    }
+    true
+}
+
+// How many of the changes by slot stand before the rank. The guess, or one more, is tried before a search.
+fn count_before(found: &[SlotChange], rank: u128, guess: usize) -> usize
+    requires { IsNonDecreasingBy change_rank found.now }
+    ensures { IsSplitAt found.now rank result }
+{
+    if is_split_at(found, rank, guess) {
+        return guess;
+    }
+    let next = guess.saturating_add(1);
+    if is_split_at(found, rank, next) {
+        return next;
+    }
+    found.partition_point(|change| slot_rank(change.slot, change.place) < rank)
+}
+
+/// The place of the last change of the slot before the place, if there is one. `guess` is how many of the changes by slot may
+/// stand up to it: a right guess spares a search.
+pub fn last_before(found: &[SlotChange], slot: u8, at: usize, guess: usize) -> Option<usize>
+    requires { IsNonDecreasingBy change_rank found.now }
     ensures { (changes : List Change) → IsBySlot changes found.now → at ≤ length changes
         → MatchOption result (IsQuiet changes slot 0 at) (IsLast changes slot at) }
 {
     let rank = slot_rank(slot, at);
-    let n = found.partition_point(|change| slot_rank(change.slot, change.place) < rank);
+    let n = count_before(found, rank, guess);
     if n == 0 {
         return None;
     }

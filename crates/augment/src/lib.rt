@@ -18,6 +18,14 @@
 //! The public fact of the crate is that the plan is best, that the short set is the least set that
 //! holds the groups left out and is closed under "planned onto a partner of", and that both are a
 //! certificate, which [`check`](certificate::check) accepts.
+//!
+//! # Examples
+//!
+//! ```
+//! let graph = Graph::build(alloc, &snapshot, 1)?;
+//! let (plan, short) = augment::plan(alloc, &graph)?;
+//! assert!(rt; check(&snapshot, &plan, &short)); // no plan has more pairs
+//! ```
 #![tactic(auto)]
 
 mod mates;

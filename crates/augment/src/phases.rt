@@ -16,16 +16,27 @@ pub(crate) fn turn_phase(
     graph: &Graph,
     mates: &mut Mates,
 ) -> Result<Option<Vec<bool>>, AllocError>
+    // The pairs fit the graph.
     requires joins { Joins graph.now mates.old.onto.items }
     requires groups { length mates.old.onto.items ≡ length graph.now.abandoned }
     requires owned { length mates.old.planned.items ≡ length graph.now.owned }
+
+    // So they do afterwards.
     ensures joins { Joins graph.now mates.new.onto.items }
     ensures groups { length mates.new.onto.items ≡ length graph.now.abandoned }
     ensures owned { length mates.new.planned.items ≡ length graph.now.owned }
-    ensures more { IfOk result (λ reached. IfNone reached (pair_count mates.old.onto.items + 1 ≤ pair_count mates.new.onto.items)) }
-    ensures unchanged { IfOk result (λ reached. IfSome reached (λ marks. mates.new.onto.items ≡ mates.old.onto.items)) }
-    ensures searched { IfOk result (λ reached. IfSome reached (λ marks. IsSearched graph.now mates.new.onto.items marks.items)) }
-    ensures marks { IfOk result (λ reached. IfSome reached (λ marks. length marks.items ≡ length graph.now.owned)) }
+
+    // A walk was turned round.
+    ensures more { IfOk result (λ reached. IfNone reached
+        (pair_count mates.old.onto.items + 1 ≤ pair_count mates.new.onto.items)) }
+
+    // Or no walk comes to a free place.
+    ensures unchanged { IfOk result (λ reached. IfSome reached
+        (λ marks. mates.new.onto.items ≡ mates.old.onto.items)) }
+    ensures searched { IfOk result (λ reached. IfSome reached
+        (λ marks. IsSearched graph.now mates.new.onto.items marks.items)) }
+    ensures marks { IfOk result (λ reached. IfSome reached
+        (λ marks. length marks.items ≡ length graph.now.owned)) }
 {
     let mut walks = Walks::start(alloc, graph, mates)?;
     let mut next = 0;
@@ -50,11 +61,14 @@ fn turn_others(
     layers: &[Option<usize>],
     used: &mut [bool],
 ) -> Result<(), AllocError>
+    // The pairs and the lists fit the graph.
     requires joins { Joins graph.now mates.old.onto.items }
     requires groups { length mates.old.onto.items ≡ length graph.now.abandoned }
     requires layers { length layers.now ≡ length mates.old.onto.items }
     requires owned { length mates.old.planned.items ≡ length graph.now.owned }
     requires used { length used.old ≡ length graph.now.owned }
+
+    // So do the pairs afterwards, which are no fewer.
     ensures joins { Joins graph.now mates.new.onto.items }
     ensures groups { length mates.new.onto.items ≡ length graph.now.abandoned }
     ensures owned { length mates.new.planned.items ≡ length graph.now.owned }
@@ -119,12 +133,15 @@ fn next_step(
     cursors: &mut [usize],
     group: usize,
 ) -> Option<usize>
+    // The pairs and the lists fit the graph.
     requires group { group < length graph.now.abandoned }
     requires groups { length mates.now.onto.items ≡ length graph.now.abandoned }
     requires layers { length layers.now ≡ length mates.now.onto.items }
     requires owned { length mates.now.planned.items ≡ length graph.now.owned }
     requires used { length used.now ≡ length graph.now.owned }
     requires cursors { length cursors.old ≡ length mates.now.onto.items }
+
+    // A compatible place that no walk has used.
     ensures joined_to { IfSome result (λ j. compatible_at graph.now group j ≡ true) }
     ensures within { IfSome result (λ j. j < length graph.now.owned) }
     ensures unused { IfSome result (λ j. is_marked used.now j ≡ false) }
@@ -165,14 +182,19 @@ fn turn_from(
     cursors: &mut [usize],
     root: usize,
 ) -> Result<(), AllocError>
+    // The pairs and the lists fit the graph.
     requires joins { Joins graph.now mates.old.onto.items }
     requires groups { length mates.old.onto.items ≡ length graph.now.abandoned }
     requires layers { length layers.now ≡ length mates.old.onto.items }
     requires owned { length mates.old.planned.items ≡ length graph.now.owned }
     requires used { length used.old ≡ length graph.now.owned }
     requires cursors { length cursors.old ≡ length mates.old.onto.items }
+
+    // The walk begins at a group that is left out.
     requires root { root < length mates.old.onto.items }
     requires left_out { mate mates.old.onto.items root ≡ None }
+
+    // The pairs fit the graph afterwards, and are no fewer.
     ensures joins { Joins graph.now mates.new.onto.items }
     ensures groups { length mates.new.onto.items ≡ length graph.now.abandoned }
     ensures owned { length mates.new.planned.items ≡ length graph.now.owned }

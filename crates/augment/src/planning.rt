@@ -56,7 +56,8 @@ fn list_pairs(
 ) -> Result<Vec<(SpanId, SpanId)>, AllocError>
     requires onto { length mates.now.onto.items ≡ length graph.now.abandoned }
     requires planned { length mates.now.planned.items ≡ length graph.now.owned }
-    ensures { IfOk result (λ pairs. pairs.items ≡ pairs_of (ids graph.now.owned) (ids graph.now.abandoned) mates.now.onto.items) }
+    ensures { IfOk result (λ pairs. pairs.items
+        ≡ pairs_of (ids graph.now.owned) (ids graph.now.abandoned) mates.now.onto.items) }
 {
     let mut pairs = Vec::new(alloc);
     for (i, mate) in mates.onto.iter().enumerate() {
@@ -76,7 +77,8 @@ fn list_short(
 ) -> Result<Vec<SpanId>, AllocError>
     requires onto { length mates.now.onto.items ≡ length graph.now.abandoned }
     requires planned { length mates.now.planned.items ≡ length reached.now }
-    ensures { IfOk result (λ short. short.items ≡ short_of reached.now (ids graph.now.abandoned) mates.now.onto.items) }
+    ensures { IfOk result (λ short. short.items
+        ≡ short_of reached.now (ids graph.now.abandoned) mates.now.onto.items) }
 {
     let mut short = Vec::new(alloc);
     for (i, mate) in mates.onto.iter().enumerate() {

@@ -26,13 +26,18 @@ pub(crate) fn turn_round(
     mut free: usize,
     used: &mut [bool],
 )
+    // The entries are a walk along the pairs.
     requires joins { Joins graph.now mates.old.onto.items }
     requires linked { AreLinked graph.now mates.old.onto.items entries.now }
+
+    // It comes from the last entry to a free place.
     requires last_in { last < length entries.now }
     requires free_in { free < length mates.old.planned.items }
     requires free { mate mates.old.planned.items free ≡ None }
     requires used { length used.old ≡ length mates.old.planned.items }
     requires end { compatible_at graph.now (group entries.now last) free ≡ true }
+
+    // There is one pair more.
     ensures joins { Joins graph.now mates.new.onto.items }
     ensures more { pair_count mates.new.onto.items ≡ pair_count mates.old.onto.items + 1 }
     ensures onto { length mates.new.onto.items ≡ length mates.old.onto.items }
@@ -57,7 +62,8 @@ impl Walks {
     /// The search that has reached the places left out alone.
     pub(crate) fn start(alloc: Global, graph: &Graph, mates: &Mates) -> Result<Self, AllocError>
         requires owned { length mates.now.planned.items ≡ length graph.now.owned }
-        ensures search { IfOk result (λ walks. IsSearch graph.now mates.now.onto.items walks.entries.items walks.reached.items 0) }
+        ensures search { IfOk result (λ walks. IsSearch graph.now mates.now.onto.items
+            walks.entries.items walks.reached.items 0) }
         ensures owned { IfOk result (λ walks. length walks.reached.items ≡ length graph.now.owned) }
     {
         let mut entries = Vec::new(alloc);
@@ -78,19 +84,36 @@ impl Walks {
         mates: &Mates,
         at: usize,
     ) -> Result<Option<usize>, AllocError>
-        requires search { IsSearch graph.now mates.now.onto.items self.old.entries.items self.old.reached.items at }
+        // The search has come to this entry.
+        requires search { IsSearch graph.now mates.now.onto.items self.old.entries.items
+            self.old.reached.items at }
         requires at_in { at < length self.old.entries.items }
         requires groups { length mates.now.onto.items ≡ length graph.now.abandoned }
         requires owned { length mates.now.planned.items ≡ length graph.now.owned }
         requires marks { length self.old.reached.items ≡ length graph.now.owned }
-        ensures searched { IfOk result (λ found. IfNone found (IsSearch graph.now mates.now.onto.items self.new.entries.items self.new.reached.items (at + 1))) }
-        ensures linked { IfOk result (λ found. IfSome found (λ free. AreLinked graph.now mates.now.onto.items self.new.entries.items)) }
+
+        // It has gone past the entry.
+        ensures searched { IfOk result (λ found. IfNone found
+            (IsSearch graph.now mates.now.onto.items self.new.entries.items self.new.reached.items
+            (at + 1))) }
+
+        // Or it has come to a free place.
+        ensures linked { IfOk result (λ found. IfSome found
+            (λ free. AreLinked graph.now mates.now.onto.items self.new.entries.items)) }
         ensures at_in { IfOk result (λ found. at < length self.new.entries.items) }
-        ensures free { IfOk result (λ found. IfSome found (λ free. mate mates.now.planned.items free ≡ None)) }
-        ensures free_in { IfOk result (λ found. IfSome found (λ free. free < length graph.now.owned)) }
-        ensures joined_to { IfOk result (λ found. IfSome found (λ free. compatible_at graph.now (group self.new.entries.items at) free ≡ true)) }
-        ensures left { IfOk result (λ found. length self.new.entries.items + unmarked self.new.reached.items ≡ length self.old.entries.items + unmarked self.old.reached.items) }
-        ensures marks { IfOk result (λ found. length self.new.reached.items ≡ length graph.now.owned) }
+        ensures free { IfOk result (λ found. IfSome found
+            (λ free. mate mates.now.planned.items free ≡ None)) }
+        ensures free_in { IfOk result (λ found. IfSome found
+            (λ free. free < length graph.now.owned)) }
+        ensures joined_to { IfOk result (λ found. IfSome found
+            (λ free. compatible_at graph.now (group self.new.entries.items at) free ≡ true)) }
+
+        // Each entry stands for a place that is marked.
+        ensures left { IfOk result (λ found. length self.new.entries.items + unmarked
+            self.new.reached.items ≡ length self.old.entries.items + unmarked
+            self.old.reached.items) }
+        ensures marks { IfOk result (λ found. length self.new.reached.items
+            ≡ length graph.now.owned) }
     {
         let group = self.entries[at].group;
         let mut from = 0;

@@ -14,6 +14,8 @@ use Rattle.certificate.specs.declared.text.cause.Cause.TheVariants.{Cut, Form, L
 use Rattle.certificate.specs.declared.text.cause.ReadError.{ReadError}
 use Rattle.certificate.specs.declared.text.cause.ReadError.TheVariants.{BadCertificate, OutOfMemory}
 use Rattle.certificate.specs.declared.certificate.Certificate.{Certificate}
+use Rattle.mesh_graph.specs.declared.build.TheConstants.{MOST_GROUPS}
+use Rattle.span.specs.declared.limits.TheConstants.{MOST_SHARDS, MOST_SPANS}
 
 -- the first step, and then the next one, unless the first fails
 infixl 10 ◌>>=◌
@@ -29,11 +31,11 @@ Id = ℕ × ℕ
 
 -- ids stand by shard and then by serial
 abbrev pub comes_before : Id → Id → Bool
-comes_before a b = nat_lt (1024 * a.0 + a.1) (1024 * b.0 + b.1)
+comes_before a b = nat_lt (MOST_SPANS * a.0 + a.1) (MOST_SPANS * b.0 + b.1)
 
 -- two numbers as an id
 abbrev pub id_of_numbers : Option ℕ → Option ℕ → Result Id Cause
-id_of_numbers (Some shard) (Some serial) = if nat_lt shard 64 && nat_lt serial 1024 then Ok (shard, serial) else Err Limit
+id_of_numbers (Some shard) (Some serial) = if nat_lt shard MOST_SHARDS && nat_lt serial MOST_SPANS then Ok (shard, serial) else Err Limit
 id_of_numbers (Some shard) None = Err Form
 id_of_numbers None serial = Err Form
 
@@ -80,7 +82,7 @@ pair_in line = pair_of_words (parts_of 32 line)
 -- how many lines follow, at most 4,096
 abbrev pub count_of_number : Option ℕ → Result ℕ Cause
 count_of_number None = Err Form
-count_of_number (Some n) = if nat_le n 4096 then Ok n else Err Limit
+count_of_number (Some n) = if nat_le n MOST_GROUPS then Ok n else Err Limit
 
 abbrev pub count_of_words : List ℕ → List (List ℕ) → Result ℕ Cause
 count_of_words title (word ∷ number ∷ []) = if bytes_eq word title then count_of_number (number_in number) else Err Form

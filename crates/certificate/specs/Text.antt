@@ -6,6 +6,7 @@ use Rattle.span.specs.Texts.{id_text}
 use Rattle.mesh_graph.specs.declared.entry.Entry.{Entry}
 use Rattle.mesh_graph.specs.Groups.{IsAscending}
 use Rattle.certificate.specs.declared.certificate.Certificate.{Certificate}
+use Rattle.mesh_graph.specs.declared.build.TheConstants.{MOST_GROUPS}
 
 -- a group: its id and its set
 abbrev pub entry_line : Entry → List ℕ
@@ -43,9 +44,9 @@ certificate_text c =
 
 -- at most 4,096 lines a list, and the ids of the folds and of the short set ascend
 pub record IsWritable (c : Certificate) : Type 0 where
-  pub abandoned : length c.snapshot.abandoned ≤ 4096
-  pub owned : length c.snapshot.owned ≤ 4096
-  pub folds : length c.plan ≤ 4096
-  pub short : length c.short ≤ 4096
+  pub abandoned : length c.snapshot.abandoned ≤ MOST_GROUPS
+  pub owned : length c.snapshot.owned ≤ MOST_GROUPS
+  pub folds : length c.plan ≤ MOST_GROUPS
+  pub short : length c.short ≤ MOST_GROUPS
   pub folds_ascending : IsAscending (map (λ p. p.0) c.plan)
   pub short_ascending : IsAscending c.short

@@ -39,7 +39,8 @@ impl IdSet {
     /// Puts the id in, and answers whether it is a new one.
     pub(crate) fn insert(&mut self, id: SpanId) -> bool
         ensures new { result ≡ not (has_bit self.old.words (rank id)) }
-        ensures bits { (other : SpanId) → has_bit self.new.words (rank other) ≡ (same_span other id || has_bit self.old.words (rank other)) }
+        ensures bits { (other : SpanId) → has_bit self.new.words (rank other)
+            ≡ (same_span other id || has_bit self.old.words (rank other)) }
     {
         let rank = id.rank() as usize;
         let word = self.words[rank / 64];

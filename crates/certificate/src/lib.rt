@@ -19,6 +19,18 @@
 //!
 //! A [`Certificate`] has snapshot, plan and short set together. [`write()`] gives it as text, and
 //! [`read`] reads that text again; of a text that is none it names the first line at fault.
+//!
+//! # Examples
+//!
+//! ```
+//! // Whoever found the plan, and however: yes means that no plan has more pairs.
+//! let certificate = read(alloc, text)?;
+//! if check(&certificate.snapshot, &certificate.plan, &certificate.short) {
+//!     for (abandoned, owned) in certificate.plan.pairs() {
+//!         // A fold that belongs to a largest plan.
+//!     }
+//! }
+//! ```
 #![tactic(auto)]
 
 mod certificate;

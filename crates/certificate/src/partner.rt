@@ -40,7 +40,8 @@ pub(crate) fn partner_count(snapshot: &Snapshot, short: &[SpanId]) -> usize
 
 /// The groups whose ids are in the set.
 fn members(alloc: Global, abandoned: &[Entry], chosen: &IdSet) -> Result<Vec<Entry>, AllocError>
-    ensures { IfOk result (λ found. found.items ≡ filter (λ x. has_bit chosen.now.words (rank x.id)) abandoned.now) }
+    ensures { IfOk result (λ found. found.items
+        ≡ filter (λ x. has_bit chosen.now.words (rank x.id)) abandoned.now) }
 {
     abandoned
         .iter()
@@ -55,7 +56,9 @@ fn partners_among(
     members: &[Entry],
     owned: &[Entry],
 ) -> Result<Vec<SpanId>, AllocError>
-    ensures { IfOk result (λ found. found.items ≡ map (λ y. y.id) (filter (λ y. list_any (λ x. are_compatible x y) members.now) owned.now)) }
+    ensures { IfOk result (λ found. found.items
+        ≡ map (λ y. y.id) (filter (λ y. list_any (λ x. are_compatible x y) members.now)
+        owned.now)) }
 {
     owned
         .iter()

@@ -6,14 +6,16 @@ use Rattle.std.specs.Prelude.{option_map}
 use Rattle.bitmap.specs.Slots.{AreDisjoint}
 use Rattle.span.specs.declared.id.SpanId.{SpanId}
 use Rattle.page_table.specs.State.{words_of}
-use Rattle.shard.specs.Group.{GroupState, occupied, union_of}
-use Rattle.shard.specs.Moves.{Grafts, IsHeadOf as IsHeadOfInShard, MayGraft, WholeState, head_among, spans_moved, with_room}
+use Rattle.shard.specs.Group.{GroupState, occupied}
+use Rattle.groups.specs.Spans.{union_of}
+use Rattle.shard.specs.Moves.{Grafts, IsHeadOf as IsHeadOfInShard, MayGraft, head_among, with_room}
+use Rattle.groups.specs.Whole.{WholeState, spans_moved}
 use Rattle.shard.specs.Shown.{shown as shown_by_shard}
 use Rattle.shard.specs.Sound.{IsSound as IsSoundShard}
 use Rattle.shard.specs.State.{ShardState}
-use Rattle.shard.proofs.GroupSpans.{times}
+use Rattle.groups.proofs.GroupSpans.{times}
 use Rattle.shard.proofs.HeadsHere.{head_among-here}
-use Rattle.shard.proofs.Logged.{logged, nothing_pending}
+use Rattle.groups.proofs.Logged.{logged, nothing_pending}
 use Rattle.shard.proofs.ShownLogs.{shown-logged as shown-logged_shard}
 use Rattle.abandoned.specs.Calls.{Lifts}
 use Rattle.abandoned.specs.Shown.{shown, together}

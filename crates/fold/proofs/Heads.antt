@@ -5,7 +5,7 @@ use Rattle.span.specs.Ids.{same_span}
 use Rattle.span.specs.declared.id.SpanId.{SpanId}
 use Rattle.shard.specs.Group.{GroupState}
 use Rattle.shard.specs.Moves.{HasNoHead, IsHeadOf}
-use Rattle.shard.proofs.Lists.{same_some}
+use Rattle.groups.proofs.Lists.{same_some}
 
 -- no group has the head, or one does
 pub none_or_head : (groups : List GroupState) (head : SpanId) → HasNoHead groups head ⊎ ((index : ℕ) × (group : GroupState) × IsHeadOf groups head index group)

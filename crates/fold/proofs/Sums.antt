@@ -8,14 +8,15 @@ use Rattle.span.specs.declared.id.SpanId.{SpanId}
 use Rattle.page_table.specs.State.{words_of}
 use Rattle.page_table.specs.Words.{Words}
 use Rattle.shard.specs.Group.{spans_of}
-use Rattle.shard.specs.Moves.{Grafts, WholeState, spans_moved, with_guests, with_room}
+use Rattle.shard.specs.Moves.{Grafts, with_guests, with_room}
+use Rattle.groups.specs.Whole.{WholeState, spans_moved}
 use Rattle.shard.specs.Sound.{IsSound as IsSoundShard}
 use Rattle.shard.specs.State.{ShardState, spans_in as spans_in_shard}
-use Rattle.shard.proofs.Lists.{split_at}
+use Rattle.groups.proofs.Lists.{split_at}
 use Rattle.shard.proofs.MovedGroups.{AreBetween}
 use Rattle.abandoned.specs.Calls.{Lifts}
 use Rattle.abandoned.specs.State.{PoolState, PooledState, paged_groups, spans_in}
-use Rattle.shard.proofs.Removed.{count-remove}
+use Rattle.groups.proofs.Removed.{count-remove}
 use Rattle.abandoned.proofs.Together.{spans_in-Lifts}
 use Rattle.fold.specs.Folds.{Folds}
 

@@ -2,17 +2,15 @@
 use Rattle.std.specs.Prelude.{◌≡◌, ◌⊎◌, ℕ, length, None, Some}
 use Rattle.bitmap.specs.Slots.{AreDisjoint}
 use Rattle.span.specs.declared.id.SpanId.{SpanId}
-use Rattle.shard.specs.Group.{GroupState, occupied, union_of}
-use Rattle.shard.specs.Moves.{Grafts, HasNoHead as HasNoHeadInShard, IsHeadOf as IsHeadOfInShard, WholeState, spans_moved, with_room}
+use Rattle.shard.specs.Group.{GroupState, occupied}
+use Rattle.groups.specs.Spans.{union_of}
+use Rattle.shard.specs.Moves.{Grafts, HasNoHead as HasNoHeadInShard, IsHeadOf as IsHeadOfInShard, with_room}
+use Rattle.groups.specs.Whole.{WholeState, spans_moved}
 use Rattle.shard.specs.State.{ShardState}
-use Rattle.abandoned.specs.Calls.{HasDoubled, Lifts}
+use Rattle.abandoned.specs.Calls.{Lifts, WouldDouble}
 use Rattle.abandoned.specs.State.{HasNoHead, IsHeadOf, PoolState, PooledState, spans_of}
 use Rattle.fold.specs.declared.step.Step.{Step}
 use Rattle.fold.specs.declared.step.Step.TheVariants.{Absent, Clash, Emptied, Folded}
-
--- a span of the pool's group of a is in the shard already, or bears its number
-abbrev pub WouldDouble : PoolState → ShardState → SpanId → Type 0
-WouldDouble pool shard a = (index : ℕ) × (group : PooledState) × IsHeadOf pool.groups a index group × HasDoubled shard (spans_of group)
 
 -- a heads no group of the pool, or b no group of the shard, or a span would stand twice
 abbrev pub IsAbsent : PoolState → ShardState → SpanId → SpanId → Type 0

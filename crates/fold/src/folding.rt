@@ -1,12 +1,11 @@
 // A fold of a group of the pool onto a group of a shard.
-ghost use Rattle.std.specs.Prelude.{◌≡◌, ◌+◌, ◌↔◌, ℕ, IfOk, IsTrue, OnErr, OnOk, Ok, length};
+ghost use Rattle.std.specs.Prelude.{◌≡◌, ◌+◌, IfOk, OnErr, OnOk, Ok, length};
 ghost use Rattle.shard.specs.Shown.{shown as shown_by_shard};
 ghost use Rattle.shard.specs.Sound.{IsSound as IsSoundShard};
-ghost use Rattle.abandoned.specs.Calls.{IsTaken};
 ghost use Rattle.abandoned.specs.Shown.{shown, together};
 ghost use Rattle.abandoned.specs.Sound.{IsSound};
-ghost use Rattle.abandoned.specs.State.{IsHeadOf, PooledState, paged_groups, spans_of};
-ghost use Rattle.fold.specs.Folds.{Folds, IsStepFor, MayFold, Steps, WouldDouble};
+ghost use Rattle.abandoned.specs.State.{paged_groups};
+ghost use Rattle.fold.specs.Folds.{Folds, IsStepFor, MayFold, Steps};
 
 use crate::step::Step;
 use abandoned::Pool;
@@ -33,13 +32,20 @@ pub fn fold_one<L: Log>(
     a: SpanId,
     b: SpanId,
 ) -> Result<Step, AllocError>
+    // What a fold does.
     ensures ok { IfOk result (λ step. Steps pool.old shard.old a b step pool.new shard.new) }
-    ensures kept { together (shown pool.new) (shown_by_shard shard.new) ≡ together (shown pool.old) (shown_by_shard shard.old) }
-    ensures page { result ≡ Ok Step.Folded → length (paged_groups pool.new) + 1 ≡ length (paged_groups pool.old) }
+    ensures kept { together (shown pool.new) (shown_by_shard shard.new)
+        ≡ together (shown pool.old) (shown_by_shard shard.old) }
+    ensures page { result ≡ Ok Step.Folded → length (paged_groups pool.new) + 1
+        ≡ length (paged_groups pool.old) }
     ensures groups { result ≡ Ok Step.Folded → length shard.new.groups ≡ length shard.old.groups }
+
+    // What a refusal leaves.
     ensures err { OnErr result (pool.new ≡ pool.old) }
     ensures err_shard { OnErr result (shard.new ≡ shard.old) }
     ensures err_may { OnErr result (MayFold pool.old shard.old a b) }
+
+    // Both are sound afterwards.
     ensures sound { IsSound pool.new }
     ensures sound_shard { IsSoundShard shard.new }
 {
@@ -68,7 +74,7 @@ fn step_for<L: Log>(pool: &Pool<L>, shard: &Shard<L>, a: SpanId, b: SpanId) -> S
     let Some(onto) = shard.brief(b) else {
         return Step::Absent;
     };
-    if would_double(pool, shard, a, from.spans) {
+    if pool.would_double(shard, a) {
         return Step::Absent;
     }
     if !from.paged {
@@ -81,34 +87,6 @@ fn step_for<L: Log>(pool: &Pool<L>, shard: &Shard<L>, a: SpanId, b: SpanId) -> S
     }
 }
 
-// Whether a span of the pool's group of the head, which has that many spans, is in the shard already or bears its
-// number.
-fn would_double<L: Log>(pool: &Pool<L>, shard: &Shard<L>, head: SpanId, spans: usize) -> bool
-    requires group { (index : ℕ) × (group : PooledState) × IsHeadOf pool.now.groups head index group × (spans ≡ length (spans_of group)) }
-    requires sound { IsSound pool.now }
-    ensures { IsTrue result ↔ WouldDouble pool.now shard.now head }
-{
-    for place in 0..spans {
-        let Some(id) = pool.span_at(head, place) else {
-            unreachable!();
-        };
-        if is_taken(shard, id) {
-            return true;
-        }
-    }
-    false
-}
-
-// Whether the shard has a span of this id, or is the one that opens it.
-fn is_taken<L: Log>(shard: &Shard<L>, id: SpanId) -> bool
-    ensures { IsTrue result ↔ IsTaken shard.now id }
-{
-    if id.shard == shard.number() {
-        return true;
-    }
-    shard.has(id)
-}
-
 // Makes room in the shard, and then moves the group there.
 fn carry_out<L: Log>(
     pool: &mut Pool<L>,
@@ -116,9 +94,12 @@ fn carry_out<L: Log>(
     a: SpanId,
     b: SpanId,
 ) -> Result<(), AllocError>
+    // The fold may be.
     requires may { MayFold pool.old shard.old a b }
     requires sound { IsSound pool.old }
     requires sound_shard { IsSoundShard shard.old }
+
+    // What it does, and what a refusal leaves.
     ensures folds { OnOk result (Folds pool.old shard.old a b pool.new shard.new) }
     ensures err { OnErr result (pool.new ≡ pool.old) }
     ensures err_shard { OnErr result (shard.new ≡ shard.old) }

@@ -24,6 +24,17 @@
 //! The public fact of the crate: the answer is exactly the one that the two groups call for (`specs/Folds.antt`), only
 //! [`Step::Folded`] changes anything, pool and shard then show the same map of keys together as before, and the pool
 //! has one page less while the shard has as many as before.
+//!
+//! # Examples
+//!
+//! ```
+//! // The pool's group of head `a` onto the shard's group of head `b`, where no slot is live in both.
+//! match fold_one(&mut pool, &mut shard, a, b)? {
+//!     Step::Folded => {} // one page less, and each key finds its value as before
+//!     Step::Emptied => {} // the group has no live slot any more, and so no page
+//!     Step::Clash | Step::Absent => {} // nothing has changed
+//! }
+//! ```
 #![tactic(auto)]
 
 mod folding;

@@ -3,6 +3,7 @@ ghost use Rattle.std.specs.Prelude.{◌≡◌, ◌↔◌, ◌<◌, ◌≤◌, �
 ghost use Rattle.bitmap.specs.Slots.{has_bit};
 ghost use Rattle.mesh_graph.specs.Rows.{IsRow};
 ghost use Rattle.mesh_graph.specs.declared.build.BuildError.TheVariants.{OutOfMemory, TooMany};
+ghost use Rattle.mesh_graph.specs.declared.build.TheConstants.{MOST_GROUPS};
 
 use crate::entry::Entry;
 use crate::graph::Graph;
@@ -38,7 +39,8 @@ impl Graph {
     pub fn build(alloc: Global, snapshot: &Snapshot, pieces: usize) -> Result<Graph, BuildError>
         requires { 1 ≤ pieces }
         ensures graph { IfOk result (λ graph. graph ≡ snapshot.now) }
-        ensures too_many { (result ≡ Err TooMany) ↔ ((4096 < length snapshot.now.abandoned) ⊎ (4096 < length snapshot.now.owned)) }
+        ensures too_many { (result ≡ Err TooMany) ↔ ((MOST_GROUPS < length snapshot.now.abandoned)
+            ⊎ (MOST_GROUPS < length snapshot.now.owned)) }
     {
         if snapshot.abandoned().len() > MOST_GROUPS {
             return Err(BuildError::TooMany);
@@ -55,7 +57,9 @@ impl Graph {
 // A row for each abandoned group.
 fn rows_of(alloc: Global, abandoned: &[Entry], owned: &[Entry]) -> Result<Vec<Vec<u64>>, AllocError>
     ensures height { IfOk result (λ rows. length rows.items ≡ length abandoned.now) }
-    ensures rows { IfOk result (λ rows. (i : ℕ) (x : Entry) (d : _) → i < length abandoned.now → IsRow (slice_index_or abandoned.now i x) owned.now (slice_index_or rows.items i d).items) }
+    ensures rows { IfOk result (λ rows. (i : ℕ) (x : Entry) (d : _) → i < length abandoned.now
+        → IsRow (slice_index_or abandoned.now i x) owned.now
+        (slice_index_or rows.items i d).items) }
 {
     let mut rows = Vec::new(alloc);
     for entry in abandoned {

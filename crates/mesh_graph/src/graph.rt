@@ -2,6 +2,7 @@
 ghost use Rattle.std.specs.Prelude.{◌≡◌, ◌+◌, ◌/◌, ◌<◌, ◌≤◌, ℕ, true, false, length, slice_get, IfNone, IfSome, Some, map};
 ghost use Rattle.bitmap.specs.Slots.{has_bit};
 ghost use Rattle.mesh_graph.specs.Groups.{IsAscending, compatible_at, ids};
+ghost use Rattle.mesh_graph.specs.declared.build.TheConstants.{MOST_GROUPS};
 
 use crate::snapshot::Snapshot;
 use span::SpanId;
@@ -35,7 +36,7 @@ impl Graph {
     /// How many abandoned groups there are.
     pub fn abandoned(&self) -> usize
         ensures count { result ≡ length self.now.abandoned }
-        ensures at_most { result ≤ 4096 }
+        ensures at_most { result ≤ MOST_GROUPS }
         ensures ascending { IsAscending (ids self.now.abandoned) }
     {
         self.snapshot.abandoned().len()
@@ -44,7 +45,7 @@ impl Graph {
     /// How many owned groups there are.
     pub fn owned(&self) -> usize
         ensures count { result ≡ length self.now.owned }
-        ensures at_most { result ≤ 4096 }
+        ensures at_most { result ≤ MOST_GROUPS }
         ensures ascending { IsAscending (ids self.now.owned) }
     {
         self.snapshot.owned().len()
@@ -93,7 +94,8 @@ impl Graph {
         ensures partner { IfSome result (λ j. compatible_at self.now i j ≡ true) }
         ensures within { IfSome result (λ j. j < length self.now.owned) }
         ensures from { IfSome result (λ j. from ≤ j) }
-        ensures least { IfSome result (λ j. (k : ℕ) → from ≤ k → k < j → compatible_at self.now i k ≡ false) }
+        ensures least { IfSome result (λ j. (k : ℕ) → from ≤ k → k < j
+            → compatible_at self.now i k ≡ false) }
         ensures none { IfNone result ((k : ℕ) → from ≤ k → compatible_at self.now i k ≡ false) }
     {
         next_bit(self.row(i), from)

@@ -16,6 +16,18 @@
 //! Contracts see a snapshot as its two lists, and a graph as the snapshot that it was built from.
 //! The public fact of the crate is that bit j of row i says exactly whether abandoned group i and
 //! owned group j of that snapshot are compatible.
+//!
+//! # Examples
+//!
+//! ```
+//! // Two lists of `Entry { id, occupied }`, in any order.
+//! let snapshot = Snapshot::new(abandoned, owned)?;
+//! let graph = Graph::build(alloc, &snapshot, 1)?;
+//! if let Some(j) = graph.next_partner(0, 0) {
+//!     // The first abandoned group may be folded onto this owned one.
+//!     let owned = graph.owned_id(j);
+//! }
+//! ```
 #![tactic(auto)]
 
 mod build;

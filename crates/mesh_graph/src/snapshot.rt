@@ -41,11 +41,13 @@ impl Snapshot {
     /// The snapshot of two lists in any order, refused exactly where an id stands twice on a side.
     /// It sorts the lists in place and takes no memory.
     pub fn new(abandoned: Vec<Entry>, owned: Vec<Entry>) -> Result<Snapshot, Doubled>
-        ensures abandoned { IfOk result (λ snapshot. IsPermutation abandoned.items snapshot.abandoned) }
+        ensures abandoned { IfOk result (λ snapshot. IsPermutation abandoned.items
+            snapshot.abandoned) }
         ensures owned { IfOk result (λ snapshot. IsPermutation owned.items snapshot.owned) }
         ensures abandoned_distinct { IfOk result (λ _. IsDistinct same_span (ids abandoned.items)) }
         ensures owned_distinct { IfOk result (λ _. IsDistinct same_span (ids owned.items)) }
-        ensures doubled { IfErr result (λ _. IsDistinct same_span (ids abandoned.items) → IsDistinct same_span (ids owned.items) → ⊥) }
+        ensures doubled { IfErr result (λ _. IsDistinct same_span (ids abandoned.items)
+            → IsDistinct same_span (ids owned.items) → ⊥) }
     {
         let abandoned = sorted(abandoned)?;
         let owned = sorted(owned)?;
@@ -129,7 +131,8 @@ fn sorted(mut entries: Vec<Entry>) -> Result<Vec<Entry>, Doubled>
 fn place_of(entries: &[Entry], id: SpanId) -> Option<usize>
     requires { IsAscending (ids entries.now) }
     ensures within { IfSome result (λ k. k < length entries.now) }
-    ensures found { IfSome result (λ k. (d : Entry) → same_span (slice_index_or entries.now k d).id id ≡ true) }
+    ensures found { IfSome result (λ k. (d : Entry)
+        → same_span (slice_index_or entries.now k d).id id ≡ true) }
     ensures none { IfNone result (has_id entries.now id ≡ false) }
 {
     let rank = id.rank();

@@ -3,15 +3,15 @@ use Rattle.std.specs.Prelude.{◌≡◌, ◌+◌, ◌⊎◌, ℕ, Bool, true, fa
 use Rattle.clap.specs.Walk.{Text}
 use Rattle.certificate.specs.Grammar.{certificate_in}
 use Rattle.certificate.specs.declared.text.cause.ReadError.TheVariants as read_error
-use Rattle.trace_runner.specs.Job.{IsJobOf, shown}
+use Rattle.command_line.specs.Job.{IsJobOf, bytes_of}
 use Rattle.trace_runner.specs.Replay.{WritesFront, WritesReport}
-use Rattle.trace_runner.specs.Store.{IsSaved, IsUnsaved}
+use Rattle.command_line.specs.Store.{IsSaved, IsUnsaved}
 use Rattle.trace_text.specs.Trace.{IsFaultAt}
 use Rattle.trace_runner.specs.Verdict.{WritesVerdict, WritesVerdictFront}
-use Rattle.trace_runner.specs.declared.fault.Fault.{Fault}
-use Rattle.trace_runner.specs.declared.fault.Fault.TheVariants as fault
-use Rattle.trace_runner.specs.declared.job.Job.{Job}
-use Rattle.trace_runner.specs.declared.job.Job.TheVariants.{Run, Check}
+use Rattle.command_line.specs.declared.fault.Fault.{Fault}
+use Rattle.command_line.specs.declared.fault.Fault.TheVariants as fault
+use Rattle.command_line.specs.declared.job.Job.{Job}
+use Rattle.command_line.specs.declared.job.Job.TheVariants.{Run, Check}
 use Rattle.thread_runner.specs.Threaded.{FailsAudit, WritesThreadedFront, WritesThreadedReport}
 
 -- 0 where the certificate is accepted, and else 1
@@ -46,14 +46,14 @@ module _ {D : Type 0} (held : D → List ℕ → Option (List ℕ)) where
       (text : List ℕ) × (bytes : List ℕ) × WritesRun serial text replies old new bytes × IsSaved held certificate bytes before after
 
   -- `run` replayed a trace as it says and ends with 0; `check` checked a certificate and ends as its verdict says
-  abbrev pub Does : Job → (old new : Option (List ℕ)) → (before after : D) → (status : ℕ) → Type 0
-  Does (Run trace serial replies certificate) old new before after status = IsReplayed serial replies (shown certificate) old new before after × (status ≡ 0)
-  Does (Check file) old new before after status =
+  abbrev pub DoesJob : Job → (old new : Option (List ℕ)) → (before after : D) → (status : ℕ) → Type 0
+  DoesJob (Run trace serial replies certificate) old new before after status = IsReplayed serial replies (bytes_of certificate) old new before after × (status ≡ 0)
+  DoesJob (Check file) old new before after status =
       ((text : List ℕ) × (accepted : Bool) × WritesVerdict text old new accepted × (status ≡ status_of_verdict accepted)) × (after ≡ before)
 
   -- the job that words name was done
   abbrev pub IsDone : (old new : Option (List ℕ)) → (before after : D) → (status : ℕ) → Type 0
-  IsDone old new before after status = (words : List Text) × (job : Job) × IsJobOf words job × Does job old new before after status
+  IsDone old new before after status = (words : List Text) × (job : Job) × IsJobOf words job × DoesJob job old new before after status
 
 -- where a check came to a halt: at a sink that failed, once, with a prefix of the verdict's line taken; or with nothing taken, where a text was
 -- at fault, memory ran out, or the file could not be read
@@ -96,7 +96,7 @@ module _ {D : Type 0} (held : D → List ℕ → Option (List ℕ)) (failures : 
 
   -- where the job came to a halt; a check writes no file
   abbrev pub Halts : Job → (failures_old failures_new : ℕ) → (old new : Option (List ℕ)) → (before after : D) → Fault → Type 0
-  Halts (Run trace serial replies certificate) failures_old failures_new old new before after stop = HaltsRun serial replies (shown certificate) failures_old failures_new old new before after stop
+  Halts (Run trace serial replies certificate) failures_old failures_new old new before after stop = HaltsRun serial replies (bytes_of certificate) failures_old failures_new old new before after stop
   Halts (Check file) failures_old failures_new old new before after stop = HaltsCheck failures_old failures_new old new stop × (after ≡ before)
 
   -- no job was begun, and nothing was written; or the job that words name came to a halt

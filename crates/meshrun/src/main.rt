@@ -5,15 +5,16 @@
 //! the certificate is accepted, or help was asked for; 1 where the text is no trace or no certificate, or the certificate
 //! is rejected; 2 where the words name no job, 3 where memory ran out, and 5 where a read or a write failed.
 //!
-//! All that it does is done by `trace_runner`; here files and words are read, which have no model, and the tests stand that
-//! go through all crates.
+//! What its words mean, and what is said of a fault, stands in `command_line`, and all that it does is done by `trace_runner` and
+//! `thread_runner`; here files and words are read, which have no model, and the tests stand that go through all crates.
 #![tactic(auto)]
 
 ghost use Rattle.std.specs.Prelude.{◌≡◌, ◌<◌, ◌≤◌, ◌+◌, ◌-◌, ◌^◌, ℕ, List, IfErr, IfOk, OnOk};
-ghost use Rattle.meshrun.specs.Done.{Does, Halts, HaltsCheck, HaltsReplay, HaltsRun, IsDone, IsHalted, IsReplayed, WritesRun, status_of_verdict};
-ghost use Rattle.trace_runner.specs.Job.{shown};
+ghost use Rattle.meshrun.specs.Done.{DoesJob, Halts, HaltsCheck, HaltsReplay, HaltsRun, IsDone, IsHalted, IsReplayed, WritesRun, status_of_verdict};
+ghost use Rattle.command_line.specs.Job.{bytes_of};
 ghost use Rattle.trace_runner.specs.Verdict.{WritesVerdict};
 
+use command_line::{Disk, Fault, Job, Store, save, tell};
 use std::env::{self, Env};
 use std::fs;
 use std::io::{self, Input, Read};
@@ -22,7 +23,7 @@ use std::rt::Files;
 use std::sync::Wait;
 use std::thread::Threads;
 use thread_runner::replay_threads;
-use trace_runner::{Disk, Fault, Job, Out, Sink, Store, check_text, replay_serial, save, tell};
+use trace_runner::{Out, Sink, check_text, replay_serial};
 
 /// The words after the program's own name.
 fn words_after_name(rt: &(impl Env + AllocGlobal)) -> io::Result<Vec<String>> {
@@ -56,10 +57,12 @@ fn replay<R: Threads + Wait + Sync + AllocGlobal, S: Sink>(
     cert: &mut Vec<u8>,
 ) -> Result<(), Fault>
     requires { S.failures out.old < 2 ^ 64 - 1 }
-    ensures done { OnOk result (WritesRun serial text.now replies (S.taken out.old) (S.taken out.new) cert.new.items) }
+    ensures done { OnOk result (WritesRun serial text.now replies (S.taken out.old)
+        (S.taken out.new) cert.new.items) }
     ensures succeeded { OnOk result (S.failures out.new ≡ S.failures out.old) }
     ensures failures { S.failures out.new ≤ S.failures out.old + 1 }
-    ensures err { IfErr result (HaltsReplay serial text.now replies (S.failures out.old) (S.failures out.new) (S.taken out.old) (S.taken out.new)) }
+    ensures err { IfErr result (HaltsReplay serial text.now replies (S.failures out.old)
+        (S.failures out.new) (S.taken out.old) (S.taken out.new)) }
 {
     if serial {
         replay_serial(rt.alloc(), text, replies, out, cert)?;
@@ -80,14 +83,22 @@ fn run_trace<R: Threads + Wait + Sync + Files + Input + AllocGlobal, S: Sink, D:
     out: &mut S,
     store: &mut D,
 ) -> Result<(), Fault>
+    // Failures can still be counted.
     requires sink_room { S.failures out.old < 2 ^ 64 - 1 }
     requires store_room { D.failures store.old < 2 ^ 64 - 1 }
-    ensures done { OnOk result (IsReplayed D.held serial replies (shown certificate.entry) (S.taken out.old) (S.taken out.new) store.old store.new) }
+
+    // What was done, and whether it failed anywhere.
+    ensures done { OnOk result (IsReplayed D.held serial replies (bytes_of certificate.entry)
+        (S.taken out.old) (S.taken out.new) store.old store.new) }
     ensures succeeded { OnOk result (S.failures out.new ≡ S.failures out.old) }
     ensures failures { S.failures out.new ≤ S.failures out.old + 1 }
+
+    // What became of the files.
     ensures stored { OnOk result (D.failures store.new ≡ D.failures store.old) }
     ensures store_failures { D.failures store.new ≤ D.failures store.old + 1 }
-    ensures err { IfErr result (HaltsRun D.held D.failures serial replies (shown certificate.entry) (S.failures out.old) (S.failures out.new) (S.taken out.old) (S.taken out.new) store.old store.new) }
+    ensures err { IfErr result (HaltsRun D.held D.failures serial replies
+        (bytes_of certificate.entry) (S.failures out.old) (S.failures out.new) (S.taken out.old)
+        (S.taken out.new) store.old store.new) }
 {
     let text = trace_text(rt, path)?;
     let mut bytes = Vec::new(rt.alloc());
@@ -103,10 +114,12 @@ fn check_file<R: Files + AllocGlobal, S: Sink>(
     out: &mut S,
 ) -> Result<bool, Fault>
     requires { S.failures out.old < 2 ^ 64 - 1 }
-    ensures done { IfOk result (λ accepted. (text : List ℕ) × WritesVerdict text (S.taken out.old) (S.taken out.new) accepted) }
+    ensures done { IfOk result (λ accepted. (text : List ℕ)
+        × WritesVerdict text (S.taken out.old) (S.taken out.new) accepted) }
     ensures succeeded { OnOk result (S.failures out.new ≡ S.failures out.old) }
     ensures failures { S.failures out.new ≤ S.failures out.old + 1 }
-    ensures err { IfErr result (HaltsCheck (S.failures out.old) (S.failures out.new) (S.taken out.old) (S.taken out.new)) }
+    ensures err { IfErr result (HaltsCheck (S.failures out.old) (S.failures out.new)
+        (S.taken out.old) (S.taken out.new)) }
 {
     let text = fs::read(rt, path)?;
     let accepted = check_text(rt.alloc(), &text, out)?;
@@ -120,7 +133,7 @@ fn verdict_status(accepted: bool) -> u8
     if accepted { 0 } else { 1 }
 }
 
-/// Does the job: writes to `out`, and to `store` where a file is named for the certificate, and answers the status with
+/// DoesJob the job: writes to `out`, and to `store` where a file is named for the certificate, and answers the status with
 /// which the program ends: 1 where a certificate is rejected, and else 0.
 fn do_job<R: Threads + Wait + Sync + Files + Input + AllocGlobal, S: Sink, D: Store>(
     rt: &R,
@@ -128,14 +141,21 @@ fn do_job<R: Threads + Wait + Sync + Files + Input + AllocGlobal, S: Sink, D: St
     out: &mut S,
     store: &mut D,
 ) -> Result<u8, Fault>
+    // Failures can still be counted.
     requires sink_room { S.failures out.old < 2 ^ 64 - 1 }
     requires store_room { D.failures store.old < 2 ^ 64 - 1 }
-    ensures done { IfOk result (Does D.held job.entry (S.taken out.old) (S.taken out.new) store.old store.new) }
+
+    // What was done, and whether it failed anywhere.
+    ensures done { IfOk result (DoesJob D.held job.entry (S.taken out.old)
+        (S.taken out.new) store.old store.new) }
     ensures succeeded { OnOk result (S.failures out.new ≡ S.failures out.old) }
     ensures failures { S.failures out.new ≤ S.failures out.old + 1 }
+
+    // What became of the files.
     ensures stored { OnOk result (D.failures store.new ≡ D.failures store.old) }
     ensures store_failures { D.failures store.new ≤ D.failures store.old + 1 }
-    ensures err { IfErr result (Halts D.held D.failures job.entry (S.failures out.old) (S.failures out.new) (S.taken out.old) (S.taken out.new) store.old store.new) }
+    ensures err { IfErr result (Halts D.held D.failures job.entry (S.failures out.old)
+        (S.failures out.new) (S.taken out.old) (S.taken out.new) store.old store.new) }
 {
     match job {
         Job::Run {
@@ -154,20 +174,27 @@ fn do_job<R: Threads + Wait + Sync + Files + Input + AllocGlobal, S: Sink, D: St
     }
 }
 
-/// Does the job that the program's words name.
+/// DoesJob the job that the program's words name.
 fn do_named_job<R: Threads + Wait + Sync + Env + Files + Input + AllocGlobal, S: Sink, D: Store>(
     rt: &R,
     out: &mut S,
     store: &mut D,
 ) -> Result<u8, Fault>
+    // Failures can still be counted.
     requires sink_room { S.failures out.old < 2 ^ 64 - 1 }
     requires store_room { D.failures store.old < 2 ^ 64 - 1 }
-    ensures done { IfOk result (IsDone D.held (S.taken out.old) (S.taken out.new) store.old store.new) }
+
+    // What was done, and whether it failed anywhere.
+    ensures done { IfOk result (IsDone D.held (S.taken out.old)
+        (S.taken out.new) store.old store.new) }
     ensures succeeded { OnOk result (S.failures out.new ≡ S.failures out.old) }
     ensures failures { S.failures out.new ≤ S.failures out.old + 1 }
+
+    // What became of the files.
     ensures stored { OnOk result (D.failures store.new ≡ D.failures store.old) }
     ensures store_failures { D.failures store.new ≤ D.failures store.old + 1 }
-    ensures err { IfErr result (IsHalted D.held D.failures (S.failures out.old) (S.failures out.new) (S.taken out.old) (S.taken out.new) store.old store.new) }
+    ensures err { IfErr result (IsHalted D.held D.failures (S.failures out.old) (S.failures out.new)
+        (S.taken out.old) (S.taken out.new) store.old store.new) }
 {
     let words = words_after_name(rt)?;
     let mut texts = Vec::new(rt.alloc());

@@ -1,5 +1,5 @@
 -- The words of a page after one was written.
-use Rattle.std.proofs.Common.{◌≡◌, ℕ, ◌<◌, ◌∙◌, arith, get_or-set_other, get_or-set_same}
+use Rattle.std.proofs.Common.{◌≡◌, ℕ, ◌<◌, arith, get_or-set_other, get_or-set_same}
 use Rattle.page_table.specs.Words.{Words, set_word, word}
 
 module _ (words : Words) (slot value : ℕ) where

@@ -5,17 +5,18 @@ use base.Stored.{coded_via}
 use lib.ListN.{length-replicate, length-set}
 use mathlib.Core.HLevel.{is_prop→PathP}
 use mathlib.Core.Path.{◌∙◌}
+use Rattle.bitmap.specs.declared.bits.TheConstants.{SLOTS}
 
--- the words of a page, one for each of its 256 slots
+-- the words of a page, one for each of its slots
 pub record Words : Type 0 where
   pub items : List ℕ
-  pub whole : length items ≡ 256
+  pub whole : length items ≡ SLOTS
 
--- words are their list: that it has 256 words has one proof
+-- words are their list: how many they are has one proof
 pub same_words : (a b : Words) → a.items ≡ b.items → a ≡ b
 same_words a b items i = record {
   items = items i;
-  whole = is_prop→PathP (λ i. length (items i) ≡ 256) (λ i. Coded-set coded_ℕ _ _) a.whole b.whole i;
+  whole = is_prop→PathP (λ i. length (items i) ≡ SLOTS) (λ i. Coded-set coded_ℕ _ _) a.whole b.whole i;
 }
 
 -- words are stored as their list
@@ -32,4 +33,4 @@ set_word words slot value = record { items = slice_set words.items slot value; w
 
 -- the words of a new page, which are all 0
 unfoldable pub blank_page : Words
-blank_page = record { items = replicate 256 0; whole = length-replicate {A = ℕ} 256 0 }
+blank_page = record { items = replicate SLOTS 0; whole = length-replicate {A = ℕ} SLOTS 0 }

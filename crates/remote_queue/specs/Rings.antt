@@ -4,6 +4,7 @@ use denote.RawPtr.{Ptr}
 use Rattle.rtrb.specs.Shared.{Names}
 use Rattle.std.specs.declared.alloc.Global.{Global}
 use Rattle.span.specs.declared.key.Key.{Key}
+use Rattle.span.specs.declared.limits.TheConstants.{MOST_RING_KEYS, MOST_SHARDS, MOST_SPANS}
 
 -- which ring it is
 pub record Ring : Type 0 where
@@ -26,13 +27,13 @@ pub record Taking : Type 0 where
 
 -- every number of the key lies within its limits
 abbrev pub IsInRange : Key → Type 0
-IsInRange key = (key.span.shard < 64) × (key.span.serial < 1024) × (1 ≤ key.generation)
+IsInRange key = (key.span.shard < MOST_SHARDS) × (key.span.serial < MOST_SPANS) × (1 ≤ key.generation)
 
 -- numbers of workers, of shards and of keys in a ring that there may be
 pub record AreWithinLimits (workers shards capacity : ℕ) : Type 0 where
-  pub workers_in_range : (1 ≤ workers) × (workers ≤ 64)
-  pub shards_in_range : (1 ≤ shards) × (shards ≤ 64)
-  pub capacity_in_range : (1 ≤ capacity) × (capacity ≤ 1024)
+  pub workers_in_range : (1 ≤ workers) × (workers ≤ MOST_SHARDS)
+  pub shards_in_range : (1 ≤ shards) × (shards ≤ MOST_SHARDS)
+  pub capacity_in_range : (1 ≤ capacity) × (capacity ≤ MOST_RING_KEYS)
 
 -- the rings of senders' ends, by row
 abbrev pub outbox_rings : List (Vec Sending Global) → List (List Ring)

@@ -2,6 +2,7 @@
 ghost use Rattle.std.specs.Prelude.{◌≡◌, ◌<◌, ◌≤◌, [], ◌∷◌, ◌++◌, IfOk, IsOk, IsSome, MatchOption, MatchResult, length};
 ghost use mathlib.Core.List.{IsPrefix};
 ghost use Rattle.remote_queue.specs.Rings.{IsInRange};
+ghost use Rattle.span.specs.declared.limits.TheConstants.{MOST_RING_KEYS};
 
 use rtrb::{Consumer, Producer, Protocol, PushError, RingBuffer};
 use span::Key;
@@ -35,7 +36,7 @@ impl Model for Outbox {
 #[derive(Drop)]
 pub struct Inbox {
     consumer: Consumer<Key, Global, KeysInRange>,
-    ghost capacity_in_range: { consumer.capacity ≤ 1024 },
+    ghost capacity_in_range: { consumer.capacity ≤ MOST_RING_KEYS },
 }
 
 impl Model for Inbox {
@@ -49,8 +50,9 @@ impl Model for Inbox {
 
 // A new ring with room for so many keys.
 pub(crate) fn ring(alloc: Global, capacity: usize) -> Result<(Outbox, Inbox), AllocError>
-    requires { capacity ≤ 1024 }
-    ensures { IfOk result (λ ends. (ends.0.ring ≡ ends.1.ring) × (ends.0.sent ≡ []) × (ends.0.free ≡ capacity) × (ends.1.taken ≡ [])) }
+    requires { capacity ≤ MOST_RING_KEYS }
+    ensures { IfOk result (λ ends. (ends.0.ring ≡ ends.1.ring) × (ends.0.sent ≡ [])
+        × (ends.0.free ≡ capacity) × (ends.1.taken ≡ [])) }
 {
     let (producer, consumer) = RingBuffer::with_protocol::<Global, KeysInRange>(alloc, capacity)?;
     Ok((Outbox { producer }, Inbox { consumer }))
@@ -111,9 +113,10 @@ pub fn finish(outbox: &mut Outbox, inbox: &mut Inbox) -> usize
     requires { outbox.old.ring ≡ inbox.old.ring }
     ensures left { result ≡ length inbox.new.known }
     ensures settled { inbox.new.taken ++ inbox.new.known ≡ outbox.new.sent }
-    ensures outbox { (outbox.new.ring ≡ outbox.old.ring) × (outbox.new.sent ≡ outbox.old.sent) × (outbox.old.free ≤ outbox.new.free) }
+    ensures outbox { (outbox.new.ring ≡ outbox.old.ring) × (outbox.new.sent ≡ outbox.old.sent)
+        × (outbox.old.free ≤ outbox.new.free) }
     ensures inbox { (inbox.new.ring ≡ inbox.old.ring) × (inbox.new.taken ≡ inbox.old.taken) }
-    ensures few { result ≤ 1024 }
+    ensures few { result ≤ MOST_RING_KEYS }
 {
     inbox.consumer.slots_beside(&mut outbox.producer)
 }

@@ -14,6 +14,19 @@
 //! While the ends are in different hands, each knows its own side: what was sent, or what was taken. Once both are in one
 //! hand, [`finish`] says how many keys are left: so many takes then answer, and the keys taken are the keys sent, in order.
 //! (That frees by other threads are kept apart from the owner's and collected later is an idea of mimalloc.)
+//!
+//! # Examples
+//!
+//! ```
+//! // One worker, one shard, and a ring of four keys between them.
+//! let Links { mut outboxes, mut inboxes } = link(alloc, 1, 1, 4)?;
+//! let (mut outbox, mut inbox) = (outboxes.pop()?.pop()?, inboxes.pop()?.pop()?);
+//! if let Err(back) = outbox.send(key) {
+//!     // The ring was full, and the key is ours again.
+//! }
+//! let taken = inbox.take(); // in the order in which they were sent
+//! let left = finish(&mut outbox, &mut inbox); // that many takes answer
+//! ```
 #![tactic(auto)]
 
 mod ends;

@@ -1,9 +1,11 @@
 // A ring for each worker and shard.
 ghost use Rattle.std.specs.Prelude.{◌≡◌, ◌+◌, ◌<◌, ◌≤◌, ◌↔◌, [], ◌∷◌, ◌++◌, All, IfOk, IsErrOf, IsTrue, OnOk, map, slice_index_or, slice_set, vec_len};
 ghost use Rattle.remote_queue.specs.Rings.{AreFreshInboxes, AreFreshOutboxes, AreLong, AreTransposed, AreWithinLimits, inbox_rings, outbox_rings, with_row};
+ghost use Rattle.span.specs.declared.limits.TheConstants.{MOST_RING_KEYS};
 
 use crate::ends::{Inbox, Outbox, ring};
 use crate::error::LinkError;
+use span::{MOST_RING_KEYS, MOST_SHARDS};
 use std::alloc::{AllocError, Global};
 
 /// The ends of the rings from all workers to all shards.
@@ -28,14 +30,26 @@ pub fn link(
     shards: usize,
     capacity: usize,
 ) -> Result<Links, LinkError>
-    ensures config { IsErrOf result LinkError.Config ↔ (AreWithinLimits workers shards capacity → ⊥) }
-    ensures memory { IsErrOf result LinkError.OutOfMemory → AreWithinLimits workers shards capacity }
+    // The refusals.
+    ensures config { IsErrOf result LinkError.Config
+        ↔ (AreWithinLimits workers shards capacity → ⊥) }
+    ensures memory { IsErrOf result LinkError.OutOfMemory
+        → AreWithinLimits workers shards capacity }
     ensures within { OnOk result (AreWithinLimits workers shards capacity) }
-    ensures workers { IfOk result (λ links. (vec_len links.outboxes ≡ workers) × All (λ column. vec_len column ≡ workers) links.inboxes.items) }
-    ensures shards { IfOk result (λ links. (vec_len links.inboxes ≡ shards) × All (λ row. vec_len row ≡ shards) links.outboxes.items) }
-    ensures rings { IfOk result (λ links. AreTransposed (outbox_rings links.outboxes.items) (inbox_rings links.inboxes.items)) }
-    ensures unsent { IfOk result (λ links. All (λ row. AreFreshOutboxes capacity row.items) links.outboxes.items) }
-    ensures untaken { IfOk result (λ links. All (λ column. AreFreshInboxes column.items) links.inboxes.items) }
+
+    // How many ends there are, and which belong together.
+    ensures workers { IfOk result (λ links. (vec_len links.outboxes ≡ workers)
+        × All (λ column. vec_len column ≡ workers) links.inboxes.items) }
+    ensures shards { IfOk result (λ links. (vec_len links.inboxes ≡ shards)
+        × All (λ row. vec_len row ≡ shards) links.outboxes.items) }
+    ensures rings { IfOk result (λ links. AreTransposed (outbox_rings links.outboxes.items)
+        (inbox_rings links.inboxes.items)) }
+
+    // No ring has carried a key yet.
+    ensures unsent { IfOk result (λ links. All (λ row. AreFreshOutboxes capacity row.items)
+        links.outboxes.items) }
+    ensures untaken { IfOk result (λ links. All (λ column. AreFreshInboxes column.items)
+        links.inboxes.items) }
 {
     if !are_within_limits(workers, shards, capacity) {
         return Err(LinkError::Config);
@@ -47,7 +61,9 @@ pub fn link(
 fn are_within_limits(workers: usize, shards: usize, capacity: usize) -> bool
     ensures { IsTrue result ↔ AreWithinLimits workers shards capacity }
 {
-    matches!(workers, 1..=64) && matches!(shards, 1..=64) && matches!(capacity, 1..=1024)
+    (1..=MOST_SHARDS as usize).contains(&workers)
+        && (1..=MOST_SHARDS as usize).contains(&shards)
+        && (1..=MOST_RING_KEYS).contains(&capacity)
 }
 
 // The rings, for numbers within their ranges.
@@ -58,11 +74,16 @@ fn link_within(
     capacity: usize,
 ) -> Result<Links, AllocError>
     requires { AreWithinLimits workers shards capacity }
-    ensures workers { IfOk result (λ links. (vec_len links.outboxes ≡ workers) × All (λ column. vec_len column ≡ workers) links.inboxes.items) }
-    ensures shards { IfOk result (λ links. (vec_len links.inboxes ≡ shards) × All (λ row. vec_len row ≡ shards) links.outboxes.items) }
-    ensures rings { IfOk result (λ links. AreTransposed (outbox_rings links.outboxes.items) (inbox_rings links.inboxes.items)) }
-    ensures unsent { IfOk result (λ links. All (λ row. AreFreshOutboxes capacity row.items) links.outboxes.items) }
-    ensures untaken { IfOk result (λ links. All (λ column. AreFreshInboxes column.items) links.inboxes.items) }
+    ensures workers { IfOk result (λ links. (vec_len links.outboxes ≡ workers)
+        × All (λ column. vec_len column ≡ workers) links.inboxes.items) }
+    ensures shards { IfOk result (λ links. (vec_len links.inboxes ≡ shards)
+        × All (λ row. vec_len row ≡ shards) links.outboxes.items) }
+    ensures rings { IfOk result (λ links. AreTransposed (outbox_rings links.outboxes.items)
+        (inbox_rings links.inboxes.items)) }
+    ensures unsent { IfOk result (λ links. All (λ row. AreFreshOutboxes capacity row.items)
+        links.outboxes.items) }
+    ensures untaken { IfOk result (λ links. All (λ column. AreFreshInboxes column.items)
+        links.inboxes.items) }
 {
     let mut inboxes = columns(alloc, shards)?;
     let mut outboxes = Vec::with_capacity(alloc, workers)?;
@@ -77,7 +98,8 @@ fn link_within(
 fn columns(alloc: Global, shards: usize) -> Result<Vec<Vec<Inbox>>, AllocError>
     ensures long { IfOk result (λ columns. AreLong 0 (inbox_rings columns.items)) }
     ensures len { IfOk result (λ columns. vec_len columns ≡ shards) }
-    ensures untaken { IfOk result (λ columns. All (λ column. AreFreshInboxes column.items) columns.items) }
+    ensures untaken { IfOk result (λ columns. All (λ column. AreFreshInboxes column.items)
+        columns.items) }
 {
     let mut columns = Vec::with_capacity(alloc, shards)?;
     for _ in 0..shards {
@@ -92,12 +114,13 @@ fn add_row(
     capacity: usize,
     columns: &mut Vec<Vec<Inbox>>,
 ) -> Result<Vec<Outbox>, AllocError>
-    requires capacity { capacity ≤ 1024 }
+    requires capacity { capacity ≤ MOST_RING_KEYS }
     requires untaken { All (λ column. AreFreshInboxes column.items) columns.old.items }
     ensures wide { vec_len columns.new ≡ vec_len columns.old }
     ensures untaken { OnOk result (All (λ column. AreFreshInboxes column.items) columns.new.items) }
     ensures len { IfOk result (λ row. vec_len row ≡ vec_len columns.old) }
-    ensures rings { IfOk result (λ row. inbox_rings columns.new.items ≡ with_row (inbox_rings columns.old.items) (map (λ outbox. outbox.ring) row.items)) }
+    ensures rings { IfOk result (λ row. inbox_rings columns.new.items
+        ≡ with_row (inbox_rings columns.old.items) (map (λ outbox. outbox.ring) row.items)) }
     ensures unsent { IfOk result (λ row. AreFreshOutboxes capacity row.items) }
 {
     let mut row = Vec::with_capacity(alloc, columns.len())?;
@@ -116,7 +139,9 @@ fn push_to(columns: &mut Vec<Vec<Inbox>>, shard: usize, inbox: Inbox) -> Result<
     requires untaken { inbox.taken ≡ [] }
     ensures len { vec_len columns.new ≡ vec_len columns.old }
     ensures untaken { OnOk result (All (λ column. AreFreshInboxes column.items) columns.new.items) }
-    ensures rings { OnOk result (inbox_rings columns.new.items ≡ slice_set (inbox_rings columns.old.items) shard (slice_index_or (inbox_rings columns.old.items) shard [] ++ inbox.ring ∷ [])) }
+    ensures rings { OnOk result (inbox_rings columns.new.items
+        ≡ slice_set (inbox_rings columns.old.items) shard
+        (slice_index_or (inbox_rings columns.old.items) shard [] ++ inbox.ring ∷ [])) }
 {
     columns[shard].push(inbox)?;
     Ok(())

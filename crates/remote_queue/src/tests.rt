@@ -15,9 +15,12 @@ fn key(slot: u8) -> Option<Key> {
 
 // A ring from one worker to one shard, with room for one key; made again where memory was refused.
 fn links(alloc: Global) -> Result<Links, LinkError>
-    ensures one_row { IfOk result (λ links. (vec_len links.outboxes ≡ 1) × All (λ row. vec_len row ≡ 1) links.outboxes.items) }
-    ensures one_column { IfOk result (λ links. (vec_len links.inboxes ≡ 1) × All (λ column. vec_len column ≡ 1) links.inboxes.items) }
-    ensures rings { IfOk result (λ links. AreTransposed (outbox_rings links.outboxes.items) (inbox_rings links.inboxes.items)) }
+    ensures one_row { IfOk result (λ links. (vec_len links.outboxes ≡ 1)
+        × All (λ row. vec_len row ≡ 1) links.outboxes.items) }
+    ensures one_column { IfOk result (λ links. (vec_len links.inboxes ≡ 1)
+        × All (λ column. vec_len column ≡ 1) links.inboxes.items) }
+    ensures rings { IfOk result (λ links. AreTransposed (outbox_rings links.outboxes.items)
+        (inbox_rings links.inboxes.items)) }
 {
     match link(alloc, 1, 1, 1) {
         Err(LinkError::OutOfMemory) => link(alloc, 1, 1, 1),

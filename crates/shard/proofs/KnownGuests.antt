@@ -8,18 +8,18 @@ use Rattle.span.specs.State.{SpanState}
 use Rattle.span.specs.declared.id.SpanId.{SpanId}
 use Rattle.shard.specs.Calls.{Ascend}
 use Rattle.shard.specs.Closes.{opened_group}
-use Rattle.shard.specs.Directory.{Entries, entered, struck}
+use Rattle.groups.specs.Directory.{Entries, entered, struck}
 use Rattle.shard.specs.Group.{GroupState, spans_of, with_span}
 use Rattle.shard.specs.Kept.{KnowsGuests}
 use Rattle.shard.specs.Moves.{HasNoHead, with_guests}
 use Rattle.shard.specs.State.{IsElsewhere}
-use Rattle.shard.specs.declared.directory.Place.{Place}
-use Rattle.shard.proofs.FoundGuests.{IsDirectory-come, IsDirectory-gone, IsDirectory-joined, found_nowhere, found_there, place_or_head}
-use Rattle.shard.proofs.GuestDirectory.{HaveSameIds, HaveSameIds-same, HaveSameIds-set, IsDirectory-insert, IsDirectory-set}
+use Rattle.groups.specs.declared.directory.Place.{Place}
+use Rattle.groups.proofs.FoundGuests.{IsDirectory-come, IsDirectory-gone, IsDirectory-joined, found_nowhere, found_there, place_or_head}
+use Rattle.groups.proofs.GuestDirectory.{HaveSameIds, HaveSameIds-same, HaveSameIds-set, IsDirectory-insert, IsDirectory-set}
 use Rattle.shard.proofs.Heads.{head_id}
 use Rattle.shard.proofs.HeadsHere.{IsHeadAt}
 use Rattle.shard.proofs.Here.{Somewhere}
-use Rattle.shard.proofs.Lists.{same_some}
+use Rattle.groups.proofs.Lists.{same_some}
 use Rattle.shard.proofs.Opened.{alike}
 
 abbrev guests_in : GroupState → List SpanState

@@ -1,6 +1,5 @@
 -- The last group of a shard, as it leaves.
-use Rattle.std.proofs.Common.{◌≡◌, ℕ, true, List, [], ◌∷◌, ◌++◌, length, Some, slice_get, ap, ◌∙◌, sym, refl, inl, inr, arith}
-use Rattle.std.specs.Prelude.{remove}
+use Rattle.std.proofs.Common.{◌≡◌, ℕ, true, List, [], ◌∷◌, ◌++◌, length, ◌∙◌, sym, refl, inl, inr, arith}
 use Rattle.std.specs.Ordering.{eq_by_cmp, nat_cmp}
 use Rattle.std.specs.Cmp.{nat_cmp_total, second_so, unsigned_tied}
 use Rattle.std.specs.FinSet as set
@@ -12,15 +11,7 @@ use Rattle.std.proofs.lemmas.Option.{slice_get_within}
 use Rattle.bitmap.specs.Slots.{SlotSet}
 use Rattle.shard.specs.Group.{GroupState}
 use Rattle.shard.specs.Rooms.{HasRooms}
-use Rattle.shard.proofs.Lists.{get_left}
-
-pub get-last : {X : Type 0} (xs : List X) (x : X) → slice_get (xs ++ x ∷ []) (length xs) ≡ Some x
-get-last [] x = refl
-get-last (y ∷ xs) x = get-last xs x
-
-pub remove-last : {X : Type 0} (xs : List X) (x : X) → remove (xs ++ x ∷ []) (length xs) ≡ xs
-remove-last [] x = refl
-remove-last (y ∷ xs) x = ap (λ ys. y ∷ ys) (remove-last xs x)
+use Rattle.groups.proofs.Lists.{get_left}
 
 pub HasRooms-last : (groups : List GroupState) (group : GroupState) (rooms : SlotSet) → HasRooms (groups ++ group ∷ []) rooms → HasRooms groups (set.remove rooms (length groups))
 HasRooms-last groups group rooms has = record {

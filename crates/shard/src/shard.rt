@@ -10,26 +10,25 @@ ghost use Rattle.shard.specs.Moves.{HasNoHead, IsHeadOf};
 ghost use Rattle.shard.specs.Rooms.{HasRooms, IsFirstRoom};
 ghost use Rattle.shard.specs.Shown.{shown};
 ghost use Rattle.shard.specs.Sound.{IsSound};
-ghost use Rattle.shard.specs.State.{IsElsewhere, IsHere, live_keys, no_pages, summary};
+ghost use Rattle.shard.specs.State.{IsElsewhere, IsHere, live_keys, summary};
+ghost use Rattle.groups.specs.Tables.{no_pages};
 ghost use Rattle.shard.specs.Calls.{Ascend, Frees, Gets, IsFull, IsLowestRoom, IsSpent, Puts, PutsHere, PutsInNew, value_found, was_freed};
+ghost use Rattle.bitmap.specs.declared.bits.TheConstants.{SLOTS};
+ghost use Rattle.span.specs.declared.limits.TheConstants.{MOST_PAGES, MOST_SHARDS, MOST_SPANS};
 
-use crate::directory::{Directory, Place};
 use crate::error::{Config, PutError};
 use crate::group::Group;
 use crate::rooms::Rooms;
-use crate::spans::Spans;
 use bitmap::Bits256;
+use groups::{Directory, Place, Spans};
 use page_table::Table;
-use span::{Kept, Key, Log, Span, SpanId};
+use span::{Kept, Key, Log, MOST_PAGES, MOST_SHARDS, MOST_SPANS, Span, SpanId};
 use std::alloc::{AllocError, Global};
 use std::marker::Model;
 
 mod folds;
 mod logs;
 mod moves;
-
-pub use moves::map_all;
-
 #[cfg(test)]
 mod tests;
 
@@ -95,8 +94,18 @@ impl Shard<Kept> {
     /// A shard with no page, which may have that many pages, and gives a slot the generations 1 to `gens`. It
     /// is refused exactly where the number is not below 64, the pages are not 1 to 1,024, or `gens` is 0.
     pub fn new(alloc: Global, number: u32, page_limit: usize, gens: u32) -> Result<Shard, Config>
-        ensures in_range { IsOk result ↔ ((number < 64) × (1 ≤ page_limit) × (page_limit ≤ 1024) × (1 ≤ gens)) }
-        ensures empty { IfOk result (λ shard. shard ≡ record { number = number; page_limit = page_limit; gens = gens; opened = 0; ended = false; groups = []; table = no_pages; onto = None }) }
+        ensures in_range { IsOk result ↔ ((number < MOST_SHARDS) × (1 ≤ page_limit)
+            × (page_limit ≤ MOST_PAGES) × (1 ≤ gens)) }
+        ensures empty { IfOk result (λ shard. shard ≡ record {
+          number = number;
+          page_limit = page_limit;
+          gens = gens;
+          opened = 0;
+          ended = false;
+          groups = [];
+          table = no_pages;
+          onto = None;
+        }) }
         ensures sound { IfOk result IsSound }
     {
         Shard::with_log(alloc, number, page_limit, gens)
@@ -111,11 +120,21 @@ impl<L: Log> Shard<L> {
         page_limit: usize,
         gens: u32,
     ) -> Result<Shard<L>, Config>
-        ensures in_range { IsOk result ↔ ((number < 64) × (1 ≤ page_limit) × (page_limit ≤ 1024) × (1 ≤ gens)) }
-        ensures empty { IfOk result (λ shard. shard ≡ record { number = number; page_limit = page_limit; gens = gens; opened = 0; ended = false; groups = []; table = no_pages; onto = None }) }
+        ensures in_range { IsOk result ↔ ((number < MOST_SHARDS) × (1 ≤ page_limit)
+            × (page_limit ≤ MOST_PAGES) × (1 ≤ gens)) }
+        ensures empty { IfOk result (λ shard. shard ≡ record {
+          number = number;
+          page_limit = page_limit;
+          gens = gens;
+          opened = 0;
+          ended = false;
+          groups = [];
+          table = no_pages;
+          onto = None;
+        }) }
         ensures sound { IfOk result IsSound }
     {
-        if number >= 64 || page_limit == 0 || page_limit > 1024 || gens == 0 {
+        if number >= MOST_SHARDS || page_limit == 0 || page_limit > MOST_PAGES || gens == 0 {
             return Err(Config);
         }
         Ok(Shard {
@@ -159,7 +178,7 @@ impl<L: Log> Shard<L> {
     /// How many spans it has opened: their serials are the numbers below.
     pub fn opened(&self) -> u32
         ensures opened { result ≡ self.now.opened }
-        ensures at_most { result ≤ 1024 }
+        ensures at_most { result ≤ MOST_PAGES }
     {
         self.opened
     }
@@ -174,7 +193,7 @@ impl<L: Log> Shard<L> {
     /// How many keys are live in it.
     pub fn live(&self) -> usize
         ensures live { result ≡ live_keys self.now }
-        ensures at_most { result ≤ 256 * length self.now.groups }
+        ensures at_most { result ≤ SLOTS * length self.now.groups }
     {
         let mut live = 0;
         for group in &self.groups {
@@ -187,7 +206,8 @@ impl<L: Log> Shard<L> {
     /// error means that memory ran out for the list.
     pub fn groups(&self) -> Result<Vec<(SpanId, Bits256)>, AllocError>
         ensures items { IfOk result (λ groups. groups.items ≡ map summary self.now.groups) }
-        ensures ascending { IsStrictlyIncreasing (map (λ group. rank group.head.id) self.now.groups) }
+        ensures ascending { IsStrictlyIncreasing (map
+            (λ group. rank group.head.id) self.now.groups) }
     {
         self.groups
             .iter()
@@ -221,7 +241,8 @@ impl<L: Log> Shard<L> {
     pub fn free(&mut self, key: &Key) -> Freed
         ensures step { Frees self.old key.now result self.new }
         ensures found { was_freed result ≡ is_some ((shown self.old).value_of key.now) }
-        ensures plain { shown self.new ≡ (if was_freed result then plain.without (shown self.old) key.now else shown self.old) }
+        ensures plain { shown self.new ≡ (if was_freed result then plain.without
+            (shown self.old) key.now else shown self.old) }
         ensures sound { IsSound self.new }
     {
         let Some((index, place)) = self.find(key.span) else {
@@ -238,7 +259,8 @@ impl<L: Log> Shard<L> {
 
     /// The key of the span's lowest live slot from this one on, if one is live here. It takes no memory.
     pub fn first_from(&self, id: SpanId, slot: u32) -> Option<Key>
-        ensures first { MatchOption result (HasNoneFrom (shown self.now) id slot) (IsFirstFrom (shown self.now) id slot) }
+        ensures first { MatchOption result (HasNoneFrom (shown self.now) id slot)
+            (IsFirstFrom (shown self.now) id slot) }
         ensures sound { IsSound self.now }
     {
         let Some((index, place)) = self.find(id) else {
@@ -257,9 +279,11 @@ impl<L: Log> Shard<L> {
     pub fn put(&mut self, value: u128) -> Result<(Key, usize), PutError>
         ensures ok { IfOk result (λ made. Puts self.old value made.0 made.1 self.new) }
         ensures fresh { IfOk result (λ made. (shown self.old).is_issued made.0 ≡ false) }
-        ensures plain { IfOk result (λ made. shown self.new ≡ plain.with_put (shown self.old) made.0 value) }
+        ensures plain { IfOk result (λ made. shown self.new
+            ≡ plain.with_put (shown self.old) made.0 value) }
         ensures sound { IsSound self.new }
-        ensures spent { (result ≡ Err PutError.PagesSpent) ↔ ((self.old.ended ≡ false) × IsSpent self.old) }
+        ensures spent { (result ≡ Err PutError.PagesSpent)
+            ↔ ((self.old.ended ≡ false) × IsSpent self.old) }
         ensures ended { (result ≡ Err PutError.Ended) ↔ (self.old.ended ≡ true) }
         ensures err { OnErr result (self.new ≡ self.old) }
     {
@@ -269,7 +293,7 @@ impl<L: Log> Shard<L> {
         if let Some((index, slot)) = first_room(self.groups.as_slice(), &mut self.rooms) {
             return self.put_in(index, slot, value);
         }
-        if self.groups.len() >= self.page_limit || self.opened >= 1024 {
+        if self.groups.len() >= self.page_limit || self.opened >= MOST_SPANS {
             return Err(PutError::PagesSpent);
         }
         self.put_in_new(value)
@@ -295,7 +319,7 @@ impl<L: Log> Shard<L> {
     fn put_in_new(&mut self, value: u128) -> Result<(Key, usize), PutError>
         requires full { IsFull self.old.groups }
         requires pages { length self.old.groups < self.old.page_limit }
-        requires opened { self.old.opened < 1024 }
+        requires opened { self.old.opened < MOST_SPANS }
         requires running { self.old.ended ≡ false }
         ensures ok { IfOk result (λ made. PutsInNew self.old value made.0 made.1 self.new) }
         ensures only { IsOkUnless result PutError.OutOfMemory }
@@ -328,7 +352,9 @@ impl<L: Log> Shard<L> {
     #[inline(always)]
     fn find(&self, id: SpanId) -> Option<(usize, usize)>
         ensures sound { IsSound self.now }
-        ensures place { MatchOption result (IsElsewhere self.now.groups id) (λ at. (group : GroupState) × (span : SpanState) × IsHere self.now.groups id at.0 at.1 group span) }
+        ensures place { MatchOption result (IsElsewhere self.now.groups id)
+            (λ at. (group : GroupState) × (span : SpanState)
+            × IsHere self.now.groups id at.0 at.1 group span) }
     {
         let first = id.serial as usize;
         if first < self.groups.len() && self.groups[first].head_id() == id {
@@ -340,7 +366,9 @@ impl<L: Log> Shard<L> {
     // The same, wherever its group stands.
     #[inline(never)]
     fn find_moved(&self, id: SpanId) -> Option<(usize, usize)>
-        ensures { MatchOption result (IsElsewhere self.now.groups id) (λ at. (group : GroupState) × (span : SpanState) × IsHere self.now.groups id at.0 at.1 group span) }
+        ensures { MatchOption result (IsElsewhere self.now.groups id)
+            (λ at. (group : GroupState) × (span : SpanState)
+            × IsHere self.now.groups id at.0 at.1 group span) }
     {
         let head = Place { head: id, place: 0 };
         let at = self.directory.place_of(id).unwrap_or(head);
@@ -352,7 +380,8 @@ impl<L: Log> Shard<L> {
 
     // Where the group of the head stands.
     fn find_head(&self, head: SpanId) -> Option<usize>
-        ensures head { MatchOption result (HasNoHead self.now.groups head) (λ index. (group : GroupState) × IsHeadOf self.now.groups head index group) }
+        ensures head { MatchOption result (HasNoHead self.now.groups head)
+            (λ index. (group : GroupState) × IsHeadOf self.now.groups head index group) }
         ensures within { IfSome result (λ index. index < length self.now.groups) }
         ensures sound { IsSound self.now }
     {
@@ -363,7 +392,8 @@ impl<L: Log> Shard<L> {
 // Where the group of the head stands among the groups.
 fn head_index<L: Log>(groups: &[Group<L>], head: SpanId) -> Option<usize>
     requires { Ascend groups.now }
-    ensures head { MatchOption result (HasNoHead groups.now head) (λ index. (group : GroupState) × IsHeadOf groups.now head index group) }
+    ensures head { MatchOption result (HasNoHead groups.now head)
+        (λ index. (group : GroupState) × IsHeadOf groups.now head index group) }
     ensures within { IfSome result (λ index. index < length groups.now) }
 {
     let index = lower_heads(groups, head);
@@ -395,8 +425,10 @@ fn insert_reserved<L: Log>(groups: &mut Vec<Group<L>>, index: usize, group: Grou
 fn lower_heads<L: Log>(groups: &[Group<L>], id: SpanId) -> usize
     requires { Ascend groups.now }
     ensures within { result ≤ length groups.now }
-    ensures lower { (other : ℕ) (group : GroupState) → other < result → slice_get groups.now other ≡ Some group → rank group.head.id < rank id }
-    ensures others { (other : ℕ) (group : GroupState) → result ≤ other → slice_get groups.now other ≡ Some group → rank id ≤ rank group.head.id }
+    ensures lower { (other : ℕ) (group : GroupState) → other < result
+        → slice_get groups.now other ≡ Some group → rank group.head.id < rank id }
+    ensures others { (other : ℕ) (group : GroupState) → result ≤ other
+        → slice_get groups.now other ≡ Some group → rank id ≤ rank group.head.id }
 {
     let mut low = 0;
     let mut high = groups.len();
@@ -414,9 +446,10 @@ fn lower_heads<L: Log>(groups: &[Group<L>], id: SpanId) -> usize
 // The first open group that has a usable slot, and the lowest such slot. Groups that have none leave the set.
 fn first_room<L: Log>(groups: &[Group<L>], rooms: &mut Rooms) -> Option<(usize, u8)>
     requires rooms { HasRooms groups.now rooms.old }
-    requires many { length groups.now ≤ 1024 }
-    ensures room { MatchOption result (IsFull groups.now) (λ at. (group : GroupState) × IsFirstRoom groups.now at.0 group at.1) }
-    ensures in_range { IfSome result (λ at. at.1 < 256) }
+    requires many { length groups.now ≤ MOST_PAGES }
+    ensures room { MatchOption result (IsFull groups.now)
+        (λ at. (group : GroupState) × IsFirstRoom groups.now at.0 group at.1) }
+    ensures in_range { IfSome result (λ at. at.1 < SLOTS) }
     ensures rooms { HasRooms groups.now rooms.new }
 {
     while let Some(index) = rooms.lowest() {

@@ -3,6 +3,7 @@ use Rattle.std.specs.Prelude.{◌≡◌, ℕ, ◌+◌, ◌*◌, ◌^◌, ◌<◌
 use Rattle.std.specs.FinSet as set
 use Rattle.std.specs.declared.alloc.Global.{Global}
 use Rattle.bitmap.specs.Slots.{SlotSet}
+use Rattle.bitmap.specs.declared.bits.TheConstants.{SLOTS}
 use Rattle.span.specs.declared.change.Change.{Change}
 use Rattle.span.specs.Log.{IsLegal, puts_of, all_puts, live_slots, worn_slots}
 
@@ -11,13 +12,13 @@ pub record Follows (gens : ℕ) (log : List Change) (live worn : SlotSet) (gener
   pub legal : IsLegal gens log
   pub live_is : live ≡ live_slots log
   pub worn_is : worn ≡ worn_slots gens log
-  pub generation_is : (slot : ℕ) → slot < 256 → slice_index generations slot ≡ puts_of slot log
+  pub generation_is : (slot : ℕ) → slot < SLOTS → slice_index generations slot ≡ puts_of slot log
 
 -- beside this, at most one generation a slot is kept, each put that is not live was freed once, and the log has room for a free of each live slot
 pub record IsKept (gens : ℕ) (live worn : SlotSet) (generations : Vec ℕ Global) (log : List Change) (room : ℕ) : Type 0 where
   pub some_generation : 1 ≤ gens
   pub gens_fit : gens < 2 ^ 32
   pub follows : Follows gens log live worn generations.items
-  pub at_most_all : vec_len generations ≤ 256
+  pub at_most_all : vec_len generations ≤ SLOTS
   pub freed_once : length log + set.len live ≡ 2 * all_puts log
   pub room_for_frees : set.len live ≤ room

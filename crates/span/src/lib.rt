@@ -26,6 +26,20 @@
 //! ever and whose log nobody reads is a `Span<Counted>`: it keeps the number of changes alone, so a put
 //! and its free leave memory as it was. Its contracts are the same, since they speak of the log as a
 //! list that proofs alone carry along; only `log` is missing.
+//!
+//! # Examples
+//!
+//! ```
+//! // The first span of shard 0. Each slot is put at most nine times.
+//! let id = SpanId::new(0, 0)?;
+//! let mut span = Span::new(alloc, id, 9);
+//! let key = span.put_at(3, 7)?; // 0.0/3/1
+//! assert!(rt; span.find(&key));
+//! assert!(rt; span.free(&key));
+//! assert!(rt; !span.find(&key)); // now and for ever
+//! let next = span.put_at(3, 8)?; // 0.0/3/2: the same slot, the next generation
+//! assert_eq!(rt; span.log().len(), 3);
+//! ```
 #![tactic(auto)]
 
 mod change;
@@ -33,6 +47,7 @@ mod generations;
 mod history;
 mod id;
 mod key;
+mod limits;
 mod log;
 mod receipt;
 mod span;
@@ -41,6 +56,7 @@ mod span_log;
 pub use change::Change;
 pub use id::SpanId;
 pub use key::Key;
+pub use limits::{ALL_IDS, MOST_PAGES, MOST_RING_KEYS, MOST_SHARDS, MOST_SPANS};
 pub use log::{Counted, Kept, Log};
 pub use receipt::{Call, Receipt};
 pub use span::Span;

@@ -3,6 +3,7 @@
 ghost use Rattle.std.specs.Prelude.{◌≡◌, ◌+◌, ◌<◌, ◌≤◌, ◌↔◌, IsTrue, OnOk, OnErr, IfOk, IfSome, MatchOption, [], ◌∷◌, ◌++◌, length, true, false};
 ghost use Rattle.std.specs.Bool.{OnTrue, OnFalse};
 ghost use Rattle.std.specs.FinSet as set;
+ghost use Rattle.bitmap.specs.declared.bits.TheConstants.{SLOTS};
 ghost use Rattle.span.specs.Order.{HasNoMemberFrom, IsLowestFrom};
 
 use crate::change::Change;
@@ -11,7 +12,7 @@ use crate::id::SpanId;
 use crate::key::Key;
 use crate::log::{Kept, Log};
 use crate::span_log::SpanLog;
-use bitmap::Bits256;
+use bitmap::{Bits256, SLOTS};
 use std::alloc::{AllocError, Global};
 use std::marker::Model;
 
@@ -71,12 +72,14 @@ impl<L: Log> Span<L> {
         requires not_live { set.contains (live_slots self.old.log) slot ≡ false }
         requires not_worn { set.contains (worn_slots self.old.gens self.old.log) slot ≡ false }
 
+        // The key.
         ensures key { IfOk result (λ key. (key.span ≡ self.old.id) × (key.slot ≡ slot)
             × (key.generation ≡ puts_of slot self.old.log + 1)) }
         ensures at_most_gens { IfOk result (λ key. key.generation ≤ self.old.gens) }
         ensures never_issued { IfOk result (λ key.
             was_issued self.old.log key.slot key.generation ≡ false) }
 
+        // The span.
         ensures ok { OnOk result (self.new ≡ record self.old {
           log = self.old.log ++ Change.Put slot (puts_of slot self.old.log + 1) value ∷ [];
         }) }
@@ -119,7 +122,8 @@ impl<L: Log> Span<L> {
 
     /// The key of the lowest live slot from this one on, if one is live. Takes no memory.
     pub fn first_from(&self, slot: u32) -> Option<Key>
-        ensures first { MatchOption result (HoldsNoneFrom self.now.log slot) (IsFirstHeld self.now.log slot) }
+        ensures first { MatchOption result (HoldsNoneFrom self.now.log slot)
+            (IsFirstHeld self.now.log slot) }
         ensures span { IfSome result (λ key. key.span ≡ self.now.id) }
     {
         let Some(slot) = lowest_from(&self.live, slot) else {
@@ -222,13 +226,14 @@ impl<L: Log> Span<L> {
 
 // The lowest slot of the set from this one on. An empty set is not walked.
 fn lowest_from(slots: &Bits256, from: u32) -> Option<u8>
-    ensures lowest { MatchOption result (HasNoMemberFrom slots.now from) (IsLowestFrom slots.now from) }
-    ensures in_range { IfSome result (λ slot. slot < 256) }
+    ensures lowest { MatchOption result (HasNoMemberFrom slots.now from)
+        (IsLowestFrom slots.now from) }
+    ensures in_range { IfSome result (λ slot. slot < SLOTS) }
 {
     if slots.count() == 0 {
         return None;
     }
-    for slot in from..256 {
+    for slot in from..SLOTS as u32 {
         if slots.contains(slot as u8) {
             return Some(slot as u8);
         }

@@ -1,6 +1,7 @@
 // A core from its beginning to its end, and the calls on keys.
 ghost use Rattle.std.specs.Prelude.{◌≡◌, ◌↔◌, IsSome, None, Option, Some};
-ghost use Rattle.arena_core.specs.State.{AreWithin, limits_of, new_core};
+ghost use Rattle.marks.specs.Numbers.{AreWithin, limits_of};
+ghost use Rattle.arena_core.specs.State.{new_core};
 ghost use Rattle.arena_core.specs.declared.event.Event.TheVariants as event;
 ghost use Rattle.arena_core.specs.declared.reply.Reply.TheVariants as reply;
 ghost use Rattle.teurlaks_c.specs.Calls.{Counts, Frees, Gets, GetsKey, HasNew, Nexts, NextsKey, Puts, SaysGot, SaysNext, Steps};
@@ -34,7 +35,8 @@ pub extern "C" fn teurlaks_new(
     requires vacant { out.old.held ≡ None }
     ensures ok { result ≡ 0 → HasNew (limits_of shards page_limit ring_capacity gens) out.new.held }
     ensures refused { (result ≡ 0 → ⊥) → out.new.held ≡ None }
-    ensures config { (result ≡ config) ↔ (AreWithin (limits_of shards page_limit ring_capacity gens) → ⊥) }
+    ensures config { (result ≡ config) ↔ (AreWithin (limits_of shards page_limit ring_capacity gens)
+        → ⊥) }
 {
     match Core::with_log(
         alloc,

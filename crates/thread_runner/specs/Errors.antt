@@ -1,8 +1,6 @@
 -- What a refusal of a part becomes.
 use Rattle.trace_text.specs.declared.cause.ParseError.{ParseError}
 use Rattle.trace_text.specs.declared.cause.ParseError.TheVariants as parse_error
-use Rattle.trace_runner.specs.declared.fault.Fault.{Fault}
-use Rattle.trace_runner.specs.declared.fault.Fault.TheVariants as fault
 use Rattle.thread_runner.specs.declared.error.Halt.{Halt}
 use Rattle.thread_runner.specs.declared.error.Halt.TheVariants as halts
 use Rattle.thread_runner.specs.declared.error.ThreadsError.{ThreadsError}
@@ -17,11 +15,3 @@ error_of_halt halts.Doubled = threads_error.Doubled
 abbrev pub stop_of_parse : ParseError → ThreadsError
 stop_of_parse parse_error.OutOfMemory = threads_error.OutOfMemory
 stop_of_parse (parse_error.BadTrace line c) = threads_error.BadTrace line c
-
--- the program's fault where a replay by threads stopped
-abbrev pub fault_of_threads : ThreadsError → Fault
-fault_of_threads threads_error.OutOfMemory = fault.OutOfMemory
-fault_of_threads (threads_error.BadTrace line c) = fault.BadTrace line c
-fault_of_threads threads_error.Doubled = fault.Doubled
-fault_of_threads (threads_error.AuditFault c) = fault.Audit c
-fault_of_threads threads_error.SinkFailed = fault.SinkFailed

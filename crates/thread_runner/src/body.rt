@@ -20,7 +20,8 @@ pub struct Note {
 
 /// Adds what all these threads were told, one thread after another.
 fn push_all(replies: &mut Vec<LineAnswer>, diaries: &[Diary]) -> Result<(), AllocError>
-    ensures { OnOk result (replies.new.items ≡ replies.old.items ++ flat_map diary_lines diaries.now) }
+    ensures { OnOk result (replies.new.items ≡ replies.old.items
+        ++ flat_map diary_lines diaries.now) }
 {
     for diary in diaries {
         diary.push_replies(replies)?;
@@ -35,7 +36,8 @@ pub(crate) fn replies_of(
     diaries: &[Diary],
     adoptions: &[OtherLine],
 ) -> Result<Vec<LineAnswer>, AllocError>
-    ensures { shown ≡ true → IfOk result (λ replies. AreReplies (map voice_of diaries.now) adoptions.now replies.items) }
+    ensures { shown ≡ true → IfOk result (λ replies.
+        AreReplies (map voice_of diaries.now) adoptions.now replies.items) }
 {
     let mut replies = Vec::new(alloc);
     if !shown {

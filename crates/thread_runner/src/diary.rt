@@ -66,6 +66,14 @@ impl Diary {
         }
     }
 
+    /// Makes room for the receipts of so many calls.
+    pub(crate) fn reserve(&mut self, calls: usize) -> Result<(), AllocError> {
+        if self.replies {
+            self.lines.reserve(calls)?;
+        }
+        self.receipts.reserve(calls)
+    }
+
     /// Keeps the receipt of a call on the line of that number.
     pub(crate) fn keep(&mut self, line: usize, receipt: Receipt) -> Result<(), AllocError> {
         if self.replies {
@@ -120,7 +128,8 @@ impl Diary {
 
     /// Adds a reply for each call on a key.
     fn push_calls(&self, replies: &mut Vec<LineAnswer>) -> Result<(), AllocError>
-        ensures { OnOk result (replies.new.items ≡ replies.old.items ++ call_lines self.now.lines.items self.now.receipts.items) }
+        ensures { OnOk result (replies.new.items ≡ replies.old.items
+            ++ call_lines self.now.lines.items self.now.receipts.items) }
     {
         push_calls(replies, self.lines.as_slice(), self.receipts.as_slice())
     }
@@ -189,7 +198,8 @@ fn push_calls(
     lines: &[Option<usize>],
     receipts: &[Receipt],
 ) -> Result<(), AllocError>
-    ensures { OnOk result (replies.new.items ≡ replies.old.items ++ call_lines lines.now receipts.now) }
+    ensures { OnOk result (replies.new.items ≡ replies.old.items
+        ++ call_lines lines.now receipts.now) }
 {
     let mut left = lines;
     for receipt in receipts {

@@ -1,13 +1,13 @@
 // Why a trace was not replayed by threads.
 ghost use Rattle.std.specs.Prelude.{◌≡◌};
-ghost use Rattle.thread_runner.specs.Errors.{error_of_halt, fault_of_threads, stop_of_parse};
+ghost use Rattle.thread_runner.specs.Errors.{error_of_halt, stop_of_parse};
 ghost use Rattle.thread_runner.specs.declared.error.Halt.TheVariants as halts;
 ghost use Rattle.thread_runner.specs.declared.error.ThreadsError.TheVariants as threads_error;
 
 use audit::AuditCause;
 use std::alloc::{AllocError, AllocFailed};
 use thiserror::Error;
-use trace_runner::{Cause, Fault, ParseError};
+use trace_runner::{Cause, ParseError};
 
 /// Why a run came to no end.
 #[derive(Clone, Copy, Debug, PartialEq, Eq)]
@@ -90,20 +90,6 @@ impl From<ParseError> for ThreadsError {
         match error {
             ParseError::OutOfMemory => ThreadsError::OutOfMemory,
             ParseError::BadTrace { line, cause } => ThreadsError::BadTrace { line, cause },
-        }
-    }
-}
-
-impl From<ThreadsError> for Fault {
-    ghost from_gives = { λ error fault. fault ≡ fault_of_threads error };
-
-    fn from(error: ThreadsError) -> Fault {
-        match error {
-            ThreadsError::OutOfMemory => Fault::OutOfMemory,
-            ThreadsError::BadTrace { line, cause } => Fault::BadTrace { line, cause },
-            ThreadsError::Doubled => Fault::Doubled,
-            ThreadsError::AuditFault(cause) => Fault::Audit(cause),
-            ThreadsError::SinkFailed => Fault::SinkFailed,
         }
     }
 }

@@ -4,8 +4,8 @@ ghost use Rattle.certificate.specs.Text.{IsWritable};
 
 use crate::error::Halt;
 use arena::{Arena, Gate, Stepped, Steward};
-use arena_core::MarkError;
 use certificate::{Certificate, partners, write};
+use marks::MarkError;
 use mesh_graph::MOST_GROUPS;
 use std::alloc::{AllocError, Global};
 use std::mem;

@@ -1,15 +1,24 @@
-// Where each thread's lines stand, and which of its keys each line binds.
+// Where each thread's lines stand, and whose each key is.
 use std::alloc::{AllocError, Global};
 use trace_runner::{Call, Line, Trace};
 
-/// Where each thread's lines stand in a trace, and which of its thread's keys each line binds. It is found once, before
-/// anything runs.
+/// Which key of which thread a key is that the lines bind.
+#[derive(Clone, Copy, Debug, PartialEq, Eq)]
+pub(crate) struct Home {
+    /// The thread whose line binds it.
+    pub(crate) thread: u32,
+    /// How many keys the lines of that thread bind before it.
+    pub(crate) index: usize,
+}
+
+/// Where each thread's lines stand in a trace, and whose each key is that the lines bind. It is found once, before anything
+/// runs.
 #[derive(Drop)]
 pub(crate) struct Layout {
     /// Of each thread, the places of its lines below the header, ascending.
     places: Vec<Vec<usize>>,
-    /// Of each line below the header, how many keys are bound by the lines of its thread above it.
-    first_keys: Vec<usize>,
+    /// Of each key, in the order in which the lines bind them, whose it is.
+    homes: Vec<Home>,
 }
 
 impl Layout {
@@ -18,7 +27,7 @@ impl Layout {
         let shards = trace.header.shards as usize;
         let mut layout = Layout {
             places: Vec::with_capacity(alloc, shards)?,
-            first_keys: Vec::with_capacity(alloc, trace.lines.len())?,
+            homes: Vec::new(alloc),
         };
         let mut bound = Vec::with_capacity(alloc, shards)?;
         for _ in 0..shards {
@@ -31,20 +40,26 @@ impl Layout {
         Ok(layout)
     }
 
-    // Enters the line at that place. `bound` are the keys that each thread's lines above it bind.
+    // Enters the line at that place. `bound` are how many keys each thread's lines above it bind.
     fn enter(&mut self, bound: &mut [usize], place: usize, line: &Line) -> Result<(), AllocError> {
         let Line::Call { thread, call } = line else {
-            self.first_keys.push(0)?;
             return Ok(());
         };
-        let thread = *thread as usize;
-        let first = bound.get(thread).copied().unwrap_or(0);
-        self.first_keys.push(first)?;
-        if let Some(count) = bound.get_mut(thread) {
-            *count = count.saturating_add(keys_bound(call));
-        }
-        if let Some(places) = self.places.get_mut(thread) {
+        if let Some(places) = self.places.get_mut(*thread as usize) {
             places.push(place)?;
+        }
+        for _ in 0..keys_bound(call) {
+            self.bind(bound, *thread)?;
+        }
+        Ok(())
+    }
+
+    // Enters the next key, which a line of the thread binds.
+    fn bind(&mut self, bound: &mut [usize], thread: u32) -> Result<(), AllocError> {
+        let index = bound.get(thread as usize).copied().unwrap_or(0);
+        self.homes.push(Home { thread, index })?;
+        if let Some(count) = bound.get_mut(thread as usize) {
+            *count = index.saturating_add(1);
         }
         Ok(())
     }
@@ -55,9 +70,19 @@ impl Layout {
         if place < end { Some(place) } else { None }
     }
 
-    /// How many keys the lines of its thread bind above the line at that place.
-    pub(crate) fn first_key(&self, place: usize) -> Option<usize> {
-        self.first_keys.get(place).copied()
+    /// How many lines the thread has from the one after so many of its lines up to, and without, the place `end`.
+    pub(crate) fn lines_between(&self, thread: u32, done: usize, end: usize) -> usize {
+        let Some(places) = self.places.get(thread as usize) else {
+            return 0;
+        };
+        places
+            .partition_point(|place| *place < end)
+            .saturating_sub(done)
+    }
+
+    /// Whose the key at that place is, among all keys in the order in which the lines bind them.
+    pub(crate) fn home(&self, place: usize) -> Option<Home> {
+        self.homes.get(place).copied()
     }
 }
 

@@ -15,7 +15,7 @@ use crate::layout::Layout;
 use crate::section::{Ran, Told, run_sections};
 use crate::worker::Text;
 use arena::{Arena, Gate, NoGate, finish_unsettled};
-use audit::{AuditError, audit};
+use audit::{AuditError, audit_by_threads};
 use span::{Receipt, SpanLog};
 use std::alloc::{AllocError, Global};
 use std::sync::Wait;
@@ -42,7 +42,8 @@ fn calls_of(diaries: &[Diary]) -> usize {
 
 // The receipts of each thread.
 fn receipts_of(alloc: Global, diaries: Vec<Diary>) -> Result<Vec<Vec<Receipt>>, AllocError>
-    ensures { IfOk result (λ receipts. map vec_items receipts.items ≡ map (λ diary. diary.receipts.items) diaries.items) }
+    ensures { IfOk result (λ receipts. map vec_items receipts.items
+        ≡ map (λ diary. diary.receipts.items) diaries.items) }
 {
     let mut receipts = Vec::with_capacity(alloc, diaries.len())?;
     for diary in diaries {
@@ -58,7 +59,8 @@ fn report_of(
     shown: bool,
     ending: &Ending,
 ) -> Result<Vec<u8>, AllocError>
-    ensures { IfOk result (λ text. TellsAll shown (map voice_of told.now.diaries.items) told.now.adoptions.items text.items) }
+    ensures { IfOk result (λ text. TellsAll shown
+        (map voice_of told.now.diaries.items) told.now.adoptions.items text.items) }
 {
     let replies = replies_of(
         alloc,
@@ -78,7 +80,8 @@ fn report_of(
 }
 
 // Holds the receipts against the logs.
-fn held_against(
+fn held_against<R: Threads + Sync>(
+    rt: &R,
     alloc: Global,
     logs: &[SpanLog],
     receipts: &[Vec<Receipt>],
@@ -87,7 +90,7 @@ fn held_against(
     ensures histories { OnOk result (HaveHistories (map vec_items receipts.now)) }
     ensures err { IfErr result (IsAuditStop logs.now (map vec_items receipts.now)) }
 {
-    match audit(alloc, logs, receipts) {
+    match audit_by_threads(rt, alloc, logs, receipts) {
         Ok(()) => Ok(()),
         Err(AuditError::Fault(cause)) => Err(ThreadsError::AuditFault(cause)),
         Err(AuditError::OutOfMemory) => Err(ThreadsError::OutOfMemory),
@@ -95,7 +98,8 @@ fn held_against(
 }
 
 // The whole report of what a run left, where its receipts agree with the logs.
-fn audited(
+fn audited<R: Threads + Sync>(
+    rt: &R,
     alloc: Global,
     told: Told,
     logs: &[SpanLog],
@@ -107,7 +111,7 @@ fn audited(
 {
     let mut report = report_of(alloc, &told, shown, ending)?;
     let receipts = receipts_of(alloc, told.diaries)?;
-    held_against(alloc, logs, receipts.as_slice())?;
+    held_against(rt, alloc, logs, receipts.as_slice())?;
     report.extend_from_slice(b"audit ok\n")?;
     Ok(Replayed {
         report,
@@ -148,7 +152,7 @@ fn replay<R: Threads + Wait + Sync, G: Gate + Sync>(
     let Ok(finished) = finish_unsettled(arena, seats) else {
         return Err(ThreadsError::OutOfMemory);
     };
-    audited(alloc, told, finished.logs.as_slice(), shown, &ending)
+    audited(rt, alloc, told, finished.logs.as_slice(), shown, &ending)
 }
 
 /// Replays a trace by threads: reads the text whole, runs each section's lines on a thread for each of its threads that has
@@ -174,10 +178,13 @@ pub fn replay_threads<R: Threads + Wait + Sync, S: Sink>(
     cert: &mut Vec<u8>,
 ) -> Result<(), ThreadsError>
     requires { S.failures out.old < 2 ^ 64 - 1 }
-    ensures ok { OnOk result (WritesThreadedReport text.now replies (S.taken out.old) (S.taken out.new)) }
-    ensures accepted { (header : Header) (lines : List Line) → Spells text.now header lines → IfErr result IsNoFault }
+    ensures ok { OnOk result (WritesThreadedReport text.now replies (S.taken out.old)
+        (S.taken out.new)) }
+    ensures accepted { (header : Header) (lines : List Line) → Spells text.now header lines
+        → IfErr result IsNoFault }
     ensures succeeded { OnOk result (S.failures out.new ≡ S.failures out.old) }
-    ensures err { IfErr result (StopsThreads text.now replies (S.failures out.old) (S.failures out.new) (S.taken out.old) (S.taken out.new)) }
+    ensures err { IfErr result (StopsThreads text.now replies (S.failures out.old)
+        (S.failures out.new) (S.taken out.old) (S.taken out.new)) }
     ensures err_certificate { OnErr result (cert.new ≡ cert.old) }
 {
     replay_gated(rt, alloc, NoGate, text, replies, out, cert)
@@ -195,10 +202,13 @@ pub fn replay_gated<R: Threads + Wait + Sync, G: Gate + Sync, S: Sink>(
     cert: &mut Vec<u8>,
 ) -> Result<(), ThreadsError>
     requires { S.failures out.old < 2 ^ 64 - 1 }
-    ensures ok { OnOk result (WritesThreadedReport text.now replies (S.taken out.old) (S.taken out.new)) }
-    ensures accepted { (header : Header) (lines : List Line) → Spells text.now header lines → IfErr result IsNoFault }
+    ensures ok { OnOk result (WritesThreadedReport text.now replies (S.taken out.old)
+        (S.taken out.new)) }
+    ensures accepted { (header : Header) (lines : List Line) → Spells text.now header lines
+        → IfErr result IsNoFault }
     ensures succeeded { OnOk result (S.failures out.new ≡ S.failures out.old) }
-    ensures err { IfErr result (StopsThreads text.now replies (S.failures out.old) (S.failures out.new) (S.taken out.old) (S.taken out.new)) }
+    ensures err { IfErr result (StopsThreads text.now replies (S.failures out.old)
+        (S.failures out.new) (S.taken out.old) (S.taken out.new)) }
     ensures err_certificate { OnErr result (cert.new ≡ cert.old) }
 {
     let trace = parse(alloc, text)?;

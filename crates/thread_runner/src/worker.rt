@@ -3,14 +3,15 @@ ghost use Rattle.std.specs.Prelude.{◌≡◌};
 
 use crate::diary::{Diary, Other};
 use crate::error::Halt;
-use crate::layout::Layout;
+use crate::layout::{Home, Layout};
 use abandoned::{AdoptError, ReceiveError};
 use arena::{Arena, Gate, Seat};
 use shard::PutError;
 use span::Key;
 use std::alloc::{AllocError, Global};
+use std::ops::Range;
 use std::sync::Wait;
-use trace_runner::{Call, Line, Name, Reference, Trace};
+use trace_runner::{Call, Line, Reference, Trace};
 
 /// The keys that each thread's puts were given in the sections before, in order: none for a put that was refused.
 pub(crate) type Keys = Vec<Vec<Option<Key>>>;
@@ -78,6 +79,11 @@ impl<'a, G: Gate> Worker<'a, G> {
 
     /// Runs its lines above the line at that place. `keys` are those of the sections before.
     pub(crate) fn run<R: Wait>(&mut self, rt: &R, keys: &Keys, end: usize) -> Result<(), Halt> {
+        let lines = self
+            .text
+            .layout
+            .lines_between(self.thread(), self.done, end);
+        self.diary.reserve(lines)?;
         for _ in 0..self.text.trace.lines.len() {
             let next = self.text.layout.line_after(self.thread(), self.done, end);
             let Some(place) = next else {
@@ -91,24 +97,29 @@ impl<'a, G: Gate> Worker<'a, G> {
 
     // Runs the line at that place.
     fn line<R: Wait>(&mut self, rt: &R, keys: &Keys, place: usize) -> Result<(), Halt> {
-        let number = place.saturating_add(6);
-        let Some(Line::Call { call, .. }) = self.text.trace.lines.get(place) else {
+        let trace = self.text.trace;
+        if trace.lines.len() <= place {
+            return Ok(());
+        }
+        let Line::Call { call, .. } = &trace.lines[place] else {
             return Ok(());
         };
+        let number = place.saturating_add(6);
+        let first = trace.place(place);
         match call {
             Call::Put { value, .. } => self.put(rt, number, *value),
             Call::Fill { count, value, .. } => self.fill(rt, number, *count, *value),
             Call::Get { key } => {
-                let key = self.key_of(keys, key);
+                let key = self.key_of(keys, first, key);
                 self.get(rt, number, key)
             }
             Call::Free { key } => {
-                let key = self.key_of(keys, key);
+                let key = self.key_of(keys, first, key);
                 self.free(rt, number, key)
             }
-            Call::Sweep { name, from, to } => self.sweep(rt, keys, number, name, *from, *to),
+            Call::Sweep { from, to, .. } => self.sweep(rt, keys, number, first, *from..*to),
             Call::Later { key } => {
-                let key = self.key_of(keys, key);
+                let key = self.key_of(keys, first, key);
                 self.later(number, key)
             }
             Call::Tend => self.tend(rt, number),
@@ -125,21 +136,20 @@ impl<'a, G: Gate> Worker<'a, G> {
         Ok(())
     }
 
-    // The key that a put of a name was given.
-    fn key_at(&self, keys: &Keys, name: &Name, index: u32) -> Option<Key> {
-        let binding = self.text.trace.binding(name)?;
-        let first = self.text.layout.first_key(binding.line)?;
-        let place = first.saturating_add(index as usize);
-        let known = keys.get(binding.thread as usize)?;
-        if place < known.len() {
-            return known[place];
+    // The key that a put was given, by its place among all keys that the lines bind.
+    fn key_at(&self, keys: &Keys, place: usize) -> Option<Key> {
+        let Home { thread, index } = self.text.layout.home(place)?;
+        let known = keys.get(thread as usize)?;
+        if index < known.len() {
+            return known[index];
         }
-        *self.fresh.get(place - known.len())?
+        *self.fresh.get(index - known.len())?
     }
 
-    // The key that a reference names.
-    fn key_of(&self, keys: &Keys, reference: &Reference) -> Option<Key> {
-        self.key_at(keys, &reference.name, reference.index.unwrap_or(0))
+    // The key that a reference names, whose name's first key is at that place.
+    fn key_of(&self, keys: &Keys, first: usize, reference: &Reference) -> Option<Key> {
+        let index = reference.index.unwrap_or(0);
+        self.key_at(keys, first.saturating_add(index as usize))
     }
 
     fn put<R: Wait>(&mut self, rt: &R, number: usize, value: u128) -> Result<(), Halt> {
@@ -192,18 +202,17 @@ impl<'a, G: Gate> Worker<'a, G> {
         Ok(())
     }
 
-    // Frees the keys of a name from one place up to, and without, another.
+    // Frees the keys of a name, whose first is at that place, of these indices.
     fn sweep<R: Wait>(
         &mut self,
         rt: &R,
         keys: &Keys,
         number: usize,
-        name: &Name,
-        from: u32,
-        to: u32,
+        first: usize,
+        indices: Range<u32>,
     ) -> Result<(), Halt> {
-        for index in from..to {
-            let key = self.key_at(keys, name, index);
+        for index in indices.start..indices.end {
+            let key = self.key_at(keys, first.saturating_add(index as usize));
             self.free(rt, number, key)?;
         }
         Ok(())

@@ -5,17 +5,19 @@ use Rattle.std.proofs.lemmas.Bool.{cases_Bool}
 use Rattle.std.proofs.lemmas.Option.{slice_get_within}
 use Rattle.span.specs.declared.key.Key.{Key}
 use Rattle.shard.specs.Calls.{Puts}
-use Rattle.shard.specs.Group.{GroupState, with_put}
+use Rattle.shard.specs.Group.{GroupState}
+use Rattle.groups.specs.Spans.{with_put}
 use Rattle.shard.specs.State.{ShardState}
 use Rattle.arena_core.specs.Sound.{IsSound}
-use Rattle.arena_core.specs.State.{CoreState, Limits}
+use Rattle.arena_core.specs.State.{CoreState}
+use Rattle.marks.specs.Numbers.{Limits}
 use Rattle.arena_core.specs.Step.{CoreRun, CoreStep}
 use Rattle.arena_core.specs.declared.event.Event.{Event}
 use Rattle.arena_core.specs.declared.event.Event.TheVariants.{Put}
 use Rattle.arena_core.specs.declared.reply.Reply.{Reply}
 use Rattle.arena_core.specs.declared.reply.Reply.TheVariants.{Issued}
 use Rattle.arena_core.proofs.Limits.{limits-CoreStep}
-use Rattle.arena_core.proofs.Lists.{slice_get-set_same}
+use Rattle.marks.proofs.Lists.{slice_get-set_same}
 use Rattle.arena_core.proofs.Noted.{home-within}
 use Rattle.arena_core.proofs.Steps.{has_span-here}
 use Rattle.trace_runner.specs.Kept.{AreHome, IsHome, is_put, keys_of}

@@ -1,12 +1,9 @@
 pub mod Taken
-pub mod Given
-pub mod Entered
-pub mod Refused
 pub mod Recalling
 pub mod Making
 pub mod Shards
 pub mod Barriers
-pub mod Notes
+pub mod Told
 pub mod Progress
 pub mod Reporting
 pub mod Serving

@@ -5,7 +5,8 @@ use Rattle.std.proofs.lemmas.List.{map-append, length-map}
 use Rattle.std.proofs.lemmas.List.Sums.{fold-append}
 use Rattle.arena_core.proofs.Limits.{limits-CoreRun}
 use Rattle.arena_core.proofs.Lists.{each-append}
-use Rattle.arena_core.specs.State.{CoreState, Limits, shown}
+use Rattle.arena_core.specs.State.{CoreState, shown}
+use Rattle.marks.specs.Numbers.{Limits}
 use Rattle.arena_core.specs.Step.{CoreStep, CoreRun}
 use Rattle.arena_core.specs.Plain.{ErasedStep, PlainRun, erased, is_plain}
 use Rattle.arena_core.specs.Sound.{IsSound}
@@ -165,47 +166,56 @@ Carries-end shard old new news step sound plain = Carries-one (End shard) ShardE
 -- ---- what a line asks for, by its kind
 
 module _ (number shards : ℕ) (threads : List ℕ) (old : CoreState) (before : Kept) (plans : Plans) where
-  pub MakesLine-silent : MakesLine number (settling_with shards threads old line.Silent) [] line.Silent old before (news_at before.count plans) old before (news_at before.count plans)
+  pub MakesLine-silent : MakesLine number (settling_with shards threads old line.Silent) [] line.Silent old before (news_at before plans) old before (news_at before plans)
   MakesLine-silent = record {
     settled_core = old;
     called_core = old;
-    news = news_at before.count plans;
+    news = news_at before plans;
+    called = before;
     settles = Carries-none old _;
     makes = Makes-none number old before;
     plans = Carries-none old _;
+    rest = refl;
   }
 
   pub MakesLine-call : (thread : ℕ) (call : Call) (asked : List Asked) (mid new : CoreState) (after : Kept) (plans_after : Plans)
-      → Makes number asked old before mid after → Carries (stepping mid.plan) mid (news_at after.count plans) new (news_at after.count plans_after)
-      → MakesLine number (settling_with shards threads old (line.Call thread call)) asked (line.Call thread call) old before (news_at before.count plans) new after (news_at after.count plans_after)
+      → Makes number asked old before mid after → Carries (stepping mid.plan) mid (news_at after plans) new (news_at after plans_after)
+      → MakesLine number (settling_with shards threads old (line.Call thread call)) asked (line.Call thread call) old before (news_at before plans) new after (news_at after plans_after)
   MakesLine-call thread call asked mid new after plans_after makes follows = record {
     settled_core = old;
     called_core = mid;
-    news = news_at before.count plans;
+    news = news_at before plans;
+    called = after;
     settles = Carries-none old _;
     makes = makes;
     plans = follows;
+    rest = refl;
   }
 
-  module _ (mid : CoreState) (settled : Plans) (settles : Carries (finishing old.plan ++ (ends_asked threads ++ rings_asked shards)) old (news_at before.count plans) mid (news_at before.count settled)) where
-    pub MakesLine-adopt : (shard : ℕ) (asked : List Asked) (new : CoreState) (after : Kept) → Makes number asked mid before new after
-        → MakesLine number (settling_with shards threads old (line.Adopt shard)) asked (line.Adopt shard) old before (news_at before.count plans) new after (news_at after.count settled)
+  module _ (mid : CoreState) (middle : Kept) (settled : Plans) (settles : Carries (finishing old.plan ++ (ends_asked threads ++ rings_asked shards)) old (news_at before plans) mid (news_at middle settled))
+      (told : middle ≡ record before { text = middle.text }) where
+    pub MakesLine-adopt : (shard : ℕ) (asked : List Asked) (new : CoreState) (after : Kept) → Makes number asked mid middle new after
+        → MakesLine number (settling_with shards threads old (line.Adopt shard)) asked (line.Adopt shard) old before (news_at before plans) new after (news_at after settled)
     MakesLine-adopt shard asked new after makes = record {
       settled_core = mid;
       called_core = new;
-      news = news_at before.count settled;
+      news = news_at middle settled;
+      called = after;
       settles = settles;
-      makes = makes;
+      makes = subst (λ (kept : Kept). Makes number asked mid kept new after) told makes;
       plans = Carries-none new _;
+      rest = refl;
     }
 
-    pub MakesLine-mark : (new : CoreState) (plans_after : Plans) → Carries (Calls Mark ∷ []) mid (news_at before.count settled) new (news_at before.count plans_after)
-        → MakesLine number (settling_with shards threads old line.Mark) [] line.Mark old before (news_at before.count plans) new before (news_at before.count plans_after)
-    MakesLine-mark new plans_after marks = record {
+    pub MakesLine-mark : (new : CoreState) (after : Kept) (plans_after : Plans) → after ≡ record middle { text = after.text } → Carries (Calls Mark ∷ []) mid (news_at middle settled) new (news_at after plans_after)
+        → MakesLine number (settling_with shards threads old line.Mark) [] line.Mark old before (news_at before plans) new after (news_at after plans_after)
+    MakesLine-mark new after plans_after rest marks = record {
       settled_core = mid;
       called_core = mid;
-      news = news_at before.count settled;
+      news = news_at middle settled;
+      called = middle;
       settles = settles;
-      makes = Makes-none number mid before;
+      makes = subst (λ (kept : Kept). Makes number [] mid kept mid middle) told (Makes-none number mid middle);
       plans = marks;
+      rest = rest;
     }

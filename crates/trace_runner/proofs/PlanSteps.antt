@@ -11,8 +11,9 @@ use Rattle.certificate.specs.declared.certificate.Certificate.{Certificate}
 use Rattle.fold.specs.Folds.{Folds}
 use Rattle.fold.specs.declared.step.Step.{Step}
 use Rattle.fold.specs.declared.step.Step.TheVariants.{Absent, Emptied, Clash, Folded}
-use Rattle.arena_core.specs.Closings.{closed_onto, reopened}
-use Rattle.arena_core.specs.State.{CoreState, OpenPlan}
+use Rattle.marks.specs.Closings.{closed_onto, reopened}
+use Rattle.arena_core.specs.State.{CoreState}
+use Rattle.marks.specs.Plans.{OpenPlan}
 use Rattle.arena_core.specs.Step.{CoreStep}
 use Rattle.arena_core.specs.declared.event.Event.TheVariants as event
 use Rattle.arena_core.specs.declared.reply.Reply.TheVariants as reply
@@ -73,5 +74,5 @@ finishing-some (Some plan) left knows =
 
 -- ---- the news
 
-pub News-same : (a b : News) → a.above ≡ b.above → a.marks ≡ b.marks → a.taken ≡ b.taken → a.notes ≡ b.notes → a.certificate ≡ b.certificate → a ≡ b
-News-same a b above marks taken notes certificate = λ i. record { above = above i; marks = marks i; taken = taken i; notes = notes i; certificate = certificate i }
+pub News-same : (a b : News) → a.replies ≡ b.replies → a.marks ≡ b.marks → a.taken ≡ b.taken → a.text ≡ b.text → a.certificate ≡ b.certificate → a ≡ b
+News-same a b replies marks taken text certificate = λ i. record { replies = replies i; marks = marks i; taken = taken i; text = text i; certificate = certificate i }

@@ -1,25 +1,26 @@
 -- One more line is run.
-use Rattle.std.proofs.Common.{◌≡◌, ℕ, ◌+◌, ◌<◌, ◌≤◌, ◌&&◌, ◌||◌, nat_lt, nat_le, not, Bool, true, false, filter, List, [], ◌∷◌, ◌++◌, map, length, take, Some, None, slice_get, refl, sym, ap, ap₂, subst, ◌∙◌, arith, inl, inr, append_assoc, length-append, add-zero}
+use Rattle.std.proofs.Common.{◌≡◌, ℕ, ◌+◌, ◌<◌, ◌≤◌, ◌&&◌, ◌||◌, nat_lt, nat_le, not, Bool, true, false, filter, List, [], ◌∷◌, ◌++◌, length, take, Some, None, slice_get, refl, sym, ap, ap₂, subst, ◌∙◌, arith, inl, inr, append_assoc, length-append, add-zero}
 use Rattle.std.proofs.Math.Seq.{take-length}
-use Rattle.std.specs.List.{range_with_len}
+use Rattle.std.specs.List.{flat_map, range_with_len}
 use Rattle.std.specs.Option.{option_map, option_map_or}
 use Rattle.std.proofs.lemmas.Bool.{cases_Bool, eqb-true}
 use Rattle.std.proofs.lemmas.Bool.Decides.{nat_tests}
 use Rattle.std.proofs.lemmas.Grind.{flat_map-append}
-use Rattle.std.proofs.lemmas.List.Sums.{fold-append}
 use Rattle.std.proofs.lemmas.List.Elements.{filter-append}
 use Rattle.std.proofs.lemmas.List.{append-nil, length-map, length_push}
-use Rattle.arena_core.specs.State.{CoreState, Limits}
+use Rattle.arena_core.specs.State.{CoreState}
+use Rattle.marks.specs.Numbers.{Limits}
 use Rattle.arena_core.proofs.Limits.{limits-CoreRun}
 use Rattle.arena_core.proofs.Lists.{each-append}
 use Rattle.trace_runner.specs.Barrier.{is_barrier, leavers, open_lines}
 use Rattle.trace_text.specs.Causes.{ends, has_ended, first_cause, is_adopt, thread_of}
 use Rattle.trace_runner.specs.Recalls.{CanLeave, Carries, EndsBelow, HasCome, IsReady, KnowsPlan, MakesLine, Serves, news_at, settling_with}
-use Rattle.trace_runner.specs.Kept.{AreHome, FindsAt, IsHome, Kept, keeping, kept_none, kept_of, keys_of}
+use Rattle.trace_runner.specs.Kept.{AreHome, FindsAt, IsHome, Kept, keeping, kept_none, keys_of}
 use Rattle.trace_text.specs.Places.{place_at}
+use Rattle.trace_runner.specs.Answers.{told_of}
 use Rattle.trace_runner.specs.Made.{Did, all_made, asked_of, made_by}
 use Rattle.trace_runner.specs.News.{News, news_of, no_news, with_all_made, with_answers, with_line}
-use Rattle.trace_runner.specs.Runs.{DoLines, Does, IsRun, answers_from, asked_by, calls_at, calls_in, ends_asked, finishing, on_line, pairs_left_of, planning_at, rings_asked, settling_at}
+use Rattle.trace_runner.specs.Runs.{DoLines, Does, IsRun, asked_by, calls_at, calls_in, ends_asked, finishing, pairs_left_of, planning_at, rings_asked, settling_at}
 use Rattle.trace_runner.specs.declared.plans.Plans.{Plans}
 use Rattle.trace_text.specs.declared.header.Header.{Header}
 use Rattle.trace_text.specs.declared.line.Call.TheVariants.{Put, Fill, Get, Free, Sweep, Later, Tend, End}
@@ -30,9 +31,8 @@ use Rattle.trace_text.proofs.Clips.{AllFine, all_fine}
 use Rattle.trace_text.proofs.Knowing.{has_ended-push, keys_in-push}
 use Rattle.trace_runner.proofs.Making.{IsAnswered-append, IsAnswered-none}
 use Rattle.trace_runner.proofs.Homes.{AreHome-answered}
-use Rattle.trace_runner.proofs.Notes.{above-all_made}
+use Rattle.trace_runner.proofs.Told.{news_of-push, replies-all_made}
 use Rattle.trace_runner.proofs.Recalling.{FindsAt-fine, Keyed-asked, Recalls-none, Recalls-push, kept_of-none, kept_of-push, length-Keyed, take_line}
-use Rattle.trace_text.proofs.Texts.{first_cause-none}
 
 DoLines-push : (shards : ℕ) (all : List Line) (start : CoreState) (lines : List Line) (line : Line) (done after : List Did) (did : Did) → DoLines shards all start lines done after → Does shards all start after line did
     → DoLines shards all start (lines ++ line ∷ []) done (after ++ did ∷ [])
@@ -75,7 +75,7 @@ ends-barrier line.Mark t e = refl
 
 module _ (h : Header) (above : List Line) (l : Line) (fine : first_cause h above l ≡ None) where
   fine_of : AllFine h above l
-  fine_of = all_fine h above l (first_cause-none h above l fine).1
+  fine_of = all_fine h above l fine
 
   -- the thread of a line has not ended above it, and is one of the header's
   running_above : (t : ℕ) → thread_of l ≡ Some t → has_ended above t ≡ false
@@ -112,18 +112,14 @@ adopts-cons : (l : Line) (ls : List Line) → length (filter is_adopt (l ∷ ls)
 adopts-cons l ls = ap length (filter-append is_adopt (l ∷ []) ls) ∙ length-append (filter is_adopt (l ∷ [])) (filter is_adopt ls)
 
 DoLines-rest : (shards : ℕ) (all : List Line) (start : CoreState) (lines : List Line) (done after : List Did) → DoLines shards all start lines done after
-    → (rest : List Did) × (after ≡ done ++ rest) × ((number : ℕ) → length (answers_from number rest) ≡ calls_in lines rest + length (filter is_adopt lines))
-DoLines-rest shards all start [] done after is = ([], is ∙ sym (append-nil done), λ number. refl)
+    → (rest : List Did) × (after ≡ done ++ rest) × (length (flat_map (λ (did : Did). did.calls) rest) ≡ calls_in lines rest + length (filter is_adopt lines))
+DoLines-rest shards all start [] done after is = ([], is ∙ sym (append-nil done), refl)
 DoLines-rest shards all start (l ∷ ls) done after (did, does, later) =
     let more = DoLines-rest shards all start ls (done ++ did ∷ []) after later in (
       did ∷ more.0,
       more.1 ∙ append_assoc done (did ∷ []) more.0,
-      λ number. length-append (map (on_line number) did.calls) (answers_from (number + 1) more.0)
-          ∙ omega (arith, length-map did.calls (on_line number), more.2 (number + 1), calls_of_line shards all start done l did does, adopts-cons l ls),
+      length-append did.calls (flat_map (λ (d : Did). d.calls) more.0) ∙ omega (arith, more.2, calls_of_line shards all start done l did does, adopts-cons l ls),
     )
-
-news_of-push : (done : List Did) (did : Did) → news_of (done ++ did ∷ []) ≡ with_line (news_of done) did
-news_of-push done did = fold-append with_line no_news done (did ∷ [])
 
 module _ (h : Header) (replies : Bool) (lines : List Line) (count : ℕ) (old core : CoreState) (kept : Kept) (leaving : ℕ → Bool) (plans : Plans) (come : HasCome replies h.shards lines count old core kept leaving plans) where
   -- the next line finds its keys
@@ -142,7 +138,7 @@ module _ (h : Header) (replies : Bool) (lines : List Line) (count : ℕ) (old co
   -- the next line may be run
   pub HasCome-IsReady : (l : Line) → first_cause h (take count lines) l ≡ None → IsReady h.shards core leaving l
   HasCome-IsReady l fine = record {
-    within = (first_cause-none h (take count lines) l fine).0;
+    within = (take count lines, (fine_of h (take count lines) l fine).within);
     running = λ t is. record {
       within = omega (arith, thread_below h (take count lines) l fine t is, come.enough);
       running = come.ended_are t (thread_below h (take count lines) l fine t is) ∙ rw (running_above h (take count lines) l fine t is) refl;
@@ -161,7 +157,7 @@ module _ (h : Header) (replies : Bool) (lines : List Line) (count : ℕ) (old co
 
   -- once the next line was run
   pub HasCome-more : (l : Line) (new : CoreState) (after : Kept) (now : ℕ → Bool) (plans_now : Plans) → slice_get lines count ≡ Some l → first_cause h (take count lines) l ≡ None
-      → MakesLine (count + 6) (settling_with h.shards (filter leaving (range_with_len 0 h.shards)) core l) (asked_by h.shards lines come.done l) l core kept (news_at kept.count plans) new after (news_at after.count plans_now)
+      → MakesLine (count + 6) (settling_with h.shards (filter leaving (range_with_len 0 h.shards)) core l) (asked_by h.shards lines come.done l) l core kept (news_at kept plans) new after (news_at after plans_now)
       → EndsBelow core h.shards (λ t. is_barrier l && leaving t) new → ((t : ℕ) → now t ≡ (not (is_barrier l) && (ends t l || leaving t)))
       → KnowsPlan plans_now new → plans_now.marks ≤ plans.marks + 1
       → HasCome replies h.shards lines (count + 1) old new after now plans_now
@@ -181,8 +177,16 @@ module _ (h : Header) (replies : Bool) (lines : List Line) (count : ℕ) (old co
         plans = asks_planned ∙ ap (λ c. planning_at c l) called_all.steps.last;
       } in
       let keyed = Keyed-asked h.shards lines come.done l made asks in
-      let keys : after.keys ≡ kept.keys ++ keys_of made = ap (λ (k : Kept). k.keys) more in
-      let number : count + 6 ≡ length come.done + 6 = ap (λ n. n + 6) (sym come.count_is) in
+      let keys : after.keys ≡ kept.keys ++ keys_of made = ap (λ (k : Kept). k.keys) makes.rest ∙ ap (λ (k : Kept). k.keys) more in
+      let number : count + 6 ≡ 6 + length come.done = omega (arith, come.count_is) in
+      let asks_replies : makes.news.replies ≡ kept.asked = ap (λ (n : News). n.replies) news_settled ∙ replies-all_made (news_at kept plans) settled in
+      let replied : makes.called.asked ≡ makes.news.replies = ap (λ (k : Kept). k.asked) more ∙ sym asks_replies in
+      let answered_text : makes.called.text ≡ makes.news.text ++ told_of makes.news.replies (count + 6) made =
+      ap (λ (k : Kept). k.text) more ∙ ap (λ b. makes.news.text ++ told_of b (count + 6) made) (sym asks_replies) in
+      let news : news_at after plans_now ≡ news_of replies (come.done ++ did ∷ []) =
+      news_planned ∙ ap₂ (λ b text. with_all_made (record makes.news { replies = b; text = text }) planned) replied answered_text
+      ∙ ap (λ n. with_all_made (with_answers (count + 6) made n) planned) (news_settled ∙ ap (λ n. with_all_made n settled) come.news_are)
+      ∙ ap (λ k. with_line k (news_of replies come.done) did) number ∙ sym (news_of-push replies come.done did) in
       let waits : (t : ℕ) → has_ended (open_lines (take (count + 1) lines)) t ≡ (not (is_barrier l) && (ends t l || has_ended (open_lines (take count lines)) t)) =
       λ t. ap (λ ls. has_ended (open_lines ls) t) next.0 ∙ has_ended-open-push (take count lines) l t in
       record {
@@ -191,15 +195,11 @@ module _ (h : Header) (replies : Bool) (lines : List Line) (count : ℕ) (old co
         lines_do = subst (λ (some : List Line). DoLines h.shards lines old some [] (come.done ++ did ∷ [])) (sym next.0) (DoLines-push h.shards lines old (take count lines) l [] come.done did come.lines_do does);
         answered = rw all_made-push (IsAnswered-append old core new (all_made come.done) (made_by did) come.answered
             (IsAnswered-append core makes.called_core new (settled ++ made) planned called answered_planned));
-        kept_is = more ∙ ap (λ k. keeping (count + 6) k made) come.kept_is ∙ ap (λ n. keeping n (kept_of replies come.done) made) number ∙ sym (kept_of-push replies come.done did);
+        kept_is = kept_of-push replies come.done did (count + 6) makes.news.text makes.called after (more ∙ ap (λ (k : Kept). keeping (count + 6) (record k { text = makes.news.text }) made) come.kept_is) makes.rest
+            (ap (λ (n : News). n.text) news);
         recalls = rw (next.0, keys) (Recalls-push (take count lines) l come.done did kept.keys come.recalls (come.count_is ∙ sym next.1) come.long keyed);
         long = rw next.0 (ap length keys ∙ length-append kept.keys (keys_of made) ∙ ap₂ (λ a b. a + b) come.long (length-Keyed l made keyed) ∙ sym (keys_in-push (take count lines) l));
-        news_are =
-            let stands : makes.news.above ≡ kept.count = ap (λ (n : News). n.above) news_settled ∙ above-all_made (news_at kept.count plans) settled in
-            let longer : after.count ≡ makes.news.above + length made = ap (λ (k : Kept). k.count) more ∙ ap (λ n. n + length made) (sym stands) in
-            news_planned ∙ ap (λ n. with_all_made (record makes.news { above = n }) planned) longer
-            ∙ ap (λ n. with_all_made (with_answers (length made) n) planned) (news_settled ∙ ap (λ n. with_all_made n settled) come.news_are)
-            ∙ sym (news_of-push come.done did);
+        news_are = news;
         knows = knows;
         marks = omega (arith, marks, come.marks);
         enough = rw ended.limits come.enough;
@@ -219,11 +219,11 @@ module _ (h : Header) (replies : Bool) (lines : List Line) (count : ℕ) (old co
   HasCome-calls all =
       let whole : take count lines ≡ lines = ap (λ n. take n lines) all ∙ take-length lines in
       let rest = DoLines-rest h.shards lines old lines [] come.done (subst (λ (some : List Line). DoLines h.shards lines old some [] come.done) whole come.lines_do) in
-      ap (λ (k : Kept). k.count) come.kept_is ∙ subst (λ (d : List Did). length (answers_from 6 d) ≡ calls_in lines d + length (filter is_adopt lines)) (sym rest.1) (rest.2 6)
+      ap (λ (k : Kept). k.count) come.kept_is ∙ subst (λ (d : List Did). length (flat_map (λ (did : Did). did.calls) d) ≡ calls_in lines d + length (filter is_adopt lines)) (sym rest.1) rest.2
 
   -- once the last section is settled, the run is whole
-  pub HasCome-IsRun : (new : CoreState) (calls : ℕ) (news : News) → count ≡ length lines → Carries (finishing core.plan ++ (ends_asked (filter leaving (range_with_len 0 h.shards)) ++ rings_asked h.shards)) core (news_at kept.count plans) new news → calls ≡ calls_in lines come.done
-      → IsRun h.shards lines old new (answers_from 6 come.done) calls news
+  pub HasCome-IsRun : (new : CoreState) (calls : ℕ) (news : News) → count ≡ length lines → Carries (finishing core.plan ++ (ends_asked (filter leaving (range_with_len 0 h.shards)) ++ rings_asked h.shards)) core (news_at kept plans) new news → calls ≡ calls_in lines come.done
+      → IsRun h.shards replies lines old new calls news
   HasCome-IsRun new calls news all (made, asks, answered, told) calls_are =
       let whole : take count lines ≡ lines = ap (λ n. take n lines) all ∙ take-length lines in record {
         done = come.done;
@@ -232,13 +232,12 @@ module _ (h : Header) (replies : Bool) (lines : List Line) (count : ℕ) (old co
         settled = asks ∙ ap (λ (f : ℕ → Bool). finishing core.plan ++ (ends_asked (filter f (range_with_len 0 h.shards)) ++ rings_asked h.shards)) leaving_is ∙ ap (λ ls. finishing core.plan ++ (ends_asked (leavers h.shards ls) ++ rings_asked h.shards)) whole
             ∙ ap (λ (c : CoreState). finishing c.plan ++ (ends_asked (leavers h.shards lines) ++ rings_asked h.shards)) come.answered.steps.last;
         answered = IsAnswered-append old core new (all_made come.done) made come.answered answered;
-        answers_are = refl;
         calls_are = calls_are;
         news_are = told ∙ ap (λ n. with_all_made n made) come.news_are;
       }
 
 -- before the first line
-pub HasCome-start : (h : Header) (replies : Bool) (lines : List Line) (core : CoreState) (leaving : ℕ → Bool) (plans : Plans) → Serves h.shards core → ((t : ℕ) → leaving t ≡ false) → news_at 0 plans ≡ no_news → plans.left ≡ None → HasCome replies h.shards lines 0 core core (kept_none replies) leaving plans
+pub HasCome-start : (h : Header) (replies : Bool) (lines : List Line) (core : CoreState) (leaving : ℕ → Bool) (plans : Plans) → Serves h.shards core → ((t : ℕ) → leaving t ≡ false) → news_at (kept_none replies) plans ≡ no_news replies → plans.left ≡ None → HasCome replies h.shards lines 0 core core (kept_none replies) leaving plans
 HasCome-start h replies lines core leaving plans serves none news left = record {
   done = [];
   count_is = refl;

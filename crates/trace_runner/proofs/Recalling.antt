@@ -16,10 +16,12 @@ use Rattle.arena_core.specs.declared.event.Event.TheVariants as event
 use Rattle.arena_core.specs.declared.reply.Refusal.TheVariants.{NothingToAdopt, RingFull}
 use Rattle.arena_core.specs.declared.reply.Reply.{Reply}
 use Rattle.arena_core.specs.declared.reply.Reply.TheVariants.{Issued, Found, Freed, Refused, Sent}
-use Rattle.trace_runner.specs.Kept.{FindsAt, FindsOne, Kept, Recalls, answer_key, is_put, keeping, kept_none, kept_of, keys_of, told_of}
+use Rattle.trace_runner.specs.Kept.{FindsAt, FindsOne, Kept, Recalls, answer_key, is_put, keeping, kept_none, kept_of, keys_of}
 use Rattle.trace_runner.specs.Made.{Asked, Calls, Did, Made, asked_of, one_call}
-use Rattle.trace_runner.specs.Runs.{answer_told, answers_from, asked_by, key_at, key_bound, key_made, on_key, on_line}
-use Rattle.trace_runner.specs.declared.report.LineAnswer.{LineAnswer}
+use Rattle.trace_runner.specs.Answers.{answer_told, on_line, told_of}
+use Rattle.trace_runner.specs.News.{news_of}
+use Rattle.trace_runner.specs.Report.{answer_line}
+use Rattle.trace_runner.specs.Runs.{asked_by, key_at, key_bound, key_made, on_key}
 use Rattle.trace_text.specs.Causes.{binding_at, binding_from, binding_of, first_cause, has_key, has_range, keys_at, keys_in, marks, marks_at}
 use Rattle.trace_text.specs.Earlier.{key_count}
 use Rattle.trace_text.specs.Places.{first_of, place_at}
@@ -33,14 +35,6 @@ use Rattle.trace_text.specs.declared.line.Line.TheVariants as line
 use Rattle.trace_text.proofs.Bindings.{binding_of-push, of_either}
 use Rattle.trace_text.proofs.Clips.{all_fine}
 use Rattle.trace_text.proofs.Lines.{chosen}
-use Rattle.trace_text.proofs.Texts.{first_cause-none}
-
-pub answers_from-append : (number : ℕ) (first second : List Did) → answers_from number (first ++ second) ≡ answers_from number first ++ answers_from (number + length first) second
-answers_from-append number [] second = ap (λ n. answers_from n second) (sym (add-zero number))
-answers_from-append number (did ∷ first) second =
-    let same : number + 1 + length first ≡ number + suc (length first) = omega arith in
-    ap (λ l. map (on_line number) did.calls ++ l) (answers_from-append (number + 1) first second ∙ ap (λ n. answers_from (number + 1) first ++ answers_from n second) same)
-    ∙ sym (append_assoc (map (on_line number) did.calls) (answers_from (number + 1) first) (answers_from (number + length (did ∷ first)) second))
 
 -- one more line
 pub take_line : {X : Type 0} (xs : List X) (place : ℕ) (x : X) → slice_get xs place ≡ Some x → (take (place + 1) xs ≡ take place xs ++ x ∷ []) × (length (take place xs) ≡ place)
@@ -59,26 +53,30 @@ keys_of-append first second =
     ∙ map-append key_made (filter (λ m. is_put (asked_of m)) first) (filter (λ m. is_put (asked_of m)) second)
 
 told_of-append : (asked : Bool) (number : ℕ) (first second : List Made) → told_of asked number first ++ told_of asked number second ≡ told_of asked number (first ++ second)
-told_of-append true number first second = sym (map-append (on_line number) first second)
+told_of-append true number first second = sym (ap (flat_map answer_line) (map-append (on_line number) first second) ∙ flat_map-append answer_line (map (on_line number) first) (map (on_line number) second))
 told_of-append false number first second = refl
 
 told_of-none : (asked : Bool) (number : ℕ) → told_of asked number [] ≡ []
 told_of-none true number = refl
 told_of-none false number = refl
 
+told_of-one : (asked : Bool) (number : ℕ) (m : Made) → told_of asked number (m ∷ []) ≡ cond asked (answer_line (on_line number m)) []
+told_of-one true number m = append-nil (answer_line (on_line number m))
+told_of-one false number m = refl
+
 pub keeping-none : (number : ℕ) (kept : Kept) → keeping number kept [] ≡ kept
 keeping-none number kept =
-    let told : kept.told ++ told_of kept.asked number [] ≡ kept.told = ap (λ l. kept.told ++ l) (told_of-none kept.asked number) ∙ append-nil kept.told in
-    λ i. record { keys = append-nil kept.keys i; count = add-zero kept.count i; asked = kept.asked; told = told i }
+    let text : kept.text ++ told_of kept.asked number [] ≡ kept.text = ap (λ l. kept.text ++ l) (told_of-none kept.asked number) ∙ append-nil kept.text in
+    λ i. record { keys = append-nil kept.keys i; count = add-zero kept.count i; asked = kept.asked; text = text i }
 
 pub keeping-append : (number : ℕ) (kept : Kept) (first second : List Made) → keeping number (keeping number kept first) second ≡ keeping number kept (first ++ second)
 keeping-append number kept first second =
     let keys : (kept.keys ++ keys_of first) ++ keys_of second ≡ kept.keys ++ keys_of (first ++ second) =
     append_assoc kept.keys (keys_of first) (keys_of second) ∙ ap (λ l. kept.keys ++ l) (sym (keys_of-append first second)) in
     let count : kept.count + length first + length second ≡ kept.count + length (first ++ second) = omega (arith, length-append first second) in
-    let told : (kept.told ++ told_of kept.asked number first) ++ told_of kept.asked number second ≡ kept.told ++ told_of kept.asked number (first ++ second) =
-    append_assoc kept.told (told_of kept.asked number first) (told_of kept.asked number second) ∙ ap (λ l. kept.told ++ l) (told_of-append kept.asked number first second) in
-    λ i. record { keys = keys i; count = count i; asked = kept.asked; told = told i }
+    let text : (kept.text ++ told_of kept.asked number first) ++ told_of kept.asked number second ≡ kept.text ++ told_of kept.asked number (first ++ second) =
+    append_assoc kept.text (told_of kept.asked number first) (told_of kept.asked number second) ∙ ap (λ l. kept.text ++ l) (told_of-append kept.asked number first second) in
+    λ i. record { keys = keys i; count = count i; asked = kept.asked; text = text i }
 
 keys_of-other : (m : Made) → is_put (asked_of m) ≡ false → keys_of (m ∷ []) ≡ []
 keys_of-other m e = rw e refl
@@ -87,20 +85,22 @@ keys_of-put : (m : Made) → is_put (asked_of m) ≡ true → keys_of (m ∷ [])
 keys_of-put m e = rw e refl
 
 -- once one answer is told
-module _ (number : ℕ) (before after : Kept) (m : Made) (count : after.count ≡ before.count + 1) (asked : after.asked ≡ before.asked) (told : after.told ≡ before.told ++ told_of before.asked number (m ∷ [])) where
+module _ (number : ℕ) (before after : Kept) (m : Made) (count : after.count ≡ before.count + 1) (asked : after.asked ≡ before.asked) (told : after.text ≡ before.text ++ cond before.asked (answer_line (on_line number m)) []) where
+  text : after.text ≡ before.text ++ told_of before.asked number (m ∷ [])
+  text = told ∙ ap (λ l. before.text ++ l) (sym (told_of-one before.asked number m))
+
   pub keeping-other : is_put (asked_of m) ≡ false → after.keys ≡ before.keys → after ≡ keeping number before (m ∷ [])
   keeping-other other keys =
       let all : after.keys ≡ before.keys ++ keys_of (m ∷ []) = keys ∙ sym (append-nil before.keys) ∙ ap (λ l. before.keys ++ l) (sym (keys_of-other m other)) in
-      λ i. record { keys = all i; count = count i; asked = asked i; told = told i }
+      λ i. record { keys = all i; count = count i; asked = asked i; text = text i }
 
   pub keeping-put : is_put (asked_of m) ≡ true → after.keys ≡ before.keys ++ key_made m ∷ [] → after ≡ keeping number before (m ∷ [])
   keeping-put put keys =
       let all : after.keys ≡ before.keys ++ keys_of (m ∷ []) = keys ∙ ap (λ l. before.keys ++ l) (sym (keys_of-put m put)) in
-      λ i. record { keys = all i; count = count i; asked = asked i; told = told i }
+      λ i. record { keys = all i; count = count i; asked = asked i; text = text i }
 
 pub kept_of-none : (replies : Bool) → kept_none replies ≡ kept_of replies []
-kept_of-none true = refl
-kept_of-none false = refl
+kept_of-none replies = refl
 
 -- the key that an answer names is that of the put
 pub answer_key-told : (event : Event) (reply : Reply) (core : CoreState) → answer_key (answer_told reply) ≡ key_made (one_call event reply core)
@@ -114,24 +114,23 @@ answer_key-told event (Refused RingFull) core = refl
 answer_key-told event Sent core = refl
 answer_key-told event reply core = refl
 
-told_all : (replies : Bool) (number : ℕ) (before all : List LineAnswer) (made : List Made) → all ≡ before ++ map (on_line number) made
-    → (cond replies all []) ≡ (cond replies before []) ++ told_of replies number made
-told_all true number before all made is = is
-told_all false number before all made is = refl
+keys_of-push : (done : List Did) (did : Did) → flat_map (λ (d : Did). keys_of d.calls) (done ++ did ∷ []) ≡ flat_map (λ (d : Did). keys_of d.calls) done ++ keys_of did.calls
+keys_of-push done did = flat_map-append (λ (d : Did). keys_of d.calls) done (did ∷ []) ∙ ap (λ l. flat_map (λ (d : Did). keys_of d.calls) done ++ l) (append-nil (keys_of did.calls))
 
--- one line more
-pub kept_of-push : (replies : Bool) (done : List Did) (did : Did) → kept_of replies (done ++ did ∷ []) ≡ keeping (length done + 6) (kept_of replies done) did.calls
-kept_of-push replies done did =
-    let keys : flat_map (λ (d : Did). keys_of d.calls) (done ++ did ∷ []) ≡ flat_map (λ (d : Did). keys_of d.calls) done ++ keys_of did.calls =
-    flat_map-append (λ (d : Did). keys_of d.calls) done (did ∷ []) ∙ ap (λ l. flat_map (λ (d : Did). keys_of d.calls) done ++ l) (append-nil (keys_of did.calls)) in
-    let number : 6 + length done ≡ length done + 6 = omega arith in
-    let answers : answers_from 6 (done ++ did ∷ []) ≡ answers_from 6 done ++ map (on_line (length done + 6)) did.calls =
-    answers_from-append 6 done (did ∷ []) ∙ ap (λ n. answers_from 6 done ++ (map (on_line n) did.calls ++ [])) number
-    ∙ ap (λ l. answers_from 6 done ++ l) (append-nil (map (on_line (length done + 6)) did.calls)) in
-    let count : length (answers_from 6 (done ++ did ∷ [])) ≡ length (answers_from 6 done) + length did.calls =
-    ap length answers ∙ length-append (answers_from 6 done) (map (on_line (length done + 6)) did.calls) ∙ ap (λ n. length (answers_from 6 done) + n) (length-map did.calls (on_line (length done + 6))) in
-    let told = told_all replies (length done + 6) (answers_from 6 done) (answers_from 6 (done ++ did ∷ [])) did.calls answers in
-    λ i. record { keys = keys i; count = count i; asked = replies; told = told i }
+calls-push : (done : List Did) (did : Did) → length (flat_map (λ (d : Did). d.calls) (done ++ did ∷ [])) ≡ length (flat_map (λ (d : Did). d.calls) done) + length did.calls
+calls-push done did =
+    ap length (flat_map-append (λ (d : Did). d.calls) done (did ∷ []) ∙ ap (λ l. flat_map (λ (d : Did). d.calls) done ++ l) (append-nil did.calls))
+    ∙ length-append (flat_map (λ (d : Did). d.calls) done) did.calls
+
+-- one line more: what its calls leave, and the report with what stands around them
+pub kept_of-push : (replies : Bool) (done : List Did) (did : Did) (number : ℕ) (settled : List ℕ) (called after : Kept) → called ≡ keeping number (record (kept_of replies done) { text = settled }) did.calls
+    → after ≡ record called { text = after.text } → after.text ≡ (news_of replies (done ++ did ∷ [])).text → after ≡ kept_of replies (done ++ did ∷ [])
+kept_of-push replies done did number settled called after calls rest told =
+    let keys : called.keys ≡ flat_map (λ (d : Did). keys_of d.calls) (done ++ did ∷ []) = ap (λ (k : Kept). k.keys) calls ∙ sym (keys_of-push done did) in
+    let count : called.count ≡ length (flat_map (λ (d : Did). d.calls) (done ++ did ∷ [])) = ap (λ (k : Kept). k.count) calls ∙ sym (calls-push done did) in
+    let asked : called.asked ≡ replies = ap (λ (k : Kept). k.asked) calls in
+    let same : record called { text = after.text } ≡ kept_of replies (done ++ did ∷ []) = λ i. record { keys = keys i; count = count i; asked = asked i; text = told i } in
+    rest ∙ same
 
 -- ---- the keys of a line
 
@@ -359,14 +358,14 @@ module _ (h : Header) (lines : List Line) (n : ℕ) (done : List Did) (keys : Li
   FindsAt-fine (line.Call t Tend) fine = tt
   FindsAt-fine (line.Call t End) fine = tt
   FindsAt-fine (line.Call t (Later key)) fine =
-      let (b, is, has) = known (has_key key.index) (binding_of key.name (take n lines)) (all_fine h (take n lines) (line.Call t (Later key)) (first_cause-none h (take n lines) (line.Call t (Later key)) fine).1).known in
+      let (b, is, has) = known (has_key key.index) (binding_of key.name (take n lines)) (all_fine h (take n lines) (line.Call t (Later key)) fine).known in
       one_found key.name b (unwrap_or key.index 0) is (below_count key.index b.keys has)
   FindsAt-fine (line.Call t (Get key)) fine =
-      let (b, is, has) = known (has_key key.index) (binding_of key.name (take n lines)) (all_fine h (take n lines) (line.Call t (Get key)) (first_cause-none h (take n lines) (line.Call t (Get key)) fine).1).known in
+      let (b, is, has) = known (has_key key.index) (binding_of key.name (take n lines)) (all_fine h (take n lines) (line.Call t (Get key)) fine).known in
       one_found key.name b (unwrap_or key.index 0) is (below_count key.index b.keys has)
   FindsAt-fine (line.Call t (Free key)) fine =
-      let (b, is, has) = known (has_key key.index) (binding_of key.name (take n lines)) (all_fine h (take n lines) (line.Call t (Free key)) (first_cause-none h (take n lines) (line.Call t (Free key)) fine).1).known in
+      let (b, is, has) = known (has_key key.index) (binding_of key.name (take n lines)) (all_fine h (take n lines) (line.Call t (Free key)) fine).known in
       one_found key.name b (unwrap_or key.index 0) is (below_count key.index b.keys has)
   FindsAt-fine (line.Call t (Sweep name from to)) fine =
-      let (b, is, has) = known (has_range from to) (binding_of name (take n lines)) (all_fine h (take n lines) (line.Call t (Sweep name from to)) (first_cause-none h (take n lines) (line.Call t (Sweep name from to)) fine).1).known in
+      let (b, is, has) = known (has_range from to) (binding_of name (take n lines)) (all_fine h (take n lines) (line.Call t (Sweep name from to)) fine).known in
       λ place low high. one_found name b place is (range_below from to place b.keys has high)

@@ -1,6 +1,6 @@
 -- The start of a run, and the report of one.
-use Rattle.std.proofs.Common.{◌≡◌, ◌++◌, ℕ, Bool, false, List, [], ◌∷◌, Option, Some, None, option_map, refl, ap, subst, ◌∙◌, arith, slice_get}
-use Rattle.std.specs.List.{flat_map, range_with_len}
+use Rattle.std.proofs.Common.{◌≡◌, ◌++◌, ℕ, Bool, false, List, Option, Some, None, option_map, refl, ap, subst, ◌∙◌, arith, slice_get}
+use Rattle.std.specs.List.{range_with_len}
 use Rattle.std.specs.Option.{option_map_or}
 use Rattle.std.proofs.lemmas.Option.{slice_get-map}
 use Rattle.span.specs.PlainMap.{empty_map}
@@ -9,11 +9,9 @@ use Rattle.arena_core.specs.State.{CoreState, HasKeys, live_keys, new_shard, pag
 use Rattle.trace_runner.specs.News.{News}
 use Rattle.trace_runner.specs.Recalls.{Serves}
 use Rattle.trace_runner.specs.Replay.{IsReportOf, ending_of, start_of}
-use Rattle.trace_runner.specs.Report.{body_text, news_text, report_text}
+use Rattle.trace_runner.specs.Report.{end_line}
 use Rattle.trace_runner.specs.Runs.{IsRun}
 use Rattle.trace_runner.specs.declared.report.Ending.{Ending}
-use Rattle.trace_runner.specs.declared.report.LineAnswer.{LineAnswer}
-use Rattle.trace_runner.specs.declared.report.PlanNote.{PlanNote}
 use Rattle.trace_text.specs.declared.header.Header.{Header}
 use Rattle.trace_text.specs.declared.trace.Trace.{Trace}
 
@@ -32,26 +30,20 @@ Serves-start header = record {
       ∙ not_ended header.pages header.gens (slice_get (range_with_len 0 header.shards) number);
 }
 
--- a report that tells no answer is the news
-pub body_text-brief : (told : ℕ) (answers : List LineAnswer) (notes : List PlanNote) → body_text false told answers notes ≡ flat_map (λ (note : PlanNote). news_text false note.news) notes
-body_text-brief told answers [] = refl
-body_text-brief told answers (note ∷ notes) = ap (λ text. news_text false note.news ++ text) (body_text-brief note.above answers notes)
-
-module _ (trace : Trace) (replies : Bool) (start last : CoreState) (answers : List LineAnswer) (ending : Ending) (news : News) where
+module _ (trace : Trace) (replies : Bool) (start last : CoreState) (ending : Ending) (news : News) where
   -- what is written of a run is its report
-  pub IsReportOf-run : start ≡ start_of trace.header → shown (start_of trace.header) ≡ empty_map → IsRun trace.header.shards trace.lines.items start last answers ending.calls news
+  pub IsReportOf-run : start ≡ start_of trace.header → shown (start_of trace.header) ≡ empty_map → IsRun trace.header.shards replies trace.lines.items start last ending.calls news
       → ending.pages ≡ pages last → ending.live ≡ live_keys last → HasKeys (shown last) ending.live
-      → (bytes certificate : List ℕ) → bytes ≡ report_text replies answers news.notes ending → certificate ≡ news.certificate → IsReportOf trace replies bytes certificate
+      → (bytes certificate : List ℕ) → bytes ≡ news.text ++ end_line ending → certificate ≡ news.certificate → IsReportOf trace replies bytes certificate
   IsReportOf-run starts empty run pages_are live_are keys bytes certificate spelled certified =
       let same : ending ≡ ending_of last ending.calls = λ i. record { pages = pages_are i; live = live_are i; calls = ending.calls } in
       record {
         last = last;
-        answers = answers;
         calls = ending.calls;
         news = news;
         empty = empty;
-        run = subst (λ (c : CoreState). IsRun trace.header.shards trace.lines.items c last answers ending.calls news) starts run;
+        run = subst (λ (c : CoreState). IsRun trace.header.shards replies trace.lines.items c last ending.calls news) starts run;
         live = subst (HasKeys (shown last)) live_are keys;
-        spelled = spelled ∙ ap (report_text replies answers news.notes) same;
+        spelled = spelled ∙ ap (λ (e : Ending). news.text ++ end_line e) same;
         certificate_is = certified;
       }

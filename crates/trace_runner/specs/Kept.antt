@@ -1,9 +1,11 @@
--- What a run keeps of the replies to its lines.
-use Rattle.std.specs.Prelude.{◌≡◌, ◌<◌, ◌≤◌, ◌+◌, ◌++◌, ℕ, Bool, true, false, List, [], filter, length, map, slice_get, if◌then◌else◌, Option, Some, None, unwrap_or}
+-- What a run keeps of the replies to its lines, and of the report. No public clause cites this module.
+use Rattle.std.specs.Prelude.{◌≡◌, ◌<◌, ◌≤◌, ◌+◌, ◌++◌, ℕ, Bool, true, false, List, [], filter, length, map, slice_get, Option, Some, None, unwrap_or}
 use Rattle.std.specs.List.{AllByRecursion, flat_map}
 use Rattle.span.specs.declared.key.Key.{Key}
 use Rattle.trace_runner.specs.Made.{Asked, Calls, Did, Made, asked_of}
-use Rattle.trace_runner.specs.Runs.{answers_from, key_at, key_bound, key_made, on_line}
+use Rattle.trace_runner.specs.Answers.{told_of}
+use Rattle.trace_runner.specs.News.{news_of}
+use Rattle.trace_runner.specs.Runs.{key_at, key_bound, key_made}
 use Rattle.trace_text.specs.Causes.{binding_of}
 use Rattle.trace_text.specs.Earlier.{key_count}
 use Rattle.trace_text.specs.declared.line.Binding.{Binding}
@@ -15,7 +17,6 @@ use Rattle.arena_core.specs.declared.event.Event.TheVariants.{Put}
 use Rattle.trace_runner.specs.declared.replies.Replies.{Replies}
 use Rattle.trace_runner.specs.declared.report.Answer.{Answer}
 use Rattle.trace_runner.specs.declared.report.Answer.TheVariants as answer
-use Rattle.trace_runner.specs.declared.report.LineAnswer.{LineAnswer}
 
 -- ---- what is kept
 
@@ -26,14 +27,14 @@ pub record Kept : Type 0 where
   pub count : ℕ
   -- the report tells the answers
   pub asked : Bool
-  -- the answers, where it tells them
-  pub told : List LineAnswer
+  -- the report so far
+  pub text : List ℕ
 
 abbrev pub kept_in : Replies → Kept
-kept_in r = record { keys = r.keys.items; count = r.count; asked = r.asked; told = r.told.items }
+kept_in r = record { keys = r.keys.items; count = r.count; asked = r.asked; text = r.text.items }
 
 abbrev pub kept_none : Bool → Kept
-kept_none asked = record { keys = []; count = 0; asked = asked; told = [] }
+kept_none asked = record { keys = []; count = 0; asked = asked; text = [] }
 
 -- the key that an answer names
 abbrev pub answer_key : Answer → Option Key
@@ -49,17 +50,13 @@ is_put _ = false
 abbrev pub keys_of : List Made → List (Option Key)
 keys_of made = map key_made (filter (λ m. is_put (asked_of m)) made)
 
--- what is told of what was done at the line of that number
-abbrev pub told_of : Bool → ℕ → List Made → List LineAnswer
-told_of asked number made = if asked then map (on_line number) made else []
-
 -- what is kept once this was done at the line of that number
 abbrev pub keeping : ℕ → Kept → List Made → Kept
-keeping number kept made = record kept { keys = kept.keys ++ keys_of made; count = kept.count + length made; told = kept.told ++ told_of kept.asked number made }
+keeping number kept made = record kept { keys = kept.keys ++ keys_of made; count = kept.count + length made; text = kept.text ++ told_of kept.asked number made }
 
 -- what is kept of the lines that were run
 abbrev pub kept_of : Bool → List Did → Kept
-kept_of asked done = record { keys = flat_map (λ did. keys_of did.calls) done; count = length (answers_from 6 done); asked = asked; told = if asked then answers_from 6 done else [] }
+kept_of asked done = record { keys = flat_map (λ did. keys_of did.calls) done; count = length (flat_map (λ did. did.calls) done); asked = asked; text = (news_of asked done).text }
 
 -- ---- whose keys they are
 

@@ -1,13 +1,12 @@
 pub mod Made
-pub mod News
 pub mod Sink
 pub mod Report
-pub mod Job
-pub mod Telling
+pub mod Errors
+pub mod Answers
+pub mod News
 pub mod Barrier
 pub mod Runs
 pub mod Kept
 pub mod Recalls
 pub mod Replay
 pub mod Verdict
-pub mod Store

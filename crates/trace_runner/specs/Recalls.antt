@@ -1,4 +1,4 @@
--- What a run keeps of what its lines did.
+-- What a run keeps of what its lines did. No public clause cites this module.
 use Rattle.std.specs.Prelude.{◌≡◌, ◌<◌, ◌≤◌, ◌++◌, ◌&&◌, ◌||◌, ◌==◌, nat_eq, nat_lt, ℕ, Bool, true, false, not, List, [], ◌∷◌, length, map, take, slice_get, if◌then◌else◌, Some, None}
 use Rattle.std.specs.HashSet as bag
 use Rattle.std.specs.HashSet.{HashSet}
@@ -29,14 +29,16 @@ Makes number asked old before new after = (made : List Made) × (map asked_of ma
 abbrev pub Carries : List Asked → CoreState → News → CoreState → News → Type 0
 Carries asked old before new after = (made : List Made) × (map asked_of made ≡ asked) × IsAnswered old made new × (after ≡ with_all_made before made)
 
--- what a line asks for was done: first what settles the section, then its calls, and then what follows them
+-- what a line asks for was done and told: first what settles the section, then its calls, and then what follows them
 pub record MakesLine (number : ℕ) (settled asked : List Asked) (line : Line) (old : CoreState) (before : Kept) (news_before : News) (new : CoreState) (after : Kept) (news_after : News) : Type 0 where
   pub settled_core : CoreState
   pub called_core : CoreState
   pub news : News
+  pub called : Kept
   pub settles : Carries settled old news_before settled_core news
-  pub makes : Makes number asked settled_core before called_core after
-  pub plans : Carries (planning_at called_core line) called_core (record news { above = after.count }) new news_after
+  pub makes : Makes number asked settled_core (record before { text = news.text }) called_core called
+  pub plans : Carries (planning_at called_core line) called_core (record news { replies = called.asked; text = called.text }) new news_after
+  pub rest : after ≡ record called { text = after.text }
 
 -- the oldest key of the ring from the worker to the shard was freed, or none waited there
 abbrev pub SettlesNext : (worker shard : ℕ) → CoreState → Bool → CoreState → Type 0
@@ -111,9 +113,9 @@ IsServed Closed = ⊥
 IsServed NoPlan = ⊥
 IsServed reply = Unit {0}
 
--- the news of a run behind so many answers
-abbrev pub news_at : ℕ → Plans → News
-news_at above plans = record { above = above; marks = plans.marks; taken = plans.taken; notes = plans.notes.items; certificate = plans.certificate.items }
+-- the news of a run
+abbrev pub news_at : Kept → Plans → News
+news_at kept plans = record { replies = kept.asked; marks = plans.marks; taken = plans.taken; text = kept.text; certificate = plans.certificate.items }
 
 -- the run knows how many pairs of the open plan are left, and where none is open
 abbrev pub KnowsPlan : Plans → CoreState → Type 0
@@ -131,7 +133,7 @@ CanLeave shards core leaving = (thread : ℕ) → thread < shards → leaving th
 
 -- the line may be run: its numbers are within their ranges, its thread or shard is open and does not leave, and the core has all shards
 pub record IsReady (shards : ℕ) (core : CoreState) (leaving : ℕ → Bool) (line : Line) : Type 0 where
-  pub within : is_call is_call_over line ≡ false
+  pub within : (above : List Line) × (is_call (is_call_over above) line ≡ false)
   pub running : (thread : ℕ) → thread_of line ≡ Some thread → IsOpen core thread
   pub stays : (thread : ℕ) → thread_of line ≡ Some thread → leaving thread ≡ false
   pub leavers : CanLeave shards core leaving
@@ -154,7 +156,7 @@ pub record HasCome (replies : Bool) (shards : ℕ) (lines : List Line) (count : 
   pub leaving_are : (thread : ℕ) → leaving thread ≡ has_ended (open_lines (take count lines)) thread
   pub ended_are : (thread : ℕ) → thread < shards → ended_at core thread ≡ (has_ended (take count lines) thread && not (has_ended (open_lines (take count lines)) thread))
   -- the news is that of the lines, and the open plan is known
-  pub news_are : news_at kept.count plans ≡ news_of done
+  pub news_are : news_at kept plans ≡ news_of replies done
   pub knows : KnowsPlan plans core
   pub marks : plans.marks ≤ count
 

@@ -1,17 +1,17 @@
 -- What a replay writes.
-use Rattle.std.specs.Prelude.{◌≡◌, ◌+◌, ℕ, Bool, List, Option}
+use Rattle.std.specs.Prelude.{◌≡◌, ◌+◌, ◌++◌, ℕ, Bool, List, Option}
 use Rattle.std.specs.Io.KnownBytes.{Appends}
 use Rattle.span.specs.PlainMap.{empty_map}
-use Rattle.arena_core.specs.State.{CoreState, HasKeys, limits_of, live_keys, new_core, pages, shown}
+use Rattle.arena_core.specs.State.{CoreState, HasKeys, live_keys, new_core, pages, shown}
+use Rattle.marks.specs.Numbers.{limits_of}
 use Rattle.trace_runner.specs.News.{News}
-use Rattle.trace_runner.specs.Report.{report_text}
+use Rattle.trace_runner.specs.Report.{end_line}
 use Rattle.trace_runner.specs.Runs.{IsRun}
 use Rattle.trace_runner.specs.Sink.{AppendsFront}
 use Rattle.trace_text.specs.Trace.{IsFaultAt, IsTrace}
 use Rattle.trace_runner.specs.declared.fault.ReplayError.{ReplayError}
 use Rattle.trace_runner.specs.declared.fault.ReplayError.TheVariants.{OutOfMemory, BadTrace, SinkFailed}
 use Rattle.trace_runner.specs.declared.report.Ending.{Ending}
-use Rattle.trace_runner.specs.declared.report.LineAnswer.{LineAnswer}
 use Rattle.trace_text.specs.declared.header.Header.{Header}
 use Rattle.trace_text.specs.declared.trace.Trace.{Trace}
 
@@ -23,17 +23,16 @@ start_of header = new_core (limits_of header.shards header.pages header.ring hea
 abbrev pub ending_of : CoreState → ℕ → Ending
 ending_of core calls = record { pages = pages core; live = live_keys core; calls = calls }
 
--- the bytes are the report of a run of the trace: what its lines did, from the empty plain map on, with their answers, what is told of plans, and the counts at its end,
+-- the bytes are the report of a run of the trace: what its lines did, from the empty plain map on, as it is told, and the counts at its end,
 -- of which that of the live keys is how many keys have a value in the plain map; and the certificate is that of the last mark that planned, or nothing
 pub record IsReportOf (trace : Trace) (replies : Bool) (bytes certificate : List ℕ) : Type 0 where
   pub last : CoreState
-  pub answers : List LineAnswer
   pub calls : ℕ
   pub news : News
   pub empty : shown (start_of trace.header) ≡ empty_map
-  pub run : IsRun trace.header.shards trace.lines.items (start_of trace.header) last answers calls news
+  pub run : IsRun trace.header.shards replies trace.lines.items (start_of trace.header) last calls news
   pub live : HasKeys (shown last) (live_keys last)
-  pub spelled : bytes ≡ report_text replies answers news.notes (ending_of last calls)
+  pub spelled : bytes ≡ news.text ++ end_line (ending_of last calls)
   pub certificate_is : certificate ≡ news.certificate
 
 -- the text is a trace, and the bytes are the report of a run of it, with its last certificate

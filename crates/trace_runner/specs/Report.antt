@@ -1,5 +1,5 @@
--- The text of a report.
-use Rattle.std.specs.Prelude.{ℕ, ◌≤◌, Bool, List, [], ◌∷◌, ◌++◌, codes, drop, length, slice_range, if◌then◌else◌}
+-- The lines of a report.
+use Rattle.std.specs.Prelude.{ℕ, Bool, List, [], ◌∷◌, ◌++◌, codes, length, if◌then◌else◌}
 use Rattle.std.specs.Fmt.{decimal}
 use Rattle.std.specs.List.{flat_map}
 use Rattle.span.specs.Texts.{id_text, key_text}
@@ -15,7 +15,6 @@ use Rattle.trace_runner.specs.declared.report.MarkNews.{MarkNews}
 use Rattle.trace_runner.specs.declared.report.CloseNews.{CloseNews}
 use Rattle.trace_runner.specs.declared.report.PlanNews.{PlanNews}
 use Rattle.trace_runner.specs.declared.report.PlanNews.TheVariants.{Marked, TooMany, Closed}
-use Rattle.trace_runner.specs.declared.report.PlanNote.{PlanNote}
 
 -- an answer, without its line's number
 abbrev pub answer_text : Answer → List ℕ
@@ -96,19 +95,3 @@ abbrev pub news_text : Bool → PlanNews → List ℕ
 news_text replies (Marked m) = mark_text m
 news_text replies (TooMany mark) = codes "mark " ++ decimal mark ++ codes " refused many\n"
 news_text replies (Closed c) = close_text replies c
-
--- ---- the whole
-
--- the answers, of which so many are told already, with each note behind as many answers as it says
-abbrev pub body_text : Bool → ℕ → List LineAnswer → List PlanNote → List ℕ
-body_text replies told answers [] = answers_text replies (drop told answers)
-body_text replies told answers (note ∷ notes) = answers_text replies (slice_range answers told note.above) ++ news_text replies note.news ++ body_text replies note.above answers notes
-
--- each note stands no higher than the one before it, and behind answers that are there
-abbrev pub AreInOrder : (told count : ℕ) → List PlanNote → Type 0
-AreInOrder told count [] = told ≤ count
-AreInOrder told count (note ∷ notes) = (told ≤ note.above) × AreInOrder note.above count notes
-
--- the answers and the notes in order, and the last line
-abbrev pub report_text : Bool → List LineAnswer → List PlanNote → Ending → List ℕ
-report_text replies answers notes ending = body_text replies 0 answers notes ++ end_line ending

@@ -1,22 +1,20 @@
--- What the lines of a trace do, and what the report tells of it.
-use Rattle.std.specs.Prelude.{◌≡◌, ◌+◌, ◌-◌, ℕ, true, false, nat_lt, List, [], ◌∷◌, ◌++◌, length, map, replicate, take, slice_get, Option, Some, None, option_and_then, unwrap_or, if◌then◌else◌}
+-- What the lines of a trace do.
+use Rattle.std.specs.Prelude.{◌≡◌, ◌+◌, ◌-◌, ℕ, Bool, nat_lt, List, [], ◌∷◌, ◌++◌, length, map, replicate, take, slice_get, Option, Some, None, option_and_then, unwrap_or, if◌then◌else◌}
 use Rattle.std.specs.List.{AllByRecursion, range_with_len}
 use Rattle.span.specs.declared.key.Key.{Key}
 use Rattle.trace_runner.specs.Barrier.{is_barrier, leavers}
-use Rattle.trace_runner.specs.Made.{Asked, Calls, Keyless, Leaves, Tends, CalledEvent, Called, Made, Did, IsAsAsked, all_called, all_made, asked_of, core_after, core_called, events_of, keys_taken, replies_of}
+use Rattle.trace_runner.specs.Made.{Asked, Calls, Keyless, Leaves, Tends, CalledEvent, Called, Made, Did, IsAsAsked, all_called, all_made, asked_of, core_after, core_called, events_of, replies_of}
 use Rattle.trace_runner.specs.News.{News, all_news}
 use Rattle.trace_text.specs.Causes.{binding_of}
-use Rattle.arena_core.specs.State.{CoreState, OpenPlan, shown}
+use Rattle.arena_core.specs.State.{CoreState, shown}
+use Rattle.marks.specs.Plans.{OpenPlan}
 use Rattle.arena_core.specs.Step.{CoreRun, CoreStep}
 use Rattle.arena_core.specs.Plain.{PlainRun, erased}
 use Rattle.arena_core.specs.declared.event.Event.{Event}
 use Rattle.arena_core.specs.declared.event.Event.TheVariants as event
 use Rattle.arena_core.specs.declared.reply.Refusal.TheVariants.{PagesSpent, TooMany, NothingToAdopt, RingFull}
 use Rattle.arena_core.specs.declared.reply.Reply.{Reply}
-use Rattle.arena_core.specs.declared.reply.Reply.TheVariants.{Issued, Found, Freed, Sent, ShardEnded, Adopted, NoPairLeft, NoPlan, Refused}
-use Rattle.trace_runner.specs.declared.report.Answer.{Answer}
-use Rattle.trace_runner.specs.declared.report.Answer.TheVariants as answer
-use Rattle.trace_runner.specs.declared.report.LineAnswer.{LineAnswer}
+use Rattle.arena_core.specs.declared.reply.Reply.TheVariants.{Issued, NoPairLeft, NoPlan, Refused}
 use Rattle.trace_text.specs.declared.line.Binding.{Binding}
 use Rattle.trace_text.specs.declared.line.Call.{Call}
 use Rattle.trace_text.specs.declared.line.Call.TheVariants.{Put, Fill, Get, Free, Sweep, Later, Tend, End}
@@ -151,42 +149,7 @@ abbrev pub DoLines : (shards : ℕ) → List Line → CoreState → List Line �
 DoLines shards all start [] done after = after ≡ done
 DoLines shards all start (line ∷ lines) done after = (did : Did) × Does shards all start done line did × DoLines shards all start lines (done ++ did ∷ []) after
 
--- ---- the answers that the report tells
-
--- what is told of the reply to an event
-abbrev pub answer_told : Reply → Answer
-answer_told (Issued key) = answer.Key key
-answer_told (Found (Some value)) = answer.Value value
-answer_told (Found None) = answer.Absent
-answer_told (Freed true) = answer.Freed
-answer_told (Freed false) = answer.NotFreed
-answer_told Sent = answer.Sent
-answer_told ShardEnded = answer.Ended
-answer_told (Adopted head) = answer.Adopted head
-answer_told (Refused NothingToAdopt) = answer.NothingToAdopt
-answer_told (Refused RingFull) = answer.RingFull
-answer_told (Refused cause) = answer.PagesSpent
--- no event of a line has another reply
-answer_told reply = answer.Unbound
-
--- the reply to one thing that was asked for, after the events that were called
-abbrev pub answer_of : Asked → List CalledEvent → Answer
-answer_of (Calls event) (Called done reply core ∷ more) = answer_told reply
-answer_of Leaves called = answer.Ended
-answer_of (Tends workers shard) called = answer.Settled (keys_taken called)
-answer_of asked called = answer.Unbound
-
-abbrev pub answer_to : Made → Answer
-answer_to made = answer_of made.asked made.called
-
--- an answer on the line of that number
-abbrev pub on_line : ℕ → Made → LineAnswer
-on_line number made = record { line = number; answer = answer_to made }
-
--- the answers of lines, of which the first has that number: of a section first those of its threads' lines, and then, as its barrier has them, those of its adoptions
-abbrev pub answers_from : ℕ → List Did → List LineAnswer
-answers_from number [] = []
-answers_from number (did ∷ done) = map (on_line number) did.calls ++ answers_from (number + 1) done
+-- ---- how many replies there are
 
 -- how many replies a line has, where it is a thread's
 abbrev pub calls_at : Line → Did → ℕ
@@ -198,14 +161,13 @@ abbrev pub calls_in : List Line → List Did → ℕ
 calls_in (line ∷ lines) (did ∷ done) = calls_at line did + calls_in lines done
 calls_in _ _ = 0
 
--- the lines of a trace were run, from one core to the other, with these answers, of which so many are those of threads' lines, and this was told of plans
-pub record IsRun (shards : ℕ) (lines : List Line) (old new : CoreState) (answers : List LineAnswer) (calls : ℕ) (news : News) : Type 0 where
+-- the lines of a trace were run, from one core to the other, with so many replies to threads' lines, and this was told of it
+pub record IsRun (shards : ℕ) (replies : Bool) (lines : List Line) (old new : CoreState) (calls : ℕ) (news : News) : Type 0 where
   pub done : List Did
   -- what is done at the end of the text
   pub last : List Made
   pub lines_do : DoLines shards lines old lines [] done
   pub settled : map asked_of last ≡ settling shards lines (core_after old (all_made done))
   pub answered : IsAnswered old (all_made done ++ last) new
-  pub answers_are : answers ≡ answers_from 6 done
   pub calls_are : calls ≡ calls_in lines done
-  pub news_are : news ≡ all_news done last
+  pub news_are : news ≡ all_news replies done last

@@ -20,7 +20,8 @@ pub fn check_text<S: Sink>(alloc: Global, text: &[u8], out: &mut S) -> Result<bo
     requires { S.failures out.old < 2 ^ 64 - 1 }
     ensures ok { IfOk result (WritesVerdict text.now (S.taken out.old) (S.taken out.new)) }
     ensures succeeded { OnOk result (S.failures out.new ≡ S.failures out.old) }
-    ensures err { IfErr result (StopsCheck text.now (S.failures out.old) (S.failures out.new) (S.taken out.old) (S.taken out.new)) }
+    ensures err { IfErr result (StopsCheck text.now (S.failures out.old) (S.failures out.new)
+        (S.taken out.old) (S.taken out.new)) }
 {
     let certificate = read(alloc, text)?;
     let accepted = check(&certificate.snapshot, &certificate.plan, &certificate.short);

@@ -1,18 +1,13 @@
-//! What stops a replay or a check, and what stops the program.
+//! What stops a replay or a check.
 
 ghost use Rattle.std.specs.Prelude.{◌≡◌};
-ghost use Rattle.trace_runner.specs.declared.fault.Fault.TheVariants as fault;
 ghost use Rattle.trace_runner.specs.declared.fault.ReplayError.TheVariants as replay_error;
 ghost use Rattle.trace_runner.specs.declared.fault.CheckError.TheVariants as check_error;
-ghost use Rattle.trace_runner.specs.Telling.{fault_of_check, fault_of_io, fault_of_job, fault_of_replay, stop_of_parse, stop_of_read};
+ghost use Rattle.trace_runner.specs.Errors.{stop_of_parse, stop_of_read};
 
-use crate::job::JobError;
 use crate::sink::SinkFailed;
-use crate::store::StoreFailed;
-use audit::AuditCause;
 use certificate::ReadError;
 use std::alloc::{AllocError, AllocFailed};
-use std::io;
 use thiserror::Error;
 use trace_text::{Cause, ParseError};
 
@@ -100,141 +95,5 @@ impl From<AllocError> for CheckError {
 
     fn from(_error: AllocError) -> CheckError {
         CheckError::OutOfMemory
-    }
-}
-
-/// Why the program did not do its job, or what it shows in place of one.
-#[derive(Debug, Drop, Error)]
-pub enum Fault {
-    /// Memory ran out.
-    #[error("memory ran out: replay a shorter trace")]
-    OutOfMemory,
-    /// The text is no trace. `line` is the first line at fault, where the first line is 1.
-    #[error("line {line} of the trace is at fault: {cause}")]
-    BadTrace {
-        line: usize,
-        cause: Cause,
-    },
-    /// The text is no certificate. `line` is the first line at fault, where the first line is 1.
-    #[error("line {line} of the certificate is at fault: {cause}")]
-    BadCertificate {
-        line: usize,
-        cause: certificate::Cause,
-    },
-    /// A shard or the pool of a run by threads was not as its calls had left it.
-    #[error("a span stood in two places, or a shard had ended that had not: report this as an error of the program")]
-    Doubled,
-    /// What the calls of a run by threads were told does not agree with the logs of its spans.
-    #[error("audit: {0}")]
-    Audit(AuditCause),
-    /// The sink did not take the whole report, or the whole verdict.
-    #[error("the report could not be written whole: look for a full disk or a closed pipe")]
-    SinkFailed,
-    /// The words of the command line name no job, or they ask for help.
-    #[error(transparent)]
-    Words(clap::Error),
-    /// The words or the file could not be read, or the file for the certificate could not be written.
-    #[error("a file could not be read or written: look whether it is there, and whether you may")]
-    Io,
-}
-
-impl Fault {
-    ghost use Rattle.trace_runner.specs.Telling.{asks_for_help, status_of};
-
-    /// Whether nothing is wrong: help was asked for.
-    pub fn asks_for_help(&self) -> bool
-        ensures { result ≡ asks_for_help self.now }
-    {
-        match self {
-            Fault::Words(error) => !error.use_stderr(),
-            _ => false,
-        }
-    }
-
-    /// The status with which the program ends: 0 where help was asked for, 1 where the text is no
-    /// trace or no certificate, 2 where the words name no job, 3 where memory ran out, 4 where a run by
-    /// threads was not as it ought to be, and 5 where a read or a write failed.
-    pub fn status(&self) -> u8
-        ensures { result ≡ status_of self.now }
-    {
-        match self {
-            Fault::BadTrace { .. } => 1,
-            Fault::BadCertificate { .. } => 1,
-            Fault::Words(error) if error.use_stderr() => 2,
-            Fault::Words(_) => 0,
-            Fault::OutOfMemory => 3,
-            Fault::Doubled | Fault::Audit(_) => 4,
-            Fault::SinkFailed | Fault::Io => 5,
-        }
-    }
-}
-
-impl From<ReplayError> for Fault {
-    ghost from_gives = { λ error stop. stop ≡ fault_of_replay error };
-
-    fn from(error: ReplayError) -> Fault {
-        match error {
-            ReplayError::OutOfMemory => Fault::OutOfMemory,
-            ReplayError::BadTrace { line, cause } => Fault::BadTrace { line, cause },
-            ReplayError::SinkFailed => Fault::SinkFailed,
-        }
-    }
-}
-
-impl From<CheckError> for Fault {
-    ghost from_gives = { λ error stop. stop ≡ fault_of_check error };
-
-    fn from(error: CheckError) -> Fault {
-        match error {
-            CheckError::OutOfMemory => Fault::OutOfMemory,
-            CheckError::BadCertificate { line, cause } => Fault::BadCertificate { line, cause },
-            CheckError::SinkFailed => Fault::SinkFailed,
-        }
-    }
-}
-
-impl From<JobError> for Fault {
-    ghost from_gives = { λ error stop. stop ≡ fault_of_job error };
-
-    fn from(error: JobError) -> Fault {
-        match error {
-            JobError::OutOfMemory => Fault::OutOfMemory,
-            JobError::Words(error) => Fault::Words(error),
-        }
-    }
-}
-
-impl From<StoreFailed> for Fault {
-    ghost from_gives = { λ _ stop. stop ≡ fault.Io };
-
-    fn from(_error: StoreFailed) -> Fault {
-        Fault::Io
-    }
-}
-
-impl From<AllocError> for Fault {
-    ghost from_gives = { λ _ stop. stop ≡ fault.OutOfMemory };
-
-    fn from(_error: AllocError) -> Fault {
-        Fault::OutOfMemory
-    }
-}
-
-impl<T: Drop> From<AllocFailed<T>> for Fault {
-    ghost from_gives = { λ _ stop. stop ≡ fault.OutOfMemory };
-
-    fn from(_error: AllocFailed<T>) -> Fault {
-        Fault::OutOfMemory
-    }
-}
-
-impl From<io::Error> for Fault {
-    ghost from_gives = { λ error stop. stop ≡ fault_of_io error };
-
-    fn from(error: io::Error) -> Fault {
-        match error.kind() {
-            io::ErrorKind::OutOfMemory => Fault::OutOfMemory,
-            _ => Fault::Io,
-        }
     }
 }

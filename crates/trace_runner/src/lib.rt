@@ -9,14 +9,22 @@
 //! [`check_text`] reads a certificate, tests it by the checker of the crate `certificate`, and says in one line whether it is
 //! accepted.
 //!
-//! The program `meshrun` does so for files. What it is asked to do is a [`Job`], which is read from its words; [`save`]
-//! writes a certificate to a [`Store`]; [`tell`] says what stopped it, a [`Fault`], and answers the status with which it
-//! ends.
+//! The crate `thread_runner` runs the lines of a trace by threads, and the program `meshrun` does both for files, as the
+//! words of its command line say (`command_line`).
+//!
+//! # Examples
+//!
+//! ```text
+//! let mut report = Memory::new(alloc);
+//! let mut certificate = Vec::new(alloc);
+//! let trace = b"mesh 1\nshards 1\npages 4\nring 4\ngens 9\n0 put a 7\n0 get a\n";
+//! replay_serial(alloc, trace, true, &mut report, &mut certificate)?;
+//! // report.bytes: "6 key 0.0/0/1\n7 value 7\nend pages 1 live 1 calls 2\n"
+//! ```
 #![tactic(auto)]
 
 mod checking;
 mod fault;
-mod job;
 mod plans;
 mod replay;
 mod replies;
@@ -24,21 +32,16 @@ mod report;
 mod rings;
 mod run;
 mod sink;
-mod store;
-mod telling;
 mod writing;
 
 pub use checking::check_text;
-pub use fault::{CheckError, Fault, ReplayError};
-pub use job::{Job, JobError};
+pub use fault::{CheckError, ReplayError};
 pub use replay::replay_serial;
 pub use report::{
-    Answer, CloseNews, Ending, Heads, LineAnswer, MarkNews, PlanNews, PlanNote, Steps, TakenStep,
+    Answer, CloseNews, Ending, Heads, LineAnswer, MarkNews, PlanNews, Steps, TakenStep,
 };
 pub use sink::{Memory, Out, Sink, SinkFailed, give};
-pub use store::{Disk, Store, StoreFailed, save};
-pub use telling::{TellError, tell};
 pub use trace_text::{
-    Binding, Call, Cause, Header, Keys, Line, Name, ParseError, Reference, Trace, parse,
+    Binding, Call, Cause, Header, Keys, Line, Name, ParseError, Reference, Trace, Version, parse,
 };
 pub use writing::{push_answers, push_ending, push_news};

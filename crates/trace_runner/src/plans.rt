@@ -1,15 +1,17 @@
-//! What a run knows of plans: the open one, and what the report tells of all.
+//! What a run knows of plans: the open one, and how many marks there were.
 
-ghost use Rattle.std.specs.Prelude.{◌≡◌, ◌+◌, ◌-◌, ◌<◌, ◌^◌, ◌++◌, ◌∷◌, [], ℕ, length, replicate, None, Some, OnOk};
+ghost use Rattle.std.specs.Prelude.{◌≡◌, ◌+◌, ◌-◌, ◌<◌, ◌^◌, ◌∷◌, [], Bool, length, replicate, None, Some, OnOk};
 ghost use Rattle.arena_core.specs.declared.event.Event.TheVariants as event;
 ghost use Rattle.arena_core.specs.declared.reply.Reply.TheVariants as reply;
 ghost use Rattle.certificate.specs.Text.{IsWritable};
 ghost use Rattle.trace_runner.specs.Made.{Calls, Called};
+ghost use Rattle.trace_runner.specs.Kept.{Kept, kept_in, kept_none};
 ghost use Rattle.trace_runner.specs.News.{no_news, with_called};
 ghost use Rattle.trace_runner.specs.Recalls.{Carries, KeepsShards, KnowsPlan, news_at};
 ghost use Rattle.trace_runner.specs.Runs.{finishing, stepping};
 
-use crate::report::{CloseNews, Heads, MarkNews, PlanNews, PlanNote, Steps, TakenStep};
+use crate::replies::Replies;
+use crate::report::{CloseNews, Heads, MarkNews, PlanNews, Steps, TakenStep};
 use arena_core::{Core, Event, Refusal, Reply};
 use certificate::{Certificate, partners, write};
 use span::Counted;
@@ -26,8 +28,6 @@ pub(crate) struct Plans {
     left: Option<usize>,
     /// The steps of the open plan so far.
     taken: Steps,
-    /// What the report tells of plans, in order.
-    notes: Vec<PlanNote>,
     /// The text of the certificate of the last mark that planned; empty where none did.
     certificate: Vec<u8>,
 }
@@ -35,7 +35,7 @@ pub(crate) struct Plans {
 impl Plans {
     /// No mark yet.
     pub(crate) fn new(alloc: Global) -> Plans
-        ensures news { news_at 0 result ≡ no_news }
+        ensures news { (replies : Bool) → news_at (kept_none replies) result ≡ no_news replies }
         ensures left { result.left ≡ None }
     {
         Plans {
@@ -43,23 +43,23 @@ impl Plans {
             marks: 0,
             left: None,
             taken: Steps::new(alloc),
-            notes: Vec::new(alloc),
             certificate: Vec::new(alloc),
         }
     }
 
-    /// What the report tells of plans, and the text of the certificate of the last mark that planned.
-    pub(crate) fn told(self) -> (Vec<PlanNote>, Vec<u8>)
-        ensures notes { result.0 ≡ self.notes }
-        ensures certificate { result.1 ≡ self.certificate }
+    /// The text of the certificate of the last mark that planned; empty where none did.
+    pub(crate) fn into_certificate(self) -> Vec<u8>
+        ensures { result ≡ self.certificate }
     {
-        (self.notes, self.certificate)
+        self.certificate
     }
 
     /// Takes a step of the open plan while a pair is left, as after each thread's line.
     pub(crate) fn follow(&mut self, core: &mut Core<Counted>) -> Result<(), AllocError>
         requires knows { KnowsPlan self.old core.old }
-        ensures made { (above : ℕ) → OnOk result (Carries (stepping core.old.plan) core.old (news_at above self.old) core.new (news_at above self.new)) }
+        ensures made { (kept : Kept) → OnOk result
+            (Carries (stepping core.old.plan) core.old (news_at kept self.old) core.new
+            (news_at kept self.new)) }
         ensures knows { OnOk result (KnowsPlan self.new core.new) }
         ensures shards { KeepsShards core.old core.new }
         ensures marks { self.new.marks ≡ self.old.marks }
@@ -70,14 +70,18 @@ impl Plans {
         }
     }
 
-    /// Ends the open plan, if there is one: takes the steps that are left, and closes it. So many answers stand above.
+    /// Ends the open plan, if there is one: takes the steps that are left, closes it, and tells so.
     pub(crate) fn finish(
         &mut self,
         core: &mut Core<Counted>,
-        above: usize,
+        replies: &mut Replies,
     ) -> Result<(), AllocError>
         requires knows { KnowsPlan self.old core.old }
-        ensures made { OnOk result (Carries (finishing core.old.plan) core.old (news_at above self.old) core.new (news_at above self.new)) }
+        ensures made { OnOk result (Carries (finishing core.old.plan) core.old
+            (news_at (kept_in replies.old) self.old) core.new
+            (news_at (kept_in replies.new) self.new)) }
+        ensures rest { kept_in replies.new ≡ record
+            (kept_in replies.old) { text = replies.new.text.items } }
         ensures ended { OnOk result (core.new.plan ≡ None) }
         ensures left { OnOk result (self.new.left ≡ None) }
         ensures shards { KeepsShards core.old core.new }
@@ -87,14 +91,16 @@ impl Plans {
             return Ok(());
         };
         self.finish_steps(core, left)?;
-        self.close(core, above)
+        self.close(core, replies)
     }
 
     /// Takes all the steps that are left.
     fn finish_steps(&mut self, core: &mut Core<Counted>, left: usize) -> Result<(), AllocError>
         requires knows { KnowsPlan self.old core.old }
         requires left { self.old.left ≡ Some left }
-        ensures made { (above : ℕ) → OnOk result (Carries (replicate left (Calls event.Step)) core.old (news_at above self.old) core.new (news_at above self.new)) }
+        ensures made { (kept : Kept) → OnOk result
+            (Carries (replicate left (Calls event.Step)) core.old (news_at kept self.old) core.new
+            (news_at kept self.new)) }
         ensures knows { OnOk result (KnowsPlan self.new core.new) }
         ensures none { OnOk result (self.new.left ≡ Some 0) }
         ensures shards { KeepsShards core.old core.new }
@@ -108,10 +114,15 @@ impl Plans {
 
     /// Takes the next step of the open plan, of which that many are left.
     fn step(&mut self, core: &mut Core<Counted>, left: usize) -> Result<(), AllocError>
+        // The plan has a pair left.
         requires knows { KnowsPlan self.old core.old }
         requires left { self.old.left ≡ Some left }
         requires some { 0 < left }
-        ensures made { (above : ℕ) → OnOk result (Carries (Calls event.Step ∷ []) core.old (news_at above self.old) core.new (news_at above self.new)) }
+
+        // The step is made, and what is kept of the plan goes on with it.
+        ensures made { (kept : Kept) → OnOk result
+            (Carries (Calls event.Step ∷ []) core.old (news_at kept self.old) core.new
+            (news_at kept self.new)) }
         ensures knows { OnOk result (KnowsPlan self.new core.new) }
         ensures one_less { OnOk result (self.new.left ≡ Some (left - 1)) }
         ensures shards { KeepsShards core.old core.new }
@@ -131,11 +142,20 @@ impl Plans {
         }
     }
 
-    /// Closes the open plan, of which no pair is left.
-    fn close(&mut self, core: &mut Core<Counted>, above: usize) -> Result<(), AllocError>
+    /// Closes the open plan, of which no pair is left, and tells so.
+    fn close(&mut self, core: &mut Core<Counted>, replies: &mut Replies) -> Result<(), AllocError>
+        // A plan is open, and no pair of it is left.
         requires knows { KnowsPlan self.old core.old }
         requires left { self.old.left ≡ Some 0 }
-        ensures made { OnOk result (Carries (Calls event.Close ∷ []) core.old (news_at above self.old) core.new (news_at above self.new)) }
+
+        // The close is made and told.
+        ensures made { OnOk result (Carries (Calls event.Close ∷ []) core.old
+            (news_at (kept_in replies.old) self.old) core.new
+            (news_at (kept_in replies.new) self.new)) }
+        ensures rest { kept_in replies.new ≡ record
+            (kept_in replies.old) { text = replies.new.text.items } }
+
+        // No plan is open then.
         ensures ended { core.new.plan ≡ None }
         ensures left { self.new.left ≡ None }
         ensures shards { KeepsShards core.old core.new }
@@ -150,43 +170,60 @@ impl Plans {
                     steps,
                     pages: core.totals().pages,
                 };
-                self.tell(above, PlanNews::Closed(closed))
+                replies.tell_news(&PlanNews::Closed(closed))
             }
             _ => unreachable!(),
         }
     }
 
-    /// Marks: makes a plan, and opens it, unless a side has too many groups.
-    pub(crate) fn mark(&mut self, core: &mut Core<Counted>, above: usize) -> Result<(), AllocError>
+    /// Marks: makes a plan, and opens it, unless a side has too many groups; and tells so.
+    pub(crate) fn mark(
+        &mut self,
+        core: &mut Core<Counted>,
+        replies: &mut Replies,
+    ) -> Result<(), AllocError>
+        // No plan is open.
         requires unplanned { core.old.plan ≡ None }
         requires left { self.old.left ≡ None }
         requires few { self.old.marks + 1 < 2 ^ 64 }
-        ensures made { OnOk result (Carries (Calls event.Mark ∷ []) core.old (news_at above self.old) core.new (news_at above self.new)) }
+
+        // The mark is made and told.
+        ensures made { OnOk result (Carries (Calls event.Mark ∷ []) core.old
+            (news_at (kept_in replies.old) self.old) core.new
+            (news_at (kept_in replies.new) self.new)) }
+        ensures rest { kept_in replies.new ≡ record
+            (kept_in replies.old) { text = replies.new.text.items } }
+
+        // What is kept of its plan.
         ensures knows { OnOk result (KnowsPlan self.new core.new) }
         ensures shards { KeepsShards core.old core.new }
         ensures marks { OnOk result (self.new.marks ≡ self.old.marks + 1) }
     {
         match core.step(Event::Mark) {
-            Reply::Marked(certificate) => self.planned(core, certificate, above),
+            Reply::Marked(certificate) => self.planned(core, certificate, replies),
             Reply::Refused(Refusal::TooMany) => {
                 self.marks += 1;
-                self.tell(above, PlanNews::TooMany(self.marks))
+                replies.tell_news(&PlanNews::TooMany(self.marks))
             }
             Reply::Refused(Refusal::OutOfMemory) => Err(AllocError),
             _ => unreachable!(),
         }
     }
 
-    /// Keeps what a mark has planned.
+    /// Keeps and tells what a mark has planned.
     fn planned(
         &mut self,
         core: &Core<Counted>,
         certificate: Certificate,
-        above: usize,
+        replies: &mut Replies,
     ) -> Result<(), AllocError>
         requires few { self.old.marks + 1 < 2 ^ 64 }
         requires writable { IsWritable certificate }
-        ensures news { OnOk result (news_at above self.new ≡ with_called (news_at above self.old) (Called event.Mark (reply.Marked certificate) core.now)) }
+        ensures news { OnOk result (news_at (kept_in replies.new) self.new
+            ≡ with_called (news_at (kept_in replies.old) self.old)
+            (Called event.Mark (reply.Marked certificate) core.now)) }
+        ensures rest { kept_in replies.new ≡ record
+            (kept_in replies.old) { text = replies.new.text.items } }
         ensures left { OnOk result (self.new.left ≡ Some (length certificate.plan)) }
         ensures marks { OnOk result (self.new.marks ≡ self.old.marks + 1) }
     {
@@ -208,18 +245,6 @@ impl Plans {
             partners: Heads::new(partners),
             pages: core.totals().pages,
         };
-        self.tell(above, PlanNews::Marked(marked))
-    }
-
-    /// Keeps news after that many answers.
-    fn tell(&mut self, above: usize, news: PlanNews) -> Result<(), AllocError>
-        ensures told { OnOk result (self.new.notes.items ≡ self.old.notes.items ++ (record { above = above; news = news }) ∷ []) }
-        ensures marks { self.new.marks ≡ self.old.marks }
-        ensures left { self.new.left ≡ self.old.left }
-        ensures taken { self.new.taken ≡ self.old.taken }
-        ensures certificate { self.new.certificate ≡ self.old.certificate }
-    {
-        self.notes.push(PlanNote { above, news })?;
-        Ok(())
+        replies.tell_news(&PlanNews::Marked(marked))
     }
 }

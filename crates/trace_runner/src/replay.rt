@@ -1,21 +1,19 @@
 //! Replays a trace on a core of its own.
 
-ghost use Rattle.std.specs.Prelude.{◌≡◌, ◌<◌, ◌-◌, ◌^◌, [], IfOk, IfErr, List, OnErr, OnOk, length, true, if◌then◌else◌};
+ghost use Rattle.std.specs.Prelude.{◌≡◌, ◌<◌, ◌-◌, ◌^◌, IfOk, IfErr, List, OnErr, OnOk};
 ghost use Rattle.span.specs.PlainMap.{empty_map};
 ghost use Rattle.arena_core.specs.State.{shown};
 ghost use Rattle.trace_text.specs.Header.{IsWithinLimits};
 ghost use Rattle.trace_text.specs.Trace.{Spells};
 ghost use Rattle.trace_text.specs.declared.header.Header.{Header};
 ghost use Rattle.trace_text.specs.declared.line.Line.{Line};
-ghost use Rattle.trace_runner.specs.Report.{AreInOrder, report_text};
-ghost use Rattle.trace_runner.specs.declared.report.LineAnswer.{LineAnswer};
 ghost use Rattle.trace_runner.specs.Replay.{IsNoFault, IsReportOf, Stops, WritesReport, start_of};
 
 use crate::fault::ReplayError;
-use crate::report::{Ending, LineAnswer, PlanNote};
-use crate::run::run_lines;
+use crate::report::Ending;
+use crate::run::{Ran, run_lines};
 use crate::sink::{Sink, give};
-use crate::writing::{brief_text, report_text};
+use crate::writing::push_ending;
 use arena_core::{Core, CoreError};
 use span::Counted;
 use std::alloc::{AllocError, Global};
@@ -36,10 +34,13 @@ pub fn replay_serial<S: Sink>(
     cert: &mut Vec<u8>,
 ) -> Result<(), ReplayError>
     requires { S.failures out.old < 2 ^ 64 - 1 }
-    ensures ok { OnOk result (WritesReport text.now replies (S.taken out.old) (S.taken out.new) cert.new.items) }
-    ensures accepted { (header : Header) (lines : List Line) → Spells text.now header lines → IfErr result IsNoFault }
+    ensures ok { OnOk result (WritesReport text.now replies (S.taken out.old)
+        (S.taken out.new) cert.new.items) }
+    ensures accepted { (header : Header) (lines : List Line) → Spells text.now header lines
+        → IfErr result IsNoFault }
     ensures succeeded { OnOk result (S.failures out.new ≡ S.failures out.old) }
-    ensures err { IfErr result (Stops text.now replies (S.failures out.old) (S.failures out.new) (S.taken out.old) (S.taken out.new)) }
+    ensures err { IfErr result (Stops text.now replies (S.failures out.old) (S.failures out.new)
+        (S.taken out.old) (S.taken out.new)) }
     ensures err_certificate { OnErr result (cert.new ≡ cert.old) }
 {
     let trace = parse(alloc, text)?;
@@ -64,44 +65,27 @@ struct Replayed {
 
 /// The report of a run of the trace, and its last certificate.
 fn replay(alloc: Global, trace: &Trace, replies: bool) -> Result<Replayed, AllocError>
-    ensures { IfOk result (λ replayed. IsReportOf trace.now replies replayed.report.items replayed.certificate.items) }
+    ensures { IfOk result (λ replayed. IsReportOf trace.now replies replayed.report.items
+        replayed.certificate.items) }
 {
     let core = core_of(alloc, &trace.header)?;
-    let ran = run_lines(alloc, trace, replies, core)?;
-    let totals = ran.core.totals();
+    let Ran {
+        core,
+        mut report,
+        calls,
+        certificate,
+    } = run_lines(alloc, trace, replies, core)?;
+    let totals = core.totals();
     let ending = Ending {
         pages: totals.pages,
         live: totals.live,
-        calls: ran.calls,
+        calls,
     };
-    let report = told_text(
-        alloc,
-        replies,
-        ran.answers.as_slice(),
-        ran.notes.as_slice(),
-        &ending,
-    )?;
+    push_ending(&mut report, &ending)?;
     Ok(Replayed {
         report,
-        certificate: ran.certificate,
+        certificate,
     })
-}
-
-/// The text of a report, of which the answers are at hand where it tells them.
-fn told_text(
-    alloc: Global,
-    replies: bool,
-    told: &[LineAnswer],
-    notes: &[PlanNote],
-    ending: &Ending,
-) -> Result<Vec<u8>, AllocError>
-    requires { replies ≡ true → AreInOrder 0 (length told.now) notes.now }
-    ensures { (answers : List LineAnswer) → told.now ≡ (if replies then answers else []) → IfOk result (λ text. text.items ≡ report_text replies answers notes.now ending.now) }
-{
-    if !replies {
-        return brief_text(alloc, notes, ending);
-    }
-    report_text(alloc, replies, told, notes, ending)
 }
 
 /// The core that the header asks for. Its logs are only counted, since no report shows one.

@@ -1,15 +1,17 @@
-//! What a run keeps of the replies to its lines.
+//! What a run keeps of the replies to its lines, and the report as it is told.
 
 ghost use Rattle.std.specs.Prelude.{◌≡◌, ◌+◌, ◌++◌, ◌∷◌, [], ℕ, Option, OnOk, Some, length, slice_get, if◌then◌else◌};
 ghost use Rattle.span.specs.declared.key.Key.{Key};
 ghost use Rattle.trace_runner.specs.Kept.{AreHome, IsHome, answer_key, kept_in, kept_none};
+ghost use Rattle.trace_runner.specs.Report.{answer_line, news_text};
 
-use crate::report::{Answer, LineAnswer};
+use crate::report::{Answer, LineAnswer, PlanNews};
+use crate::writing::{push_answer_line, push_news};
 use span::Key;
 use std::alloc::{AllocError, Global};
 
-/// What a run keeps of the replies to its lines: the keys, which later lines may name, and apart from them the answers,
-/// where the report tells them. Of an answer that it does not tell nothing is kept but that it was given.
+/// What a run keeps of the replies to its lines: the keys, which later lines may name, and the report so far. Of an answer
+/// that the report does not tell nothing is kept but that it was given.
 #[derive(Drop)]
 pub(crate) struct Replies {
     /// Of each put, in order, the key that it gave out.
@@ -18,8 +20,8 @@ pub(crate) struct Replies {
     count: usize,
     /// Whether the report tells the answers.
     asked: bool,
-    /// The answers, in order, where the report tells them.
-    told: Vec<LineAnswer>,
+    /// The report so far: a line for each answer, where it tells them, and between them the news of plans.
+    text: Vec<u8>,
 }
 
 impl Replies {
@@ -31,7 +33,7 @@ impl Replies {
             keys: Vec::new(alloc),
             count: 0,
             asked,
-            told: Vec::new(alloc),
+            text: Vec::new(alloc),
         }
     }
 
@@ -42,34 +44,39 @@ impl Replies {
         self.count
     }
 
-    /// The answers that the report tells.
-    pub(crate) fn into_told(self) -> Vec<LineAnswer>
-        ensures { result ≡ self.told }
+    /// The report so far.
+    pub(crate) fn into_text(self) -> Vec<u8>
+        ensures { result ≡ self.text }
     {
-        self.told
+        self.text
     }
 
     /// The key that stands so far behind that place among the keys of all puts; none where the put was refused, or stands
     /// no such.
     pub(crate) fn key(&self, first: usize, place: u32) -> Option<Key>
-        ensures found { (found : Option Key) → slice_get self.now.keys.items (first + place) ≡ Some found → result ≡ found }
+        ensures found { (found : Option Key) → slice_get self.now.keys.items (first + place)
+            ≡ Some found → result ≡ found }
         ensures home { (shards : ℕ) → AreHome shards self.now.keys.items → IsHome shards result }
     {
         let place = first.checked_add(place as usize)?;
         *self.keys.get(place)?
     }
 
-    /// Counts an answer to a call that is no put, and keeps it where the report tells it.
+    /// Counts an answer to a call that is no put, and tells it where the report does.
     pub(crate) fn tell(&mut self, line: usize, answer: Answer) -> Result<(), AllocError>
         ensures count { OnOk result (self.new.count ≡ self.old.count + 1) }
-        ensures told { OnOk result (self.new.told.items ≡ self.old.told.items ++ (if self.old.asked then (record { line = line; answer = answer }) ∷ [] else [])) }
+        ensures text { OnOk result (self.new.text.items ≡ self.old.text.items
+            ++ (if self.old.asked then answer_line (record {
+              line = line;
+              answer = answer;
+            }) else [])) }
         ensures keys { self.new.keys ≡ self.old.keys }
         ensures asked { self.new.asked ≡ self.old.asked }
     {
         // More answers than a number counts find no memory.
         let count = self.count.checked_add(1).ok_or(AllocError)?;
         if self.asked {
-            self.told.push(LineAnswer { line, answer })?;
+            push_answer_line(&mut self.text, &LineAnswer { line, answer })?;
         }
         self.count = count;
         Ok(())
@@ -78,12 +85,26 @@ impl Replies {
     /// The same for the answer to a put, of which the key is kept too.
     pub(crate) fn tell_put(&mut self, line: usize, answer: Answer) -> Result<(), AllocError>
         ensures count { OnOk result (self.new.count ≡ self.old.count + 1) }
-        ensures told { OnOk result (self.new.told.items ≡ self.old.told.items ++ (if self.old.asked then (record { line = line; answer = answer }) ∷ [] else [])) }
-        ensures keys { OnOk result (self.new.keys.items ≡ self.old.keys.items ++ answer_key answer ∷ []) }
+        ensures text { OnOk result (self.new.text.items ≡ self.old.text.items
+            ++ (if self.old.asked then answer_line (record {
+              line = line;
+              answer = answer;
+            }) else [])) }
+        ensures keys { OnOk result (self.new.keys.items ≡ self.old.keys.items
+            ++ answer_key answer ∷ []) }
         ensures asked { self.new.asked ≡ self.old.asked }
     {
         self.keys.push(answer.key())?;
         self.tell(line, answer)?;
         Ok(())
+    }
+
+    /// Tells news of a plan.
+    pub(crate) fn tell_news(&mut self, news: &PlanNews) -> Result<(), AllocError>
+        ensures text { OnOk result (self.new.text.items ≡ self.old.text.items
+            ++ news_text self.old.asked news.now) }
+        ensures rest { kept_in self.new ≡ record (kept_in self.old) { text = self.new.text.items } }
+    {
+        push_news(&mut self.text, self.asked, news)
     }
 }

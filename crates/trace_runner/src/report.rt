@@ -188,15 +188,6 @@ pub enum PlanNews {
     Closed(CloseNews),
 }
 
-/// News of plans, with its place among the answers.
-#[derive(Drop)]
-pub struct PlanNote {
-    /// How many answers stand above it.
-    pub above: usize,
-    /// What it tells.
-    pub news: PlanNews,
-}
-
 /// The counts at the end of a run.
 #[derive(Clone, Copy, Debug, PartialEq, Eq)]
 pub struct Ending {

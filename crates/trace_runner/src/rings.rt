@@ -36,7 +36,8 @@ fn settle_next(core: &mut Core<Counted>, worker: u32, shard: u32) -> bool
 fn drain(core: &mut Core<Counted>, worker: u32, shard: u32) -> Result<usize, AllocError>
     requires worker { worker < core.old.limits.shards }
     requires shard { shard < core.old.limits.shards }
-    ensures drained { IfOk result (Drains (UntilNone (event.Settle worker shard) ∷ []) core.old core.new) }
+    ensures drained { IfOk result (Drains (UntilNone (event.Settle worker shard) ∷ []) core.old
+        core.new) }
     ensures shards { KeepsPlan core.old core.new }
 {
     let mut count = 0usize;
@@ -68,7 +69,8 @@ pub(crate) fn settle_shard(
 /// Frees the keys that wait on all rings, by shard, then by worker.
 pub(crate) fn settle_rings(core: &mut Core<Counted>, shards: u32) -> Result<(), AllocError>
     requires shards { shards ≤ core.old.limits.shards }
-    ensures made { (news : News) → OnOk result (Carries (rings_asked shards) core.old news core.new news) }
+    ensures made { (news : News) → OnOk result (Carries
+        (rings_asked shards) core.old news core.new news) }
     ensures shards { KeepsPlan core.old core.new }
 {
     for shard in 0..shards {

@@ -7,16 +7,17 @@ ghost use Rattle.trace_runner.specs.Barrier.{is_barrier};
 ghost use Rattle.trace_runner.specs.Kept.{AreHome, Finds, FindsAt, FindsOne, IsHome, is_put, kept_in};
 ghost use Rattle.trace_runner.specs.Recalls.{CanLeave, Carries, EndsBelow, EndsOne, HasCome, IsOpen, IsReady, IsServed, KeepsPlan, KnowsPlan, Makes, MakesLine, MayCall, Serves, has, news_at, settling_with};
 ghost use Rattle.trace_text.specs.Places.{place_at};
-ghost use Rattle.trace_runner.specs.declared.report.LineAnswer.{LineAnswer};
+ghost use Rattle.trace_text.specs.declared.line.Line.{Line};
 ghost use Rattle.trace_text.specs.Causes.{call_ends, ends, first_cause, is_adopt, is_call_over};
 ghost use Rattle.trace_runner.specs.Made.{Did, Calls, Keyless, Leaves, Tends};
+ghost use Rattle.trace_runner.specs.Answers.{answer_told};
 ghost use Rattle.trace_runner.specs.News.{News};
-ghost use Rattle.trace_runner.specs.Runs.{IsRun, answer_told, asked_by, asked_by_call, ends_asked, finishing, on_key, IsTold, key_at, key_of, rings_asked};
+ghost use Rattle.trace_runner.specs.Runs.{IsRun, asked_by, asked_by_call, ends_asked, finishing, on_key, IsTold, key_at, key_of, rings_asked};
 ghost use Rattle.arena_core.specs.declared.event.Event.TheVariants as event;
 
 use crate::plans::Plans;
 use crate::replies::Replies;
-use crate::report::{Answer, LineAnswer, PlanNote};
+use crate::report::Answer;
 use crate::rings::{settle_rings, settle_shard};
 use arena_core::{Core, Event, Refusal, Reply};
 use span::{Counted, Key};
@@ -40,7 +41,8 @@ impl<'t> Run<'t> {
     fn new(alloc: Global, trace: &'t Trace, replies: bool, core: Core<Counted>) -> Run<'t>
         requires { Serves trace.now.header.shards core }
         ensures trace { result.trace.now ≡ trace.now }
-        ensures come { HasCome replies trace.now.header.shards trace.now.lines.items 0 core result.core (kept_in result.replies) (has result.leaving) result.plans }
+        ensures come { HasCome replies trace.now.header.shards trace.now.lines.items 0 core
+            result.core (kept_in result.replies) (has result.leaving) result.plans }
     {
         Run {
             trace,
@@ -53,10 +55,16 @@ impl<'t> Run<'t> {
 
     /// Makes a call that is no put on the line of that number, and keeps what it answers.
     fn call(&mut self, number: usize, event: Event) -> Result<(), AllocError>
+        // The event is one that a line asks for.
         requires may { MayCall self.old.core event }
         requires kind { is_put (Calls event) ≡ false }
-        ensures made { OnOk result (Makes number (Calls event ∷ []) self.old.core (kept_in self.old.replies) self.new.core (kept_in self.new.replies)) }
+
+        // It is made, and its reply kept or told.
+        ensures made { OnOk result (Makes number (Calls event ∷ []) self.old.core
+            (kept_in self.old.replies) self.new.core (kept_in self.new.replies)) }
         ensures keys { self.new.replies.keys ≡ self.old.replies.keys }
+
+        // All else stays.
         ensures shards { KeepsPlan self.old.core self.new.core }
         ensures plans { self.new.plans ≡ self.old.plans }
         ensures leaving { self.new.leaving ≡ self.old.leaving }
@@ -71,7 +79,8 @@ impl<'t> Run<'t> {
     /// Puts a value.
     fn put(&mut self, number: usize, thread: u32, value: u128) -> Result<(), AllocError>
         requires { IsOpen self.old.core thread }
-        ensures made { OnOk result (Makes number (Calls (event.Put thread value) ∷ []) self.old.core (kept_in self.old.replies) self.new.core (kept_in self.new.replies)) }
+        ensures made { OnOk result (Makes number (Calls (event.Put thread value) ∷ []) self.old.core
+            (kept_in self.old.replies) self.new.core (kept_in self.new.replies)) }
         ensures shards { KeepsPlan self.old.core self.new.core }
         ensures plans { self.new.plans ≡ self.old.plans }
         ensures leaving { self.new.leaving ≡ self.old.leaving }
@@ -88,7 +97,8 @@ impl<'t> Run<'t> {
 
     /// Keeps that no call was made, since the key that the line names was never given out.
     fn skip(&mut self, number: usize) -> Result<(), AllocError>
-        ensures made { OnOk result (Makes number (Keyless ∷ []) self.old.core (kept_in self.old.replies) self.new.core (kept_in self.new.replies)) }
+        ensures made { OnOk result (Makes number (Keyless ∷ []) self.old.core
+            (kept_in self.old.replies) self.new.core (kept_in self.new.replies)) }
         ensures keys { self.new.replies.keys ≡ self.old.replies.keys }
         ensures shards { KeepsPlan self.old.core self.new.core }
         ensures plans { self.new.plans ≡ self.old.plans }
@@ -109,7 +119,9 @@ impl<'t> Run<'t> {
     ) -> Result<(), AllocError>
         requires running { IsOpen self.old.core thread }
         requires within { value + count ≤ 2 ^ 128 }
-        ensures made { OnOk result (Makes number (map (λ i. Calls (event.Put thread (value + i))) (range_with_len 0 count)) self.old.core (kept_in self.old.replies) self.new.core (kept_in self.new.replies)) }
+        ensures made { OnOk result (Makes number (map (λ i. Calls (event.Put thread (value + i)))
+            (range_with_len 0 count)) self.old.core (kept_in self.old.replies) self.new.core
+            (kept_in self.new.replies)) }
         ensures shards { KeepsPlan self.old.core self.new.core }
         ensures plans { self.new.plans ≡ self.old.plans }
         ensures leaving { self.new.leaving ≡ self.old.leaving }
@@ -123,15 +135,19 @@ impl<'t> Run<'t> {
 
     /// The key that a reference names, where the first key of its name has that place.
     fn key_of(&self, first: usize, reference: &Reference) -> Option<Key>
-        ensures found { (done : List Did) → FindsOne self.now.trace.now.lines.items done self.now.replies.keys.items first reference.now.name (unwrap_or reference.now.index 0) → result ≡ key_of self.now.trace.now.lines.items done reference.now }
-        ensures home { (shards : ℕ) → AreHome shards self.now.replies.keys.items → IsHome shards result }
+        ensures found { (done : List Did) → FindsOne self.now.trace.now.lines.items done
+            self.now.replies.keys.items first reference.now.name (unwrap_or reference.now.index 0)
+            → result ≡ key_of self.now.trace.now.lines.items done reference.now }
+        ensures home { (shards : ℕ) → AreHome shards self.now.replies.keys.items
+            → IsHome shards result }
     {
         self.replies.key(first, reference.index.unwrap_or(0))
     }
 
     /// Frees the key, where it was given out.
     fn free(&mut self, number: usize, key: Option<Key>) -> Result<(), AllocError>
-        ensures made { OnOk result (Makes number (on_key event.Free key ∷ []) self.old.core (kept_in self.old.replies) self.new.core (kept_in self.new.replies)) }
+        ensures made { OnOk result (Makes number (on_key event.Free key ∷ []) self.old.core
+            (kept_in self.old.replies) self.new.core (kept_in self.new.replies)) }
         ensures keys { self.new.replies.keys ≡ self.old.replies.keys }
         ensures shards { KeepsPlan self.old.core self.new.core }
         ensures plans { self.new.plans ≡ self.old.plans }
@@ -146,7 +162,8 @@ impl<'t> Run<'t> {
 
     /// Looks the key up, where it was given out.
     fn get(&mut self, number: usize, key: Option<Key>) -> Result<(), AllocError>
-        ensures made { OnOk result (Makes number (on_key event.Get key ∷ []) self.old.core (kept_in self.old.replies) self.new.core (kept_in self.new.replies)) }
+        ensures made { OnOk result (Makes number (on_key event.Get key ∷ []) self.old.core
+            (kept_in self.old.replies) self.new.core (kept_in self.new.replies)) }
         ensures shards { KeepsPlan self.old.core self.new.core }
         ensures plans { self.new.plans ≡ self.old.plans }
         ensures leaving { self.new.leaving ≡ self.old.leaving }
@@ -178,7 +195,8 @@ impl<'t> Run<'t> {
     fn later(&mut self, number: usize, thread: u32, key: Option<Key>) -> Result<(), AllocError>
         requires thread { IsOpen self.old.core thread }
         requires home { IsHome self.old.core.limits.shards key }
-        ensures made { OnOk result (Makes number (on_key (event.Later thread) key ∷ []) self.old.core (kept_in self.old.replies) self.new.core (kept_in self.new.replies)) }
+        ensures made { OnOk result (Makes number (on_key (event.Later thread) key ∷ [])
+            self.old.core (kept_in self.old.replies) self.new.core (kept_in self.new.replies)) }
         ensures shards { KeepsPlan self.old.core self.new.core }
         ensures plans { self.new.plans ≡ self.old.plans }
         ensures leaving { self.new.leaving ≡ self.old.leaving }
@@ -200,7 +218,9 @@ impl<'t> Run<'t> {
     fn tend(&mut self, number: usize, thread: u32) -> Result<(), AllocError>
         requires thread { IsOpen self.old.core thread }
         requires enough { self.old.trace.now.header.shards ≤ self.old.core.limits.shards }
-        ensures made { OnOk result (Makes number (Tends self.old.trace.now.header.shards thread ∷ []) self.old.core (kept_in self.old.replies) self.new.core (kept_in self.new.replies)) }
+        ensures made { OnOk result (Makes number (Tends self.old.trace.now.header.shards
+            thread ∷ []) self.old.core (kept_in self.old.replies) self.new.core
+            (kept_in self.new.replies)) }
         ensures shards { KeepsPlan self.old.core self.new.core }
         ensures plans { self.new.plans ≡ self.old.plans }
         ensures leaving { self.new.leaving ≡ self.old.leaving }
@@ -214,10 +234,12 @@ impl<'t> Run<'t> {
 
     /// Keeps that the thread has ended. Its shard is abandoned at the barrier.
     fn leave(&mut self, number: usize, thread: u32) -> Result<(), AllocError>
-        ensures made { OnOk result (Makes number (Leaves ∷ []) self.old.core (kept_in self.old.replies) self.new.core (kept_in self.new.replies)) }
+        ensures made { OnOk result (Makes number (Leaves ∷ []) self.old.core
+            (kept_in self.old.replies) self.new.core (kept_in self.new.replies)) }
         ensures shards { KeepsPlan self.old.core self.new.core }
         ensures plans { self.new.plans ≡ self.old.plans }
-        ensures leaving { OnOk result ((other : ℕ) → has self.new.leaving other ≡ (thread == other || has self.old.leaving other)) }
+        ensures leaving { OnOk result ((other : ℕ) → has self.new.leaving other
+            ≡ (thread == other || has self.old.leaving other)) }
         ensures trace { self.new.trace.now ≡ self.old.trace.now }
     {
         self.leaving.insert(thread)?;
@@ -233,15 +255,21 @@ impl<'t> Run<'t> {
         first: usize,
         call: &Call,
     ) -> Result<(), AllocError>
+        // The call is that of a trace.
         requires thread { IsOpen self.old.core thread }
-        requires within { is_call_over call.now ≡ false }
+        requires within { (above : List Line) × (is_call_over above call.now ≡ false) }
         requires home { AreHome self.old.core.limits.shards self.old.replies.keys.items }
         requires enough { self.old.trace.now.header.shards ≤ self.old.core.limits.shards }
+
+        // What it asks for is made.
         ensures made { (done : List Did) → Finds self.old.trace.now.lines.items done self.old.replies.keys.items first call.now
             → OnOk result (Makes number (asked_by_call self.old.trace.now.header.shards self.old.trace.now.lines.items done thread call.now) self.old.core (kept_in self.old.replies) self.new.core (kept_in self.new.replies)) }
+
+        // All else stays.
         ensures shards { KeepsPlan self.old.core self.new.core }
         ensures plans { self.new.plans ≡ self.old.plans }
-        ensures leaving { OnOk result ((other : ℕ) → has self.new.leaving other ≡ (call_ends other thread call.now || has self.old.leaving other)) }
+        ensures leaving { OnOk result ((other : ℕ) → has self.new.leaving other
+            ≡ (call_ends other thread call.now || has self.old.leaving other)) }
         ensures trace { self.new.trace.now ≡ self.old.trace.now }
     {
         match call {
@@ -267,9 +295,15 @@ impl<'t> Run<'t> {
 
     /// Abandons the shard of a thread that has ended.
     fn end(&mut self, shard: u32) -> Result<(), AllocError>
+        // The shard may end.
         requires running { IsOpen self.old.core shard }
         requires unplanned { self.old.core.plan ≡ None }
-        ensures made { (news : News) → OnOk result (Carries (ends_asked (shard ∷ [])) self.old.core news self.new.core news) }
+
+        // Its end is made.
+        ensures made { (news : News) → OnOk result
+            (Carries (ends_asked (shard ∷ [])) self.old.core news self.new.core news) }
+
+        // All else stays.
         ensures shards { OnOk result (EndsOne self.old.core shard self.new.core) }
         ensures plan { OnOk result (self.new.core.plan ≡ self.old.core.plan) }
         ensures plans { self.new.plans ≡ self.old.plans }
@@ -286,10 +320,20 @@ impl<'t> Run<'t> {
 
     /// Abandons the shards of the threads that have ended since the last barrier, ascending.
     fn abandon(&mut self) -> Result<(), AllocError>
-        requires leave { CanLeave self.old.trace.now.header.shards self.old.core (has self.old.leaving) }
+        // The shards may end.
+        requires leave { CanLeave self.old.trace.now.header.shards self.old.core
+            (has self.old.leaving) }
         requires unplanned { self.old.core.plan ≡ None }
-        ensures made { (news : News) → OnOk result (Carries (ends_asked (filter (has self.old.leaving) (range_with_len 0 self.old.trace.now.header.shards))) self.old.core news self.new.core news) }
-        ensures shards { OnOk result (EndsBelow self.old.core self.old.trace.now.header.shards (has self.old.leaving) self.new.core) }
+
+        // Their ends are made.
+        ensures made { (news : News) → OnOk result
+            (Carries (ends_asked (filter (has self.old.leaving)
+            (range_with_len 0 self.old.trace.now.header.shards))) self.old.core news self.new.core
+            news) }
+
+        // All else stays.
+        ensures shards { OnOk result (EndsBelow self.old.core self.old.trace.now.header.shards
+            (has self.old.leaving) self.new.core) }
         ensures plan { OnOk result (self.new.core.plan ≡ self.old.core.plan) }
         ensures plans { self.new.plans ≡ self.old.plans }
         ensures replies { self.new.replies ≡ self.old.replies }
@@ -309,19 +353,32 @@ impl<'t> Run<'t> {
     /// Settles the section: ends the open plan, abandons the shards of the threads that have ended, and frees the keys that
     /// wait on all rings.
     fn settle(&mut self) -> Result<(), AllocError>
-        requires leave { CanLeave self.old.trace.now.header.shards self.old.core (has self.old.leaving) }
+        // A section is over.
+        requires leave { CanLeave self.old.trace.now.header.shards self.old.core
+            (has self.old.leaving) }
         requires knows { KnowsPlan self.old.plans self.old.core }
         requires enough { self.old.trace.now.header.shards ≤ self.old.core.limits.shards }
-        ensures made { OnOk result (Carries (finishing self.old.core.plan ++ (ends_asked (filter (has self.old.leaving) (range_with_len 0 self.old.trace.now.header.shards)) ++ rings_asked self.old.trace.now.header.shards)) self.old.core (news_at self.old.replies.count self.old.plans) self.new.core (news_at self.old.replies.count self.new.plans)) }
-        ensures shards { OnOk result (EndsBelow self.old.core self.old.trace.now.header.shards (has self.old.leaving) self.new.core) }
+
+        // What settles it is made.
+        ensures made { OnOk result (Carries (finishing self.old.core.plan
+            ++ (ends_asked (filter (has self.old.leaving)
+            (range_with_len 0 self.old.trace.now.header.shards))
+            ++ rings_asked self.old.trace.now.header.shards)) self.old.core
+            (news_at (kept_in self.old.replies) self.old.plans) self.new.core
+            (news_at (kept_in self.new.replies) self.new.plans)) }
+
+        // No plan is open, and all else stays.
+        ensures shards { OnOk result (EndsBelow self.old.core self.old.trace.now.header.shards
+            (has self.old.leaving) self.new.core) }
         ensures unplanned { OnOk result (self.new.core.plan ≡ None) }
         ensures left { OnOk result (self.new.plans.left ≡ None) }
         ensures marks { self.new.plans.marks ≡ self.old.plans.marks }
-        ensures replies { self.new.replies ≡ self.old.replies }
+        ensures rest { kept_in self.new.replies ≡ record
+            (kept_in self.old.replies) { text = self.new.replies.text.items } }
         ensures leaving { OnOk result ((other : ℕ) → has self.new.leaving other ≡ false) }
         ensures trace { self.new.trace.now ≡ self.old.trace.now }
     {
-        self.plans.finish(&mut self.core, self.replies.count())?;
+        self.plans.finish(&mut self.core, &mut self.replies)?;
         self.abandon()?;
         settle_rings(&mut self.core, self.trace.header.shards)
     }
@@ -330,18 +387,26 @@ impl<'t> Run<'t> {
     /// of the open plan is left. A barrier begins with its first adoption, since no thread's line stands between that
     /// and the mark.
     fn line(&mut self, place: usize, line: &Line) -> Result<(), AllocError>
+        // The line is the next of the trace.
         requires numbered { place + 6 < 2 ^ 64 }
         requires here { slice_get self.old.trace.now.lines.items place ≡ Some line.now }
-        requires ready { IsReady self.old.trace.now.header.shards self.old.core (has self.old.leaving) line.now }
+        requires ready { IsReady self.old.trace.now.header.shards self.old.core
+            (has self.old.leaving) line.now }
         requires knows { KnowsPlan self.old.plans self.old.core }
         requires few { self.old.plans.marks ≤ place }
         requires home { AreHome self.old.core.limits.shards self.old.replies.keys.items }
+
+        // What it asks for is made.
         ensures made { (done : List Did) → FindsAt self.old.trace.now.lines.items done self.old.replies.keys.items (place_at (take place self.old.trace.now.lines.items) line.now) line.now
-            → OnOk result (MakesLine (place + 6) (settling_with self.old.trace.now.header.shards (filter (has self.old.leaving) (range_with_len 0 self.old.trace.now.header.shards)) self.old.core line.now) (asked_by self.old.trace.now.header.shards self.old.trace.now.lines.items done line.now) line.now self.old.core (kept_in self.old.replies) (news_at self.old.replies.count self.old.plans) self.new.core (kept_in self.new.replies) (news_at self.new.replies.count self.new.plans)) }
+            → OnOk result (MakesLine (place + 6) (settling_with self.old.trace.now.header.shards (filter (has self.old.leaving) (range_with_len 0 self.old.trace.now.header.shards)) self.old.core line.now) (asked_by self.old.trace.now.header.shards self.old.trace.now.lines.items done line.now) line.now self.old.core (kept_in self.old.replies) (news_at (kept_in self.old.replies) self.old.plans) self.new.core (kept_in self.new.replies) (news_at (kept_in self.new.replies) self.new.plans)) }
+
+        // The run is ready for the line after it.
         ensures knows { OnOk result (KnowsPlan self.new.plans self.new.core) }
         ensures marks { OnOk result (self.new.plans.marks ≤ self.old.plans.marks + 1) }
-        ensures shards { OnOk result (EndsBelow self.old.core self.old.trace.now.header.shards (λ thread. is_barrier line.now && has self.old.leaving thread) self.new.core) }
-        ensures leaving { OnOk result ((other : ℕ) → has self.new.leaving other ≡ (not (is_barrier line.now) && (ends other line.now || has self.old.leaving other))) }
+        ensures shards { OnOk result (EndsBelow self.old.core self.old.trace.now.header.shards
+            (λ thread. is_barrier line.now && has self.old.leaving thread) self.new.core) }
+        ensures leaving { OnOk result ((other : ℕ) → has self.new.leaving other
+            ≡ (not (is_barrier line.now) && (ends other line.now || has self.old.leaving other))) }
         ensures trace { self.new.trace.now ≡ self.old.trace.now }
     {
         match line {
@@ -357,7 +422,7 @@ impl<'t> Run<'t> {
             }
             Line::Mark => {
                 self.settle()?;
-                self.plans.mark(&mut self.core, self.replies.count())
+                self.plans.mark(&mut self.core, &mut self.replies)
             }
         }
     }
@@ -366,8 +431,11 @@ impl<'t> Run<'t> {
     fn next_line(&mut self, place: usize, line: &Line) -> Result<(), AllocError>
         requires numbered { place + 6 < 2 ^ 64 }
         requires here { slice_get self.old.trace.now.lines.items place ≡ Some line.now }
-        requires fine { first_cause self.old.trace.now.header (take place self.old.trace.now.lines.items) line.now ≡ None }
-        requires come { (replies : Bool) × (start : CoreState) × HasCome replies self.old.trace.now.header.shards self.old.trace.now.lines.items place start self.old.core (kept_in self.old.replies) (has self.old.leaving) self.old.plans }
+        requires fine { first_cause self.old.trace.now.header
+            (take place self.old.trace.now.lines.items) line.now ≡ None }
+        requires come { (replies : Bool) × (start : CoreState)
+            × HasCome replies self.old.trace.now.header.shards self.old.trace.now.lines.items place
+            start self.old.core (kept_in self.old.replies) (has self.old.leaving) self.old.plans }
         ensures more { (replies : Bool) (start : CoreState) → HasCome replies self.old.trace.now.header.shards self.old.trace.now.lines.items place start self.old.core (kept_in self.old.replies) (has self.old.leaving) self.old.plans
             → OnOk result (HasCome replies self.old.trace.now.header.shards self.old.trace.now.lines.items (place + 1) start self.new.core (kept_in self.new.replies) (has self.new.leaving) self.new.plans) }
         ensures trace { self.new.trace.now ≡ self.old.trace.now }
@@ -382,12 +450,10 @@ impl<'t> Run<'t> {
 pub struct Ran {
     /// The core after the last line, and after the end of the text.
     pub core: Core<Counted>,
-    /// The answers of all lines, in the order of the report, where it tells them; else none.
-    pub answers: Vec<LineAnswer>,
+    /// The report, but for the line of the counts.
+    pub report: Vec<u8>,
     /// How many answers the lines of threads had.
     pub calls: usize,
-    /// What the report tells of plans, in order.
-    pub notes: Vec<PlanNote>,
     /// The text of the certificate of the last mark that planned; empty where none did.
     pub certificate: Vec<u8>,
 }
@@ -403,7 +469,9 @@ pub fn run_lines(
     core: Core<Counted>,
 ) -> Result<Ran, AllocError>
     requires { Serves trace.now.header.shards core }
-    ensures { IfOk result (λ ran. (answers : List LineAnswer) × (news : News) × IsRun trace.now.header.shards trace.now.lines.items core ran.core answers ran.calls news × (ran.answers.items ≡ (if replies then answers else [])) × (ran.notes.items ≡ news.notes) × (ran.certificate.items ≡ news.certificate)) }
+    ensures { IfOk result (λ ran. (news : News)
+        × IsRun trace.now.header.shards replies trace.now.lines.items core ran.core ran.calls news
+        × (ran.report.items ≡ news.text) × (ran.certificate.items ≡ news.certificate)) }
 {
     let mut run = Run::new(alloc, trace, replies, core);
     for place in 0..trace.lines.len() {
@@ -417,14 +485,12 @@ pub fn run_lines(
         leaving: _,
         plans,
     } = run;
-    let (notes, certificate) = plans.told();
     let calls = replies.count() - adoptions(trace.lines.as_slice());
     Ok(Ran {
         core,
-        answers: replies.into_told(),
+        report: replies.into_text(),
         calls,
-        notes,
-        certificate,
+        certificate: plans.into_certificate(),
     })
 }
 

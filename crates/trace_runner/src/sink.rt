@@ -32,7 +32,8 @@ pub trait Sink {
         requires some { 0 < length bytes.now }
         requires room { failures self.old < 2 ^ 64 - 1 }
         ensures count { IfOk result (λ n. (0 < n) × (n ≤ length bytes.now)) }
-        ensures taken { IfOk result (λ n. Appends (taken self.old) (taken self.new) (take n bytes.now)) }
+        ensures taken { IfOk result (λ n. Appends (taken self.old) (taken self.new)
+            (take n bytes.now)) }
         ensures succeeded { OnOk result (failures self.new ≡ failures self.old) }
         ensures kept { OnErr result (Keeps (taken self.old) (taken self.new)) }
         ensures failed { OnErr result (failures self.new ≡ failures self.old + 1) };

@@ -6,8 +6,7 @@ use Rattle.std.proofs.lemmas.Bool.Decides.{nat_tests}
 use Rattle.trace_text.proofs.Lines.{chosen, same_bytes}
 use Rattle.trace_text.proofs.Clips.{all_fine}
 use Rattle.trace_text.specs.Earlier.{Few, IsFew}
-use Rattle.trace_text.specs.Causes.{binding_at, binding_from, binding_of, binds_again, call_binding, is_call, is_call_over, keys_at, keys_in, marks, marks_at}
-use Rattle.trace_text.specs.Within.{order_cause}
+use Rattle.trace_text.specs.Causes.{binding_at, binding_from, binding_of, binds_again, call_binding, first_cause, is_call, is_call_over, keys_at, keys_in, marks, marks_at}
 use Rattle.trace_text.specs.declared.header.Header.{Header}
 use Rattle.trace_text.specs.declared.line.Call.{Call}
 use Rattle.trace_text.specs.declared.line.Call.TheVariants.{Put, Fill, Get, Free, Sweep, Later, Tend, End}
@@ -67,7 +66,7 @@ fresh_name ls place section first thread name Tend b free e = cc
 fresh_name ls place section first thread name End b free e = cc
 
 -- so does a line
-pub fresh : (h : Header) (ls : List Line) (place section first : ℕ) (name : List ℕ) (l : Line) (b : Binding) → order_cause h ls l ≡ None → binding_at place section first name l ≡ Some b → binding_of name ls ≡ None
+pub fresh : (h : Header) (ls : List Line) (place section first : ℕ) (name : List ℕ) (l : Line) (b : Binding) → first_cause h ls l ≡ None → binding_at place section first name l ≡ Some b → binding_of name ls ≡ None
 fresh h ls place section first name line.Silent b fine e = cc
 fresh h ls place section first name line.Mark b fine e = cc
 fresh h ls place section first name (line.Adopt s) b fine e = cc
@@ -77,35 +76,35 @@ pub either_first : {X : Type 0} (o p : Option X) → ((x : X) → p ≡ Some x �
 either_first o None free = sym (or_none o)
 either_first o (Some x) free = rw (free x refl) refl
 
-few_call : (place section first thread : ℕ) (name : List ℕ) (c : Call) (b : Binding) → is_call_over c ≡ false → call_binding place section first name thread c ≡ Some b → IsFew b.keys
-few_call place section first thread name (Put bound v) b within e = elim (chosen (bytes_eq bound name) _ _ (Some b) e) [
+few_call : (before : List Line) (place section first thread : ℕ) (name : List ℕ) (c : Call) (b : Binding) → is_call_over before c ≡ false → call_binding place section first name thread c ≡ Some b → IsFew b.keys
+few_call before place section first thread name (Put bound v) b within e = elim (chosen (bytes_eq bound name) _ _ (Some b) e) [
   | inl p ↦ let is : One ≡ b.keys = ap (λ o. option_map_or (λ (x : Binding). x.keys) o One) p.1 in subst IsFew is (omega arith)
   | inr p ↦ cc p.1
 ]
-few_call place section first thread name (Fill bound n v) b within e = elim (chosen (bytes_eq bound name) _ _ (Some b) e) [
+few_call before place section first thread name (Fill bound n v) b within e = elim (chosen (bytes_eq bound name) _ _ (Some b) e) [
   | inl p ↦ let is : Many n ≡ b.keys = ap (λ o. option_map_or (λ (x : Binding). x.keys) o One) p.1 in
       let small : n ≤ 262144 = grind (arith, nat_tests) in subst IsFew is small
   | inr p ↦ cc p.1
 ]
-few_call place section first thread name (Get key) b within e = cc
-few_call place section first thread name (Free key) b within e = cc
-few_call place section first thread name (Sweep bound from to) b within e = cc
-few_call place section first thread name (Later key) b within e = cc
-few_call place section first thread name Tend b within e = cc
-few_call place section first thread name End b within e = cc
+few_call before place section first thread name (Get key) b within e = cc
+few_call before place section first thread name (Free key) b within e = cc
+few_call before place section first thread name (Sweep bound from to) b within e = cc
+few_call before place section first thread name (Later key) b within e = cc
+few_call before place section first thread name Tend b within e = cc
+few_call before place section first thread name End b within e = cc
 
-few_at : (place section first : ℕ) (name : List ℕ) (l : Line) (b : Binding) → is_call is_call_over l ≡ false → binding_at place section first name l ≡ Some b → IsFew b.keys
-few_at place section first name line.Silent b within e = cc
-few_at place section first name line.Mark b within e = cc
-few_at place section first name (line.Adopt s) b within e = cc
-few_at place section first name (line.Call t c) b within e = few_call place section first t name c b within e
+few_at : (before : List Line) (place section first : ℕ) (name : List ℕ) (l : Line) (b : Binding) → is_call (is_call_over before) l ≡ false → binding_at place section first name l ≡ Some b → IsFew b.keys
+few_at before place section first name line.Silent b within e = cc
+few_at before place section first name line.Mark b within e = cc
+few_at before place section first name (line.Adopt s) b within e = cc
+few_at before place section first name (line.Call t c) b within e = few_call before place section first t name c b within e
 
 pub of_either : {X : Type 0} (o p : Option X) (x : X) → option_or o p ≡ Some x → (o ≡ Some x) ⊎ (p ≡ Some x)
 of_either None p x e = inr e
 of_either (Some y) p x e = inl e
 
-pub few-push : (ls : List Line) (l : Line) → Few ls → is_call is_call_over l ≡ false → Few (ls ++ l ∷ [])
+pub few-push : (ls : List Line) (l : Line) → Few ls → is_call (is_call_over ls) l ≡ false → Few (ls ++ l ∷ [])
 few-push ls l few within name b e = elim (of_either (binding_of name ls) (binding_at (length ls) (marks ls) (keys_in ls) name l) b (sym (binding_of-push name ls l) ∙ e)) [
   | inl old ↦ few name b old
-  | inr new ↦ few_at (length ls) (marks ls) (keys_in ls) name l b within new
+  | inr new ↦ few_at ls (length ls) (marks ls) (keys_in ls) name l b within new
 ]

@@ -1,5 +1,5 @@
 -- Clipping a number changes no cause.
-use Rattle.std.proofs.Common.{◌≡◌, ℕ, ◌≤◌, ◌&&◌, not, nat_lt, nat_le, Bool, true, false, List, [], ◌∷◌, Option, Some, None, option_map, find, arith, refl, sym, ap, ap₂, ◌∙◌, inl, inr}
+use Rattle.std.proofs.Common.{◌≡◌, ℕ, ◌+◌, ◌-◌, ◌^◌, ◌≤◌, ◌&&◌, ◌||◌, not, nat_lt, nat_le, Bool, true, false, List, [], ◌∷◌, Option, Some, None, option_map, find, arith, refl, sym, ap, ap₂, ◌∙◌, inl, inr}
 use Rattle.std.specs.Option.{option_map_or}
 use Rattle.std.proofs.lemmas.Bool.Decides.{nat_tests}
 use Rattle.std.proofs.lemmas.Bool.{and_parts, cases_Bool}
@@ -8,9 +8,9 @@ use Rattle.std.specs.Int.{IsInRange}
 use Rattle.trace_text.specs.Header.{IsWithinLimits}
 use Rattle.certificate.specs.Number.{clip}
 use Rattle.trace_text.specs.Reference.{clip_reference}
-use Rattle.trace_text.specs.Within.{clip_call, clip_line, order_cause}
+use Rattle.trace_text.specs.Within.{clip_call, clip_line, is_value_over}
 use Rattle.trace_text.specs.Earlier.{IsFew, Few}
-use Rattle.trace_text.specs.Causes.{bound_name, read_name, has_key, has_range, has_keys, binding_of, is_call_over, reads_unknown, holds}
+use Rattle.trace_text.specs.Causes.{bound_name, read_name, has_key, has_range, has_keys, binding_of, first_cause, is_call, is_call_over, reads_unknown, holds}
 use Rattle.trace_text.specs.declared.header.Header.{Header}
 use Rattle.trace_text.specs.declared.name.Reference.{Reference}
 use Rattle.trace_text.specs.declared.line.Call.{Call}
@@ -42,6 +42,26 @@ clip-range from to n few = grind (arith, nat_tests)
 
 clip-range_near : (from to n : ℕ) → n ≤ 262144 → nat_le (clip from) (clip to) ≡ true → nat_le (clip to) n ≡ true → (clip from ≡ from) × (clip to ≡ to)
 clip-range_near from to n few low high = (grind (arith, nat_tests), grind (arith, nat_tests))
+
+and_false : (b : Bool) → (b && false) ≡ false
+and_false true = refl
+and_false false = refl
+
+-- a count of a fill, and its last value
+abbrev is_fill_over : (count value : ℕ) → Bool
+is_fill_over count value = not (nat_le 1 count && nat_le count 262144) || nat_le (2 ^ 128) (value + count - 1)
+
+clip-count : (n v : ℕ) → is_fill_over (clip n) v ≡ is_fill_over n v
+clip-count n v = elim (cases_Bool (nat_le n 262144)) [
+  | inl few ↦ let same : clip n ≡ n = grind (arith, nat_tests) in ap (λ k. is_fill_over k v) same
+  | inr many ↦ let large : nat_le (clip n) 262144 ≡ false = grind (arith, nat_tests) in rw (many, large, and_false (nat_le 1 n), and_false (nat_le 1 (clip n))) refl
+]
+
+clip-count_near : (n v : ℕ) → is_fill_over (clip n) v ≡ false → clip n ≡ n
+clip-count_near n v fine = grind (arith, nat_tests)
+
+last-over : (n v : ℕ) → nat_le (2 ^ 128) v ≡ true → is_fill_over n v ≡ true
+last-over n v over = grind (arith, nat_tests)
 
 -- ---- calls
 
@@ -85,15 +105,29 @@ bound_name-clip (Later key) = refl
 bound_name-clip Tend = refl
 bound_name-clip End = refl
 
-over-clip : (c : Call) → is_call_over (clip_call c) ≡ is_call_over c
-over-clip (Put name v) = refl
-over-clip (Fill name n v) = refl
-over-clip (Get key) = refl
-over-clip (Free key) = refl
-over-clip (Sweep name from to) = refl
-over-clip (Later key) = refl
-over-clip Tend = refl
-over-clip End = refl
+over-clip : (before : List Line) (c : Call) → is_call_over before (clip_call c) ≡ is_call_over before c
+over-clip before (Put name v) = refl
+over-clip before (Fill name n v) = clip-count n v
+over-clip before (Get key) = refl
+over-clip before (Free key) = refl
+over-clip before (Sweep name from to) = refl
+over-clip before (Later key) = refl
+over-clip before Tend = refl
+over-clip before End = refl
+
+-- a value that is over makes its call so
+pub over-value : (before : List Line) (w : Line) → is_call is_value_over w ≡ true → is_call (is_call_over before) w ≡ true
+over-value before line.Silent over = cc
+over-value before line.Mark over = cc
+over-value before (line.Adopt s) over = cc
+over-value before (line.Call t (Put name v)) over = over
+over-value before (line.Call t (Fill name n v)) over = last-over n v over
+over-value before (line.Call t (Get key)) over = cc
+over-value before (line.Call t (Free key)) over = cc
+over-value before (line.Call t (Sweep name from to)) over = cc
+over-value before (line.Call t (Later key)) over = cc
+over-value before (line.Call t Tend) over = cc
+over-value before (line.Call t End) over = cc
 
 -- ---- causes
 
@@ -108,7 +142,7 @@ same_unknown before c (Some name) few = ap not (same_keys c (binding_of name bef
 holds-clip : (h : Header) (before : List Line) (t : ℕ) (c : Call) → Few before → (k : Cause) → holds h before (line.Call t (clip_call c)) k ≡ holds h before (line.Call t c) k
 holds-clip h before t c few cause.Header = refl
 holds-clip h before t c few cause.Form = refl
-holds-clip h before t c few cause.Limit = over-clip c
+holds-clip h before t c few cause.Limit = over-clip before c
 holds-clip h before t c few cause.Thread = refl
 holds-clip h before t c few cause.Ended = refl
 holds-clip h before t c few cause.Adopt = refl
@@ -121,16 +155,16 @@ find_same p q same [] = refl
 find_same p q same (k ∷ ks) = rw (same k, find_same p q same ks) refl
 
 -- what is wrong with a line that was clipped is what is wrong with the line
-pub order_cause-clip : (h : Header) (before : List Line) (w : Line) → IsWithinLimits h → Few before → order_cause h before (clip_line w) ≡ order_cause h before w
-order_cause-clip h before line.Silent within few = refl
-order_cause-clip h before line.Mark within few = refl
-order_cause-clip h before (line.Adopt s) within few = elim (cases_Bool (nat_le h.shards s)) [
+pub first_cause-clip : (h : Header) (before : List Line) (w : Line) → IsWithinLimits h → Few before → first_cause h before (clip_line w) ≡ first_cause h before w
+first_cause-clip h before line.Silent within few = refl
+first_cause-clip h before line.Mark within few = refl
+first_cause-clip h before (line.Adopt s) within few = elim (cases_Bool (nat_le h.shards s)) [
   | inl far ↦ rw (clip-thread h.shards s within.shards, far) refl
   | inr near ↦ rw (clip-near h.shards s within.shards near) refl
 ]
-order_cause-clip h before (line.Call t c) within few = elim (cases_Bool (nat_le h.shards t)) [
-  | inl far ↦ rw (clip-thread h.shards t within.shards, far) refl
-  | inr near ↦ rw (clip-near h.shards t within.shards near) (find_same (holds h before (line.Call t (clip_call c))) (holds h before (line.Call t c)) (holds-clip h before t c few) (cause.Thread ∷ cause.Ended ∷ cause.Adopt ∷ cause.Bound ∷ cause.Unknown ∷ cause.Early ∷ []))
+first_cause-clip h before (line.Call t c) within few = elim (cases_Bool (nat_le h.shards t)) [
+  | inl far ↦ rw (over-clip before c, clip-thread h.shards t within.shards, far) refl
+  | inr near ↦ rw (clip-near h.shards t within.shards near) (find_same (holds h before (line.Call t (clip_call c))) (holds h before (line.Call t c)) (holds-clip h before t c few) (cause.Limit ∷ cause.Thread ∷ cause.Ended ∷ cause.Adopt ∷ cause.Bound ∷ cause.Unknown ∷ cause.Early ∷ []))
 ]
 
 -- ---- a line that is not refused was not clipped
@@ -144,20 +178,22 @@ none_found p k ks none = elim (chosen (p k) (Some k) (find p ks) None none) [
 
 -- no cause holds of the line
 pub record AllFine (h : Header) (before : List Line) (w : Line) : Type 0 where
+  pub within : holds h before w cause.Limit ≡ false
   pub thread : holds h before w cause.Thread ≡ false
   pub ended : holds h before w cause.Ended ≡ false
   pub bound : holds h before w cause.Bound ≡ false
   pub known : holds h before w cause.Unknown ≡ false
 
-pub all_fine : (h : Header) (before : List Line) (w : Line) → order_cause h before w ≡ None → AllFine h before w
+pub all_fine : (h : Header) (before : List Line) (w : Line) → first_cause h before w ≡ None → AllFine h before w
 all_fine h before w none =
     let p = holds h before w in
-    let thread = none_found p cause.Thread (cause.Ended ∷ cause.Adopt ∷ cause.Bound ∷ cause.Unknown ∷ cause.Early ∷ []) none in
+    let limit = none_found p cause.Limit (cause.Thread ∷ cause.Ended ∷ cause.Adopt ∷ cause.Bound ∷ cause.Unknown ∷ cause.Early ∷ []) none in
+    let thread = none_found p cause.Thread (cause.Ended ∷ cause.Adopt ∷ cause.Bound ∷ cause.Unknown ∷ cause.Early ∷ []) limit.1 in
     let ended = none_found p cause.Ended (cause.Adopt ∷ cause.Bound ∷ cause.Unknown ∷ cause.Early ∷ []) thread.1 in
     let adopt = none_found p cause.Adopt (cause.Bound ∷ cause.Unknown ∷ cause.Early ∷ []) ended.1 in
     let bound = none_found p cause.Bound (cause.Unknown ∷ cause.Early ∷ []) adopt.1 in
     let unknown = none_found p cause.Unknown (cause.Early ∷ []) bound.1 in
-    record { thread = thread.0; ended = ended.0; bound = bound.0; known = unknown.0 }
+    record { within = limit.0; thread = thread.0; ended = ended.0; bound = bound.0; known = unknown.0 }
 
 key_near : (i : Option ℕ) (keys : Keys) → IsFew keys → has_key (option_map clip i) keys ≡ true → option_map clip i ≡ i
 key_near None keys few has = refl
@@ -185,17 +221,17 @@ range_known from to (Some b) few known = elim (cases_Bool (has_range (clip from)
 same_reference : (key : Reference) → option_map clip key.index ≡ key.index → clip_reference key ≡ key
 same_reference key e = ap (λ i. record { name = key.name; index = i }) e
 
-call_known : (before : List Line) (c : Call) → Few before → reads_unknown before (clip_call c) ≡ false → clip_call c ≡ c
-call_known before (Put name v) few known = refl
-call_known before (Fill name n v) few known = refl
-call_known before (Get key) few known = ap Get (same_reference key (key_known key.index (binding_of key.name before) (few key.name) known))
-call_known before (Free key) few known = ap Free (same_reference key (key_known key.index (binding_of key.name before) (few key.name) known))
-call_known before (Later key) few known = ap Later (same_reference key (key_known key.index (binding_of key.name before) (few key.name) known))
-call_known before Tend few known = refl
-call_known before End few known = refl
-call_known before (Sweep name from to) few known = let near = range_known from to (binding_of name before) (few name) known in ap₂ (λ a b. Sweep name a b) near.0 near.1
+call_known : (before : List Line) (c : Call) → Few before → is_call_over before (clip_call c) ≡ false → reads_unknown before (clip_call c) ≡ false → clip_call c ≡ c
+call_known before (Put name v) few within known = refl
+call_known before (Fill name n v) few within known = ap (λ k. Fill name k v) (clip-count_near n v within)
+call_known before (Get key) few within known = ap Get (same_reference key (key_known key.index (binding_of key.name before) (few key.name) known))
+call_known before (Free key) few within known = ap Free (same_reference key (key_known key.index (binding_of key.name before) (few key.name) known))
+call_known before (Later key) few within known = ap Later (same_reference key (key_known key.index (binding_of key.name before) (few key.name) known))
+call_known before Tend few within known = refl
+call_known before End few within known = refl
+call_known before (Sweep name from to) few within known = let near = range_known from to (binding_of name before) (few name) known in ap₂ (λ a b. Sweep name a b) near.0 near.1
 
-pub clip_line-fine : (h : Header) (before : List Line) (w : Line) → IsWithinLimits h → Few before → order_cause h before (clip_line w) ≡ None → clip_line w ≡ w
+pub clip_line-fine : (h : Header) (before : List Line) (w : Line) → IsWithinLimits h → Few before → first_cause h before (clip_line w) ≡ None → clip_line w ≡ w
 clip_line-fine h before line.Silent within few fine = refl
 clip_line-fine h before line.Mark within few fine = refl
 clip_line-fine h before (line.Adopt s) within few fine =
@@ -203,4 +239,4 @@ clip_line-fine h before (line.Adopt s) within few fine =
     ap (λ x. line.Adopt x) (clip-near h.shards s within.shards (sym (clip-thread h.shards s within.shards) ∙ thread))
 clip_line-fine h before (line.Call t c) within few fine =
     let all = all_fine h before (line.Call (clip t) (clip_call c)) fine in
-    ap₂ (λ x y. line.Call x y) (clip-near h.shards t within.shards (sym (clip-thread h.shards t within.shards) ∙ all.thread)) (call_known before c few all.known)
+    ap₂ (λ x y. line.Call x y) (clip-near h.shards t within.shards (sym (clip-thread h.shards t within.shards) ∙ all.thread)) (call_known before c few all.within all.known)

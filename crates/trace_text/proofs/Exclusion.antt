@@ -1,6 +1,7 @@
 -- A text that spells a trace has no fault, and spells no other trace.
 use Rattle.std.proofs.Common.{◌≡◌, ℕ, true, false, List, [], ◌∷◌, ◌++◌, Some, None, Result, Ok, Err, IfOk, IfErr, refl, sym, ap, ◌∙◌, inl, inr, subst, append_assoc, append-nil}
 use Rattle.trace_text.specs.declared.header.Header.{Header}
+use Rattle.trace_text.specs.declared.header.Version.{Version}
 use Rattle.trace_text.specs.declared.line.Line.{Line}
 use Rattle.trace_text.specs.declared.cause.Cause.{Cause}
 use Rattle.trace_text.specs.declared.cause.ParseError.{ParseError}
@@ -14,14 +15,14 @@ use Rattle.trace_text.proofs.Heads.{HasHeader-fine, HasHeader-same}
 use Rattle.trace_text.proofs.Lines.{form_again}
 
 -- bytes have the form of one line
-same_line : (bytes : List ℕ) (v w : Line) → HasForm v bytes → HasForm w bytes → v ≡ w
-same_line bytes v w hv hw = let e = form_again v bytes hv in let f = form_again w bytes hw in cc
+same_line : (version : Version) (bytes : List ℕ) (v w : Line) → HasForm version v bytes → HasForm version w bytes → v ≡ w
+same_line version bytes v w hv hw = let e = form_again version v bytes hv in let f = form_again version w bytes hw in cc
 
 -- bytes that are the next line are not at fault
 next_or_fault : (h : Header) (before : List Line) (bytes : List ℕ) (l : Line) (c : Cause) → IsNextLine h before bytes l → HasCause h before bytes c → ⊥
 next_or_fault h before bytes l c next (inl none) = none.1 l next.0
 next_or_fault h before bytes l c next (inr (w, form, first)) =
-    let one : w ≡ l = same_line bytes w l form next.0 in
+    let one : w ≡ l = same_line h.version bytes w l form next.0 in
     let clash : Some c ≡ None = sym first ∙ ap (first_cause h before) one ∙ next.1 in cc
 
 -- lines of which neither one nor the end is at fault, and of which one is, or the end
@@ -36,7 +37,7 @@ read_or_fault h before [] (bytes ∷ below) (l ∷ ls) (m ∷ ms) c all settled 
 read_or_fault h before (t ∷ ts) rest [] ms c all settled fine fault = absurd all
 read_or_fault h before (t ∷ ts) rest (l ∷ ls) [] c all settled fine fault = absurd fine
 read_or_fault h before (t ∷ ts) rest (l ∷ ls) (m ∷ ms) c all settled fine fault =
-    let one : l ≡ m = same_line t l m all.0.0 fine.0.0 in
+    let one : l ≡ m = same_line h.version t l m all.0.0 fine.0.0 in
     let P : Line → Type 0 = λ x. Reads h (before ++ x ∷ []) (ts ++ rest) ls in
     let Q : Line → Type 0 = λ x. awaits_mark (before ++ x ∷ ls) ≡ false in
     read_or_fault h (before ++ m ∷ []) ts rest ls ms c (subst P one all.1) (rw append_assoc (subst Q one settled)) fine.1 (rw append_assoc fault)
@@ -57,7 +58,7 @@ same_lines h before [] [] (m ∷ ms) a b = absurd b
 same_lines h before (t ∷ ts) [] ms a b = absurd a
 same_lines h before (t ∷ ts) (l ∷ ls) [] a b = absurd b
 same_lines h before (t ∷ ts) (l ∷ ls) (m ∷ ms) a b =
-    let one : m ≡ l = same_line t m l b.0.0 a.0.0 in
+    let one : m ≡ l = same_line h.version t m l b.0.0 a.0.0 in
     let P : Line → Type 0 = λ x. Reads h (before ++ x ∷ []) ts ms in
     let more = same_lines h (before ++ l ∷ []) ts ls ms a.1 (subst P one b.1) in cc
 

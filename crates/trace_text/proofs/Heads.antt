@@ -6,10 +6,12 @@ use Rattle.std.specs.Int.{IsInRange}
 use Rattle.certificate.specs.Number.{number_in}
 use Rattle.trace_text.specs.Form.{AreWords, Verb}
 use Rattle.trace_text.specs.Form as form
-use Rattle.trace_text.specs.Header.{BeginWith, FailsField, FailsHeader, Field, HasHeader, IsAtFault, IsHeaderFault, IsWithin, Opening, SaysNumber, Size, field_in, fields, numbers_of}
+use Rattle.trace_text.specs.Header.{BeginWith, FailsField, FailsHeader, Field, HasHeader, IsAtFault, IsHeaderFault, IsWithin, Opening, SaysNumber, Size, field_in, fields, number_of, numbers_of, opening_of}
 use Rattle.trace_text.specs.Number.{IsOutside, Says}
 use Rattle.trace_text.specs.Words.{words_of}
 use Rattle.trace_text.specs.declared.header.Header.{Header}
+use Rattle.trace_text.specs.declared.header.Version.{Version}
+use Rattle.trace_text.specs.declared.header.Version.TheVariants.{One}
 use Rattle.trace_text.specs.declared.numeral.Number.{Number}
 use Rattle.trace_text.specs.declared.cause.Cause.{Cause}
 use Rattle.trace_text.specs.declared.cause.Cause.TheVariants as cause
@@ -70,9 +72,17 @@ pub size_range : (word : List ℕ) (most n : ℕ) (lines below : List (List ℕ)
 size_range word most n [] below begin = absurd begin
 size_range word most n (line ∷ lines) below begin = begin.0.1
 
+-- each version has its own first line
+opening_of-same : (version other : Version) → opening_of version ≡ opening_of other → version ≡ other
+opening_of-same One One same = refl
+
+-- a line that says no version is no first line
+pub opening_fault : (lines below : List (List ℕ)) (line : List ℕ) → lines ≡ line ∷ below → ((version : Version) → line ≡ opening_of version → ⊥) → IsAtFault Opening lines cause.Header
+opening_fault lines below line split none = subst (λ ls. IsAtFault Opening ls cause.Header) (sym split) (inl (refl, λ n says. none says.0 says.1))
+
 -- a line says one number
 says_one : (field : Field) (line : List ℕ) (n m : ℕ) → SaysNumber field n line → SaysNumber field m line → n ≡ m
-says_one Opening line n m a b = a.1 ∙ sym b.1
+says_one Opening line n m (version, is, says) (other, is_other, says_other) = says ∙ ap number_of (opening_of-same version other (sym is ∙ is_other)) ∙ sym says_other
 says_one (Size word most) line n m a b =
     let e : Some n ≡ Some m = sym (field_in-says word (words_of line) n a) ∙ field_in-says word (words_of line) m b in cc
 
@@ -90,13 +100,23 @@ BeginWith-same (f ∷ fs) (n ∷ ns) (m ∷ ms) (line ∷ lines) below other a b
     let more = BeginWith-same fs ns ms lines below other a.1 b.1 in
     (ap (λ x. x ∷ ns) one ∙ ap (λ xs. m ∷ xs) more.0, more.1)
 
+-- the version of a number
+abbrev of_number : ℕ → Version
+of_number n = One
+
+of_number_of : (version : Version) → of_number (number_of version) ≡ version
+of_number_of One = refl
+
 -- the header of these numbers
 abbrev of_numbers : List ℕ → Header
-of_numbers ns = record { shards = get_or ns 1 0; pages = get_or ns 2 0; ring = get_or ns 3 0; gens = get_or ns 4 0 }
+of_numbers ns = record { version = of_number (get_or ns 0 0); shards = get_or ns 1 0; pages = get_or ns 2 0; ring = get_or ns 3 0; gens = get_or ns 4 0 }
+
+of_numbers_of : (h : Header) → of_numbers (numbers_of h) ≡ h
+of_numbers_of h = ap (λ version. record h { version = version }) (of_number_of h.version)
 
 -- lines have one header
 pub HasHeader-same : (h g : Header) (lines below other : List (List ℕ)) → HasHeader h lines below → HasHeader g lines other → (h ≡ g) × (below ≡ other)
-HasHeader-same h g lines below other a b = let same = BeginWith-same fields (numbers_of h) (numbers_of g) lines below other a b in (ap of_numbers same.0, same.1)
+HasHeader-same h g lines below other a b = let same = BeginWith-same fields (numbers_of h) (numbers_of g) lines below other a b in (sym (of_numbers_of h) ∙ ap of_numbers same.0 ∙ of_numbers_of g, same.1)
 
 -- lines that begin with fields are not at fault in one of them
 fine_or_fault : (above more : List Field) (field : Field) (ns ms : List ℕ) (lines below rest : List (List ℕ)) (c : Cause) → BeginWith (above ++ field ∷ more) ns lines below → BeginWith above ms lines rest → IsAtFault field rest c → ⊥

@@ -1,14 +1,14 @@
 -- What is kept of the lines, one line more.
-use Rattle.std.proofs.Common.{◌≡◌, ℕ, ◌+◌, ◌≤◌, ◌||◌, false, List, [], ◌∷◌, ◌++◌, length, None, arith, refl, sym, ap, ap₂, ◌∙◌}
+use Rattle.std.proofs.Common.{◌≡◌, ℕ, ◌+◌, ◌≤◌, ◌||◌, List, [], ◌∷◌, ◌++◌, length, None, arith, refl, sym, ap, ap₂, ◌∙◌}
 use Rattle.std.specs.Option.{option_or}
 use Rattle.std.proofs.lemmas.List.{reverse-append}
 use Rattle.std.proofs.lemmas.List.Folds.{list_any-append}
 use Rattle.std.specs.List.{list_any}
 use Rattle.std.proofs.Math.Bool.{or_comm, or-false}
+use Rattle.trace_text.proofs.Clips.{all_fine}
 use Rattle.trace_text.proofs.Bindings.{binding_of-push, either_first, few-push, fresh}
 use Rattle.trace_text.specs.Earlier.{Knows, NotesEnd, NotesNames, awaits_after, bound_in}
-use Rattle.trace_text.specs.Causes.{awaits_mark, binding_at, binding_of, ends, has_ended, is_call, is_call_over, keys_at, keys_in, marks, marks_at}
-use Rattle.trace_text.specs.Within.{order_cause}
+use Rattle.trace_text.specs.Causes.{awaits_mark, binding_at, binding_of, ends, first_cause, has_ended, keys_at, keys_in, marks, marks_at}
 use Rattle.trace_text.specs.declared.header.Header.{Header}
 use Rattle.trace_text.specs.declared.earlier.Earlier.{Earlier}
 use Rattle.trace_text.specs.declared.line.Line.{Line}
@@ -39,10 +39,10 @@ awaits_mark-push ls (line.Adopt s) = rw (reverse-append ls (line.Adopt s ∷ [])
 awaits_mark-push ls line.Mark = rw (reverse-append ls (line.Mark ∷ [])) refl
 
 -- one line more is known, where it is not refused
-pub Knows-push : (h : Header) (ls : List Line) (l : Line) (old new : Earlier) → Knows ls old → order_cause h ls l ≡ None → is_call is_call_over l ≡ false
+pub Knows-push : (h : Header) (ls : List Line) (l : Line) (old new : Earlier) → Knows ls old → first_cause h ls l ≡ None
     → NotesNames old new (length ls) l → NotesEnd old new l → new.section ≡ old.section + marks_at l → new.keys ≡ old.keys + keys_at l → new.awaits_mark ≡ awaits_after old.awaits_mark l
     → Knows (ls ++ l ∷ []) new
-Knows-push h ls l old new knows fine within names ended section keys awaits = record {
+Knows-push h ls l old new knows fine names ended section keys awaits = record {
   names = λ name. names name
       ∙ ap₂ (λ s k. option_or (binding_at (length ls) s k name l) (bound_in old name)) knows.section knows.keys
       ∙ ap (λ o. option_or (binding_at (length ls) (marks ls) (keys_in ls) name l) o) (knows.names name)
@@ -52,5 +52,5 @@ Knows-push h ls l old new knows fine within names ended section keys awaits = re
   section = section ∙ ap (λ n. n + marks_at l) knows.section ∙ sym (marks-push ls l);
   keys = keys ∙ ap (λ n. n + keys_at l) knows.keys ∙ sym (keys_in-push ls l);
   awaits = awaits ∙ ap (λ b. awaits_after b l) knows.awaits ∙ sym (awaits_mark-push ls l);
-  few = few-push ls l knows.few within;
+  few = few-push ls l knows.few (all_fine h ls l fine).within;
 }

@@ -10,6 +10,7 @@ use Rattle.std.specs.Str.{bytes_eq}
 use Rattle.std.proofs.lemmas.Option.{cond_some, option_and_then_some}
 use Rattle.std.proofs.lemmas.Slice.Eq.{bytes_eq-Decides}
 use Rattle.std.proofs.lemmas.Bool.{and_parts, cases_Bool}
+use Rattle.trace_text.specs.declared.header.Version.{Version}
 use Rattle.trace_text.specs.declared.name.Reference.{Reference}
 use Rattle.trace_text.specs.declared.line.Call.{Call}
 use Rattle.trace_text.specs.declared.line.Call.TheVariants.{Put, Fill, Get, Free, Sweep, Later, Tend, End}
@@ -19,7 +20,7 @@ use Rattle.certificate.specs.Number.{number_in, is_numeral}
 use Rattle.trace_text.specs.Name.{is_name}
 use Rattle.trace_text.specs.Reference.{reference_in}
 use Rattle.trace_text.specs.Words.{words_of}
-use Rattle.trace_text.specs.Form.{Word, Verb, Number, Named, Refers, IsWord, AreWords, SaysLine, HasForm, words_of_call, bare_call, key_call, with_name, value_call, with_two, counted_call, thread_line, one_word, two_words, form_of_words, form_of}
+use Rattle.trace_text.specs.Form.{Word, Verb, Number, Named, Refers, IsWord, AreWords, SaysLine, HasForm, has_verb, verb_of, words_of_call, bare_call, key_call, with_name, value_call, with_two, counted_call, thread_line, one_word, two_words, form_of_words, form_of}
 
 -- which way a test went
 pub chosen : {X : Type 0} (b : Bool) (x y z : X) → cond b x y ≡ z → ((b ≡ true) × (x ≡ z)) ⊎ ((b ≡ false) × (y ≡ z))
@@ -90,49 +91,54 @@ counted_found verb name first second w e = elim (chosen (bytes_eq verb (codes "f
   ]
 ]
 
-thread_found : (thread : List ℕ) (call : Option Call) (more : List (List ℕ)) (w : Line) → thread_line thread call ≡ Some w → ((c : Call) → call ≡ Some c → SaysCall more c) → SaysLine w (thread ∷ more)
-thread_found thread call more w e found = option_and_then_some (λ t. option_map (λ c. line.Call t c) call) (number_in thread) w e
-    (λ t is then. let parts = mapped (λ c. line.Call t c) call w then in
-    let P : Line → Type 0 = λ v. SaysLine v (thread ∷ more) in
-    subst P parts.2 (is, found parts.0 parts.1))
+-- what the words of a thread's line say, where the version has the verb
+thread_found : (version : Version) (thread verb : List ℕ) (call : Option Call) (more : List (List ℕ)) (w : Line) → thread_line version thread verb call ≡ Some w → ((c : Call) → call ≡ Some c → SaysCall (verb ∷ more) c) → SaysLine version w (thread ∷ verb ∷ more)
+thread_found version thread verb call more w e found = elim (chosen (has_verb version verb) _ None (Some w) e) [
+  | inl p ↦ option_and_then_some (λ t. option_map (λ c. line.Call t c) call) (number_in thread) w p.1
+      (λ t is then. let parts = mapped (λ c. line.Call t c) call w then in
+      let says = found parts.0 parts.1 in
+      let P : Line → Type 0 = λ v. SaysLine version v (thread ∷ verb ∷ more) in
+      subst P parts.2 (subst (λ (b : List ℕ). has_verb version b ≡ true) says.0 p.0, (is, says)))
+  | inr p ↦ cc p.1
+]
 
-one_found : (word : List ℕ) (w : Line) → one_word word ≡ Some w → SaysLine w (word ∷ [])
-one_found word w e = elim (chosen (bytes_eq word (codes "mark")) _ _ (Some w) e) [
-  | inl p ↦ let is : line.Mark ≡ w = cc p.1 in let P : Line → Type 0 = λ v. SaysLine v (word ∷ []) in subst P is (same_bytes word (codes "mark") p.0, tt)
+one_found : (version : Version) (word : List ℕ) (w : Line) → one_word word ≡ Some w → SaysLine version w (word ∷ [])
+one_found version word w e = elim (chosen (bytes_eq word (codes "mark")) _ _ (Some w) e) [
+  | inl p ↦ let is : line.Mark ≡ w = cc p.1 in let P : Line → Type 0 = λ v. SaysLine version v (word ∷ []) in subst P is (same_bytes word (codes "mark") p.0, tt)
   | inr p ↦ cc
 ]
 
-two_words_found : (first second : List ℕ) (w : Line) → two_words first second ≡ Some w → SaysLine w (first ∷ second ∷ [])
-two_words_found first second w e = elim (chosen (bytes_eq first (codes "adopt")) _ _ (Some w) e) [
+two_words_found : (version : Version) (first second : List ℕ) (w : Line) → two_words version first second ≡ Some w → SaysLine version w (first ∷ second ∷ [])
+two_words_found version first second w e = elim (chosen (bytes_eq first (codes "adopt")) _ _ (Some w) e) [
   | inl p ↦ let parts = mapped (λ s. line.Adopt s) (number_in second) w p.1 in
-      let P : Line → Type 0 = λ v. SaysLine v (first ∷ second ∷ []) in subst P parts.2 (same_bytes first (codes "adopt") p.0, (parts.1, tt))
-  | inr p ↦ thread_found first (bare_call second) (second ∷ []) w p.1 (bare_found second)
+      let P : Line → Type 0 = λ v. SaysLine version v (first ∷ second ∷ []) in subst P parts.2 (same_bytes first (codes "adopt") p.0, (parts.1, tt))
+  | inr p ↦ thread_found version first second (bare_call second) [] w p.1 (bare_found second)
 ]
 
-words_found : (words : List (List ℕ)) (w : Line) → form_of_words words ≡ Some w → SaysLine w words
-words_found [] w e = cc
-words_found (a ∷ []) w e = one_found a w e
-words_found (a ∷ b ∷ []) w e = two_words_found a b w e
-words_found (a ∷ b ∷ c ∷ []) w e = thread_found a (key_call b c) (b ∷ c ∷ []) w e (key_found b c)
-words_found (a ∷ b ∷ c ∷ d ∷ []) w e = thread_found a (value_call b c d) (b ∷ c ∷ d ∷ []) w e (value_found b c d)
-words_found (a ∷ b ∷ c ∷ d ∷ f ∷ []) w e = thread_found a (counted_call b c d f) (b ∷ c ∷ d ∷ f ∷ []) w e (counted_found b c d f)
-words_found (a ∷ b ∷ c ∷ d ∷ f ∷ g ∷ more) w e = cc
+words_found : (version : Version) (words : List (List ℕ)) (w : Line) → form_of_words version words ≡ Some w → SaysLine version w words
+words_found version [] w e = cc
+words_found version (a ∷ []) w e = one_found version a w e
+words_found version (a ∷ b ∷ []) w e = two_words_found version a b w e
+words_found version (a ∷ b ∷ c ∷ []) w e = thread_found version a b (key_call b c) (c ∷ []) w e (key_found b c)
+words_found version (a ∷ b ∷ c ∷ d ∷ []) w e = thread_found version a b (value_call b c d) (c ∷ d ∷ []) w e (value_found b c d)
+words_found version (a ∷ b ∷ c ∷ d ∷ f ∷ []) w e = thread_found version a b (counted_call b c d f) (c ∷ d ∷ f ∷ []) w e (counted_found b c d f)
+words_found version (a ∷ b ∷ c ∷ d ∷ f ∷ g ∷ more) w e = cc
 
-says_form : (bytes : List ℕ) (w : Line) → SaysLine w (words_of bytes) → HasForm w bytes
-says_form bytes line.Silent says = absurd says
-says_form bytes (line.Call t c) says = says
-says_form bytes (line.Adopt s) says = says
-says_form bytes line.Mark says = says
+says_form : (version : Version) (bytes : List ℕ) (w : Line) → SaysLine version w (words_of bytes) → HasForm version w bytes
+says_form version bytes line.Silent says = absurd says
+says_form version bytes (line.Call t c) says = says
+says_form version bytes (line.Adopt s) says = says
+says_form version bytes line.Mark says = says
 
-silent_found : (bytes : List ℕ) (w : Line) → (bytes ≡ []) ⊎ ((remark : List ℕ) × (bytes ≡ 35 ∷ remark)) → Some line.Silent ≡ Some w → HasForm w bytes
-silent_found bytes w is e = let same : line.Silent ≡ w = cc in let P : Line → Type 0 = λ v. HasForm v bytes in subst P same is
+silent_found : (version : Version) (bytes : List ℕ) (w : Line) → (bytes ≡ []) ⊎ ((remark : List ℕ) × (bytes ≡ 35 ∷ remark)) → Some line.Silent ≡ Some w → HasForm version w bytes
+silent_found version bytes w is e = let same : line.Silent ≡ w = cc in let P : Line → Type 0 = λ v. HasForm version v bytes in subst P same is
 
 -- what is read has that form
-pub form_found : (bytes : List ℕ) (w : Line) → form_of bytes ≡ Some w → HasForm w bytes
-form_found [] w e = silent_found [] w (inl refl) e
-form_found (b ∷ bs) w e = elim (chosen (b == 35) _ _ (Some w) e) [
-  | inl p ↦ silent_found (b ∷ bs) w (inr (bs, ap (λ c. c ∷ bs) (search (rules, p.0)))) p.1
-  | inr p ↦ says_form (b ∷ bs) w (words_found (words_of (b ∷ bs)) w p.1)
+pub form_found : (version : Version) (bytes : List ℕ) (w : Line) → form_of version bytes ≡ Some w → HasForm version w bytes
+form_found version [] w e = silent_found version [] w (inl refl) e
+form_found version (b ∷ bs) w e = elim (chosen (b == 35) _ _ (Some w) e) [
+  | inl p ↦ silent_found version (b ∷ bs) w (inr (bs, ap (λ c. c ∷ bs) (search (rules, p.0)))) p.1
+  | inr p ↦ says_form version (b ∷ bs) w (words_found version (words_of (b ∷ bs)) w p.1)
 ]
 
 -- ---- what has a form is read
@@ -189,8 +195,8 @@ not_adopt word n is = elim (cases_Bool (bytes_eq word (codes "adopt"))) [
   | inr other ↦ other
 ]
 
-thread_again : (thread : List ℕ) (t : ℕ) (call : Option Call) (c : Call) → number_in thread ≡ Some t → call ≡ Some c → thread_line thread call ≡ Some (line.Call t c)
-thread_again thread t call c is said = rw (is, said) refl
+thread_again : (version : Version) (thread verb : List ℕ) (t : ℕ) (call : Option Call) (c : Call) → has_verb version (verb_of c) ≡ true → verb ≡ verb_of c → number_in thread ≡ Some t → call ≡ Some c → thread_line version thread verb call ≡ Some (line.Call t c)
+thread_again version thread verb t call c has its is said = rw (its, has, is, said) refl
 
 named_again : (name bytes : List ℕ) (call : List ℕ → Call) → (bytes ≡ name) × (is_name name ≡ true) → with_name call bytes ≡ Some (call name)
 named_again name bytes call is = rw (is.0, is.1) refl
@@ -202,39 +208,39 @@ two_again : (call : List ℕ → ℕ → ℕ → Call) (name bytes first second 
 two_again call name bytes first second a b named fst snd = rw (fst, snd) (named_again name bytes (λ n. call n a b) named)
 
 -- a line whose words say a thread's call is read as that
-call_again : (words : List (List ℕ)) (t : ℕ) (c : Call) → SaysLine (line.Call t c) words → form_of_words words ≡ Some (line.Call t c)
-call_again words t (Put name v) says = let w = one_more words (Number t) _ says in let u = three w.1 _ _ _ w.4 in
-    rw (w.2, u.3, u.4) (thread_again w.0 t _ _ w.3 (value_again name u.2 v u.1 u.5 u.6))
-call_again words t (Fill name n v) says = let w = one_more words (Number t) _ says in let u = four w.1 _ _ _ _ w.4 in
-    rw (w.2, u.4, u.5) (thread_again w.0 t _ _ w.3 (two_again (λ m a b. Fill m a b) name u.1 u.2 u.3 n v u.6 u.7 u.8))
-call_again words t (Sweep name from to) says = let w = one_more words (Number t) _ says in let u = four w.1 _ _ _ _ w.4 in
-    rw (w.2, u.4, u.5) (thread_again w.0 t _ _ w.3 (two_again (λ m a b. Sweep m a b) name u.1 u.2 u.3 from to u.6 u.7 u.8))
-call_again words t (Get key) says = let w = one_more words (Number t) _ says in let u = two w.1 _ _ w.4 in
-    rw (w.2, u.2, u.3) (thread_again w.0 t _ _ w.3 (rw u.4 refl))
-call_again words t (Free key) says = let w = one_more words (Number t) _ says in let u = two w.1 _ _ w.4 in
-    rw (w.2, u.2, u.3) (thread_again w.0 t _ _ w.3 (rw u.4 refl))
-call_again words t (Later key) says = let w = one_more words (Number t) _ says in let u = two w.1 _ _ w.4 in
-    rw (w.2, u.2, u.3) (thread_again w.0 t _ _ w.3 (rw u.4 refl))
-call_again words t Tend says = let w = one_more words (Number t) _ says in let u = one w.1 _ w.4 in
-    rw (w.2, u.1, u.2, not_adopt w.0 t w.3) (thread_again w.0 t _ _ w.3 refl)
-call_again words t End says = let w = one_more words (Number t) _ says in let u = one w.1 _ w.4 in
-    rw (w.2, u.1, u.2, not_adopt w.0 t w.3) (thread_again w.0 t _ _ w.3 refl)
+call_again : (version : Version) (words : List (List ℕ)) (t : ℕ) (c : Call) → SaysLine version (line.Call t c) words → form_of_words version words ≡ Some (line.Call t c)
+call_again version words t (Put name v) says = let w = one_more words (Number t) _ says.1 in let u = three w.1 _ _ _ w.4 in
+    rw (w.2, u.3, u.4) (thread_again version w.0 _ t _ (Put name v) says.0 refl w.3 (value_again name u.2 v u.1 u.5 u.6))
+call_again version words t (Fill name n v) says = let w = one_more words (Number t) _ says.1 in let u = four w.1 _ _ _ _ w.4 in
+    rw (w.2, u.4, u.5) (thread_again version w.0 _ t _ (Fill name n v) says.0 refl w.3 (two_again (λ m a b. Fill m a b) name u.1 u.2 u.3 n v u.6 u.7 u.8))
+call_again version words t (Sweep name from to) says = let w = one_more words (Number t) _ says.1 in let u = four w.1 _ _ _ _ w.4 in
+    rw (w.2, u.4, u.5) (thread_again version w.0 _ t _ (Sweep name from to) says.0 refl w.3 (two_again (λ m a b. Sweep m a b) name u.1 u.2 u.3 from to u.6 u.7 u.8))
+call_again version words t (Get key) says = let w = one_more words (Number t) _ says.1 in let u = two w.1 _ _ w.4 in
+    rw (w.2, u.2, u.3) (thread_again version w.0 _ t _ (Get key) says.0 refl w.3 (rw u.4 refl))
+call_again version words t (Free key) says = let w = one_more words (Number t) _ says.1 in let u = two w.1 _ _ w.4 in
+    rw (w.2, u.2, u.3) (thread_again version w.0 _ t _ (Free key) says.0 refl w.3 (rw u.4 refl))
+call_again version words t (Later key) says = let w = one_more words (Number t) _ says.1 in let u = two w.1 _ _ w.4 in
+    rw (w.2, u.2, u.3) (thread_again version w.0 _ t _ (Later key) says.0 refl w.3 (rw u.4 refl))
+call_again version words t Tend says = let w = one_more words (Number t) _ says.1 in let u = one w.1 _ w.4 in
+    rw (w.2, u.1, u.2, not_adopt w.0 t w.3) (thread_again version w.0 _ t _ Tend says.0 refl w.3 refl)
+call_again version words t End says = let w = one_more words (Number t) _ says.1 in let u = one w.1 _ w.4 in
+    rw (w.2, u.1, u.2, not_adopt w.0 t w.3) (thread_again version w.0 _ t _ End says.0 refl w.3 refl)
 
-adopt_again : (words : List (List ℕ)) (a b : List ℕ) (s : ℕ) → words ≡ a ∷ b ∷ [] → a ≡ codes "adopt" → number_in b ≡ Some s → form_of_words words ≡ Some (line.Adopt s)
-adopt_again words a b s split is number = rw (split, is, number) refl
+adopt_again : (version : Version) (words : List (List ℕ)) (a b : List ℕ) (s : ℕ) → words ≡ a ∷ b ∷ [] → a ≡ codes "adopt" → number_in b ≡ Some s → form_of_words version words ≡ Some (line.Adopt s)
+adopt_again version words a b s split is number = rw (split, is, number) refl
 
-mark_again : (words : List (List ℕ)) (a : List ℕ) → words ≡ a ∷ [] → a ≡ codes "mark" → form_of_words words ≡ Some line.Mark
-mark_again words a split is = rw (split, is) refl
+mark_again : (version : Version) (words : List (List ℕ)) (a : List ℕ) → words ≡ a ∷ [] → a ≡ codes "mark" → form_of_words version words ≡ Some line.Mark
+mark_again version words a split is = rw (split, is) refl
 
 -- the first byte of a line of words is no `#`
-words_again : (words : List (List ℕ)) (w : Line) → SaysLine w words → (form_of_words words ≡ Some w) × (first : List ℕ) × (more : List (List ℕ)) × (words ≡ first ∷ more) × (0 < length first) × (35 < slice_index first 0)
-words_again words line.Silent says = absurd says
-words_again words (line.Adopt s) says = let u = two words _ _ says in
-    (adopt_again words u.0 u.1 s u.2 u.3 u.4, u.0, u.1 ∷ [], u.2, rw u.3 (omega arith), rw u.3 (omega arith))
-words_again words line.Mark says = let u = one words _ says in
-    (mark_again words u.0 u.1 u.2, u.0, [], u.1, rw u.2 (omega arith), rw u.2 (omega arith))
-words_again words (line.Call t c) says = let w = one_more words (Number t) _ says in let first = first_of_number w.0 t w.3 in
-    (call_again words t c says, w.0, w.1, w.2, first.0, omega (arith, first.1))
+words_again : (version : Version) (words : List (List ℕ)) (w : Line) → SaysLine version w words → (form_of_words version words ≡ Some w) × (first : List ℕ) × (more : List (List ℕ)) × (words ≡ first ∷ more) × (0 < length first) × (35 < slice_index first 0)
+words_again version words line.Silent says = absurd says
+words_again version words (line.Adopt s) says = let u = two words _ _ says in
+    (adopt_again version words u.0 u.1 s u.2 u.3 u.4, u.0, u.1 ∷ [], u.2, rw u.3 (omega arith), rw u.3 (omega arith))
+words_again version words line.Mark says = let u = one words _ says in
+    (mark_again version words u.0 u.1 u.2, u.0, [], u.1, rw u.2 (omega arith), rw u.2 (omega arith))
+words_again version words (line.Call t c) says = let w = one_more words (Number t) _ says.1 in let first = first_of_number w.0 t w.3 in
+    (call_again version words t c says, w.0, w.1, w.2, first.0, omega (arith, first.1))
 
 first_word : (b : ℕ) (parts : List (List ℕ)) (word : List ℕ) (words : List (List ℕ)) → onto_first b parts ≡ word ∷ words → slice_index word 0 ≡ b
 first_word b [] word words e = let is : b ∷ [] ≡ word = cc in rw (← is) refl
@@ -251,16 +257,16 @@ no_remark b bs word words e some above =
       | inr p ↦ above_remark b (omega (arith, above, first_word b (slice_split (λ c. c == 32) bs) word words p.1))
     ]
 
-bytes_again : (bytes : List ℕ) (w : Line) → SaysLine w (words_of bytes) → form_of bytes ≡ Some w
-bytes_again [] w says = let again = words_again (words_of []) w says in
+bytes_again : (version : Version) (bytes : List ℕ) (w : Line) → SaysLine version w (words_of bytes) → form_of version bytes ≡ Some w
+bytes_again version [] w says = let again = words_again version (words_of []) w says in
     let empty : [] ≡ again.1 = let e : [] ∷ [] ≡ again.1 ∷ again.2 = again.3 in cc in let none = rw (← empty) at again.4 in absurd (omega (arith, none))
-bytes_again (b ∷ bs) w says = let again = words_again (words_of (b ∷ bs)) w says in
+bytes_again version (b ∷ bs) w says = let again = words_again version (words_of (b ∷ bs)) w says in
     rw (no_remark b bs again.1 again.2 again.3 again.4 again.5) again.0
 
 -- what has a form is read as that line
-pub form_again : (w : Line) (bytes : List ℕ) → HasForm w bytes → form_of bytes ≡ Some w
-form_again line.Silent bytes (inl e) = rw e refl
-form_again line.Silent bytes (inr (remark, e)) = rw e refl
-form_again (line.Call t c) bytes says = bytes_again bytes (line.Call t c) says
-form_again (line.Adopt s) bytes says = bytes_again bytes (line.Adopt s) says
-form_again line.Mark bytes says = bytes_again bytes line.Mark says
+pub form_again : (version : Version) (w : Line) (bytes : List ℕ) → HasForm version w bytes → form_of version bytes ≡ Some w
+form_again version line.Silent bytes (inl e) = rw e refl
+form_again version line.Silent bytes (inr (remark, e)) = rw e refl
+form_again version (line.Call t c) bytes says = bytes_again version bytes (line.Call t c) says
+form_again version (line.Adopt s) bytes says = bytes_again version bytes (line.Adopt s) says
+form_again version line.Mark bytes says = bytes_again version bytes line.Mark says

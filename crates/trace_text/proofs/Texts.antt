@@ -1,17 +1,17 @@
 -- The lines of a text, one after another.
-use Rattle.std.proofs.Common.{◌≡◌, ℕ, ◌+◌, ◌⊎◌, true, false, List, [], ◌∷◌, ◌++◌, length, take, Option, Some, None, Ok, Err, zero, suc, arith, refl, sym, ap, ◌∙◌, inl, inr, subst, append_assoc, append-nil}
+use Rattle.std.proofs.Common.{◌≡◌, ℕ, ◌+◌, ◌⊎◌, true, List, [], ◌∷◌, ◌++◌, length, take, Option, Some, None, Ok, Err, zero, suc, arith, refl, sym, ap, ◌∙◌, inl, inr, subst, append_assoc, append-nil}
 use Rattle.std.specs.List.{slice_get}
 use Rattle.trace_text.specs.declared.line.Line.{Line}
 use Rattle.trace_text.specs.declared.header.Header.{Header}
 use Rattle.trace_text.specs.declared.cause.Cause.{Cause}
 use Rattle.trace_text.specs.declared.cause.Cause.TheVariants as cause
 use Rattle.trace_text.specs.Form.{form_of, HasForm}
-use Rattle.trace_text.specs.Within.{clip_line, order_cause, within}
+use Rattle.trace_text.specs.Within.{clip_line, is_value_over, within}
 use Rattle.trace_text.specs.Header.{IsWithinLimits}
 use Rattle.trace_text.specs.Earlier.{Few}
-use Rattle.trace_text.specs.Causes.{awaits_mark, is_call, is_call_over, HasCause, IsNextLine, IsSound, Reads, first_cause, IsFirstFault}
+use Rattle.trace_text.specs.Causes.{awaits_mark, is_call, HasCause, IsNextLine, IsSound, Reads, first_cause, IsFirstFault}
 use Rattle.trace_text.proofs.Lines.{chosen, form_found, form_again}
-use Rattle.trace_text.proofs.Clips.{order_cause-clip, clip_line-fine}
+use Rattle.trace_text.proofs.Clips.{first_cause-clip, clip_line-fine, over-value}
 
 -- one line more
 Reads-push : (h : Header) (before : List Line) (texts : List (List ℕ)) (lines : List Line) (bytes : List ℕ) (l : Line) → Reads h before texts lines → IsNextLine h (before ++ lines) bytes l → Reads h before (texts ++ bytes ∷ []) (lines ++ l ∷ [])
@@ -20,51 +20,41 @@ Reads-push h before (b ∷ bs) (m ∷ ms) bytes l (first, rest) next = (first, R
 Reads-push h before [] (m ∷ ms) bytes l all next = absurd all
 Reads-push h before (b ∷ bs) [] bytes l all next = absurd all
 
-first_cause-order : (h : Header) (before : List Line) (w : Line) → is_call is_call_over w ≡ false → first_cause h before w ≡ order_cause h before w
-first_cause-order h before w under = rw under refl
-
 -- what is kept of a line that has a form
-within_ok : (form : Option Line) (l : Line) → within form ≡ Ok l → (w : Line) × (form ≡ Some w) × (is_call is_call_over w ≡ false) × (clip_line w ≡ l)
+within_ok : (form : Option Line) (l : Line) → within form ≡ Ok l → (w : Line) × (form ≡ Some w) × (clip_line w ≡ l)
 within_ok None l e = cc
-within_ok (Some w) l e = elim (chosen (is_call is_call_over w) (Err cause.Limit) (Ok (clip_line w)) (Ok l) e) [
+within_ok (Some w) l e = elim (chosen (is_call is_value_over w) (Err cause.Limit) (Ok (clip_line w)) (Ok l) e) [
   | inl p ↦ cc p.1
-  | inr p ↦ (w, refl, p.0, cc p.1)
+  | inr p ↦ (w, refl, cc p.1)
 ]
 
-within_err : (form : Option Line) (c : Cause) → within form ≡ Err c → ((form ≡ None) × (c ≡ cause.Form)) ⊎ ((w : Line) × (form ≡ Some w) × (is_call is_call_over w ≡ true) × (c ≡ cause.Limit))
+within_err : (form : Option Line) (c : Cause) → within form ≡ Err c → ((form ≡ None) × (c ≡ cause.Form)) ⊎ ((w : Line) × (form ≡ Some w) × (is_call is_value_over w ≡ true) × (c ≡ cause.Limit))
 within_err None c e = inl (refl, cc)
-within_err (Some w) c e = elim (chosen (is_call is_call_over w) (Err cause.Limit) (Ok (clip_line w)) (Err c) e) [
+within_err (Some w) c e = elim (chosen (is_call is_value_over w) (Err cause.Limit) (Ok (clip_line w)) (Err c) e) [
   | inl p ↦ inr (w, refl, p.0, cc p.1)
   | inr p ↦ cc p.1
 ]
 
--- a line that is read and not refused is a line of the trace, and no number of it is over
-pub fine_line : (h : Header) (before : List Line) (bytes : List ℕ) (l : Line) → IsWithinLimits h → Few before → within (form_of bytes) ≡ Ok l → order_cause h before l ≡ None → IsNextLine h before bytes l
+-- a line that is read and not refused is a line of the trace
+pub fine_line : (h : Header) (before : List Line) (bytes : List ℕ) (l : Line) → IsWithinLimits h → Few before → within (form_of h.version bytes) ≡ Ok l → first_cause h before l ≡ None → IsNextLine h before bytes l
 fine_line h before bytes l within few read fine =
-    let w = within_ok (form_of bytes) l read in
-    let whole = clip_line-fine h before w.0 within few (rw w.3 fine) in
-    let same : w.0 ≡ l = sym whole ∙ w.3 in
-    let P : Line → Type 0 = λ v. HasForm v bytes × (first_cause h before v ≡ None) in
-    subst P same (form_found bytes w.0 w.1, first_cause-order h before w.0 w.2 ∙ sym (order_cause-clip h before w.0 within few) ∙ ap (λ v. order_cause h before v) w.3 ∙ fine)
+    let w = within_ok (form_of h.version bytes) l read in
+    let whole = clip_line-fine h before w.0 within few (rw w.2 fine) in
+    let same : w.0 ≡ l = sym whole ∙ w.2 in
+    let P : Line → Type 0 = λ v. HasForm h.version v bytes × (first_cause h before v ≡ None) in
+    subst P same (form_found h.version bytes w.0 w.1, sym (first_cause-clip h before w.0 within few) ∙ ap (first_cause h before) w.2 ∙ fine)
 
 -- a line that is read and refused is at fault
-pub refused_line : (h : Header) (before : List Line) (bytes : List ℕ) (l : Line) (c : Cause) → IsWithinLimits h → Few before → within (form_of bytes) ≡ Ok l → order_cause h before l ≡ Some c → HasCause h before bytes c
+pub refused_line : (h : Header) (before : List Line) (bytes : List ℕ) (l : Line) (c : Cause) → IsWithinLimits h → Few before → within (form_of h.version bytes) ≡ Ok l → first_cause h before l ≡ Some c → HasCause h before bytes c
 refused_line h before bytes l c within few read fault =
-    let w = within_ok (form_of bytes) l read in
-    inr (w.0, form_found bytes w.0 w.1, first_cause-order h before w.0 w.2 ∙ sym (order_cause-clip h before w.0 within few) ∙ ap (λ v. order_cause h before v) w.3 ∙ fault)
+    let w = within_ok (form_of h.version bytes) l read in
+    inr (w.0, form_found h.version bytes w.0 w.1, sym (first_cause-clip h before w.0 within few) ∙ ap (first_cause h before) w.2 ∙ fault)
 
 -- a line that is not read is at fault
-pub unread_line : (h : Header) (before : List Line) (bytes : List ℕ) (c : Cause) → within (form_of bytes) ≡ Err c → HasCause h before bytes c
-unread_line h before bytes c read = elim (within_err (form_of bytes) c read) [
-  | inl p ↦ inl (p.1, λ w form. let some = form_again w bytes form in cc)
-  | inr p ↦ inr (p.0, form_found bytes p.0 p.1, rw (p.2, p.3) refl)
-]
-
--- a line of which no cause holds has its numbers within their ranges
-pub first_cause-none : (h : Header) (before : List Line) (l : Line) → first_cause h before l ≡ None → (is_call is_call_over l ≡ false) × (order_cause h before l ≡ None)
-first_cause-none h before l fine = elim (chosen (is_call is_call_over l) (Some cause.Limit) (order_cause h before l) None fine) [
-  | inl p ↦ cc p.1
-  | inr p ↦ (p.0, p.1)
+pub unread_line : (h : Header) (before : List Line) (bytes : List ℕ) (c : Cause) → within (form_of h.version bytes) ≡ Err c → HasCause h before bytes c
+unread_line h before bytes c read = elim (within_err (form_of h.version bytes) c read) [
+  | inl p ↦ inl (p.1, λ w form. let some = form_again h.version w bytes form in cc)
+  | inr p ↦ inr (p.0, form_found h.version bytes p.0 p.1, rw (over-value before p.0 p.2, p.3) refl)
 ]
 
 -- as many lines are read as there are texts

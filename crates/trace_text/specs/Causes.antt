@@ -15,6 +15,7 @@ use Rattle.trace_text.specs.declared.line.Binding.{Binding}
 use Rattle.trace_text.specs.declared.cause.Cause.{Cause}
 use Rattle.trace_text.specs.declared.cause.Cause.TheVariants as cause
 use Rattle.trace_text.specs.declared.cause.Cause.TheVariants.{Form, Limit, Thread, Ended, Adopt, Bound, Unknown, Early}
+use Rattle.trace_text.specs.declared.earlier.TheConstants.{MOST_KEYS}
 
 -- ---- what a line says of threads and names
 
@@ -140,11 +141,11 @@ may_follow_adopt _ = true
 
 -- ---- what is wrong with a line
 
--- a value, a count or the last value of a fill is outside its range
-abbrev pub is_call_over : Call → Bool
-is_call_over (Put name value) = nat_le (2 ^ 128) value
-is_call_over (Fill name count value) = not (nat_le 1 count && nat_le count 262144) || nat_le (2 ^ 128) (value + count - 1)
-is_call_over _ = false
+-- after those lines a value, a count or the last value of a fill is outside its range
+abbrev pub is_call_over : List Line → Call → Bool
+is_call_over before (Put name value) = nat_le (2 ^ 128) value
+is_call_over before (Fill name count value) = not (nat_le 1 count && nat_le count MOST_KEYS) || nat_le (2 ^ 128) (value + count - 1)
+is_call_over before _ = false
 
 -- the call binds a name that those lines bind
 abbrev pub binds_again : List Line → Call → Bool
@@ -178,7 +179,7 @@ is_of test line = option_map_or test (thread_of line) false
 
 -- whether the cause holds of a line that has a form
 abbrev pub holds : Header → List Line → Line → Cause → Bool
-holds h before line Limit = is_call is_call_over line
+holds h before line Limit = is_call (is_call_over before) line
 holds h before line Thread = is_of (nat_le h.shards) line
 holds h before line Ended = is_of (has_ended before) line
 holds h before line Adopt = awaits_mark before && not (may_follow_adopt line)
@@ -197,11 +198,11 @@ IsSound h lines = (place : ℕ) (line : Line) → slice_get lines place ≡ Some
 
 -- after those lines the bytes are at fault: they have no form, or this cause is the first that holds of them
 abbrev pub HasCause : Header → List Line → List ℕ → Cause → Type 0
-HasCause h before bytes c = ((c ≡ Form) × ((line : Line) → HasForm line bytes → ⊥)) ⊎ ((line : Line) × HasForm line bytes × (first_cause h before line ≡ Some c))
+HasCause h before bytes c = ((c ≡ Form) × ((line : Line) → HasForm h.version line bytes → ⊥)) ⊎ ((line : Line) × HasForm h.version line bytes × (first_cause h before line ≡ Some c))
 
 -- after those lines the bytes have the form of this line, and no cause holds of it
 abbrev pub IsNextLine : Header → List Line → List ℕ → Line → Type 0
-IsNextLine h before bytes line = HasForm line bytes × (first_cause h before line ≡ None)
+IsNextLine h before bytes line = HasForm h.version line bytes × (first_cause h before line ≡ None)
 
 -- after those lines the texts are these lines, and none is at fault
 abbrev pub Reads : Header → List Line → List (List ℕ) → List Line → Type 0

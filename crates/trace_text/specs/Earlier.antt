@@ -10,6 +10,7 @@ use Rattle.trace_text.specs.declared.line.Keys.{Keys}
 use Rattle.trace_text.specs.declared.line.Keys.TheVariants.{One, Many}
 use Rattle.trace_text.specs.declared.line.Binding.{Binding}
 use Rattle.trace_text.specs.declared.earlier.Earlier.{Earlier}
+use Rattle.trace_text.specs.declared.earlier.TheConstants.{MOST_KEYS}
 
 -- what the table has for the name
 abbrev pub bound_in : Earlier → List ℕ → Option Binding
@@ -26,7 +27,7 @@ key_count (Many count) = count
 
 -- no more keys than a fill may have
 abbrev pub IsFew : Keys → Type 0
-IsFew keys = key_count keys ≤ 262144
+IsFew keys = key_count keys ≤ MOST_KEYS
 
 -- no name is bound to more keys than a fill may have
 abbrev pub Few : List Line → Type 0

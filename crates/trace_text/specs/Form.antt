@@ -1,10 +1,13 @@
--- The forms of a line below the header: first as the words that each form has, then as a function of a line's words.
-use Rattle.std.specs.Prelude.{◌≡◌, ◌==◌, ◌⊎◌, ℕ, true, List, [], ◌∷◌, ◌++◌, Option, Some, None, option_map, option_and_then, codes, if◌then◌else◌}
+-- The forms of a line below the header, in each version: first as the words that each form has, then as a function of a line's words.
+use Rattle.std.specs.Prelude.{◌≡◌, ◌==◌, ◌||◌, ◌⊎◌, ℕ, Bool, true, List, [], ◌∷◌, ◌++◌, Option, Some, None, option_map, option_and_then, codes, if◌then◌else◌}
+use Rattle.std.specs.List.{list_any}
 use Rattle.std.specs.Str.{bytes_eq}
 use Rattle.certificate.specs.Number.{number_in}
 use Rattle.trace_text.specs.Name.{is_name}
 use Rattle.trace_text.specs.Reference.{reference_in}
 use Rattle.trace_text.specs.Words.{words_of}
+use Rattle.trace_text.specs.declared.header.Version.{Version}
+use Rattle.trace_text.specs.declared.header.Version.TheVariants.{One}
 use Rattle.trace_text.specs.declared.name.Reference.{Reference}
 use Rattle.trace_text.specs.declared.line.Call.{Call}
 use Rattle.trace_text.specs.declared.line.Call.TheVariants.{Put, Fill, Get, Free, Sweep, Later, Tend, End}
@@ -18,16 +21,47 @@ pub data Word : Type 0 where
   Named : List ℕ → Word
   Refers : Reference → Word
 
+-- the verbs of calls that bind a name
+abbrev pub binding_verbs : List (List ℕ)
+binding_verbs = codes "put" ∷ codes "fill" ∷ []
+
+-- the verbs of calls that read a name
+abbrev pub reading_verbs : List (List ℕ)
+reading_verbs = codes "get" ∷ codes "free" ∷ codes "sweep" ∷ codes "later" ∷ []
+
+-- the verbs of calls with no more words
+abbrev pub bare_verbs : List (List ℕ)
+bare_verbs = codes "tend" ∷ codes "end" ∷ []
+
+-- a thread's call may have the verb, in a trace of each version
+abbrev pub has_verb : Version → List ℕ → Bool
+has_verb One verb = list_any (bytes_eq verb) binding_verbs || (list_any (bytes_eq verb) reading_verbs || list_any (bytes_eq verb) bare_verbs)
+
+-- the verb of each call
+abbrev pub verb_of : Call → List ℕ
+verb_of (Put name value) = codes "put"
+verb_of (Fill name count value) = codes "fill"
+verb_of (Get key) = codes "get"
+verb_of (Free key) = codes "free"
+verb_of (Sweep name from to) = codes "sweep"
+verb_of (Later key) = codes "later"
+verb_of Tend = codes "tend"
+verb_of End = codes "end"
+
+-- the words of each call, behind its verb
+abbrev pub words_behind : Call → List Word
+words_behind (Put name value) = Named name ∷ Number value ∷ []
+words_behind (Fill name count value) = Named name ∷ Number count ∷ Number value ∷ []
+words_behind (Get key) = Refers key ∷ []
+words_behind (Free key) = Refers key ∷ []
+words_behind (Sweep name from to) = Named name ∷ Number from ∷ Number to ∷ []
+words_behind (Later key) = Refers key ∷ []
+words_behind Tend = []
+words_behind End = []
+
 -- the words of each call, behind its thread's number
 abbrev pub words_of_call : Call → List Word
-words_of_call (Put name value) = Verb (codes "put") ∷ Named name ∷ Number value ∷ []
-words_of_call (Fill name count value) = Verb (codes "fill") ∷ Named name ∷ Number count ∷ Number value ∷ []
-words_of_call (Get key) = Verb (codes "get") ∷ Refers key ∷ []
-words_of_call (Free key) = Verb (codes "free") ∷ Refers key ∷ []
-words_of_call (Sweep name from to) = Verb (codes "sweep") ∷ Named name ∷ Number from ∷ Number to ∷ []
-words_of_call (Later key) = Verb (codes "later") ∷ Refers key ∷ []
-words_of_call Tend = Verb (codes "tend") ∷ []
-words_of_call End = Verb (codes "end") ∷ []
+words_of_call call = Verb (verb_of call) ∷ words_behind call
 
 -- the bytes are a word that says this
 abbrev pub IsWord : List ℕ → Word → Type 0
@@ -42,17 +76,17 @@ AreWords [] [] = Unit {0}
 AreWords (bytes ∷ more) (word ∷ words) = IsWord bytes word × AreWords more words
 AreWords _ _ = ⊥
 
--- the words say this line, which is no empty line and no remark
-abbrev pub SaysLine : Line → List (List ℕ) → Type 0
-SaysLine line.Silent words = ⊥
-SaysLine (line.Call thread call) words = AreWords words (Number thread ∷ words_of_call call)
-SaysLine (line.Adopt shard) words = AreWords words (Verb (codes "adopt") ∷ Number shard ∷ [])
-SaysLine line.Mark words = AreWords words (Verb (codes "mark") ∷ [])
+-- in a trace of that version the words say this line, which is no empty line and no remark
+abbrev pub SaysLine : Version → Line → List (List ℕ) → Type 0
+SaysLine version line.Silent words = ⊥
+SaysLine version (line.Call thread call) words = (has_verb version (verb_of call) ≡ true) × AreWords words (Number thread ∷ words_of_call call)
+SaysLine version (line.Adopt shard) words = AreWords words (Verb (codes "adopt") ∷ Number shard ∷ [])
+SaysLine version line.Mark words = AreWords words (Verb (codes "mark") ∷ [])
 
--- the bytes have the form of this line, whose numbers may be of any size: nothing, a `#` and any bytes, or the words of a thread's call, of an adoption or of a mark
-abbrev pub HasForm : Line → List ℕ → Type 0
-HasForm line.Silent bytes = (bytes ≡ []) ⊎ ((remark : List ℕ) × (bytes ≡ codes "#" ++ remark))
-HasForm line bytes = SaysLine line (words_of bytes)
+-- in a trace of that version the bytes have the form of this line, whose numbers may be of any size: nothing, a `#` and any bytes, or the words of a thread's call, of an adoption or of a mark
+abbrev pub HasForm : Version → Line → List ℕ → Type 0
+HasForm version line.Silent bytes = (bytes ≡ []) ⊎ ((remark : List ℕ) × (bytes ≡ codes "#" ++ remark))
+HasForm version line bytes = SaysLine version line (words_of bytes)
 
 -- ---- the same as a function of the words
 
@@ -87,9 +121,9 @@ counted_call verb name first second =
     if bytes_eq verb (codes "fill") then with_two (λ n a b. Fill n a b) name first second
     else (if bytes_eq verb (codes "sweep") then with_two (λ n a b. Sweep n a b) name first second else None)
 
--- the line of a thread's number and its call
-abbrev pub thread_line : List ℕ → Option Call → Option Line
-thread_line thread call = option_and_then (λ t. option_map (λ c. line.Call t c) call) (number_in thread)
+-- the line of a thread's number and its call, whose verb the version must have
+abbrev pub thread_line : Version → List ℕ → List ℕ → Option Call → Option Line
+thread_line version thread verb call = if has_verb version verb then option_and_then (λ t. option_map (λ c. line.Call t c) call) (number_in thread) else None
 
 -- the line of one word
 abbrev pub one_word : List ℕ → Option Line
@@ -100,21 +134,21 @@ abbrev pub adopt_line : List ℕ → Option Line
 adopt_line shard = option_map (λ s. line.Adopt s) (number_in shard)
 
 -- the line of two words
-abbrev pub two_words : List ℕ → List ℕ → Option Line
-two_words first second =
+abbrev pub two_words : Version → List ℕ → List ℕ → Option Line
+two_words version first second =
     if bytes_eq first (codes "adopt") then adopt_line second
-    else thread_line first (bare_call second)
+    else thread_line version first second (bare_call second)
 
 -- the line of these words
-abbrev pub form_of_words : List (List ℕ) → Option Line
-form_of_words (word ∷ []) = one_word word
-form_of_words (first ∷ second ∷ []) = two_words first second
-form_of_words (thread ∷ verb ∷ key ∷ []) = thread_line thread (key_call verb key)
-form_of_words (thread ∷ verb ∷ name ∷ value ∷ []) = thread_line thread (value_call verb name value)
-form_of_words (thread ∷ verb ∷ name ∷ first ∷ second ∷ []) = thread_line thread (counted_call verb name first second)
-form_of_words _ = None
+abbrev pub form_of_words : Version → List (List ℕ) → Option Line
+form_of_words version (word ∷ []) = one_word word
+form_of_words version (first ∷ second ∷ []) = two_words version first second
+form_of_words version (thread ∷ verb ∷ key ∷ []) = thread_line version thread verb (key_call verb key)
+form_of_words version (thread ∷ verb ∷ name ∷ value ∷ []) = thread_line version thread verb (value_call verb name value)
+form_of_words version (thread ∷ verb ∷ name ∷ first ∷ second ∷ []) = thread_line version thread verb (counted_call verb name first second)
+form_of_words version _ = None
 
 -- the line that the bytes have the form of; a `#` is 35
-abbrev pub form_of : List ℕ → Option Line
-form_of [] = Some line.Silent
-form_of (b ∷ bs) = if b == 35 then Some line.Silent else form_of_words (words_of (b ∷ bs))
+abbrev pub form_of : Version → List ℕ → Option Line
+form_of version [] = Some line.Silent
+form_of version (b ∷ bs) = if b == 35 then Some line.Silent else form_of_words version (words_of (b ∷ bs))

@@ -1,4 +1,4 @@
--- The header: five lines, of which the first is `mesh 1`, and each other one a word and a number within its range.
+-- The header: five lines, of which the first says the version, and each other one a word and a number within its range.
 use Rattle.std.specs.Prelude.{◌≡◌, ◌+◌, ◌⊎◌, ℕ, List, [], ◌∷◌, ◌++◌, length, Option, None, codes, if◌then◌else◌}
 use Rattle.std.specs.Int.{IsInRange}
 use Rattle.std.specs.Str.{bytes_eq}
@@ -6,10 +6,21 @@ use Rattle.certificate.specs.Number.{number_in}
 use Rattle.trace_text.specs.Form.{AreWords, Number, Verb}
 use Rattle.trace_text.specs.Words.{words_of}
 use Rattle.trace_text.specs.declared.header.Header.{Header}
+use Rattle.trace_text.specs.declared.header.Version.{Version}
+use Rattle.trace_text.specs.declared.header.Version.TheVariants.{One}
 use Rattle.trace_text.specs.declared.cause.Cause.{Cause}
 use Rattle.trace_text.specs.declared.cause.Cause.TheVariants as cause
 use Rattle.trace_text.specs.declared.cause.ParseError.{ParseError}
 use Rattle.trace_text.specs.declared.cause.ParseError.TheVariants.{BadTrace, OutOfMemory}
+use Rattle.span.specs.declared.limits.TheConstants.{MOST_PAGES, MOST_RING_KEYS, MOST_SHARDS}
+
+-- the line that a trace of each version begins with
+abbrev pub opening_of : Version → List ℕ
+opening_of One = codes "mesh 1"
+
+-- the number of each version
+abbrev pub number_of : Version → ℕ
+number_of One = 1
 
 -- what a line of the header says: that a trace begins, or a size, by its word and the greatest number it may be
 pub data Field : Type 0 where
@@ -18,11 +29,11 @@ pub data Field : Type 0 where
 
 -- the five lines, in their order
 abbrev pub fields : List Field
-fields = Opening ∷ Size (codes "shards") 64 ∷ Size (codes "pages") 1024 ∷ Size (codes "ring") 1024 ∷ Size (codes "gens") 4294967295 ∷ []
+fields = Opening ∷ Size (codes "shards") MOST_SHARDS ∷ Size (codes "pages") MOST_PAGES ∷ Size (codes "ring") MOST_RING_KEYS ∷ Size (codes "gens") 4294967295 ∷ []
 
--- the line has this form and says this number, which may be of any size: `mesh 1` says 1, and each other line its word and the number
+-- the line has this form and says this number, which may be of any size: the first says that of a version, and each other line its word and the number
 abbrev pub SaysNumber : Field → ℕ → List ℕ → Type 0
-SaysNumber Opening n line = (line ≡ codes "mesh 1") × (n ≡ 1)
+SaysNumber Opening n line = (version : Version) × (line ≡ opening_of version) × (n ≡ number_of version)
 SaysNumber (Size word most) n line = AreWords (words_of line) (Verb word ∷ Number n ∷ [])
 
 -- the number is in its range
@@ -38,9 +49,9 @@ BeginWith _ _ _ _ = ⊥
 
 -- the numbers that the lines of a header say
 abbrev pub numbers_of : Header → List ℕ
-numbers_of h = 1 ∷ h.shards ∷ h.pages ∷ h.ring ∷ h.gens ∷ []
+numbers_of h = number_of h.version ∷ h.shards ∷ h.pages ∷ h.ring ∷ h.gens ∷ []
 
--- the lines begin with a header of these sizes, and then come those below it
+-- the lines begin with a header of this version and these sizes, and then come those below it
 abbrev pub HasHeader : Header → (lines below : List (List ℕ)) → Type 0
 HasHeader h lines below = BeginWith fields (numbers_of h) lines below
 
@@ -65,9 +76,9 @@ pub record IsHeaderFault (lines : List (List ℕ)) (number : ℕ) (c : Cause) : 
 
 -- each size is in its range
 pub record IsWithinLimits (h : Header) : Type 0 where
-  pub shards : IsInRange 1 64 h.shards
-  pub pages : IsInRange 1 1024 h.pages
-  pub ring : IsInRange 1 1024 h.ring
+  pub shards : IsInRange 1 MOST_SHARDS h.shards
+  pub pages : IsInRange 1 MOST_PAGES h.pages
+  pub ring : IsInRange 1 MOST_RING_KEYS h.ring
   pub gens : IsInRange 1 4294967295 h.gens
 
 -- ---- as the parser finds it

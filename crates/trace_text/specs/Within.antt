@@ -1,21 +1,22 @@
--- Lines as the parser keeps them: a number that does not fit is clipped, and some causes are found before others are asked for.
-use Rattle.std.specs.Prelude.{ℕ, nat_le, List, [], ◌∷◌, Option, Some, None, Result, Ok, Err, find, if◌then◌else◌}
+-- Lines as the parser keeps them: a number that does not fit is clipped, and a value that does not is refused before anything else is asked.
+use Rattle.std.specs.Prelude.{ℕ, Bool, false, nat_le, ◌^◌, List, Option, Some, None, Result, Ok, Err, if◌then◌else◌}
 use Rattle.certificate.specs.Number.{clip}
 use Rattle.trace_text.specs.Reference.{clip_reference}
-use Rattle.trace_text.specs.Causes.{binds_again, has_ended, holds, is_call, is_call_over, reads_early, reads_unknown}
+use Rattle.trace_text.specs.Causes.{binds_again, has_ended, is_call, reads_early, reads_unknown}
 use Rattle.trace_text.specs.declared.header.Header.{Header}
 use Rattle.trace_text.specs.declared.line.Call.{Call}
-use Rattle.trace_text.specs.declared.line.Call.TheVariants.{Get, Free, Sweep, Later}
+use Rattle.trace_text.specs.declared.line.Call.TheVariants.{Put, Fill, Get, Free, Sweep, Later}
 use Rattle.trace_text.specs.declared.line.Line.{Line}
 use Rattle.trace_text.specs.declared.line.Line.TheVariants as line
 use Rattle.trace_text.specs.declared.cause.Cause.{Cause}
-use Rattle.trace_text.specs.declared.cause.Cause.TheVariants.{Form, Limit, Thread, Ended, Adopt, Bound, Unknown, Early}
+use Rattle.trace_text.specs.declared.cause.Cause.TheVariants.{Form, Limit, Thread, Ended, Bound, Unknown, Early}
 
--- an index that does not fit is kept as the greatest that does
+-- an index or a count that does not fit is kept as the greatest that does
 abbrev pub clip_call : Call → Call
 clip_call (Get key) = Get (clip_reference key)
 clip_call (Free key) = Free (clip_reference key)
 clip_call (Sweep name from to) = Sweep name (clip from) (clip to)
+clip_call (Fill name count value) = Fill name (clip count) value
 clip_call (Later key) = Later (clip_reference key)
 clip_call call = call
 
@@ -25,27 +26,29 @@ clip_line (line.Call thread call) = line.Call (clip thread) (clip_call call)
 clip_line (line.Adopt shard) = line.Adopt (clip shard)
 clip_line line = line
 
+-- the value is outside the range of all values
+abbrev pub is_value_over : Call → Bool
+is_value_over (Put name value) = nat_le (2 ^ 128) value
+is_value_over (Fill name count value) = nat_le (2 ^ 128) value
+is_value_over _ = false
+
 -- the call as it is kept, or what its text alone shows to be wrong
 abbrev pub within_call : Option Call → Result Call Cause
 within_call None = Err Form
-within_call (Some call) = if is_call_over call then Err Limit else Ok (clip_call call)
+within_call (Some call) = if is_value_over call then Err Limit else Ok (clip_call call)
 
 -- the line as it is kept, or what its text alone shows to be wrong
 abbrev pub within : Option Line → Result Line Cause
 within None = Err Form
-within (Some line) = if is_call is_call_over line then Err Limit else Ok (clip_line line)
+within (Some line) = if is_call is_value_over line then Err Limit else Ok (clip_line line)
 
--- the first of the causes that ask for the header or the lines before
-abbrev pub order_cause : Header → List Line → Line → Option Cause
-order_cause h before line = find (holds h before line) (Thread ∷ Ended ∷ Adopt ∷ Bound ∷ Unknown ∷ Early ∷ [])
-
--- the same for the number of a thread or a shard
+-- what is wrong with the number of a thread or a shard
 abbrev pub thread_cause : Header → List Line → ℕ → Option Cause
 thread_cause h before thread =
     if nat_le h.shards thread then Some Thread
     else (if has_ended before thread then Some Ended else None)
 
--- the same for the names of a thread's call
+-- what is wrong with the names of a thread's call
 abbrev pub name_cause : List Line → ℕ → Call → Option Cause
 name_cause before thread call =
     if binds_again before call then Some Bound

@@ -1,9 +1,9 @@
 //! What is kept of the lines before a line.
 
-ghost use Rattle.std.specs.Prelude.{◌≡◌, ◌+◌, ◌-◌, ◌<◌, ◌^◌, List, IfOk, OnOk};
-ghost use Rattle.trace_text.specs.Causes.{call_ends, keys_at, marks_at};
+ghost use Rattle.std.specs.Prelude.{◌≡◌, ◌+◌, ◌-◌, ◌<◌, ◌^◌, List, IfOk, OnOk, nat_le};
+ghost use Rattle.trace_text.specs.Causes.{call_ends, first_cause, is_call_over, keys_at, marks_at};
 ghost use Rattle.trace_text.specs.Places.{place_at, place_by, unless};
-ghost use Rattle.trace_text.specs.Within.{name_cause, order_cause, thread_cause};
+ghost use Rattle.trace_text.specs.Within.{name_cause, thread_cause};
 ghost use Rattle.trace_text.specs.declared.line.Line.{Line};
 ghost use Rattle.trace_text.specs.declared.line.Line.TheVariants as line;
 
@@ -13,6 +13,17 @@ use super::line::{Binding, Call, Keys, Line};
 use super::name::Name;
 use std::alloc::{AllocError, Global};
 use std::collections::{HashMap, HashSet};
+
+/// The greatest count of a fill: as many keys as a shard has room for at once.
+const MOST_KEYS: u32 = 262_144;
+
+/// Whether the last of so many values, of which the first is that one, is above every value.
+fn ends_over(count: u32, value: u128) -> bool
+    requires { 0 < count }
+    ensures { result ≡ nat_le (2 ^ 128) (value + count - 1) }
+{
+    value.checked_add(u128::from(count - 1)).is_none()
+}
 
 /// What later lines need to know of those before them.
 #[derive(Drop)]
@@ -63,9 +74,24 @@ impl Earlier {
         self.awaits_mark
     }
 
+    /// Whether a number of the call is outside its range, after those lines.
+    fn is_over(&self, call: &Call) -> bool
+        ensures { (before : List Line) → Knows before self.now
+            → result ≡ is_call_over before call.now }
+    {
+        match call {
+            Call::Put { value, .. } => ends_over(1, *value),
+            Call::Fill { count, value, .. } => {
+                *count == 0 || *count > MOST_KEYS || ends_over(*count, *value)
+            }
+            _ => false,
+        }
+    }
+
     /// What is wrong with the number of a thread or a shard.
     fn thread_cause(&self, header: &Header, thread: u32) -> Option<Cause>
-        ensures { (before : List Line) → Knows before self.now → result ≡ thread_cause header.now before thread }
+        ensures { (before : List Line) → Knows before self.now
+            → result ≡ thread_cause header.now before thread }
     {
         if thread >= header.shards {
             Some(Cause::Thread)
@@ -78,7 +104,8 @@ impl Earlier {
 
     /// The place of the first key that a thread's call reads, 0 where it reads none; or what is wrong with its names.
     fn name_place(&self, thread: u32, call: &Call) -> Result<usize, Cause>
-        ensures { (before : List Line) → Knows before self.now → result ≡ unless (name_cause before thread call.now) (place_by before call.now) }
+        ensures { (before : List Line) → Knows before self.now
+            → result ≡ unless (name_cause before thread call.now) (place_by before call.now) }
     {
         if let Some(name) = call.bound_name() {
             return if self.binding(name).is_some() {
@@ -102,29 +129,46 @@ impl Earlier {
         }
     }
 
-    /// The place of the first key that a line after those reads, 0 where it reads none; or what is wrong with the line,
-    /// where its form and its numbers are right.
-    pub fn place_of(&self, header: &Header, line: &Line) -> Result<usize, Cause>
-        ensures { (before : List Line) → Knows before self.now → result ≡ unless (order_cause header.now before line.now) (place_at before line.now) }
+    /// The place of the first key that a thread's call after those lines reads, 0 where it reads none; or what is wrong
+    /// with it.
+    fn call_place(&self, header: &Header, thread: u32, call: &Call) -> Result<usize, Cause>
+        ensures { (before : List Line) → Knows before self.now
+            → result ≡ unless (first_cause header.now before (line.Call thread call.now))
+            (place_by before call.now) }
     {
-        let (thread, call) = match line {
-            Line::Silent | Line::Mark => return Ok(0),
-            Line::Adopt { shard } => (shard, None),
-            Line::Call { thread, call } => (thread, Some(call)),
-        };
-        if let Some(cause) = self.thread_cause(header, *thread) {
+        if self.is_over(call) {
+            return Err(Cause::Limit);
+        }
+        if let Some(cause) = self.thread_cause(header, thread) {
             return Err(cause);
         }
-        match call {
-            None => Ok(0),
-            Some(_) if self.awaits_mark => Err(Cause::Adopt),
-            Some(call) => self.name_place(*thread, call),
+        if self.awaits_mark {
+            return Err(Cause::Adopt);
+        }
+        self.name_place(thread, call)
+    }
+
+    /// The place of the first key that a line after those reads, 0 where it reads none; or what is wrong with the line,
+    /// where it has a form.
+    pub fn place_of(&self, header: &Header, line: &Line) -> Result<usize, Cause>
+        ensures { (before : List Line) → Knows before self.now
+            → result ≡ unless (first_cause header.now before line.now) (place_at before line.now) }
+    {
+        match line {
+            Line::Silent | Line::Mark => Ok(0),
+            Line::Adopt { shard } => match self.thread_cause(header, *shard) {
+                Some(cause) => Err(cause),
+                None => Ok(0),
+            },
+            Line::Call { thread, call } => self.call_place(header, *thread, call),
         }
     }
 
     /// Keeps what a name is bound to, and counts its keys.
     fn bind(&mut self, name: &Name, binding: Binding, count: usize) -> Result<(), AllocError>
-        ensures names { OnOk result ((other : List ℕ) → bound_in self.new other ≡ option_or (if bytes_eq name.now other then Some binding else None) (bound_in self.old other)) }
+        ensures names { OnOk result ((other : List ℕ)
+            → bound_in self.new other ≡ option_or
+            (if bytes_eq name.now other then Some binding else None) (bound_in self.old other)) }
         ensures keys { OnOk result (self.new.keys ≡ self.old.keys + count) }
         ensures ended { self.new.ended ≡ self.old.ended }
         ensures section { self.new.section ≡ self.old.section }
@@ -139,8 +183,10 @@ impl Earlier {
 
     /// Keeps what a thread's call binds or ends.
     fn note_call(&mut self, place: usize, thread: u32, call: &Call) -> Result<(), AllocError>
-        ensures names { OnOk result (NotesNames self.old self.new place (line.Call thread call.now)) }
-        ensures keys { OnOk result (self.new.keys ≡ self.old.keys + keys_at (line.Call thread call.now)) }
+        ensures names { OnOk result (NotesNames self.old self.new place
+            (line.Call thread call.now)) }
+        ensures keys { OnOk result (self.new.keys ≡ self.old.keys + keys_at
+            (line.Call thread call.now)) }
         ensures ended { OnOk result (NotesEnd self.old self.new (line.Call thread call.now)) }
         ensures section { self.new.section ≡ self.old.section }
         ensures awaits { self.new.awaits_mark ≡ self.old.awaits_mark }
@@ -174,7 +220,8 @@ impl Earlier {
         ensures ended { OnOk result (NotesEnd self.old self.new line.now) }
         ensures section { OnOk result (self.new.section ≡ self.old.section + marks_at line.now) }
         ensures keys { OnOk result (self.new.keys ≡ self.old.keys + keys_at line.now) }
-        ensures awaits { OnOk result (self.new.awaits_mark ≡ awaits_after self.old.awaits_mark line.now) }
+        ensures awaits { OnOk result (self.new.awaits_mark
+            ≡ awaits_after self.old.awaits_mark line.now) }
     {
         match line {
             Line::Silent => {}

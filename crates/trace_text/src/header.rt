@@ -3,30 +3,70 @@
 ghost use Rattle.std.specs.Prelude.{◌≡◌, ◌∷◌, [], IfErr, IfNone, IfOk, IfSome};
 ghost use Rattle.std.specs.Int.{IsInRange};
 ghost use Rattle.certificate.specs.Words.{contents_of};
-ghost use Rattle.trace_text.specs.Header.{BeginWith, FailsField, FailsHeader, HasHeader, IsWithinLimits, Opening, Size, field_in};
+ghost use Rattle.std.specs.List.{list_any};
+ghost use Rattle.std.specs.Str.{bytes_eq};
+ghost use Rattle.trace_text.specs.Form.{bare_verbs, binding_verbs, reading_verbs};
+ghost use Rattle.trace_text.specs.Header.{BeginWith, FailsField, FailsHeader, HasHeader, IsWithinLimits, Opening, Size, field_in, number_of, opening_of};
 ghost use Rattle.trace_text.specs.Number.{IsOutside, Says};
 ghost use Rattle.trace_text.specs.Words.{lines_of, words_of};
+ghost use Rattle.trace_text.specs.declared.header.Version.{Version};
 ghost use Rattle.trace_text.specs.declared.numeral.Number.TheVariants.{Fits};
 
 use super::cause::{Cause, ParseError};
 use super::numeral::{Number, parse_number};
 use super::words::{first_line, words};
+use span::{MOST_PAGES, MOST_RING_KEYS, MOST_SHARDS};
 
-/// The line that every trace begins with.
-const OPENING: &[u8] = b"mesh 1";
+/// The version of the grammar that a trace is written in.
+#[derive(Clone, Copy, Debug, PartialEq, Eq)]
+pub enum Version {
+    /// The first line is `mesh 1`.
+    One,
+}
 
-/// The greatest number of shards.
-const MOST_SHARDS: u32 = 64;
+/// Whether the verb is one of a call that binds a name.
+fn binds(verb: &[u8]) -> bool
+    ensures { result ≡ list_any (bytes_eq verb.now) binding_verbs }
+{
+    verb == b"put".as_slice() || verb == b"fill".as_slice()
+}
 
-/// The greatest number of pages a shard.
-const MOST_PAGES: u32 = 1024;
+/// Whether the verb is one of a call that reads a name.
+fn reads(verb: &[u8]) -> bool
+    ensures { result ≡ list_any (bytes_eq verb.now) reading_verbs }
+{
+    verb == b"get".as_slice()
+        || verb == b"free".as_slice()
+        || verb == b"sweep".as_slice()
+        || verb == b"later".as_slice()
+}
 
-/// The greatest number of places in a ring.
-const MOST_PLACES: u32 = 1024;
+/// Whether the verb is one of a call with no more words.
+fn is_bare(verb: &[u8]) -> bool
+    ensures { result ≡ list_any (bytes_eq verb.now) bare_verbs }
+{
+    verb == b"tend".as_slice() || verb == b"end".as_slice()
+}
 
-/// The sizes that a trace is run with.
+impl Version {
+    ghost use Rattle.std.specs.Prelude.{◌≡◌};
+    ghost use Rattle.trace_text.specs.Form.{has_verb};
+
+    /// Whether a thread's call may have that verb.
+    pub(crate) fn has_verb(self, verb: &[u8]) -> bool
+        ensures { result ≡ has_verb self verb.now }
+    {
+        match self {
+            Version::One => binds(verb) || reads(verb) || is_bare(verb),
+        }
+    }
+}
+
+/// What a trace is read by, and the sizes that it is run with.
 #[derive(Clone, Copy, Debug, PartialEq, Eq)]
 pub struct Header {
+    /// The version, which decides what calls the lines may have.
+    pub version: Version,
     /// How many shards there are, each with one thread: 1 to 64.
     pub shards: u32,
     /// How many pages a shard may have: 1 to 1,024.
@@ -68,14 +108,32 @@ fn ranged(number: Number, most: u32) -> Option<u32>
     }
 }
 
-/// Reads the line that every trace begins with, and gives the text below it.
-fn opening(text: &[u8]) -> Result<&[u8], ParseError>
-    ensures ok { IfOk result (λ below. BeginWith (Opening ∷ []) (1 ∷ []) (lines_of text.now) (lines_of below.now)) }
+/// The version of a trace that begins with that line.
+fn version_of(line: &[u8]) -> Option<Version>
+    ensures some { IfSome result (λ version. line.now ≡ opening_of version) }
+    ensures none { IfNone result ((version : Version) → line.now ≡ opening_of version → ⊥) }
+{
+    match line {
+        b"mesh 1" => Some(Version::One),
+        _ => None,
+    }
+}
+
+/// Reads the first line of a trace, and gives its version and the text below it.
+fn opening(text: &[u8]) -> Result<(Version, &[u8]), ParseError>
+    ensures ok { IfOk result (λ read. BeginWith (Opening ∷ []) (number_of read.0 ∷ [])
+        (lines_of text.now) (lines_of read.1.now)) }
     ensures err { IfErr result (FailsField Opening 1 (lines_of text.now)) }
 {
-    match first_line(text) {
-        Some((line, below)) if line == OPENING => Ok(below),
-        _ => Err(ParseError::BadTrace {
+    let Some((line, below)) = first_line(text) else {
+        return Err(ParseError::BadTrace {
+            line: 1,
+            cause: Cause::Header,
+        });
+    };
+    match version_of(line) {
+        Some(version) => Ok((version, below)),
+        None => Err(ParseError::BadTrace {
             line: 1,
             cause: Cause::Header,
         }),
@@ -89,7 +147,8 @@ fn size<'a>(
     word: &[u8],
     most: u32,
 ) -> Result<(u32, &'a [u8]), ParseError>
-    ensures ok { IfOk result (λ read. BeginWith (Size word.now most ∷ []) (read.0 ∷ []) (lines_of text.now) (lines_of read.1.now)) }
+    ensures ok { IfOk result (λ read. BeginWith (Size word.now most ∷ []) (read.0 ∷ [])
+        (lines_of text.now) (lines_of read.1.now)) }
     ensures err { IfErr result (FailsField (Size word.now most) line (lines_of text.now)) }
 {
     let Some((bytes, below)) = first_line(text) else {
@@ -119,12 +178,13 @@ pub fn read_header(text: &[u8]) -> Result<(Header, &[u8]), ParseError>
     ensures err { IfErr result (FailsHeader (lines_of text.now)) }
     ensures within { IfOk result (λ read. IsWithinLimits read.0) }
 {
-    let below = opening(text)?;
+    let (version, below) = opening(text)?;
     let (shards, below) = size(below, 2, b"shards", MOST_SHARDS)?;
-    let (pages, below) = size(below, 3, b"pages", MOST_PAGES)?;
-    let (ring, below) = size(below, 4, b"ring", MOST_PLACES)?;
+    let (pages, below) = size(below, 3, b"pages", MOST_PAGES as u32)?;
+    let (ring, below) = size(below, 4, b"ring", MOST_RING_KEYS as u32)?;
     let (gens, below) = size(below, 5, b"gens", u32::MAX)?;
     let header = Header {
+        version,
         shards,
         pages,
         ring,

@@ -30,6 +30,16 @@
 //!
 //! `parse` gives the trace that a text spells, or the first line at fault and, of the causes that
 //! hold of it, the first in the order of `Cause`.
+//!
+//! # Examples
+//!
+//! ```
+//! match parse(alloc, text) {
+//!     Ok(trace) => {} // its header and its lines
+//!     Err(ParseError::BadTrace { line, cause }) => {} // the first line at fault, from 1 on
+//!     Err(ParseError::OutOfMemory) => {}
+//! }
+//! ```
 #![tactic(auto)]
 
 mod cause;
@@ -44,7 +54,7 @@ mod trace;
 mod words;
 
 pub use cause::{Cause, ParseError};
-pub use header::Header;
+pub use header::{Header, Version};
 pub use line::{Binding, Call, Keys, Line};
 pub use name::{Name, Reference};
 pub use parsing::parse;

@@ -25,11 +25,14 @@ const HEADER_LINES: usize = 5;
 /// Reads the line that follows those, with the place of the first key that it reads.
 fn next_line(header: &Header, earlier: &Earlier, text: &[u8]) -> Result<(Line, usize), Cause>
     requires { IsWithinLimits header.now }
-    ensures ok { (before : List Line) → Knows before earlier.now → IfOk result (λ next. IsNextLine header.now before text.now next.0) }
-    ensures place { (before : List Line) → Knows before earlier.now → IfOk result (λ next. next.1 ≡ place_at before next.0) }
-    ensures err { (before : List Line) → Knows before earlier.now → IfErr result (HasCause header.now before text.now) }
+    ensures ok { (before : List Line) → Knows before earlier.now
+        → IfOk result (λ next. IsNextLine header.now before text.now next.0) }
+    ensures place { (before : List Line) → Knows before earlier.now
+        → IfOk result (λ next. next.1 ≡ place_at before next.0) }
+    ensures err { (before : List Line) → Knows before earlier.now
+        → IfErr result (HasCause header.now before text.now) }
 {
-    let line = read_line(text)?;
+    let line = read_line(header.version, text)?;
     match earlier.place_of(header, &line) {
         Ok(place) => Ok((line, place)),
         Err(cause) => Err(cause),

@@ -8,13 +8,11 @@ ghost use Rattle.trace_text.specs.declared.line.Call.{Call};
 ghost use Rattle.trace_text.specs.declared.line.Call.TheVariants.{Fill, Put, Sweep};
 
 use super::cause::Cause;
+use super::header::Version;
 use super::line::{Call, Line};
 use super::name::{Name, Reference};
 use super::numeral::{Number, clipped_number, parse_number};
 use super::words::words;
-
-/// The greatest count of a fill.
-const MOST_KEYS: u128 = 262_144;
 
 /// A call with no more words than its verb.
 fn bare_call(verb: &[u8]) -> Result<Call, Cause>
@@ -55,21 +53,18 @@ fn value_call(verb: &[u8], name: &[u8], value: &[u8]) -> Result<Call, Cause>
     }
 }
 
-/// A fill, whose count and last value are within their ranges.
+/// A fill. A count that does not fit is kept as the greatest that does, since no fill has as many
+/// keys.
 fn fill_call(name: &[u8], count: &[u8], value: &[u8]) -> Result<Call, Cause>
     ensures { result ≡ within_call (with_two (λ n a b. Fill n a b) name.now count.now value.now) }
 {
     let name = Name::new(name).ok_or(Cause::Form)?;
-    let count = parse_number(count).ok_or(Cause::Form)?;
-    let value = parse_number(value).ok_or(Cause::Form)?;
-    let (Number::Fits(count), Number::Fits(value)) = (count, value) else {
-        return Err(Cause::Limit);
-    };
-    if count == 0 || count > MOST_KEYS || value.checked_add(count - 1).is_none() {
-        return Err(Cause::Limit);
+    let count = clipped_number(count).ok_or(Cause::Form)?;
+    match parse_number(value) {
+        None => Err(Cause::Form),
+        Some(Number::Large) => Err(Cause::Limit),
+        Some(Number::Fits(value)) => Ok(Call::Fill { name, count, value }),
     }
-    let count = count as u32;
-    Ok(Call::Fill { name, count, value })
 }
 
 /// A sweep. A bound that does not fit is kept as the greatest that does, since no name has such a
@@ -94,11 +89,20 @@ fn counted_call(verb: &[u8], name: &[u8], first: &[u8], second: &[u8]) -> Result
     }
 }
 
-/// A thread's call. A number that does not fit is kept as the greatest that does, since no trace
-/// has such a thread.
-fn thread_line(thread: &[u8], call: Result<Call, Cause>) -> Result<Line, Cause>
-    ensures { (form : Option Call) → call ≡ within_call form → result ≡ within (thread_line thread.now form) }
+/// A thread's call, whose verb the version must have. A number that does not fit is kept as the
+/// greatest that does, since no trace has such a thread.
+fn thread_line(
+    version: Version,
+    thread: &[u8],
+    verb: &[u8],
+    call: Result<Call, Cause>,
+) -> Result<Line, Cause>
+    ensures { (form : Option Call) → call ≡ within_call form
+        → result ≡ within (thread_line version thread.now verb.now form) }
 {
+    if !version.has_verb(verb) {
+        return Err(Cause::Form);
+    }
     let thread = clipped_number(thread).ok_or(Cause::Form)?;
     let call = call?;
     Ok(Line::Call { thread, call })
@@ -123,40 +127,47 @@ fn adopt_line(shard: &[u8]) -> Result<Line, Cause>
 }
 
 /// A line of two words.
-fn two_words(first: &[u8], second: &[u8]) -> Result<Line, Cause>
-    ensures { result ≡ within (two_words first.now second.now) }
+fn two_words(version: Version, first: &[u8], second: &[u8]) -> Result<Line, Cause>
+    ensures { result ≡ within (two_words version first.now second.now) }
 {
     match first {
         b"adopt" => adopt_line(second),
-        _ => thread_line(first, bare_call(second)),
+        _ => thread_line(version, first, second, bare_call(second)),
     }
 }
 
 /// A line of these words.
-fn line_of_words(words: &[&[u8]]) -> Result<Line, Cause>
-    ensures { result ≡ within (form_of_words (contents_of words.now)) }
+fn line_of_words(version: Version, words: &[&[u8]]) -> Result<Line, Cause>
+    ensures { result ≡ within (form_of_words version (contents_of words.now)) }
 {
     match words {
         [word] => one_word(word),
-        [first, second] => two_words(first, second),
-        [thread, verb, key] => thread_line(thread, key_call(verb, key)),
-        [thread, verb, name, value] => thread_line(thread, value_call(verb, name, value)),
+        [first, second] => two_words(version, first, second),
+        [thread, verb, key] => thread_line(version, thread, verb, key_call(verb, key)),
+        [thread, verb, name, value] => {
+            thread_line(version, thread, verb, value_call(verb, name, value))
+        }
         [thread, verb, name, first, second] => {
-            thread_line(thread, counted_call(verb, name, first, second))
+            thread_line(
+                version,
+                thread,
+                verb,
+                counted_call(verb, name, first, second),
+            )
         }
         _ => Err(Cause::Form),
     }
 }
 
-/// What a line below the header says.
-pub fn read_line(line: &[u8]) -> Result<Line, Cause>
-    ensures { result ≡ within (form_of line.now) }
+/// What a line below a header of that version says.
+pub fn read_line(version: Version, line: &[u8]) -> Result<Line, Cause>
+    ensures { result ≡ within (form_of version line.now) }
 {
     match line {
         [] | [b'#', ..] => Ok(Line::Silent),
         _ => match words(line) {
             None => Err(Cause::Form),
-            Some(words) => line_of_words(words.as_slice()),
+            Some(words) => line_of_words(version, words.as_slice()),
         },
     }
 }

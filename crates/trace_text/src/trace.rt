@@ -44,7 +44,8 @@ impl Trace {
     /// read.
     pub fn place(&self, line: usize) -> usize
         requires { line < length self.now.lines.items }
-        ensures { (there : Line) → slice_get self.now.lines.items line ≡ Some there → result ≡ place_at (take line self.now.lines.items) there }
+        ensures { (there : Line) → slice_get self.now.lines.items line ≡ Some there
+            → result ≡ place_at (take line self.now.lines.items) there }
     {
         self.places[line]
     }

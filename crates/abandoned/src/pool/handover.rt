@@ -3,12 +3,13 @@ ghost use Rattle.std.specs.Prelude.{◌≡◌, ◌≢◌, ◌<◌, ◌+◌, ◌�
 ghost use Rattle.std.specs.List.{list_any};
 ghost use Rattle.span.specs.declared.id.SpanId.{SpanId};
 ghost use Rattle.span.specs.State.{SpanState};
-ghost use Rattle.shard.specs.Group.{GroupState, all_spans};
+ghost use Rattle.shard.specs.Group.{GroupState};
+ghost use Rattle.groups.specs.Spans.{all_spans};
 ghost use Rattle.shard.specs.Moves.{whole_of};
 ghost use Rattle.shard.specs.Shown.{shown as shown_by_shard};
 ghost use Rattle.shard.specs.Sound.{IsSound as IsSoundShard};
 ghost use Rattle.shard.specs.State.{spans_in as spans_in_shard};
-ghost use Rattle.abandoned.specs.Calls.{Adopts, HasAny, HasDoubled, HasNothingToAdopt, HasReceived, IsDoubled, IsHeadOfLowest, IsInPool, Receives, TakesAll};
+ghost use Rattle.abandoned.specs.Calls.{Adopts, HasAny, HasDoubled, HasNothingToAdopt, HasReceived, IsDoubled, IsHeadOfLowest, IsInPool, Receives, TakesAll, WouldDouble};
 ghost use Rattle.abandoned.specs.Handover.{AreApart, HasRoomFor, IsEmptied};
 ghost use Rattle.abandoned.specs.Shown.{shown, together};
 ghost use Rattle.abandoned.specs.Sound.{IsSound};
@@ -16,7 +17,8 @@ ghost use Rattle.abandoned.specs.State.{IsHeadOf, PooledState, spans_of};
 
 use super::Pool;
 use crate::error::{AdoptError, ReceiveError};
-use shard::{Shard, Spans};
+use groups::Spans;
+use shard::Shard;
 use span::{Log, SpanId};
 
 impl<L: Log> Pool<L> {
@@ -29,14 +31,23 @@ impl<L: Log> Pool<L> {
     /// spans is here already; `PlanOpen` where one of its groups is closed. `OutOfMemory` where none holds and an
     /// allocation was refused; each allocation comes before the first change.
     pub fn receive(&mut self, shard: &mut Shard<L>) -> Result<(), ReceiveError>
+        // What an end does.
         ensures ok { OnOk result (Receives self.old shard.old self.new shard.new) }
         ensures whole { OnOk result (HasReceived self.old shard.old self.new) }
-        ensures kept { OnOk result (shown self.new ≡ together (shown self.old) (shown_by_shard shard.old)) }
+        ensures kept { OnOk result (shown self.new
+            ≡ together (shown self.old) (shown_by_shard shard.old)) }
+
+        // Each refusal, and what it leaves.
         ensures ended { (result ≡ Err ReceiveError.Ended) ↔ (shard.old.ended ≡ true) }
-        ensures doubled { (result ≡ Err ReceiveError.Doubled) ↔ ((shard.old.ended ≡ false) × IsInPool self.old shard.old) }
-        ensures plan_open { (result ≡ Err ReceiveError.PlanOpen) ↔ ((shard.old.ended ≡ false) × (IsInPool self.old shard.old → ⊥) × (list_any (λ group. group.closed) shard.old.groups ≡ true)) }
+        ensures doubled { (result ≡ Err ReceiveError.Doubled)
+            ↔ ((shard.old.ended ≡ false) × IsInPool self.old shard.old) }
+        ensures plan_open { (result ≡ Err ReceiveError.PlanOpen)
+            ↔ ((shard.old.ended ≡ false) × (IsInPool self.old shard.old → ⊥)
+            × (list_any (λ group. group.closed) shard.old.groups ≡ true)) }
         ensures err { OnErr result (self.new ≡ self.old) }
         ensures err_shard { OnErr result (shard.new ≡ shard.old) }
+
+        // Both are sound afterwards.
         ensures sound { IsSound self.new }
         ensures sound_shard { IsSoundShard shard.new }
     {
@@ -55,16 +66,24 @@ impl<L: Log> Pool<L> {
 
     // Makes room for all groups of the shard and takes them in.
     fn receive_all(&mut self, shard: &mut Shard<L>) -> Result<(), ReceiveError>
+        // The end may be: no cause of a refusal holds but memory.
         requires running { shard.old.ended ≡ false }
         requires apart { IsInPool self.old shard.old → ⊥ }
         requires sound { IsSound self.old }
         requires sound_shard { IsSoundShard shard.old }
+
+        // What an end does.
         ensures ok { OnOk result (Receives self.old shard.old self.new shard.new) }
         ensures whole { OnOk result (HasReceived self.old shard.old self.new) }
-        ensures kept { OnOk result (shown self.new ≡ together (shown self.old) (shown_by_shard shard.old)) }
+        ensures kept { OnOk result (shown self.new
+            ≡ together (shown self.old) (shown_by_shard shard.old)) }
+
+        // What a refusal leaves.
         ensures only { IsOkUnless result ReceiveError.OutOfMemory }
         ensures err { OnErr result (self.new ≡ self.old) }
         ensures err_shard { OnErr result (shard.new ≡ shard.old) }
+
+        // Both are sound afterwards.
         ensures sound { IsSound self.new }
         ensures sound_shard { IsSoundShard shard.new }
     {
@@ -76,11 +95,15 @@ impl<L: Log> Pool<L> {
 
     // Takes in the groups of the shard, one after another, in reserved room. The last goes first, so that none moves up.
     fn take_all(&mut self, shard: &mut Shard<L>)
+        // Room for all groups is reserved.
         requires sound { IsSound self.old }
         requires sound_shard { IsSoundShard shard.old }
         requires apart { AreApart self.old shard.old }
         requires room { HasRoomFor self.old shard.old }
-        ensures moved { TakesAll self.old (map (whole_of shard.old.table) shard.old.groups) self.new }
+
+        // All groups come over.
+        ensures moved { TakesAll self.old (map (whole_of shard.old.table) shard.old.groups)
+            self.new }
         ensures emptied { IsEmptied shard.old shard.new }
         ensures sound { IsSound self.new }
         ensures sound_shard { IsSoundShard shard.new }
@@ -127,15 +150,29 @@ impl<L: Log> Pool<L> {
     /// has a page. `OutOfMemory` where none
     /// holds and an allocation was refused; each allocation comes before the first change.
     pub fn adopt(&mut self, shard: &mut Shard<L>) -> Result<SpanId, AdoptError>
+        // What an adoption does.
         ensures ok { IfOk result (λ head. Adopts self.old shard.old head self.new shard.new) }
-        ensures kept { OnOk result (together (shown self.new) (shown_by_shard shard.new) ≡ together (shown self.old) (shown_by_shard shard.old)) }
-        ensures spent { (result ≡ Err AdoptError.PagesSpent) ↔ (shard.old.page_limit ≡ length shard.old.groups) }
-        ensures ended { (result ≡ Err AdoptError.Ended) ↔ ((shard.old.page_limit ≢ length shard.old.groups) × (shard.old.ended ≡ true)) }
-        ensures doubled { (result ≡ Err AdoptError.Doubled) ↔ ((shard.old.page_limit ≢ length shard.old.groups) × (shard.old.ended ≡ false) × IsDoubled self.old shard.old) }
-        ensures plan_open { (result ≡ Err AdoptError.PlanOpen) ↔ ((shard.old.page_limit ≢ length shard.old.groups) × (shard.old.ended ≡ false) × (IsDoubled self.old shard.old → ⊥) × (self.old.has_plan ≡ true)) }
-        ensures nothing { (result ≡ Err AdoptError.NothingToAdopt) ↔ ((shard.old.page_limit ≢ length shard.old.groups) × (shard.old.ended ≡ false) × (self.old.has_plan ≡ false) × HasNothingToAdopt self.old) }
+        ensures kept { OnOk result (together (shown self.new) (shown_by_shard shard.new)
+            ≡ together (shown self.old) (shown_by_shard shard.old)) }
+
+        // Each refusal, and what it leaves.
+        ensures spent { (result ≡ Err AdoptError.PagesSpent)
+            ↔ (shard.old.page_limit ≡ length shard.old.groups) }
+        ensures ended { (result ≡ Err AdoptError.Ended)
+            ↔ ((shard.old.page_limit ≢ length shard.old.groups) × (shard.old.ended ≡ true)) }
+        ensures doubled { (result ≡ Err AdoptError.Doubled)
+            ↔ ((shard.old.page_limit ≢ length shard.old.groups) × (shard.old.ended ≡ false)
+            × IsDoubled self.old shard.old) }
+        ensures plan_open { (result ≡ Err AdoptError.PlanOpen)
+            ↔ ((shard.old.page_limit ≢ length shard.old.groups) × (shard.old.ended ≡ false)
+            × (IsDoubled self.old shard.old → ⊥) × (self.old.has_plan ≡ true)) }
+        ensures nothing { (result ≡ Err AdoptError.NothingToAdopt)
+            ↔ ((shard.old.page_limit ≢ length shard.old.groups) × (shard.old.ended ≡ false)
+            × (self.old.has_plan ≡ false) × HasNothingToAdopt self.old) }
         ensures err { OnErr result (self.new ≡ self.old) }
         ensures err_shard { OnErr result (shard.new ≡ shard.old) }
+
+        // Both are sound afterwards.
         ensures sound { IsSound self.new }
         ensures sound_shard { IsSoundShard shard.new }
     {
@@ -150,7 +187,7 @@ impl<L: Log> Pool<L> {
         let Some(head) = lowest else {
             return Err(self.nothing_to_adopt());
         };
-        if self.would_double(shard, head) {
+        if self.lowest_would_double(shard, head) {
             return Err(AdoptError::Doubled);
         }
         if self.has_plan {
@@ -161,7 +198,8 @@ impl<L: Log> Pool<L> {
 
     // Why no group is adopted where none has a page.
     fn nothing_to_adopt(&self) -> AdoptError
-        ensures { result ≡ (if self.now.has_plan then AdoptError.PlanOpen else AdoptError.NothingToAdopt) }
+        ensures { result
+            ≡ (if self.now.has_plan then AdoptError.PlanOpen else AdoptError.NothingToAdopt) }
     {
         if self.has_plan {
             AdoptError::PlanOpen
@@ -181,30 +219,46 @@ impl<L: Log> Pool<L> {
         Some(group.head_id())
     }
 
-    // Whether a span of the lowest group that has a page, which has the head, is in the shard already, or bears its
-    // number.
-    fn would_double(&self, shard: &Shard<L>, head: SpanId) -> bool
-        requires { IsHeadOfLowest self.now head }
-        ensures { IsTrue result ↔ IsDoubled self.now shard.now }
+    /// Whether a span of the group of the head is in the shard already, or bears its number, so that it would stand
+    /// twice there. It takes no memory.
+    pub fn would_double(&self, shard: &Shard<L>, head: SpanId) -> bool
+        ensures doubles { IsTrue result ↔ WouldDouble self.now shard.now head }
+        ensures sound { IsSound self.now }
     {
         let Some(group) = self.groups.get(head) else {
-            unreachable!();
+            return false;
         };
         is_doubled(shard, group.spans())
     }
 
+    // The same of the lowest group that has a page, which has the head.
+    fn lowest_would_double(&self, shard: &Shard<L>, head: SpanId) -> bool
+        requires { IsHeadOfLowest self.now head }
+        ensures { IsTrue result ↔ IsDoubled self.now shard.now }
+    {
+        self.would_double(shard, head)
+    }
+
     // Makes room in the shard and moves the lowest group that has a page there.
     fn move_to(&mut self, shard: &mut Shard<L>, head: SpanId) -> Result<SpanId, AdoptError>
+        // The adoption may be: no cause of a refusal holds but memory.
         requires lowest { IsHeadOfLowest self.old head }
         requires apart { IsDoubled self.old shard.old → ⊥ }
         requires pages { shard.old.page_limit ≢ length shard.old.groups }
         requires running { shard.old.ended ≡ false }
         requires sound_shard { IsSoundShard shard.old }
+
+        // What an adoption does.
         ensures ok { IfOk result (λ head. Adopts self.old shard.old head self.new shard.new) }
-        ensures kept { OnOk result (together (shown self.new) (shown_by_shard shard.new) ≡ together (shown self.old) (shown_by_shard shard.old)) }
+        ensures kept { OnOk result (together (shown self.new) (shown_by_shard shard.new)
+            ≡ together (shown self.old) (shown_by_shard shard.old)) }
+
+        // What a refusal leaves.
         ensures only { IsOkUnless result AdoptError.OutOfMemory }
         ensures err { OnErr result (self.new ≡ self.old) }
         ensures err_shard { OnErr result (shard.new ≡ shard.old) }
+
+        // Both are sound afterwards.
         ensures sound { IsSound self.new }
         ensures sound_shard { IsSoundShard shard.new }
     {
@@ -220,7 +274,8 @@ impl<L: Log> Pool<L> {
     // How many spans the group of the head has.
     fn len_of(&self, head: SpanId) -> usize
         requires { IsHeadOfLowest self.now head }
-        ensures len { (index : ℕ) (group : PooledState) → IsHeadOf self.now.groups head index group → result ≡ length (spans_of group) }
+        ensures len { (index : ℕ) (group : PooledState) → IsHeadOf self.now.groups head index group
+            → result ≡ length (spans_of group) }
         ensures sound { IsSound self.now }
     {
         let Some(group) = self.groups.get(head) else {

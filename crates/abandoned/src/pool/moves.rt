@@ -4,23 +4,24 @@ ghost use Rattle.std.specs.FinMap as map;
 ghost use Rattle.std.specs.FinSet as set;
 ghost use Rattle.page_table.specs.State.{HasPage, words_of};
 ghost use Rattle.page_table.specs.Words.{Words};
-ghost use Rattle.shard.specs.Group.{all_spans, union_of};
-ghost use Rattle.shard.specs.Moves.{with_page};
+ghost use Rattle.groups.specs.Spans.{all_spans, union_of};
+ghost use Rattle.groups.specs.Tables.{with_page};
 ghost use Rattle.abandoned.specs.Calls.{HasNoMember, IsBriefHere, IsMemberAt, Lifts, MayTakeIn, TakesIn, with_room, with_rooms, without_page_of};
 ghost use Rattle.abandoned.specs.Sound.{IsSound};
 ghost use Rattle.abandoned.specs.State.{HasNoHead};
 
 use super::Pool;
 use crate::pooled::Pooled;
+use groups::{Brief, Spans, Whole, map_all};
 use page_table::{Page, PageWords, Table};
-use shard::{Brief, Spans, Whole, map_all};
 use span::{Log, SpanId};
 use std::alloc::AllocError;
 
 impl<L: Log> Pool<L> {
     /// A look at the group of the head, if the pool has it.
     pub fn brief(&self, head: SpanId) -> Option<Brief>
-        ensures brief { MatchOption result (HasNoHead self.now.groups head) (IsBriefHere self.now.groups head) }
+        ensures brief { MatchOption result (HasNoHead self.now.groups head)
+            (IsBriefHere self.now.groups head) }
         ensures sound { IsSound self.now }
     {
         let Some(group) = self.groups.get(head) else {
@@ -32,7 +33,8 @@ impl<L: Log> Pool<L> {
     /// The span at the place of the head's group, 0 being the head. `None` is past the last span, and for a
     /// head that the pool does not have.
     pub fn span_at(&self, head: SpanId, place: usize) -> Option<SpanId>
-        ensures { MatchOption result (HasNoMember self.now.groups head place) (IsMemberAt self.now.groups head place) }
+        ensures { MatchOption result (HasNoMember self.now.groups head place)
+            (IsMemberAt self.now.groups head place) }
     {
         let Some(group) = self.groups.get(head) else {
             return None;
@@ -122,7 +124,8 @@ fn house<L: Log>(table: &mut Table, spans: &Spans<L>, words: Option<PageWords>) 
     requires page { 0 < table.old.page_room }
     requires spans { length (all_spans spans.now) ≤ table.old.span_room }
     requires words { union_of (all_spans spans.now) ≢ set.empty → IsSome words }
-    ensures emptied { union_of (all_spans spans.now) ≡ set.empty → (result ≡ None) × (table.new ≡ table.old) }
+    ensures emptied { union_of (all_spans spans.now) ≡ set.empty → (result ≡ None)
+        × (table.new ≡ table.old) }
     ensures live { union_of (all_spans spans.now) ≢ set.empty → (page : ℕ) × (content : Words) × (result ≡ Some page) × (words ≡ Some content)
         × (map.get table.old.pages page ≡ None) × (table.new ≡ with_page table.old (all_spans spans.now) page content) }
 {

@@ -4,6 +4,7 @@ ghost use Rattle.span.specs.Order.{HasNoneBeyond, HasNoneFrom, IsFirstFrom, IsNe
 ghost use Rattle.arena_core.specs.NextLive.{HasNoneBetween, HasNoneIn, IsFirstLive};
 ghost use Rattle.arena_core.specs.Sound.{IsSound};
 ghost use Rattle.arena_core.specs.State.{opened_by, shown};
+ghost use Rattle.span.specs.declared.limits.TheConstants.{ALL_IDS, MOST_SHARDS, MOST_SPANS};
 
 use super::Core;
 use span::{Key, Log, SpanId};
@@ -19,7 +20,8 @@ impl<L: Log> Core<L> {
     /// It takes no memory. A step looks at the later slots of the key's span, and then at the spans that were opened after it,
     /// up to the first that has a live slot.
     pub fn next_live(&self, after: Option<Key>) -> Option<Key>
-        ensures next { MatchOption result (HasNoneBeyond (shown self.now) after) (IsNextLive (shown self.now) after) }
+        ensures next { MatchOption result (HasNoneBeyond (shown self.now) after)
+            (IsNextLive (shown self.now) after) }
     {
         let Some(Key { span, slot, .. }) = after else {
             return self.first_in_shards(0);
@@ -36,7 +38,8 @@ impl<L: Log> Core<L> {
 
     // The first live key of the spans that were opened by the shards from this number on.
     fn first_in_shards(&self, from: u32) -> Option<Key>
-        ensures { MatchOption result (HasNoneBetween (shown self.now) (1024 * from) 65536) (IsFirstLive (shown self.now) (1024 * from)) }
+        ensures { MatchOption result (HasNoneBetween (shown self.now) (MOST_SPANS * from) ALL_IDS)
+            (IsFirstLive (shown self.now) (MOST_SPANS * from)) }
     {
         for shard in from..64 {
             if let Some(key) = self.first_in_spans(shard, 0) {
@@ -48,8 +51,10 @@ impl<L: Log> Core<L> {
 
     // The first live key of the spans that the shard of this number opened, from this serial on.
     fn first_in_spans(&self, shard: u32, from: u32) -> Option<Key>
-        requires { shard < 64 }
-        ensures { MatchOption result (HasNoneBetween (shown self.now) (1024 * shard + from) (1024 * (shard + 1))) (IsFirstLive (shown self.now) (1024 * shard + from)) }
+        requires { shard < MOST_SHARDS }
+        ensures { MatchOption result
+            (HasNoneBetween (shown self.now) (MOST_SPANS * shard + from) (MOST_SPANS * (shard + 1)))
+            (IsFirstLive (shown self.now) (MOST_SPANS * shard + from)) }
     {
         for serial in from..self.opened_by(shard) {
             let Some(id) = SpanId::new(shard, serial) else {
@@ -65,7 +70,7 @@ impl<L: Log> Core<L> {
     // How many spans the shard of this number has opened, which is none where there is no such shard.
     fn opened_by(&self, shard: u32) -> u32
         ensures opened { result ≡ opened_by self.now.shards shard }
-        ensures at_most { result ≤ 1024 }
+        ensures at_most { result ≤ MOST_SPANS }
         ensures sound { IsSound self.now }
     {
         match self.shards.get(shard as usize) {
@@ -76,7 +81,8 @@ impl<L: Log> Core<L> {
 
     // The first live key of the span at a slot from this one on, wherever the span is.
     fn first_in_span(&self, id: SpanId, slot: u32) -> Option<Key>
-        ensures { MatchOption result (HasNoneFrom (shown self.now) id slot) (IsFirstFrom (shown self.now) id slot) }
+        ensures { MatchOption result (HasNoneFrom (shown self.now) id slot)
+            (IsFirstFrom (shown self.now) id slot) }
     {
         if let Some(key) = self.first_in_shard(id.shard as usize, id, slot) {
             return Some(key);
@@ -87,7 +93,8 @@ impl<L: Log> Core<L> {
     // The same, where the shard that opened the span has no such key.
     fn first_in_moved(&self, id: SpanId, slot: u32) -> Option<Key>
         requires { HasNoneIn self.now.shards id.shard id slot }
-        ensures { MatchOption result (HasNoneFrom (shown self.now) id slot) (IsFirstFrom (shown self.now) id slot) }
+        ensures { MatchOption result (HasNoneFrom (shown self.now) id slot)
+            (IsFirstFrom (shown self.now) id slot) }
     {
         let Some(number) = self.whereabouts.shard_of(id) else {
             return self.first_in_pool(id, slot);
@@ -101,14 +108,16 @@ impl<L: Log> Core<L> {
     // The same, where no shard has such a key.
     fn first_in_pool(&self, id: SpanId, slot: u32) -> Option<Key>
         requires { (number : ℕ) → HasNoneIn self.now.shards number id slot }
-        ensures { MatchOption result (HasNoneFrom (shown self.now) id slot) (IsFirstFrom (shown self.now) id slot) }
+        ensures { MatchOption result (HasNoneFrom (shown self.now) id slot)
+            (IsFirstFrom (shown self.now) id slot) }
     {
         self.pool.first_from(id, slot)
     }
 
     // The first such key in what the shard of this number has.
     fn first_in_shard(&self, number: usize, id: SpanId, slot: u32) -> Option<Key>
-        ensures { MatchOption result (HasNoneIn self.now.shards number id slot) (IsFirstFrom (shown self.now) id slot) }
+        ensures { MatchOption result (HasNoneIn self.now.shards number id slot)
+            (IsFirstFrom (shown self.now) id slot) }
     {
         let Some(shard) = self.shards.get(number) else {
             return None;

@@ -3,6 +3,7 @@ ghost use Rattle.std.specs.Prelude.{◌≡◌, ◌+◌, ◌<◌, ◌≤◌, code
 ghost use Rattle.mesh_graph.specs.Groups.{IsAscending, ids};
 ghost use Rattle.certificate.specs.Grammar.{Follows, Reads, at_line, count_in, entry_in, entry_parts, id_in, id_parts, item_in, line_in, list_in, order_of, pair_in, pair_parts, shown};
 ghost use Rattle.certificate.specs.Words.{lines_of};
+ghost use Rattle.mesh_graph.specs.declared.build.TheConstants.{MOST_GROUPS};
 
 use super::cause::{Cause, ReadError};
 use super::lines::Lines;
@@ -29,8 +30,9 @@ fn in_order(last: Option<SpanId>, id: SpanId) -> Result<(), Cause>
 /// How many items a list has.
 fn read_count(lines: &mut Lines, title: &[u8]) -> Result<usize, ReadError>
     requires { lines.old.at ≤ 32768 }
-    ensures read { result ≡ at_line lines.old.at (line_in (count_in title.now) (lines_of lines.old.text.now) lines.old.at) }
-    ensures at_most { IfOk result (λ count. count ≤ 4096) }
+    ensures read { result ≡ at_line lines.old.at
+        (line_in (count_in title.now) (lines_of lines.old.text.now) lines.old.at) }
+    ensures at_most { IfOk result (λ count. count ≤ MOST_GROUPS) }
     ensures text { IfOk result (λ _. lines.new.text.now ≡ lines.old.text.now) }
     ensures passed { IfOk result (λ _. lines.new.at ≡ lines.old.at + 1) }
 {
@@ -42,7 +44,8 @@ fn read_count(lines: &mut Lines, title: &[u8]) -> Result<usize, ReadError>
 }
 
 fn count_at(lines: &mut Lines, title: &[u8]) -> Result<usize, Cause>
-    ensures line { result ≡ line_in (count_in title.now) (lines_of lines.old.text.now) lines.old.at }
+    ensures line { result ≡ line_in (count_in title.now)
+        (lines_of lines.old.text.now) lines.old.at }
     ensures text { IfOk result (λ _. lines.new.text.now ≡ lines.old.text.now) }
     ensures passed { IfOk result (λ _. lines.new.at ≡ lines.old.at + 1) }
 {
@@ -50,7 +53,9 @@ fn count_at(lines: &mut Lines, title: &[u8]) -> Result<usize, Cause>
 }
 
 fn entry_at(lines: &mut Lines, last: Option<SpanId>) -> Result<Entry, Cause>
-    ensures line { shown entry_parts result ≡ line_in (item_in entry_in (λ x. x.0) (option_map id_parts last)) (lines_of lines.old.text.now) lines.old.at }
+    ensures line { shown entry_parts result ≡ line_in
+        (item_in entry_in (λ x. x.0) (option_map id_parts last))
+        (lines_of lines.old.text.now) lines.old.at }
     ensures after { IfOk result (λ entry. Follows last entry.id) }
     ensures text { IfOk result (λ _. lines.new.text.now ≡ lines.old.text.now) }
     ensures passed { IfOk result (λ _. lines.new.at ≡ lines.old.at + 1) }
@@ -61,7 +66,9 @@ fn entry_at(lines: &mut Lines, last: Option<SpanId>) -> Result<Entry, Cause>
 }
 
 fn pair_at(lines: &mut Lines, last: Option<SpanId>) -> Result<(SpanId, SpanId), Cause>
-    ensures line { shown pair_parts result ≡ line_in (item_in pair_in (λ p. p.0) (option_map id_parts last)) (lines_of lines.old.text.now) lines.old.at }
+    ensures line { shown pair_parts result ≡ line_in
+        (item_in pair_in (λ p. p.0) (option_map id_parts last))
+        (lines_of lines.old.text.now) lines.old.at }
     ensures after { IfOk result (λ pair. Follows last pair.0) }
     ensures text { IfOk result (λ _. lines.new.text.now ≡ lines.old.text.now) }
     ensures passed { IfOk result (λ _. lines.new.at ≡ lines.old.at + 1) }
@@ -72,7 +79,9 @@ fn pair_at(lines: &mut Lines, last: Option<SpanId>) -> Result<(SpanId, SpanId), 
 }
 
 fn id_at(lines: &mut Lines, last: Option<SpanId>) -> Result<SpanId, Cause>
-    ensures line { shown id_parts result ≡ line_in (item_in id_in (λ id. id) (option_map id_parts last)) (lines_of lines.old.text.now) lines.old.at }
+    ensures line { shown id_parts result ≡ line_in
+        (item_in id_in (λ id. id) (option_map id_parts last))
+        (lines_of lines.old.text.now) lines.old.at }
     ensures after { IfOk result (λ id. Follows last id) }
     ensures text { IfOk result (λ _. lines.new.text.now ≡ lines.old.text.now) }
     ensures passed { IfOk result (λ _. lines.new.at ≡ lines.old.at + 1) }
@@ -89,11 +98,13 @@ pub(super) fn read_entries(
     title: &[u8],
 ) -> Result<Vec<Entry>, ReadError>
     requires { lines.old.at ≤ 16384 }
-    ensures read { Reads (λ entries. map entry_parts entries.items) result (list_in title.now entry_in (λ x. x.0) (lines_of lines.old.text.now) lines.old.at) }
-    ensures at_most { IfOk result (λ entries. length entries.items ≤ 4096) }
+    ensures read { Reads (λ entries. map entry_parts entries.items) result
+        (list_in title.now entry_in (λ x. x.0) (lines_of lines.old.text.now) lines.old.at) }
+    ensures at_most { IfOk result (λ entries. length entries.items ≤ MOST_GROUPS) }
     ensures ascending { IfOk result (λ entries. IsAscending (ids entries.items)) }
     ensures text { IfOk result (λ _. lines.new.text.now ≡ lines.old.text.now) }
-    ensures passed { IfOk result (λ entries. lines.new.at ≡ lines.old.at + 1 + length entries.items) }
+    ensures passed { IfOk result (λ entries. lines.new.at
+        ≡ lines.old.at + 1 + length entries.items) }
 {
     let count = read_count(lines, title)?;
     let mut entries = Vec::new(alloc);
@@ -116,8 +127,9 @@ pub(super) fn read_folds(
     lines: &mut Lines,
 ) -> Result<Vec<(SpanId, SpanId)>, ReadError>
     requires { lines.old.at ≤ 16384 }
-    ensures read { Reads (λ pairs. map pair_parts pairs.items) result (list_in (codes "folds") pair_in (λ p. p.0) (lines_of lines.old.text.now) lines.old.at) }
-    ensures at_most { IfOk result (λ pairs. length pairs.items ≤ 4096) }
+    ensures read { Reads (λ pairs. map pair_parts pairs.items) result
+        (list_in (codes "folds") pair_in (λ p. p.0) (lines_of lines.old.text.now) lines.old.at) }
+    ensures at_most { IfOk result (λ pairs. length pairs.items ≤ MOST_GROUPS) }
     ensures ascending { IfOk result (λ pairs. IsAscending (map (λ p. p.0) pairs.items)) }
     ensures text { IfOk result (λ _. lines.new.text.now ≡ lines.old.text.now) }
     ensures passed { IfOk result (λ pairs. lines.new.at ≡ lines.old.at + 1 + length pairs.items) }
@@ -140,8 +152,9 @@ pub(super) fn read_folds(
 /// The short set.
 pub(super) fn read_short(alloc: Global, lines: &mut Lines) -> Result<Vec<SpanId>, ReadError>
     requires { lines.old.at ≤ 16384 }
-    ensures read { Reads (λ short. map id_parts short.items) result (list_in (codes "short") id_in (λ id. id) (lines_of lines.old.text.now) lines.old.at) }
-    ensures at_most { IfOk result (λ short. length short.items ≤ 4096) }
+    ensures read { Reads (λ short. map id_parts short.items) result
+        (list_in (codes "short") id_in (λ id. id) (lines_of lines.old.text.now) lines.old.at) }
+    ensures at_most { IfOk result (λ short. length short.items ≤ MOST_GROUPS) }
     ensures ascending { IfOk result (λ short. IsAscending short.items) }
     ensures text { IfOk result (λ _. lines.new.text.now ≡ lines.old.text.now) }
     ensures passed { IfOk result (λ short. lines.new.at ≡ lines.old.at + 1 + length short.items) }

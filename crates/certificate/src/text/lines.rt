@@ -42,7 +42,8 @@ impl<'a> Lines<'a> {
 
     /// The next line, where a line feed ends it.
     pub(super) fn next_line(&mut self) -> Result<&'a [u8], Cause>
-        ensures line { shown (λ line. line.now) result ≡ whole_line (lines_of self.old.text.now) self.old.at }
+        ensures line { shown (λ line. line.now) result
+            ≡ whole_line (lines_of self.old.text.now) self.old.at }
         ensures text { self.new.text.now ≡ self.old.text.now }
         ensures read { IfOk result (λ _. self.new.at ≡ self.old.at + 1) }
     {
@@ -58,7 +59,8 @@ impl<'a> Lines<'a> {
 
     /// Whether nothing follows the lines that were read.
     pub(super) fn has_ended(&self) -> bool
-        ensures { end_in (lines_of self.now.text.now) self.now.at ≡ (if result then Ok tt else Err Tail) }
+        ensures { end_in (lines_of self.now.text.now) self.now.at
+            ≡ (if result then Ok tt else Err Tail) }
     {
         self.start == self.text.len()
     }

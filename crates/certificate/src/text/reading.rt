@@ -61,7 +61,8 @@ fn read_body(alloc: Global, lines: &mut Lines) -> Result<Certificate, ReadError>
 /// A line that is just these bytes.
 fn read_fixed(lines: &mut Lines, bytes: &[u8]) -> Result<(), ReadError>
     requires { lines.old.at ≤ 32768 }
-    ensures read { result ≡ at_line lines.old.at (line_in (fixed_in bytes.now) (lines_of lines.old.text.now) lines.old.at) }
+    ensures read { result ≡ at_line lines.old.at
+        (line_in (fixed_in bytes.now) (lines_of lines.old.text.now) lines.old.at) }
     ensures text { IfOk result (λ _. lines.new.text.now ≡ lines.old.text.now) }
     ensures passed { IfOk result (λ _. lines.new.at ≡ lines.old.at + 1) }
 {
@@ -73,7 +74,8 @@ fn read_fixed(lines: &mut Lines, bytes: &[u8]) -> Result<(), ReadError>
 }
 
 fn fixed_at(lines: &mut Lines, bytes: &[u8]) -> Result<(), Cause>
-    ensures line { result ≡ line_in (fixed_in bytes.now) (lines_of lines.old.text.now) lines.old.at }
+    ensures line { result ≡ line_in (fixed_in bytes.now)
+        (lines_of lines.old.text.now) lines.old.at }
     ensures text { IfOk result (λ _. lines.new.text.now ≡ lines.old.text.now) }
     ensures passed { IfOk result (λ _. lines.new.at ≡ lines.old.at + 1) }
 {

@@ -25,7 +25,8 @@ pub(super) fn parse_id(word: &[u8]) -> Result<SpanId, Cause>
 
 /// The id of these numbers.
 fn id_of(shard: Option<u32>, serial: Option<u32>) -> Result<SpanId, Cause>
-    ensures { (a b : Option ℕ) → shard ≡ option_map clip a → serial ≡ option_map clip b → shown id_parts result ≡ id_of_numbers a b }
+    ensures { (a b : Option ℕ) → shard ≡ option_map clip a → serial ≡ option_map clip b
+        → shown id_parts result ≡ id_of_numbers a b }
 {
     match (shard, serial) {
         (Some(shard), Some(serial)) => SpanId::new(shard, serial).ok_or(Cause::Limit),

@@ -19,7 +19,8 @@ pub fn write(alloc: Global, certificate: &Certificate) -> Result<Vec<u8>, AllocE
     ensures text { IfOk result (λ text. text.items ≡ certificate_text certificate.now) }
 
     // What is written is read again.
-    ensures read_again { IfOk result (λ text. certificate_in text.items ≡ Ok (outline_of certificate.now)) }
+    ensures read_again { IfOk result (λ text. certificate_in text.items
+        ≡ Ok (outline_of certificate.now)) }
 {
     let text = text_of(alloc, certificate)?;
     Ok(text)
@@ -30,7 +31,8 @@ fn text_of(alloc: Global, certificate: &Certificate) -> Result<Vec<u8>, AllocErr
     ensures text { IfOk result (λ text. text.items ≡ certificate_text certificate.now) }
     ensures abandoned { IfOk result (λ _. All IsReadable certificate.now.snapshot.abandoned) }
     ensures owned { IfOk result (λ _. All IsReadable certificate.now.snapshot.owned) }
-    ensures abandoned_ascending { IfOk result (λ _. IsAscending (ids certificate.now.snapshot.abandoned)) }
+    ensures abandoned_ascending { IfOk result (λ _. IsAscending
+        (ids certificate.now.snapshot.abandoned)) }
     ensures owned_ascending { IfOk result (λ _. IsAscending (ids certificate.now.snapshot.owned)) }
 {
     let mut text = Vec::from_slice(alloc, b"meshcert 1\n")?;
@@ -55,7 +57,8 @@ fn write_id(text: &mut Vec<u8>, id: SpanId) -> Result<(), AllocError>
 
 /// Writes a title and how many lines follow.
 fn write_count(text: &mut Vec<u8>, title: &[u8], count: usize) -> Result<(), AllocError>
-    ensures { IfOk result (λ _. text.new.items ≡ text.old.items ++ (title.now ++ (codes " " ++ (decimal count ++ codes "\n")))) }
+    ensures { IfOk result (λ _. text.new.items ≡ text.old.items
+        ++ (title.now ++ (codes " " ++ (decimal count ++ codes "\n")))) }
 {
     let mut buffer = Buffer::new();
     text.extend_from_slice(title)?;
@@ -95,7 +98,8 @@ fn write_id_line(text: &mut Vec<u8>, id: SpanId) -> Result<(), AllocError>
 }
 
 fn write_entries(text: &mut Vec<u8>, title: &[u8], entries: &[Entry]) -> Result<(), AllocError>
-    ensures lines { IfOk result (λ _. text.new.items ≡ text.old.items ++ list_text title.now entry_line entries.now) }
+    ensures lines { IfOk result (λ _. text.new.items ≡ text.old.items
+        ++ list_text title.now entry_line entries.now) }
     ensures readable { IfOk result (λ _. All IsReadable entries.now) }
 {
     write_count(text, title, entries.len())?;
@@ -106,7 +110,8 @@ fn write_entries(text: &mut Vec<u8>, title: &[u8], entries: &[Entry]) -> Result<
 }
 
 fn write_pairs(text: &mut Vec<u8>, pairs: &[(SpanId, SpanId)]) -> Result<(), AllocError>
-    ensures { IfOk result (λ _. text.new.items ≡ text.old.items ++ list_text (codes "folds") pair_line pairs.now) }
+    ensures { IfOk result (λ _. text.new.items ≡ text.old.items
+        ++ list_text (codes "folds") pair_line pairs.now) }
 {
     write_count(text, b"folds", pairs.len())?;
     for pair in pairs {
@@ -116,7 +121,8 @@ fn write_pairs(text: &mut Vec<u8>, pairs: &[(SpanId, SpanId)]) -> Result<(), All
 }
 
 fn write_ids(text: &mut Vec<u8>, ids: &[SpanId]) -> Result<(), AllocError>
-    ensures { IfOk result (λ _. text.new.items ≡ text.old.items ++ list_text (codes "short") id_line ids.now) }
+    ensures { IfOk result (λ _. text.new.items ≡ text.old.items
+        ++ list_text (codes "short") id_line ids.now) }
 {
     write_count(text, b"short", ids.len())?;
     for id in ids {

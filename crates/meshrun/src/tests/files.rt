@@ -1,12 +1,13 @@
 //! Jobs on files of the disk.
 use crate::do_job;
+use command_line::{Disk, Fault, Job};
 use std::io::Input;
 use std::rt::Files;
 use std::sync::Wait;
 use std::test::Fail;
 use std::thread::Threads;
 use std::{fs, io};
-use trace_runner::{Disk, Fault, Job, Memory};
+use trace_runner::Memory;
 
 const TRACE: &[u8] = b"mesh 1\nshards 1\npages 4\nring 4\ngens 9\n0 put a 1\nmark\n";
 

@@ -1,10 +1,10 @@
 //! What is saved, in memory and on the disk.
 ghost use Rattle.std.specs.Prelude.{◌≡◌, None};
 
+use command_line::{Disk, Store, StoreFailed, save};
 use std::alloc::{AllocError, Global};
 use std::test::Fail;
 use std::{fs, io};
-use trace_runner::{Disk, Store, StoreFailed, save};
 
 /// One file in memory, or none where its writes fail.
 #[derive(Drop)]

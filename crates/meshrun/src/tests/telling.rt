@@ -1,7 +1,8 @@
 //! Faults, with the messages and the statuses that they end with, where `examples/` can't show them.
+use command_line::{Fault, Job, TellError, tell};
 use std::alloc::Global;
 use std::test::Fail;
-use trace_runner::{Cause, Fault, Job, Memory, ReplayError, TellError, tell};
+use trace_runner::{Cause, Memory, ReplayError};
 
 const NO_COMMAND: &[u8] =
     b"error: 'meshrun' requires a subcommand but one was not provided\n  [subcommands: run, check]\n\nUsage: meshrun <COMMAND>\n\nFor more information, try '--help'.\n";

@@ -2,6 +2,7 @@
 ghost use Rattle.std.specs.Prelude.{◌≡◌, ◌+◌, ◌++◌, ◌≤◌, length, map};
 ghost use Rattle.span.specs.SpanLogs.{AreLegal, room_for_logs, span_of_log};
 ghost use Rattle.shard.specs.State.{spans_in};
+ghost use Rattle.span.specs.declared.limits.TheConstants.{ALL_IDS};
 
 use super::Shard;
 use span::{Kept, Log, SpanLog};
@@ -10,7 +11,7 @@ impl<L: Log> Shard<L> {
     /// How many spans it has, heads and guests.
     pub fn span_count(&self) -> usize
         ensures count { result ≡ length (spans_in self.now.groups) }
-        ensures at_most { result ≤ 65536 }
+        ensures at_most { result ≤ ALL_IDS }
     {
         let mut count = 0;
         for group in &self.groups {
@@ -25,9 +26,11 @@ impl Shard<Kept> {
     /// when its run is over: of open groups and closed, and of all, whether it has ended or not. It takes no memory.
     pub fn into_logs(self, logs: &mut Vec<SpanLog>)
         requires room { length (spans_in self.groups) ≤ room_for_logs logs.old }
-        ensures logs { map span_of_log logs.new.items ≡ map span_of_log logs.old.items ++ spans_in self.groups }
+        ensures logs { map span_of_log logs.new.items ≡ map span_of_log logs.old.items
+            ++ spans_in self.groups }
         ensures legal { AreLegal logs.old.items → AreLegal logs.new.items }
-        ensures room { room_for_logs logs.old ≡ room_for_logs logs.new + length (spans_in self.groups) }
+        ensures room { room_for_logs logs.old ≡ room_for_logs logs.new + length
+            (spans_in self.groups) }
     {
         for group in self.groups {
             group.into_spans().into_logs(logs);

@@ -39,7 +39,8 @@ fn push_answer(out: &mut Vec<u8>, answer: Answer) -> Result<(), AllocError>
     }
 }
 
-fn push_answer_line(out: &mut Vec<u8>, answer: &LineAnswer) -> Result<(), AllocError>
+/// Adds the line of an answer to the text.
+pub(crate) fn push_answer_line(out: &mut Vec<u8>, answer: &LineAnswer) -> Result<(), AllocError>
     ensures { OnOk result (out.new.items ≡ out.old.items ++ answer_line answer.now) }
 {
     push_number(out, answer.line)?;

@@ -134,7 +134,8 @@ fn push_mark(out: &mut Vec<u8>, mark: &MarkNews) -> Result<(), AllocError>
 
 /// The line of a mark that saw too many groups.
 fn push_too_many(out: &mut Vec<u8>, mark: usize) -> Result<(), AllocError>
-    ensures { OnOk result (out.new.items ≡ out.old.items ++ (codes "mark " ++ decimal mark ++ codes " refused many\n")) }
+    ensures { OnOk result (out.new.items ≡ out.old.items
+        ++ (codes "mark " ++ decimal mark ++ codes " refused many\n")) }
 {
     push_counted(out, b"mark ", mark)?;
     out.extend_from_slice(b" refused many\n")

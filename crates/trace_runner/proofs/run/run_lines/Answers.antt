@@ -1,9 +1,8 @@
 use Rattle.std.proofs.Common.{◌≡◌, ◌∙◌, ap, arith, filter, length, Some, slice_get}
 use Rattle.std.proofs.lemmas.Option.{slice_get_read}
 use Rattle.trace_text.specs.Causes.{is_adopt}
-use Rattle.trace_runner.specs.Kept.{Kept}
+use Rattle.trace_runner.specs.Kept.{Kept, kept_in}
 use Rattle.trace_runner.specs.Recalls.{news_at}
-use Rattle.trace_runner.specs.Runs.{answers_from}
 use Rattle.trace_runner.proofs.Progress.{HasCome-CanLeave, HasCome-IsRun, HasCome-calls}
 use Rattle.trace_runner.proofs.run.run_lines.Goals as goal
 
@@ -30,7 +29,7 @@ overflow_sub-calls c =
     let all : c.loop-place.place ≡ length c.args.trace.now.lines.items = omega (arith, c.args.trace.now.lines.ok.0, c.len-place-end.ensures) in
     let count = HasCome-calls c.args.trace.now.header _ _ _ _ _ _ _ _ c.loop-place.invariant.come all in
     let adopts : c.adoptions.result ≡ length (filter is_adopt c.args.trace.now.lines.items) = rw c.as_slice.ensures.value at c.adoptions.ensures in
-    let long : c.count.result ≡ c.loop-place.run.replies.count = c.count.ensures ∙ ap (λ replies. replies.count) c.settle.ensures.replies in
+    let long : c.count.result ≡ c.loop-place.run.replies.count = c.count.ensures ∙ ap (λ (kept : Kept). kept.count) c.settle.ensures.rest in
     omega (arith, count, adopts, long)
 
 pub returns : goal.returns
@@ -38,12 +37,10 @@ returns c =
     let all : c.loop-place.place ≡ length c.args.trace.now.lines.items = omega (arith, c.args.trace.now.lines.ok.0, c.len-place-end.ensures) in
     let count = HasCome-calls c.args.trace.now.header _ _ _ _ _ _ _ _ c.loop-place.invariant.come all in
     let adopts : c.adoptions.result ≡ length (filter is_adopt c.args.trace.now.lines.items) = rw c.as_slice.ensures.value at c.adoptions.ensures in
-    let long : c.count.result ≡ c.loop-place.run.replies.count = c.count.ensures ∙ ap (λ replies. replies.count) c.settle.ensures.replies in (
-      answers_from 6 c.loop-place.invariant.come.done,
-      news_at c.loop-place.run.replies.count c.settle.new.self.plans,
+    let long : c.count.result ≡ c.loop-place.run.replies.count = c.count.ensures ∙ ap (λ (kept : Kept). kept.count) c.settle.ensures.rest in (
+      news_at (kept_in c.settle.new.self.replies) c.settle.new.self.plans,
       HasCome-IsRun c.args.trace.now.header _ _ _ _ _ _ _ _ c.loop-place.invariant.come
           c.settle.new.self.core _ _ all (rw c.loop-place.invariant.trace at c.in_ok-settle.ensures.made) (omega (arith, count, adopts, long)),
-      ap (λ v. v.items) c.into_told.ensures ∙ ap (λ replies. replies.told.items) c.settle.ensures.replies ∙ ap (λ (kept : Kept). kept.told) c.loop-place.invariant.come.kept_is,
-      ap (λ v. v.items) c.told-notes.ensures.notes,
-      ap (λ v. v.items) c.told-notes.ensures.certificate,
+      ap (λ v. v.items) c.into_text.ensures,
+      ap (λ v. v.items) c.into_certificate.ensures,
     )

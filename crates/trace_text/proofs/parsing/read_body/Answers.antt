@@ -1,7 +1,7 @@
 use Rattle.std.proofs.Common.{arith, ◌≡◌, length}
 use Rattle.std.proofs.lemmas.Grind.{common_steps}
 use Rattle.trace_text.specs.Words.{lines_of}
-use Rattle.trace_text.proofs.Texts.{SoFar-fault, SoFar-more, first_cause-none}
+use Rattle.trace_text.proofs.Texts.{SoFar-fault, SoFar-more}
 use Rattle.trace_text.proofs.Knowing.{Knows-push, marks-length}
 use Rattle.trace_text.proofs.Placing.{places-push}
 use Rattle.trace_text.proofs.parsing.read_body.Goals as goal
@@ -16,10 +16,9 @@ note-requires c = omega (arith, c.loop-bytes.invariant.known.section, marks-leng
 pub loop-bytes-preserved : goal.loop-bytes-preserved
 loop-bytes-preserved c =
     let next = c.in-Ok.ensures.ok c.loop-bytes.lines.items c.loop-bytes.invariant.known in
-    let parts = first_cause-none c.args.header.now c.loop-bytes.lines.items c.in-Ok.next.0 next.1 in
     let place : c.len-in-Some.result ≡ length c.loop-bytes.lines.items = grind (arith, common_steps) in
     record {
-      known = rw c.in_ok-push.ensures.items (Knows-push c.args.header.now c.loop-bytes.lines.items c.in-Ok.next.0 c.loop-bytes.earlier c.note.new.self c.loop-bytes.invariant.known parts.1 parts.0 (rw (← place) c.in_ok-note.ensures.names) c.in_ok-note.ensures.ended c.in_ok-note.ensures.section c.in_ok-note.ensures.keys c.in_ok-note.ensures.awaits);
+      known = rw c.in_ok-push.ensures.items (Knows-push c.args.header.now c.loop-bytes.lines.items c.in-Ok.next.0 c.loop-bytes.earlier c.note.new.self c.loop-bytes.invariant.known next.1 (rw (← place) c.in_ok-note.ensures.names) c.in_ok-note.ensures.ended c.in_ok-note.ensures.section c.in_ok-note.ensures.keys c.in_ok-note.ensures.awaits);
       far = rw c.in_ok-push.ensures.items (SoFar-more c.args.header.now (lines_of c.args.text.now) (lines_of c.loop-bytes.rest.now) (lines_of c.in-Some.below.now) c.loop-bytes.lines.items c.in-Some.bytes.now c.in-Ok.next.0 c.loop-bytes.invariant.far c.in-Some.ensures.some next);
       placed = rw (c.in_ok-push.ensures.items, c.in_ok-push-2.ensures.items) (places-push c.loop-bytes.places.items c.loop-bytes.lines.items c.in-Ok.next.0 c.in-Ok.next.1 c.loop-bytes.invariant.placed (c.in-Ok.ensures.place c.loop-bytes.lines.items c.loop-bytes.invariant.known));
       room = rw c.in_ok-push.ensures.items (grind (arith, common_steps, c.loop-bytes.invariant.room, c.in-Some.ensures.shorter));

@@ -19,14 +19,14 @@ returns-clause-nothing g c =
       (λ causes. let paged : IsSome {T = ℕ} None = subst IsSome (causes.3 lowest.0 lowest.1 lowest.2.here) lowest.2.paged in absurd cc),
     )
 
-pub returns-then-would_double-clause-doubled : goal.returns-then-would_double-clause-doubled
-returns-then-would_double-clause-doubled g c = (
-  (λ said. ((λ full. absurd (false≢true (c.if-is_full.ensures.1 full))), sym c.if-ended.ensures.ended, c.if-would_double.ensures.0 refl)),
+pub returns-then-lowest_would_double-clause-doubled : goal.returns-then-lowest_would_double-clause-doubled
+returns-then-lowest_would_double-clause-doubled g c = (
+  (λ said. ((λ full. absurd (false≢true (c.if-is_full.ensures.1 full))), sym c.if-ended.ensures.ended, c.if-lowest_would_double.ensures.0 refl)),
   (λ causes. refl),
 )
 
-pub returns-then-would_double-clause-nothing : goal.returns-then-would_double-clause-nothing
-returns-then-would_double-clause-nothing g c =
+pub returns-then-lowest_would_double-clause-nothing : goal.returns-then-lowest_would_double-clause-nothing
+returns-then-lowest_would_double-clause-nothing g c =
     let lowest = c.in-Some.ensures.lowest in (
       (λ said. absurd cc),
       (λ causes. let paged : IsSome {T = ℕ} None = subst IsSome (causes.3 lowest.0 lowest.1 lowest.2.here) lowest.2.paged in absurd cc),

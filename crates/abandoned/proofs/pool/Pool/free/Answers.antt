@@ -1,6 +1,6 @@
 use Rattle.std.proofs.Common.{◌≡◌, ◌∙◌, List, Some, ap, arith, refl, set, slice_get, subst, sym}
 use Rattle.std.proofs.lemmas.Bool.{true≢false}
-use Rattle.shard.specs.Group.{with_free}
+use Rattle.groups.specs.Spans.{with_free}
 use Rattle.shard.specs.declared.shard.Freed.TheVariants.{No, NotHere, Yes}
 use Rattle.abandoned.specs.Calls.{Leaves}
 use Rattle.abandoned.specs.Groups.{GroupsState}

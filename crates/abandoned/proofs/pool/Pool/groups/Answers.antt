@@ -1,7 +1,7 @@
 use Rattle.std.specs.Prelude.{is_some}
 use Rattle.abandoned.specs.Kept.{state_of}
 use Rattle.abandoned.specs.State.{PooledState, paged_groups}
-use Rattle.shard.proofs.Heads.{IsStrictlyIncreasing-heads}
+use Rattle.groups.proofs.Heads.{IsStrictlyIncreasing-heads}
 use Rattle.abandoned.proofs.Heads.{Ascend-filter, head_id}
 use Rattle.abandoned.proofs.pool.Pool.groups.Goals as goal
 

@@ -1,7 +1,8 @@
 use Rattle.std.proofs.Common.{refl, subst, sym, arith}
 use Rattle.std.proofs.lemmas.Bool.{false≢true}
-use Rattle.shard.specs.Group.{GroupState, SpansState, all_spans, spans_of}
-use Rattle.shard.proofs.Lists.{there_at}
+use Rattle.shard.specs.Group.{GroupState, spans_of}
+use Rattle.groups.specs.Spans.{SpansState, all_spans}
+use Rattle.groups.proofs.Lists.{there_at}
 use Rattle.abandoned.specs.Calls.{HasAny}
 use Rattle.abandoned.proofs.Searches.{below_next, not_there}
 use Rattle.abandoned.proofs.pool.Pool.has_one_of.Goals as goal

@@ -1,8 +1,8 @@
 use Rattle.std.proofs.Common.{◌≡◌, ◌∙◌, ℕ, Option, IfSome, ap, arith, subst, sym}
 use Rattle.std.specs.Prelude.{remove}
 use Rattle.page_table.specs.State.{HasPage, TableState}
-use Rattle.shard.specs.Directory.{DirectoryState}
-use Rattle.shard.specs.Moves.{IsSoundWhole, whole_with}
+use Rattle.groups.specs.Directory.{DirectoryState}
+use Rattle.groups.specs.Whole.{IsSoundWhole, whole_with}
 use Rattle.abandoned.specs.Calls.{without_page_of}
 use Rattle.abandoned.specs.Groups.{GroupsState}
 use Rattle.abandoned.specs.Kept.{state_of}

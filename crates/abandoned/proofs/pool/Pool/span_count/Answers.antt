@@ -1,5 +1,5 @@
 use Rattle.std.proofs.Common.{◌∙◌, ap, arith, length}
-use Rattle.shard.proofs.SpanCounts.{at_most_ids}
+use Rattle.groups.proofs.SpanCounts.{at_most_ids}
 use Rattle.abandoned.specs.State.{PoolState, spans_in}
 use Rattle.abandoned.proofs.pool.Pool.span_count.Goals as goal
 

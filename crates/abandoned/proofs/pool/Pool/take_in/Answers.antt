@@ -3,9 +3,10 @@ use Rattle.std.specs.Prelude.{◌≢◌, insert}
 use Rattle.std.specs.FinMap as map
 use Rattle.std.specs.FinSet as set
 use Rattle.span.specs.State.{SpanState}
-use Rattle.shard.specs.Directory.{DirectoryState, entered}
-use Rattle.shard.specs.Moves.{IsSoundWhole, WholeState, spans_moved, whole_with, with_page}
-use Rattle.shard.specs.Group.{union_of}
+use Rattle.groups.specs.Directory.{DirectoryState, entered}
+use Rattle.groups.specs.Whole.{IsSoundWhole, WholeState, spans_moved, whole_with}
+use Rattle.groups.specs.Tables.{with_page}
+use Rattle.groups.specs.Spans.{union_of}
 use Rattle.page_table.specs.State.{TableState}
 use Rattle.page_table.specs.Words.{Words}
 use Rattle.abandoned.specs.Calls.{IsPlaceFor, MayTakeIn, TakesIn}

@@ -1,8 +1,8 @@
 use Rattle.std.proofs.Common.{ap, arith}
 use Rattle.abandoned.specs.Groups.{GroupsState}
 use Rattle.abandoned.proofs.Started.{IsSound-new}
-use Rattle.shard.specs.Directory.{DirectoryState}
-use Rattle.shard.proofs.GuestDirectory.{IsDirectory-none}
+use Rattle.groups.specs.Directory.{DirectoryState}
+use Rattle.groups.proofs.GuestDirectory.{IsDirectory-none}
 use Rattle.abandoned.proofs.pool.Pool.with_log.Goals as goal
 
 pub invariant_of-result : goal.invariant_of-result

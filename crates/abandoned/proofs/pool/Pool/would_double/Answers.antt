@@ -1,23 +1,25 @@
-use Rattle.std.proofs.Common.{◌≡◌, ◌∙◌, ap, slice_get, subst, sym}
+use Rattle.std.proofs.Common.{◌∙◌, ap, slice_get, subst, sym}
 use Rattle.std.specs.Prelude.{◌↔◌, IsTrue}
-use Rattle.shard.specs.Group.{SpansState, all_spans}
-use Rattle.abandoned.specs.Calls.{HasDoubled, IsHeadOfLowest}
-use Rattle.abandoned.specs.Kept.{state_of}
-use Rattle.abandoned.specs.State.{Ascend, PoolState, PooledState, spans_of}
-use Rattle.abandoned.proofs.Adopted.{IsDoubled-lowest, one_head}
+use Rattle.std.proofs.lemmas.Bool.{false≢true}
+use Rattle.groups.specs.Spans.{SpansState, all_spans}
+use Rattle.abandoned.specs.Calls.{HasDoubled}
+use Rattle.abandoned.specs.Sound.{IsSound}
+use Rattle.abandoned.specs.State.{HasNoHead, IsHeadOf, PoolState}
+use Rattle.abandoned.proofs.Adopted.{WouldDouble-here, WouldDouble-none}
 use Rattle.abandoned.proofs.pool.Pool.would_double.Goals as goal
 
-pub unreachable-requires : goal.unreachable-requires
-unreachable-requires g c =
-    let lowest : IsHeadOfLowest (state_of c.self.inside) c.args.head = subst (λ (p : PoolState). IsHeadOfLowest p c.args.head) (sym c.self.view_is) c.requires in
-    c.in_default.ensures lowest.0 lowest.1 (record { here = lowest.2.here; head_is = lowest.3 })
+pub returns-in_default-clause-doubles : goal.returns-in_default-clause-doubles
+returns-in_default-clause-doubles g c = (
+  (λ t. absurd (false≢true t)),
+  (λ would. absurd (WouldDouble-none c.args.self.now c.args.shard.now c.args.head (subst (λ (p : PoolState). HasNoHead p.groups c.args.head) c.self.view_is c.in_default.ensures) would)),
+)
 
-pub returns : goal.returns
-returns g c =
+pub returns-clause-doubles : goal.returns-clause-doubles
+returns-clause-doubles g c =
     let found = c.in-Some.ensures in
-    let same : c.requires.1 ≡ c.in-Some.group.now =
-    one_head (state_of c.self.inside) c.self.invariant.sound c.requires.0 found.0 c.requires.1 c.in-Some.group.now (ap (λ (p : PoolState). slice_get p.groups c.requires.0) c.self.view_is ∙ c.requires.2.here) found.1.here (c.requires.3 ∙ sym found.1.head_is) in
+    let from : IsHeadOf c.args.self.now.groups c.args.head found.0 c.in-Some.group.now =
+    record { here = ap (λ (p : PoolState). slice_get p.groups found.0) (sym c.self.view_is) ∙ found.1.here; head_is = found.1.head_is } in
     let both = subst (λ (s : SpansState). IsTrue c.is_doubled.result ↔ HasDoubled c.args.shard.now (all_spans s)) c.spans.ensures c.is_doubled.ensures in (
-      (λ t. (c.requires.0, c.requires.1, c.requires.2, subst (λ (g : PooledState). HasDoubled c.args.shard.now (spans_of g)) (sym same) (both.0 t))),
-      (λ doubled. both.1 (subst (λ (g : PooledState). HasDoubled c.args.shard.now (spans_of g)) same (IsDoubled-lowest c.args.self.now (subst (λ (s : PoolState). Ascend s.groups) c.self.view_is c.self.invariant.sound.ascending) c.args.shard.now c.requires.0 c.requires.1 c.requires.2 doubled))),
+      (λ t. (found.0, c.in-Some.group.now, from, both.0 t)),
+      (λ would. both.1 (WouldDouble-here c.args.self.now (subst IsSound c.self.view_is c.self.invariant.sound) c.args.shard.now c.args.head found.0 c.in-Some.group.now from would)),
     )

@@ -1,6 +1,6 @@
 use Rattle.std.proofs.Common.{◌≡◌, ◌<◌, ℕ, ◌⊎◌, Some, slice_get}
 use Rattle.span.specs.State.{SpanState}
-use Rattle.shard.specs.Group.{all_spans}
+use Rattle.groups.specs.Spans.{all_spans}
 use Rattle.shard.specs.State.{IsElsewhere}
 use Rattle.abandoned.proofs.pool.handover.is_doubled.Given as goal
 

@@ -1,5 +1,5 @@
 use Rattle.std.proofs.Common.{◌∙◌, ap, refl, sym}
-use Rattle.shard.specs.Group.{union_of}
+use Rattle.groups.specs.Spans.{union_of}
 use Rattle.abandoned.specs.State.{PooledState, spans_of}
 use Rattle.abandoned.proofs.Released.{not_empty}
 use Rattle.abandoned.proofs.pooled.Pooled.give_up_page.Goals as goal

@@ -1,5 +1,5 @@
 use Rattle.std.proofs.Common.{All, ap, subst}
-use Rattle.arena_core.specs.State.{Limits}
+use Rattle.marks.specs.Numbers.{Limits}
 use Rattle.remote_queue.specs.Rings.{AreFreshInboxes, AreFreshOutboxes}
 use Rattle.arena.specs.Seats.{SeatState}
 use Rattle.arena.proofs.arena.Arena.open_with_log.Goals as goal

@@ -1,7 +1,7 @@
 use Rattle.std.proofs.Common.{◌≡◌, false, ap, length, map, refl, subst, sym, ◌∙◌}
 use Rattle.std.proofs.lemmas.List.{length-map, with_items_is}
 use Rattle.std.specs.Vec.{with_items}
-use Rattle.arena_core.specs.Closings.{reopened}
+use Rattle.marks.specs.Closings.{reopened}
 use Rattle.arena_core.specs.Kept.{state_of}
 use Rattle.arena_core.specs.Sound.{IsSound}
 use Rattle.arena_core.specs.State.{shown}

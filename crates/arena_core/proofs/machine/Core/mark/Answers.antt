@@ -5,19 +5,19 @@ use Rattle.std.proofs.option.Match.{None-if_not_some}
 use Rattle.std.specs.Vec.{with_items}
 use Rattle.shard.specs.Group.{GroupState}
 use Rattle.shard.specs.State.{ShardState}
-use Rattle.arena_core.specs.Closings.{closed_onto, closing}
+use Rattle.marks.specs.Closings.{closed_onto, closing}
 use Rattle.arena_core.specs.Kept.{state_of}
-use Rattle.arena_core.specs.Marks.{AreDistinct, IsLargest}
-use Rattle.arena_core.specs.Plan.{plans_onto}
+use Rattle.marks.specs.Seen.{AreDistinct, IsLargest}
+use Rattle.marks.specs.Plans.{plans_onto}
 use Rattle.arena_core.specs.Sound.{IsSound}
 use Rattle.arena_core.specs.State.{shown}
 use Rattle.arena_core.specs.Step.{Marks}
 use Rattle.arena_core.specs.declared.machine.Core.TheInside.{Inside}
-use Rattle.arena_core.specs.declared.error.MarkError.TheVariants.{PlanOpen}
-use Rattle.arena_core.proofs.Closings.{closing-open}
+use Rattle.marks.specs.declared.error.MarkError.TheVariants.{PlanOpen}
+use Rattle.marks.proofs.Closings.{closing-open}
 use Rattle.arena_core.proofs.FieldsKept.{IsKept-mapped, IsKept-unchanged}
 use Rattle.arena_core.proofs.MarkSteps.{AreOpen-none, IsSound-marked, marked, shown-marked, state_of-mapped}
-use Rattle.arena_core.proofs.Marks.{AreDistinct-sound}
+use Rattle.arena_core.proofs.Distinct.{AreDistinct-sound}
 use Rattle.arena_core.proofs.machine.Core.mark.Goals as goal
 
 -- no span stands twice, so no group does

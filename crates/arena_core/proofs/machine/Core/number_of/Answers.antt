@@ -1,7 +1,7 @@
 use Rattle.std.proofs.Common.{◌≡◌, ◌≢◌, ◌<◌, false, true, arith, refl, subst, sym, ◌∙◌}
 use Rattle.std.proofs.lemmas.Option.{none-some}
 use Rattle.std.specs.Prelude.{vec_len}
-use Rattle.shard.proofs.Lists.{same_some}
+use Rattle.groups.proofs.Lists.{same_some}
 use Rattle.arena_core.specs.Kept.{state_of}
 use Rattle.arena_core.specs.Moved.{StandsIn}
 use Rattle.arena_core.specs.State.{CoreState}

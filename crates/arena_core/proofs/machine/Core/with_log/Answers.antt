@@ -3,7 +3,8 @@ use Rattle.std.proofs.lemmas.List.{length-replicate}
 use Rattle.std.proofs.lemmas.List.FromFn.{length-map-range_with_len}
 use Rattle.arena_core.specs.Moved.{KnowsMoved}
 use Rattle.arena_core.specs.Sound.{IsSound}
-use Rattle.arena_core.specs.State.{AreWithin, Limits, limits_of, new_shard, shown}
+use Rattle.marks.specs.Numbers.{AreWithin, Limits, limits_of}
+use Rattle.arena_core.specs.State.{new_shard, shown}
 use Rattle.arena_core.proofs.FieldsKept.{KnowsMoved-new}
 use Rattle.arena_core.proofs.Start.{HasSoundGroups-new_core, IsSound-new_core, new_core-fields, shown-new_core}
 use Rattle.arena_core.proofs.machine.Core.with_log.Goals as goal

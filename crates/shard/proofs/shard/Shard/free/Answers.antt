@@ -3,7 +3,8 @@ use Rattle.std.specs.Prelude.{vec_capacity}
 use Rattle.std.proofs.lemmas.Bool.{true≢false}
 use Rattle.std.proofs.lemmas.Option.{slice_get_within}
 use Rattle.span.specs.Log.{Holds}
-use Rattle.shard.specs.Group.{GroupState, with_span, with_free}
+use Rattle.shard.specs.Group.{GroupState, with_span}
+use Rattle.groups.specs.Spans.{with_free}
 use Rattle.shard.specs.Kept.{KnowsGuests, state_of}
 use Rattle.shard.specs.Moves.{HasGuestRoom}
 use Rattle.shard.specs.Rooms.{HasRooms}
@@ -13,7 +14,7 @@ use Rattle.shard.specs.declared.shard.Freed.TheVariants.{No, NotHere, Yes}
 use Rattle.shard.proofs.FreeHere.{IsSound-free_here}
 use Rattle.shard.proofs.GuestRoom.{HasGuestRoom-span}
 use Rattle.shard.proofs.Here.{found_in, here_read, read_is}
-use Rattle.shard.proofs.Lists.{set-same}
+use Rattle.groups.proofs.Lists.{set-same}
 use Rattle.shard.proofs.RoomBits.{HasRooms-free}
 use Rattle.shard.proofs.ShownLogs.{IsSound-Frees, shown-Frees, was_freed-Frees}
 use Rattle.shard.proofs.KnownGuests.{KnowsGuests-span}

@@ -1,17 +1,18 @@
 use Rattle.std.proofs.Common.{◌≡◌, ◌∙◌, ◌++◌, ◌∷◌, [], List, None, Some, ap, length, refl, slice_get, subst, sym, arith}
 use Rattle.std.specs.Prelude.{Option, option_to_list, remove}
 use Rattle.page_table.specs.State.{TableState}
-use Rattle.shard.specs.Directory.{DirectoryState, struck}
+use Rattle.groups.specs.Directory.{DirectoryState, struck}
 use Rattle.shard.specs.Group.{GroupState}
 use Rattle.shard.specs.Kept.{KnowsGuests, state_of}
-use Rattle.shard.specs.Moves.{without_page}
+use Rattle.groups.specs.Tables.{without_page}
 use Rattle.shard.specs.Rooms.{HasRooms}
 use Rattle.shard.specs.Sound.{IsSound}
 use Rattle.shard.specs.State.{ShardState}
 use Rattle.std.specs.FinSet as set
 use Rattle.shard.proofs.GuestRoom.{HasGuestRoom-none}
 use Rattle.shard.proofs.KnownGuests.{KnowsGuests-remove}
-use Rattle.shard.proofs.LastGroup.{HasRooms-last, get-last, remove-last}
+use Rattle.shard.proofs.LastGroup.{HasRooms-last}
+use Rattle.groups.proofs.Lists.{get-last, remove-last}
 use Rattle.shard.proofs.LiftedGroup.{IsSound-lifted, IsSoundWhole-lifted}
 use Rattle.shard.proofs.shard.Shard.lift_last.Goals as goal
 

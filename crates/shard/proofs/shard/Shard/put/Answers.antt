@@ -7,7 +7,7 @@ use Rattle.shard.specs.Rooms.{IsFirstRoom}
 use Rattle.shard.proofs.PutResult.{is_issued-result, IsSound-result, puts_if_here, puts_if_new, shown-result}
 use Rattle.shard.proofs.RoomBits.{IsLowestRoom-first}
 use Rattle.shard.proofs.shard.Shard.put.Goals as goal
-use Rattle.shard.proofs.shard.Shard.put.Goals.{then-len-self-via-then-len-self, then-len-self-via-else-len-self+then-self-ge1024}
+use Rattle.shard.proofs.shard.Shard.put.Goals.{then-len-self-via-then-len-self, then-len-self-via-else-len-self+then-self-ge-MOST_SPANS}
 
 pub put_in-requires-clause-room : goal.put_in-requires-clause-room
 put_in-requires-clause-room g c =
@@ -54,7 +54,7 @@ returns-then-len-self-clause-spent g c = rw (← c.self.view_is) (
       subst IsFull c.as_slice.ensures.value (c.in_default.ensures {u = tt}).room,
       elim c.then-len-self.branch [
         | then-len-self-via-then-len-self w ↦ inl (omega (arith, w.if-len-self.true, c.len.ensures))
-        | then-len-self-via-else-len-self+then-self-ge1024 w ↦ inr w.if-self-ge1024.true
+        | then-len-self-via-else-len-self+then-self-ge-MOST_SPANS w ↦ inr w.if-self-ge-MOST_SPANS.true
       ],
     ),
   ),

@@ -3,8 +3,8 @@ use Rattle.page_table.specs.State.{TableState}
 use Rattle.shard.proofs.GuestRoom.{HasGuestRoom-none}
 use Rattle.shard.proofs.RoomBits.{HasRooms-empty}
 use Rattle.shard.proofs.Start.{IsSound-new}
-use Rattle.shard.proofs.GuestDirectory.{IsDirectory-none}
-use Rattle.shard.specs.Directory.{DirectoryState}
+use Rattle.groups.proofs.GuestDirectory.{IsDirectory-none}
+use Rattle.groups.specs.Directory.{DirectoryState}
 use Rattle.shard.proofs.shard.Shard.with_log.Goals as goal
 
 pub invariant_of-result : goal.invariant_of-result

@@ -2,7 +2,7 @@ use Rattle.std.proofs.Common.{◌∙◌, ap, arith}
 use Rattle.std.specs.FinSet as set
 use Rattle.span.specs.Log.{live_slots, worn_slots}
 use Rattle.span.specs.State.{SpanState}
-use Rattle.shard.proofs.Logs.{contains-live_slots-empty, contains-worn_slots-empty}
+use Rattle.groups.proofs.Logs.{contains-live_slots-empty, contains-worn_slots-empty}
 use Rattle.shard.proofs.shard.tests.span_with.Goals as goal
 
 pub put_at-requires-clause-not_live : goal.put_at-requires-clause-not_live

@@ -1,9 +1,10 @@
-use Rattle.std.proofs.Common.{◌∙◌, ◌++◌, ◌∷◌, [], refl, ap, ap₂}
+use Rattle.std.proofs.Common.{◌∙◌, refl, ap, ap₂}
 use Rattle.std.proofs.lemmas.Result.{on_ok_weaker}
 use Rattle.arena_core.specs.declared.event.Event.TheVariants as event
 use Rattle.arena_core.specs.declared.reply.Reply.TheVariants as reply
+use Rattle.trace_runner.specs.Kept.{Kept, kept_in}
 use Rattle.trace_runner.specs.Made.{Called}
-use Rattle.trace_runner.specs.News.{News, note, with_called}
+use Rattle.trace_runner.specs.News.{News, with_called, with_news}
 use Rattle.trace_runner.specs.Recalls.{news_at}
 use Rattle.trace_runner.specs.declared.report.PlanNews.TheVariants.{Closed}
 use Rattle.trace_runner.proofs.Making.{Carries-one}
@@ -12,12 +13,11 @@ use Rattle.trace_runner.proofs.plans.Plans.close.Goals as goal
 
 pub returns-clause-made : goal.returns-clause-made
 returns-clause-made c =
-    let before : News = news_at c.args.above c.args.self.now in
-    let after : News = news_at c.args.above c.tell.new.self in
-    on_ok_weaker c.tell.result (λ told. Carries-one event.Close reply.Closed c.args.core.now c.step.new.self before after c.in-Closed.ensures.exact c.in-Closed.ensures.sound c.in-Closed.ensures.plain tt
-    (News-same after (with_called before (Called event.Close reply.Closed c.step.new.self)) refl c.tell.ensures.marks (c.tell.ensures.taken ∙ c.replace-steps.ensures.after ∙ c.new.ensures)
-    (told ∙ ap₂ (λ steps pages. before.notes ++ note before (Closed (record { mark = before.marks; steps = steps; pages = pages })) ∷ []) c.replace-steps.ensures.value c.totals.ensures.pages)
-    (ap (λ text. text.items) c.tell.ensures.certificate))) c.tell.ensures.told
+    let before : News = news_at (kept_in c.args.replies.now) c.args.self.now in
+    on_ok_weaker c.tell_news.result (λ told. Carries-one event.Close reply.Closed c.args.core.now c.step.new.self before _ c.in-Closed.ensures.exact c.in-Closed.ensures.sound c.in-Closed.ensures.plain tt
+    (News-same _ (with_called before (Called event.Close reply.Closed c.step.new.self)) (ap (λ (k : Kept). k.asked) c.tell_news.ensures.rest) refl (c.replace-steps.ensures.after ∙ c.new.ensures)
+    (told ∙ ap₂ (λ steps pages. with_news before (Closed (record { mark = before.marks; steps = steps; pages = pages }))) c.replace-steps.ensures.value c.totals.ensures.pages)
+    refl)) c.tell_news.ensures.text
 
 pub returns-clause-shards : goal.returns-clause-shards
 returns-clause-shards c = KeepsShards-closed c.args.core.now c.step.new.self c.in-Closed.ensures.exact

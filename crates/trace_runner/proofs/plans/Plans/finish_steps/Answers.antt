@@ -10,8 +10,8 @@ pub loop-taken-preserved : goal.loop-taken-preserved
 loop-taken-preserved c =
     let less : c.args.left - c.loop-taken.taken - 1 ≡ c.args.left - (c.loop-taken.taken + 1) = omega arith in
     record {
-      made = λ above. Carries-next c.loop-taken.taken c.args.core.now c.loop-taken.core c.step.new.core (news_at above c.args.self.now) (news_at above c.loop-taken.self) (news_at above c.step.new.self)
-          (c.loop-taken.invariant.made above) (c.in_ok-step.ensures.made above);
+      made = λ kept. Carries-next c.loop-taken.taken c.args.core.now c.loop-taken.core c.step.new.core (news_at kept c.args.self.now) (news_at kept c.loop-taken.self) (news_at kept c.step.new.self)
+          (c.loop-taken.invariant.made kept) (c.in_ok-step.ensures.made kept);
       knows = c.in_ok-step.ensures.knows;
       left = c.in_ok-step.ensures.one_less ∙ ap (λ (count : ℕ). Some count) less;
       shards = KeepsShards-trans _ _ _ c.loop-taken.invariant.shards c.step.ensures.shards;
@@ -19,6 +19,6 @@ loop-taken-preserved c =
     }
 
 pub returns-clause-made : goal.returns-clause-made
-returns-clause-made c above =
+returns-clause-made c kept =
     let all : c.loop-taken.taken ≡ c.args.left = omega (arith, c.loop-taken-test.false, c.loop-taken.auto.taken-end) in
-    subst (λ (count : ℕ). Carries (replicate count (Calls event.Step)) c.args.core.now (news_at above c.args.self.now) c.loop-taken.core (news_at above c.loop-taken.self)) all (c.loop-taken.invariant.made above)
+    subst (λ (count : ℕ). Carries (replicate count (Calls event.Step)) c.args.core.now (news_at kept c.args.self.now) c.loop-taken.core (news_at kept c.loop-taken.self)) all (c.loop-taken.invariant.made kept)

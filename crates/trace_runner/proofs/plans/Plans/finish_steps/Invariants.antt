@@ -1,13 +1,14 @@
-use Rattle.std.proofs.Common.{◌≡◌, ◌-◌, ℕ, Some, replicate}
+use Rattle.std.proofs.Common.{◌≡◌, ◌-◌, Some, replicate}
 use Rattle.arena_core.specs.declared.event.Event.TheVariants as event
 use Rattle.trace_runner.specs.Made.{Calls}
+use Rattle.trace_runner.specs.Kept.{Kept}
 use Rattle.trace_runner.specs.Recalls.{Carries, KeepsShards, KnowsPlan, news_at}
 use Rattle.trace_runner.proofs.plans.Plans.finish_steps.Given as goal
 
 -- so many steps were taken
 abbrev pub invariant-loop-taken : goal.invariant-loop-taken
 invariant-loop-taken l = record {
-  made : (above : ℕ) → Carries (replicate l.taken (Calls event.Step)) l.fn.core (news_at above l.fn.self) l.core (news_at above l.self);
+  made : (kept : Kept) → Carries (replicate l.taken (Calls event.Step)) l.fn.core (news_at kept l.fn.self) l.core (news_at kept l.self);
   knows : KnowsPlan l.self l.core;
   left : l.self.left ≡ Some (l.left - l.taken);
   shards : KeepsShards l.fn.core l.core;

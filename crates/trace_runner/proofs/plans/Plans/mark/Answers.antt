@@ -5,6 +5,7 @@ use Rattle.arena_core.specs.declared.event.Event.TheVariants as event
 use Rattle.arena_core.specs.declared.reply.Reply.TheVariants as reply
 use Rattle.arena_core.specs.declared.reply.Refusal.{Refusal}
 use Rattle.arena_core.specs.declared.reply.Refusal.TheVariants as refusal
+use Rattle.trace_runner.specs.Kept.{Kept, kept_in}
 use Rattle.trace_runner.specs.Made.{Called}
 use Rattle.trace_runner.specs.News.{News, with_called}
 use Rattle.trace_runner.specs.Recalls.{news_at}
@@ -17,7 +18,7 @@ planned-requires-clause-writable c = c.in-Marked.ensures.exact.largest.writable
 
 pub returns-in-Marked-clause-made : goal.returns-in-Marked-clause-made
 returns-in-Marked-clause-made c = on_ok_weaker c.planned.result
-    (Carries-one event.Mark (reply.Marked c.in-Marked.certificate) c.args.core.now c.step.new.self (news_at c.args.above c.args.self.now) (news_at c.args.above c.planned.new.self)
+    (Carries-one event.Mark (reply.Marked c.in-Marked.certificate) c.args.core.now c.step.new.self (news_at (kept_in c.args.replies.now) c.args.self.now) (news_at (kept_in c.planned.new.replies) c.planned.new.self)
     c.in-Marked.ensures.exact c.in-Marked.ensures.sound c.in-Marked.ensures.plain tt) c.planned.ensures.news
 
 pub returns-in-Marked-clause-shards : goal.returns-in-Marked-clause-shards
@@ -25,9 +26,8 @@ returns-in-Marked-clause-shards c = KeepsShards-marked c.args.core.now c.step.ne
 
 pub returns-in-Refused-TooMany-clause-made : goal.returns-in-Refused-TooMany-clause-made
 returns-in-Refused-TooMany-clause-made c =
-    let before : News = news_at c.args.above c.args.self.now in
-    let after : News = news_at c.args.above c.tell.new.self in
+    let before : News = news_at (kept_in c.args.replies.now) c.args.self.now in
     let w = c.in-Refused-TooMany in
-    on_ok_weaker c.tell.result (λ told. Carries-one event.Mark (reply.Refused refusal.TooMany) c.args.core.now c.step.new.self before after
+    on_ok_weaker c.tell_news.result (λ told. Carries-one event.Mark (reply.Refused refusal.TooMany) c.args.core.now c.step.new.self before _
     (subst (λ (r : Refusal). CoreStep c.args.core.now event.Mark (reply.Refused r) c.step.new.self) w.field-0-is w.ensures.exact) w.ensures.sound w.ensures.plain tt
-    (News-same after (with_called before (Called event.Mark (reply.Refused refusal.TooMany) c.step.new.self)) refl c.tell.ensures.marks c.tell.ensures.taken told (ap (λ text. text.items) c.tell.ensures.certificate))) c.tell.ensures.told
+    (News-same _ (with_called before (Called event.Mark (reply.Refused refusal.TooMany) c.step.new.self)) (ap (λ (k : Kept). k.asked) c.tell_news.ensures.rest) refl refl told refl)) c.tell_news.ensures.text

@@ -1,4 +1,4 @@
-use Rattle.std.proofs.Common.{◌+◌, ◌∙◌, ap, filter}
+use Rattle.std.proofs.Common.{◌+◌, ap, filter}
 use Rattle.std.specs.List.{range_with_len}
 use Rattle.std.proofs.lemmas.Result.{on_ok_weaker}
 use Rattle.trace_text.specs.Causes.{thread_of}
@@ -24,7 +24,7 @@ returns-in-Silent-clause-made c done finds =
 pub returns-in_ok-thread_call-in-Call-clause-made : goal.returns-in_ok-thread_call-in-Call-clause-made
 returns-in_ok-thread_call-in-Call-clause-made c done finds =
     let threads = filter (has c.args.self.now.leaving) (range_with_len 0 c.args.self.now.trace.now.header.shards) in
-    let follows = rw c.thread_call.ensures.plans at (c.follow.ensures.made c.thread_call.new.self.replies.count) in
+    let follows = rw c.thread_call.ensures.plans at (c.follow.ensures.made (kept_in c.thread_call.new.self.replies)) in
     let first = c.place-first.ensures c.args.line.now c.requires.here in
     let found = rw c.in-Call.is at (rw (← first) at finds) in
     rw c.in-Call.is (on_ok_weaker c.follow.result (MakesLine-call (c.args.place + 6) c.args.self.now.trace.now.header.shards threads c.args.self.now.core (kept_in c.args.self.now.replies) c.args.self.now.plans c.in-Call.thread _ _ c.thread_call.new.self.core
@@ -33,13 +33,11 @@ returns-in_ok-thread_call-in-Call-clause-made c done finds =
 pub returns-in_ok-settle-in-Adopt-clause-made : goal.returns-in_ok-settle-in-Adopt-clause-made
 returns-in_ok-settle-in-Adopt-clause-made c done finds =
     let threads = filter (has c.args.self.now.leaving) (range_with_len 0 c.args.self.now.trace.now.header.shards) in
-    let made = rw c.settle.ensures.replies at c.call.ensures.made in
-    rw (c.in-Adopt.is, c.call.ensures.plans) (on_ok_weaker c.call.result (MakesLine-adopt (c.args.place + 6) c.args.self.now.trace.now.header.shards threads c.args.self.now.core (kept_in c.args.self.now.replies) c.args.self.now.plans c.settle.new.self.core c.settle.new.self.plans
-    c.in_ok-settle-in-Adopt.ensures.made c.in-Adopt.shard _ c.call.new.self.core (kept_in c.call.new.self.replies)) made)
+    rw (c.in-Adopt.is, c.call.ensures.plans) (on_ok_weaker c.call.result (MakesLine-adopt (c.args.place + 6) c.args.self.now.trace.now.header.shards threads c.args.self.now.core (kept_in c.args.self.now.replies) c.args.self.now.plans c.settle.new.self.core
+    (kept_in c.settle.new.self.replies) c.settle.new.self.plans c.in_ok-settle-in-Adopt.ensures.made c.settle.ensures.rest c.in-Adopt.shard _ c.call.new.self.core (kept_in c.call.new.self.replies)) c.call.ensures.made)
 
 pub returns-in_ok-settle-in-Mark-clause-made : goal.returns-in_ok-settle-in-Mark-clause-made
 returns-in_ok-settle-in-Mark-clause-made c done finds =
     let threads = filter (has c.args.self.now.leaving) (range_with_len 0 c.args.self.now.trace.now.header.shards) in
-    let marks = rw (c.count.ensures ∙ ap (λ replies. replies.count) c.settle-in-Mark.ensures.replies) at c.mark.ensures.made in
-    rw (c.in-Mark.is, c.settle-in-Mark.ensures.replies) (on_ok_weaker c.mark.result (MakesLine-mark (c.args.place + 6) c.args.self.now.trace.now.header.shards threads c.args.self.now.core (kept_in c.args.self.now.replies) c.args.self.now.plans c.settle-in-Mark.new.self.core c.settle-in-Mark.new.self.plans
-    c.in_ok-settle-in-Mark.ensures.made c.mark.new.core c.mark.new.self) marks)
+    rw c.in-Mark.is (on_ok_weaker c.mark.result (MakesLine-mark (c.args.place + 6) c.args.self.now.trace.now.header.shards threads c.args.self.now.core (kept_in c.args.self.now.replies) c.args.self.now.plans c.settle-in-Mark.new.self.core
+    (kept_in c.settle-in-Mark.new.self.replies) c.settle-in-Mark.new.self.plans c.in_ok-settle-in-Mark.ensures.made c.settle-in-Mark.ensures.rest c.mark.new.core (kept_in c.mark.new.replies) c.mark.new.self c.mark.ensures.rest) c.mark.ensures.made)

@@ -18,7 +18,7 @@ returns-clause-made c =
     Makes-called c.args.number put c.step-reply.result c.args.self.now.core c.step-reply.new.self (kept_in c.args.self.now.replies) (kept_in c.tell_put.new.self)
     c.step-reply.ensures.exact c.step-reply.ensures.sound c.step-reply.ensures.plain c.in_ok-answer.ensures.told
     (keeping-put c.args.number (kept_in c.args.self.now.replies) (kept_in c.tell_put.new.self) made
-    c.in_ok-tell_put.ensures.count c.tell_put.ensures.asked (rw answered at c.in_ok-tell_put.ensures.told) refl
+    c.in_ok-tell_put.ensures.count c.tell_put.ensures.asked (rw answered at c.in_ok-tell_put.ensures.text) refl
     (c.in_ok-tell_put.ensures.keys ∙ ap (λ k. c.args.self.now.replies.keys.items ++ k ∷ []) (ap answer_key answered ∙ answer_key-told put c.step-reply.result c.step-reply.new.self)))
 
 pub returns-in_err-answer-clause-shards : goal.returns-in_err-answer-clause-shards

@@ -1,4 +1,6 @@
 use Rattle.std.proofs.lemmas.Result.{on_ok_weaker}
+use Rattle.std.proofs.Common.{true}
+use Rattle.trace_runner.specs.Kept.{kept_in}
 use Rattle.trace_runner.specs.News.{no_news}
 use Rattle.trace_runner.specs.Recalls.{news_at}
 use Rattle.trace_runner.proofs.Making.{Carries-append}
@@ -10,8 +12,8 @@ abandon-requires-clause-leave c = CanLeave-kept _ _ _ _ c.finish.ensures.shards 
 
 pub returns-clause-made : goal.returns-clause-made
 returns-clause-made c =
-    rw c.abandon.ensures.plans (on_ok_weaker c.settle_rings.result
-    (λ rings. Carries-append _ _ _ _ _ _ _ _ (rw c.count.ensures at c.in_ok-finish.ensures.made) (Carries-append _ _ _ _ _ _ _ _ (c.in_ok-abandon.ensures.made _) rings)) (rw c.abandon.ensures.trace at (c.settle_rings.ensures.made (news_at c.args.self.now.replies.count c.finish.new.self))))
+    rw (c.abandon.ensures.plans, c.abandon.ensures.replies) (on_ok_weaker c.settle_rings.result
+    (λ rings. Carries-append _ _ _ _ _ _ _ _ c.in_ok-finish.ensures.made (Carries-append _ _ _ _ _ _ _ _ (c.in_ok-abandon.ensures.made _) rings)) (rw c.abandon.ensures.trace at (c.settle_rings.ensures.made (news_at (kept_in c.finish.new.replies) c.finish.new.self))))
 
 pub returns-clause-shards : goal.returns-clause-shards
-returns-clause-shards c = on_ok_weaker c.settle_rings.result (λ rings. EndsBelow-before _ _ _ _ _ (EndsBelow-after _ _ _ _ _ c.finish.ensures.shards c.in_ok-abandon.ensures.shards) c.settle_rings.ensures.shards.shards) (c.settle_rings.ensures.made no_news)
+returns-clause-shards c = on_ok_weaker c.settle_rings.result (λ rings. EndsBelow-before _ _ _ _ _ (EndsBelow-after _ _ _ _ _ c.finish.ensures.shards c.in_ok-abandon.ensures.shards) c.settle_rings.ensures.shards.shards) (c.settle_rings.ensures.made (no_news true))

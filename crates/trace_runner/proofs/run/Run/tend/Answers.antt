@@ -12,4 +12,4 @@ returns-clause-made c =
     let after = kept_in c.tell.new.self in
     Makes-tended workers c.args.thread c.args.self.now.core c.settle_shard.new.core c.in_ok-count.count drains c.args.number before after
     (keeping-other c.args.number before after (tended workers c.args.thread c.args.self.now.core c.settle_shard.new.core c.in_ok-count.count drains)
-    c.in_ok-tell.ensures.count c.tell.ensures.asked (rw drains.count_is at c.in_ok-tell.ensures.told) refl (ap (λ v. v.items) c.tell.ensures.keys))
+    c.in_ok-tell.ensures.count c.tell.ensures.asked (rw drains.count_is at c.in_ok-tell.ensures.text) refl (ap (λ v. v.items) c.tell.ensures.keys))

@@ -1,0 +1,290 @@
+// The groups of the pool, each at the place of its head.
+ghost use Rattle.std.specs.Prelude.{◌≡◌, ◌<◌, ◌≤◌, ◌-◌, ◌+◌, ◌++◌, ◌*◌, ◌↔◌, ℕ, [], IfOk, IfSome, IsTrue, MatchOption, None, OnErr, OnOk, Option, Some, filter, insert, is_some, length, map, max, slice_get, slice_set, vec_capacity, vec_len};
+ghost use Rattle.std.specs.Bool.{OnTrue, OnFalse};
+ghost use Rattle.span.specs.Ids.{rank};
+ghost use Rattle.span.specs.Log.{Holds};
+ghost use Rattle.span.specs.SpanLogs.{AreLegal, room_for_logs, span_of_log};
+ghost use Rattle.span.specs.State.{SpanState};
+ghost use Rattle.page_table.specs.State.{HasPage};
+ghost use Rattle.groups.specs.Spans.{with_free_at, live_count};
+ghost use Rattle.abandoned.specs.Calls.{HasNoPage, IsFirstPaged, IsPlaceFor};
+ghost use Rattle.abandoned.specs.Groups.{AreReady, FreesIn, HasHeadAt, HaveSize, Removes};
+ghost use Rattle.abandoned.specs.Numbers.{HasNoneFrom};
+ghost use Rattle.abandoned.specs.State.{HasNoHead, IsHeadOf, PooledState, spans_in, spans_of, summary};
+ghost use Rattle.span.specs.declared.limits.TheConstants.{ALL_IDS};
+ghost use Rattle.bitmap.specs.declared.bits.TheConstants.{SLOTS};
+
+use crate::numbers::{lowest, mark, next};
+use crate::pooled::Pooled;
+use bitmap::Bits256;
+use page_table::Table;
+use span::{Kept, Log, SpanId, SpanLog};
+use std::alloc::{AllocError, Global};
+use std::marker::Model;
+
+// How many ids there are.
+const HEADS: usize = 65_536;
+
+/// Groups, each at a place of its own, which is the rank of its head: a look-up, an arrival and a departure cost the
+/// same however many there are, and no group moves up for another.
+///
+/// The places are made with the first room that is reserved, for all heads that may come: one takes as much as a
+/// group without its heap, used or not, so all of them some 13 MB, where the pages of as many groups take 268 MB.
+/// Beside them it keeps a bit for each head, which says whether the group has a page, and one for each 256 of these
+/// bits, which says whether any is on: so it finds the lowest without a walk.
+#[derive(Drop)]
+pub(crate) struct Groups<L: Log> {
+    // By the rank of the head.
+    places: Vec<Option<Pooled<L>>>,
+    // The ranks of the heads whose groups have a page.
+    paged: Vec<Bits256>,
+    // The parts of `paged` that have a rank.
+    filled: Bits256,
+    // For how many more groups room is reserved.
+    room: usize,
+}
+
+impl<L: Log> Model for Groups<L> {
+    ghost use Rattle.abandoned.specs.Groups.{GroupsState};
+    ghost use Rattle.std.specs.Coded.{codes};
+
+    ghost Value = { GroupsState };
+
+    ghost coded = { Prim.hlevel codes };
+
+    ghost use Rattle.abandoned.specs.GroupsKept.{IsKept, state_of};
+
+    ghost view = { state_of };
+
+    ghost invariant = { IsKept };
+}
+
+impl<L: Log> Groups<L> {
+    /// No group. Takes no memory.
+    pub(crate) fn new(alloc: Global) -> Groups<L>
+        ensures { result ≡ record { groups = []; room = 0 } }
+    {
+        Groups {
+            places: Vec::new(alloc),
+            paged: Vec::new(alloc),
+            filled: Bits256::empty(),
+            room: 0,
+        }
+    }
+
+    /// The group of the head, if it is here.
+    pub(crate) fn get(&self, head: SpanId) -> Option<&Pooled<L>>
+        ensures { MatchOption result (HasNoHead self.now.groups head)
+            (λ group. HasHeadAt self.now.groups head group.now) }
+    {
+        let rank = head.rank() as usize;
+        if rank >= self.places.len() {
+            return None;
+        }
+        self.places[rank].as_ref()
+    }
+
+    /// Makes room for so many more groups, where less is reserved.
+    ///
+    /// # Errors
+    ///
+    /// `AllocError` where memory is refused. The groups are then as they were.
+    pub(crate) fn reserve(&mut self, more: usize) -> Result<(), AllocError>
+        ensures ok { OnOk result (self.new ≡ record self.old { room = max self.old.room more }) }
+        ensures err { OnErr result (self.new ≡ self.old) }
+    {
+        make_places(&mut self.places, &mut self.paged)?;
+        self.room = self.room.max(more);
+        Ok(())
+    }
+
+    /// The group comes, in reserved room.
+    pub(crate) fn insert(&mut self, group: Pooled<L>)
+        requires room { 0 < self.old.room }
+        requires new { HasNoHead self.old.groups group.head.id }
+        ensures { (index : ℕ) × IsPlaceFor self.old.groups group.head.id index
+            × (self.new ≡ record {
+              groups = insert self.old.groups index group;
+              room = self.old.room - 1;
+            }) }
+    {
+        let place = group.head_id().rank() as usize;
+        mark(&mut self.paged, &mut self.filled, place, group.is_paged());
+        self.places[place] = Some(group);
+        self.room -= 1;
+    }
+
+    /// The group of the head goes, if it is here. The reserved room stays.
+    pub(crate) fn remove(&mut self, head: SpanId) -> Option<Pooled<L>>
+        ensures { Removes self.old head result self.new }
+    {
+        let rank = head.rank() as usize;
+        if rank >= self.places.len() {
+            return None;
+        }
+        mark(&mut self.paged, &mut self.filled, rank, false);
+        self.places[rank].take()
+    }
+
+    /// Frees the slot in the span at the place of the head's group, where it is live there at the generation, and
+    /// gives up the page of a group that it empties.
+    pub(crate) fn free(
+        &mut self,
+        head: SpanId,
+        place: usize,
+        slot: u8,
+        generation: u32,
+        table: &mut Table,
+    ) -> bool
+        requires here { (group : PooledState) × HasHeadAt self.old.groups head group
+            × (place < length (spans_of group)) }
+        requires pages { (index : ℕ) (group : PooledState)
+            → slice_get self.old.groups index ≡ Some group → IfSome group.page (HasPage table.old) }
+        ensures found { (index : ℕ) (group : PooledState) (span : SpanState)
+            → IsHeadOf self.old.groups head index group
+            → slice_get (spans_of group) place ≡ Some span
+            → (IsTrue result ↔ Holds span.log slot generation) }
+        ensures freed { (index : ℕ) (group : PooledState) (span : SpanState)
+            → IsHeadOf self.old.groups head index group
+            → slice_get (spans_of group) place ≡ Some span
+            → OnTrue result (FreesIn self.old index group place
+            (with_free_at span slot generation) table.old self.new table.new) }
+        ensures unknown { OnFalse result ((self.new ≡ self.old) × (table.new ≡ table.old)) }
+    {
+        let rank = head.rank() as usize;
+        let Some(group) = &mut self.places[rank] else {
+            unreachable!();
+        };
+        let freed = group.free(place, slot, generation, table);
+        mark(&mut self.paged, &mut self.filled, rank, group.is_paged());
+        freed
+    }
+
+    /// The group of lowest head that has a page, in as many steps however many groups there are.
+    pub(crate) fn lowest_paged(&self) -> Option<&Pooled<L>>
+        ensures { MatchOption result (HasNoPage self.now.groups)
+            (λ group. (index : ℕ) × IsFirstPaged self.now.groups index group.now) }
+    {
+        let Some(rank) = lowest(self.paged.as_slice(), &self.filled) else {
+            return None;
+        };
+        self.places[rank].as_ref()
+    }
+
+    /// How many keys are live in those that have a page.
+    pub(crate) fn live(&self) -> usize
+        ensures live { result ≡ live_count (spans_in
+            (filter (λ group. is_some group.page) self.now.groups)) }
+        ensures at_most { result ≤ SLOTS * length self.now.groups }
+    {
+        let mut live = 0;
+        let mut from = 0;
+        while let Some(rank) = next(self.paged.as_slice(), from) {
+            let Some(group) = &self.places[rank] else {
+                unreachable!();
+            };
+            live += group.live();
+            from = rank + 1;
+        }
+        live
+    }
+
+    /// How many spans they have, heads and guests.
+    pub(crate) fn span_count(&self) -> usize
+        requires { length (spans_in self.now.groups) ≤ ALL_IDS }
+        ensures { result ≡ length (spans_in self.now.groups) }
+    {
+        let mut count = 0;
+        for place in &self.places {
+            if let Some(group) = place {
+                count += group.len();
+            }
+        }
+        count
+    }
+
+    /// The head of each group that has a page and the slots that are live in one of its spans, by ascending head.
+    ///
+    /// # Errors
+    ///
+    /// `AllocError` where the list could not grow.
+    pub(crate) fn summaries(&self, alloc: Global) -> Result<Vec<(SpanId, Bits256)>, AllocError>
+        ensures { IfOk result (λ list. list.items
+            ≡ map summary (filter (λ group. is_some group.page) self.now.groups)) }
+    {
+        let mut list = Vec::new(alloc);
+        let mut from = 0;
+        while let Some(rank) = next(self.paged.as_slice(), from) {
+            let Some(group) = &self.places[rank] else {
+                unreachable!();
+            };
+            list.push((group.head_id(), group.occupied()))?;
+            from = rank + 1;
+        }
+        Ok(list)
+    }
+}
+
+impl Groups<Kept> {
+    /// Moves the log of each of their spans, by ascending head, to the end of a list with room for them.
+    pub(crate) fn into_logs(self, logs: &mut Vec<SpanLog>)
+        requires { length (spans_in self.groups) ≤ room_for_logs logs.old }
+        ensures logs { map span_of_log logs.new.items ≡ map span_of_log logs.old.items
+            ++ spans_in self.groups }
+        ensures legal { AreLegal logs.old.items → AreLegal logs.new.items }
+        ensures room { room_for_logs logs.old ≡ room_for_logs logs.new + length
+            (spans_in self.groups) }
+    {
+        for place in self.places {
+            if let Some(group) = place {
+                group.into_spans().into_logs(logs);
+            }
+        }
+    }
+}
+
+// Makes a place for each head and the bits of all, unless they are there.
+fn make_places<L: Log>(
+    places: &mut Vec<Option<Pooled<L>>>,
+    paged: &mut Vec<Bits256>,
+) -> Result<(), AllocError>
+    requires { HaveSize places.old.items paged.old.items }
+    ensures ok { OnOk result (AreReady places.old.items paged.old.items places.new.items
+        paged.new.items) }
+    ensures err { OnErr result ((places.new.items ≡ places.old.items)
+        × (paged.new.items ≡ paged.old.items)) }
+{
+    if places.len() > 0 {
+        return Ok(());
+    }
+    places.reserve(HEADS)?;
+    paged.reserve(HEADS / 256)?;
+    fill(places);
+    fill_parts(paged);
+    Ok(())
+}
+
+// Makes a place for each head, in reserved room.
+fn fill<L: Log>(places: &mut Vec<Option<Pooled<L>>>)
+    requires none { places.old.items ≡ [] }
+    requires room { ALL_IDS ≤ vec_capacity places.old }
+    ensures none { (at : ℕ) (place : Option PooledState)
+        → slice_get places.new.items at ≡ Some place → place ≡ None }
+    ensures len { length places.new.items ≡ ALL_IDS }
+{
+    for _ in 0..HEADS {
+        places.push_reserved(None);
+    }
+}
+
+// Makes the parts of a set of no number below their count.
+fn fill_parts(parts: &mut Vec<Bits256>)
+    requires none { parts.old.items ≡ [] }
+    requires room { 256 ≤ vec_capacity parts.old }
+    ensures none { HasNoneFrom parts.new.items 0 }
+    ensures len { length parts.new.items ≡ 256 }
+{
+    for _ in 0..HEADS / 256 {
+        parts.push_reserved(Bits256::empty());
+    }
+}

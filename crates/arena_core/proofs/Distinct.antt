@@ -1,0 +1,98 @@
+-- Where no span stands twice in a core, no group stands twice on its side of a mark.
+use Rattle.std.proofs.Common.{◌≡◌, ◌≤◌, Bool, true, false, cond, List, [], ◌∷◌, refl, ap, ◌∙◌, arith, is_some, nat_lt}
+use Rattle.std.specs.Prelude.{filter, count_by}
+use Rattle.std.specs.List.{AllByRecursion, IsDistinct}
+use Rattle.std.proofs.lemmas.List.{map-append}
+use Rattle.span.specs.declared.id.SpanId.{SpanId}
+use Rattle.span.specs.Ids.{same_span}
+use Rattle.shard.specs.Group.{GroupState, spans_of}
+use Rattle.shard.specs.State.{ShardState, spans_in}
+use Rattle.groups.proofs.Lists.{count-append, count-cons, one_where}
+use Rattle.abandoned.specs.State.{PooledState, spans_in as pooled_spans, spans_of as pooled_spans_of}
+use Rattle.mesh_graph.specs.declared.entry.Entry.{Entry}
+use Rattle.mesh_graph.specs.Groups.{ids}
+use Rattle.span.proofs.Ids.{same_span-flip}
+use Rattle.marks.specs.Seen.{AreDistinct, abandoned_entries, owned_entries}
+use Rattle.arena_core.specs.Sound.{IsSound}
+use Rattle.arena_core.specs.State.{CoreState, opened_by}
+use Rattle.marks.proofs.Entries.{entries_in, entries_pooled}
+use Rattle.arena_core.proofs.Lists.{cond-le_one}
+use Rattle.arena_core.proofs.Spans.{is_named, same_span-self, times, times-parts, times_owned, times_owned-cons}
+
+-- ids that stand once
+
+-- one id is the other
+abbrev is_id : SpanId → SpanId → Bool
+is_id id other = same_span other id
+
+apart-from_none : (id : SpanId) (others : List SpanId) → count_by (is_id id) others ≡ 0 → AllByRecursion (λ other. same_span id other ≡ false) others
+apart-from_none id [] none = tt
+apart-from_none id (other ∷ others) none = (
+  same_span-flip id other ∙ by_test (same_span other id) refl,
+  apart-from_none id others (omega (arith, count-cons (is_id id) other others)),
+)
+  where
+    by_test : (b : Bool) → same_span other id ≡ b → same_span other id ≡ false
+    by_test true e = absurd (omega (arith, count-cons (is_id id) other others, one_where (same_span other id) e))
+    by_test false e = e
+
+pub IsDistinct-once : (all : List SpanId) → ((id : SpanId) → count_by (is_id id) all ≤ 1) → IsDistinct same_span all
+unfolding IsDistinct
+IsDistinct-once [] once = tt
+IsDistinct-once (id ∷ all) once = (
+  apart-from_none id all (omega (arith, once id, count-cons (is_id id) id all, one_where (same_span id id) (same_span-self id))),
+  IsDistinct-once all (λ other. omega (arith, once other, count-cons (is_id other) id all)),
+)
+
+-- a group's head is one of its spans
+
+heads_in : (id : SpanId) (groups : List GroupState) → count_by (is_id id) (ids (entries_in groups)) ≤ count_by (is_named id) (spans_in groups)
+heads_in id [] = omega arith
+heads_in id (group ∷ groups) =
+    omega (
+      arith,
+      count-cons (is_id id) group.head.id (ids (entries_in groups)),
+      count-append (is_named id) (spans_of group) (spans_in groups),
+      count-cons (is_named id) group.head group.guests,
+      heads_in id groups,
+    )
+
+heads_owned : (id : SpanId) (shards : List ShardState) → count_by (is_id id) (ids (owned_entries shards)) ≤ times_owned id shards
+heads_owned id [] = omega arith
+heads_owned id (shard ∷ shards) =
+    omega (
+      arith,
+      ap (count_by (is_id id)) (map-append (λ (entry : Entry). entry.id) (entries_in shard.groups) (owned_entries shards)),
+      count-append (is_id id) (ids (entries_in shard.groups)) (ids (owned_entries shards)),
+      times_owned-cons id shard shards,
+      heads_in id shard.groups,
+      heads_owned id shards,
+    )
+
+heads_pooled : (id : SpanId) (groups : List PooledState) → count_by (is_id id) (ids (entries_pooled (filter (λ group. is_some group.page) groups))) ≤ count_by (is_named id) (pooled_spans groups)
+heads_pooled id [] = omega arith
+heads_pooled id (group ∷ groups) = by_page (is_some group.page) (heads_pooled id groups)
+  where
+    rest : List PooledState
+    rest = filter (λ (other : PooledState). is_some other.page) groups
+
+    by_page : (b : Bool) → count_by (is_id id) (ids (entries_pooled rest)) ≤ count_by (is_named id) (pooled_spans groups)
+        → count_by (is_id id) (ids (entries_pooled (cond b (group ∷ rest) rest))) ≤ count_by (is_named id) (pooled_spans (group ∷ groups))
+    by_page true fewer =
+        omega (
+          arith,
+          count-cons (is_id id) group.head.id (ids (entries_pooled rest)),
+          count-append (is_named id) (pooled_spans_of group) (pooled_spans groups),
+          count-cons (is_named id) group.head group.guests,
+        )
+    by_page false fewer = omega (arith, count-append (is_named id) (pooled_spans_of group) (pooled_spans groups))
+
+-- where no span stands twice, no group does
+pub AreDistinct-once : (core : CoreState) → ((id : SpanId) → times id core ≤ 1) → AreDistinct core.pool core.shards
+AreDistinct-once core once = record {
+  abandoned = IsDistinct-once (ids (abandoned_entries core.pool)) (λ id. omega (arith, once id, times-parts id core, heads_pooled id core.pool.groups));
+  owned = IsDistinct-once (ids (owned_entries core.shards)) (λ id. omega (arith, once id, times-parts id core, heads_owned id core.shards));
+}
+
+pub AreDistinct-sound : (core : CoreState) → IsSound core → AreDistinct core.pool core.shards
+AreDistinct-sound core sound = AreDistinct-once core (λ id. omega (arith, sound.groups.once id, cond-le_one (nat_lt id.serial (opened_by core.shards id.shard))))

@@ -1,8 +1,0 @@
-use Rattle.std.proofs.Common.{◌≡◌, ◌++◌, drop, map, take}
-use Rattle.arena_core.specs.Closings.{closing}
-use Rattle.arena_core.proofs.closing.close_planned.Given as goal
-
-abbrev pub invariant-loop-shard : goal.invariant-loop-shard
-invariant-loop-shard g l =
-    let lent = g.H.LendsShard.lent in
-    map lent l.shards ≡ map (closing l.pairs) (take l.shard-index (map lent l.initial.shards)) ++ drop l.shard-index (map lent l.initial.shards)

@@ -1,6 +1,0 @@
-use Rattle.std.proofs.Common.{◌≡◌, ◌++◌, drop, map, take}
-use Rattle.arena_core.specs.Closings.{reopened}
-use Rattle.arena_core.proofs.closing.reopen_all.Given as goal
-
-abbrev pub invariant-loop-shard : goal.invariant-loop-shard
-invariant-loop-shard g l = l.shards ≡ map reopened (take l.shard-index l.initial.shards) ++ drop l.shard-index l.initial.shards

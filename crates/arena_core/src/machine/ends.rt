@@ -1,0 +1,65 @@
+// The end of a shard, and the adoption of a group.
+ghost use Rattle.std.specs.Prelude.{◌≡◌, ◌≤◌, MatchResult};
+ghost use Rattle.arena_core.specs.Sound.{IsSound};
+ghost use Rattle.arena_core.specs.State.{shown};
+ghost use Rattle.arena_core.specs.Step.{CoreStep};
+ghost use Rattle.arena_core.specs.declared.event.Event.TheVariants as event;
+ghost use Rattle.arena_core.specs.declared.reply.Reply.TheVariants as reply;
+
+use super::Core;
+use crate::reply::{Refusal, adopt_refusal, end_refusal};
+use span::{Log, SpanId};
+
+impl<L: Log> Core<L> {
+    // Ends the shard of this number: its groups go to the pool.
+    pub(super) fn end(&mut self, number: u32) -> Result<(), Refusal>
+        ensures exact { MatchResult result
+            (λ _. CoreStep self.old (event.End number) reply.ShardEnded self.new)
+            (λ refusal. CoreStep self.old (event.End number) (reply.Refused refusal) self.new) }
+        ensures same { shown self.new ≡ shown self.old }
+        ensures sound { IsSound self.new }
+    {
+        let Some(shard) = self.shards.get_mut(number as usize) else {
+            return Err(Refusal::Config);
+        };
+        match self.pool.receive(shard) {
+            Ok(()) => {}
+            Err(error) => return Err(end_refusal(error)),
+        }
+        Ok(())
+    }
+
+    // Why no group is adopted by a shard that there is not.
+    fn no_adopter(&self, number: u32) -> Refusal
+        requires { self.now.limits.shards ≤ number }
+        ensures { CoreStep self.now (event.Adopt number) (reply.Refused result) self.now }
+    {
+        if self.plan.is_open() {
+            return Refusal::PlanOpen;
+        }
+        if self.pool.pages() == 0 {
+            return Refusal::NothingToAdopt;
+        }
+        Refusal::Config
+    }
+
+    // Moves the pool's group of lowest head that has a page to the shard of this number, and notes that its spans are
+    // there.
+    pub(super) fn adopt(&mut self, number: u32) -> Result<SpanId, Refusal>
+        ensures exact { MatchResult result
+            (λ head. CoreStep self.old (event.Adopt number) (reply.Adopted head) self.new)
+            (λ refusal. CoreStep self.old (event.Adopt number) (reply.Refused refusal) self.new) }
+        ensures same { shown self.new ≡ shown self.old }
+        ensures sound { IsSound self.new }
+    {
+        let Some(shard) = self.shards.get_mut(number as usize) else {
+            return Err(self.no_adopter(number));
+        };
+        let head = match self.pool.adopt(shard) {
+            Ok(head) => head,
+            Err(error) => return Err(adopt_refusal(error)),
+        };
+        self.whereabouts.note(number as u8, shard, head, 0);
+        Ok(head)
+    }
+}

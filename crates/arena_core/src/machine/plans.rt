@@ -1,0 +1,127 @@
+// Marks, the steps of their plans, and closes.
+ghost use Rattle.std.specs.Prelude.{◌≡◌, ◌<◌, ℕ, MatchResult, length};
+ghost use Rattle.shard.specs.Group.{GroupState, spans_of};
+ghost use Rattle.shard.specs.Moves.{IsHeadOf};
+ghost use Rattle.shard.specs.Sound.{IsSound as IsSoundShard};
+ghost use Rattle.arena_core.specs.Moved.{StandsIn};
+ghost use Rattle.arena_core.specs.Plan.{IsNext};
+ghost use Rattle.arena_core.specs.Sound.{IsSound};
+ghost use Rattle.marks.specs.Plans.{OpenPlan};
+ghost use Rattle.arena_core.specs.State.{shown};
+ghost use Rattle.arena_core.specs.Step.{CoreStep};
+ghost use Rattle.arena_core.specs.declared.event.Event.TheVariants as event;
+ghost use Rattle.arena_core.specs.declared.reply.Refusal.TheVariants as refusal;
+ghost use Rattle.arena_core.specs.declared.reply.Reply.TheVariants as reply;
+
+use super::Core;
+use crate::reply::{Refusal, Reply, mark_refusal};
+use certificate::Certificate;
+use fold::{Step, fold_one};
+use marks::{mark_in, reopen_all};
+use shard::Shard;
+use span::{Log, SpanId};
+use std::alloc::AllocError;
+
+impl<L: Log> Core<L> {
+    // Makes a plan of as many folds as can be of what stands now, opens it, and closes the groups that it folds onto.
+    // The plan is made before anything changes.
+    pub(super) fn mark(&mut self) -> Result<Certificate, Refusal>
+        ensures exact { MatchResult result
+            (λ certificate. CoreStep self.old event.Mark (reply.Marked certificate) self.new)
+            (λ refusal. CoreStep self.old event.Mark (reply.Refused refusal) self.new) }
+        ensures same { shown self.new ≡ shown self.old }
+        ensures sound { IsSound self.new }
+    {
+        let certificate = match mark_in(self.alloc, &mut self.pool, &mut self.shards) {
+            Ok(certificate) => certificate,
+            Err(error) => return Err(mark_refusal(error)),
+        };
+        self.plan.begin(certificate.plan.pairs());
+        Ok(certificate)
+    }
+
+    // Carries out the next pair of the open plan.
+    pub(super) fn take_step(&mut self) -> Reply
+        ensures exact { CoreStep self.old event.Step result self.new }
+        ensures same { shown self.new ≡ shown self.old }
+        ensures sound { IsSound self.new }
+    {
+        if !self.plan.is_open() {
+            return Reply::NoPlan;
+        }
+        let Some((abandoned, owned)) = self.plan.next() else {
+            return Reply::NoPairLeft;
+        };
+        let number = self.number_of(owned);
+        match self.fold_next(number, abandoned, owned) {
+            Ok(step) => Reply::Stepped(abandoned, owned, step),
+            Err(_) => Reply::Refused(Refusal::OutOfMemory),
+        }
+    }
+
+    // The number of the shard that has the span.
+    fn number_of(&self, id: SpanId) -> usize
+        requires { (number : ℕ) × StandsIn self.now.shards id number }
+        ensures { StandsIn self.now.shards id result }
+    {
+        let home = id.shard as usize;
+        if self.shards[home].has(id) {
+            return home;
+        }
+        let Some(number) = self.whereabouts.shard_of(id) else {
+            unreachable!();
+        };
+        number
+    }
+
+    // Folds the next pair, whose owned group stands in the shard of this number, and notes that the spans that came are
+    // there.
+    fn fold_next(
+        &mut self,
+        number: usize,
+        abandoned: SpanId,
+        owned: SpanId,
+    ) -> Result<Step, AllocError>
+        requires next { (plan : OpenPlan) × IsNext self.old plan (abandoned, owned) }
+        requires there { StandsIn self.old.shards owned number }
+        ensures exact { MatchResult result
+            (λ step. CoreStep self.old event.Step (reply.Stepped abandoned owned step) self.new)
+            (λ _. CoreStep self.old event.Step (reply.Refused refusal.OutOfMemory) self.new) }
+        ensures same { shown self.new ≡ shown self.old }
+        ensures sound { IsSound self.new }
+    {
+        let shard = &mut self.shards[number];
+        let before = span_count(shard, owned);
+        let step = fold_one(&mut self.pool, shard, abandoned, owned)?;
+        self.whereabouts.note(number as u8, shard, owned, before);
+        self.plan.advance();
+        Ok(step)
+    }
+
+    // Ends the open plan, whatever of it is left, and opens all groups.
+    pub(super) fn close(&mut self) -> Reply
+        ensures exact { CoreStep self.old event.Close result self.new }
+        ensures same { shown self.new ≡ shown self.old }
+        ensures sound { IsSound self.new }
+    {
+        if !self.plan.is_open() {
+            return Reply::NoPlan;
+        }
+        reopen_all(&mut self.shards);
+        self.pool.plan_closed();
+        self.plan.end();
+        Reply::Closed
+    }
+}
+
+// How many spans the group of the head has, if the shard has it.
+fn span_count<L: Log>(shard: &Shard<L>, head: SpanId) -> usize
+    requires { IsSoundShard shard.now }
+    ensures { (index : ℕ) (group : GroupState) → IsHeadOf shard.now.groups head index group
+        → result ≡ length (spans_of group) }
+{
+    match shard.brief(head) {
+        Some(brief) => brief.spans,
+        None => 0,
+    }
+}

@@ -1,0 +1,19 @@
+// What the calls of a worker are held against.
+use crate::first::Firsts;
+use crate::slot::SlotChange;
+use span::SpanLog;
+
+/// The logs, and the tables that were made of them and of the receipts: what the calls of each worker are held against, whichever
+/// thread does so.
+#[derive(Clone, Copy)]
+pub struct Records<'a> {
+    pub logs: &'a [SpanLog],
+    /// Where each span's log stands.
+    pub table: &'a [Option<usize>],
+    /// The section of each change of each log.
+    pub sections: &'a [Vec<Option<u64>>],
+    /// The changes of each log by slot.
+    pub orders: &'a [Vec<SlotChange>],
+    /// Where those of a slot begin.
+    pub firsts: &'a Firsts,
+}

@@ -1,0 +1,3 @@
+pub mod Job
+pub mod Store
+pub mod Telling

@@ -1,0 +1,116 @@
+-- What the program says of a fault, and its status.
+use Rattle.std.specs.Prelude.{◌≡◌, ℕ, Bool, true, false, List, ◌++◌, Option, codes, if◌then◌else◌, ⊤}
+use Rattle.std.specs.Fmt.{decimal}
+use Rattle.std.specs.Io.KnownBytes.{Appends}
+use Rattle.std.specs.IoError.{error_kind}
+use Rattle.std.specs.declared.io.Error.{Error}
+use Rattle.std.specs.declared.io.ErrorKind as io_kind
+use Rattle.std.specs.declared.io.ErrorKind.TheVariants as io_kinds
+use Rattle.clap.specs.Words.{kind_of}
+use Rattle.clap.specs.declared.error.kind.ErrorKind.{ErrorKind}
+use Rattle.clap.specs.declared.error.kind.ErrorKind.TheVariants as kind
+use Rattle.audit.specs.Faults as audit_causes
+use Rattle.audit.specs.declared.fault.AuditCause.{AuditCause}
+use Rattle.certificate.specs.Causes as certificate_causes
+use Rattle.trace_text.specs.Causes.{word_of}
+use Rattle.command_line.specs.declared.fault.Fault.{Fault}
+use Rattle.command_line.specs.declared.fault.Fault.TheVariants as fault
+use Rattle.trace_runner.specs.declared.fault.ReplayError.{ReplayError}
+use Rattle.trace_runner.specs.declared.fault.ReplayError.TheVariants as replay_error
+use Rattle.trace_runner.specs.declared.fault.CheckError.{CheckError}
+use Rattle.trace_runner.specs.declared.fault.CheckError.TheVariants as check_error
+use Rattle.command_line.specs.declared.job.JobError.{JobError}
+use Rattle.command_line.specs.declared.job.JobError.TheVariants as job_error
+use Rattle.command_line.specs.declared.telling.TellError.{TellError}
+use Rattle.command_line.specs.declared.telling.TellError.TheVariants as tell_error
+use Rattle.thread_runner.specs.declared.error.ThreadsError.{ThreadsError}
+use Rattle.thread_runner.specs.declared.error.ThreadsError.TheVariants as threads_error
+use Rattle.trace_runner.specs.Sink.{AppendsFront}
+
+-- the program's fault where a replay stopped
+abbrev pub fault_of_replay : ReplayError → Fault
+fault_of_replay replay_error.OutOfMemory = fault.OutOfMemory
+fault_of_replay (replay_error.BadTrace line c) = fault.BadTrace line c
+fault_of_replay replay_error.SinkFailed = fault.SinkFailed
+
+-- the program's fault where a replay by threads stopped
+abbrev pub fault_of_threads : ThreadsError → Fault
+fault_of_threads threads_error.OutOfMemory = fault.OutOfMemory
+fault_of_threads (threads_error.BadTrace line c) = fault.BadTrace line c
+fault_of_threads threads_error.Doubled = fault.Doubled
+fault_of_threads (threads_error.AuditFault c) = fault.Audit c
+fault_of_threads threads_error.SinkFailed = fault.SinkFailed
+
+-- the program's fault where a check stopped
+abbrev pub fault_of_check : CheckError → Fault
+fault_of_check check_error.OutOfMemory = fault.OutOfMemory
+fault_of_check (check_error.BadCertificate line c) = fault.BadCertificate line c
+fault_of_check check_error.SinkFailed = fault.SinkFailed
+
+-- the program's fault where the words name no job
+abbrev pub fault_of_job : JobError → Fault
+fault_of_job job_error.OutOfMemory = fault.OutOfMemory
+fault_of_job (job_error.Words error) = fault.Words error
+
+-- the system says that memory ran out
+abbrev pub is_want_of_memory : io_kind.ErrorKind → Bool
+is_want_of_memory io_kinds.OutOfMemory = true
+is_want_of_memory _ = false
+
+-- the program's fault where a file or standard input could not be read
+abbrev pub fault_of_io : Error → Fault
+fault_of_io error = if is_want_of_memory (error_kind error) then fault.OutOfMemory else fault.Io
+
+-- help or the version was asked for
+abbrev pub is_request : ErrorKind → Bool
+is_request kind.DisplayHelp = true
+is_request kind.DisplayVersion = true
+is_request _ = false
+
+-- the fault is that help was asked for, which is none
+abbrev pub asks_for_help : Fault → Bool
+asks_for_help (fault.Words error) = is_request (kind_of error)
+asks_for_help _ = false
+
+-- the status with which the program ends
+abbrev pub status_of : Fault → ℕ
+status_of (fault.BadTrace line c) = 1
+status_of (fault.BadCertificate line c) = 1
+status_of (fault.Words error) = if is_request (kind_of error) then 0 else 2
+status_of fault.OutOfMemory = 3
+status_of fault.Doubled = 4
+status_of (fault.Audit c) = 4
+status_of fault.SinkFailed = 5
+status_of fault.Io = 5
+
+-- the status with which the program ends where a fault was not told
+abbrev pub status_where_untold : TellError → ℕ
+status_where_untold tell_error.OutOfMemory = 3
+status_where_untold tell_error.SinkFailed = 5
+
+-- `line N: CAUSE`
+abbrev pub line_message : ℕ → List ℕ → List ℕ
+line_message line word = codes "line " ++ decimal line ++ codes ": " ++ word ++ codes "\n"
+
+-- `audit: CAUSE`
+abbrev pub audit_message : AuditCause → List ℕ
+audit_message c = codes "audit: " ++ audit_causes.word_of c ++ codes "\n"
+
+-- the text is what is said of the fault; what is said of words is the parser's own
+abbrev pub IsMessage : Fault → List ℕ → Type 0
+IsMessage (fault.BadTrace line c) text = text ≡ line_message line (word_of c)
+IsMessage (fault.BadCertificate line c) text = text ≡ line_message line (certificate_causes.word_of c)
+IsMessage (fault.Words error) text = ⊤
+IsMessage fault.OutOfMemory text = text ≡ codes "memory\n"
+IsMessage fault.Doubled text = text ≡ codes "doubled\n"
+IsMessage (fault.Audit c) text = text ≡ audit_message c
+IsMessage fault.SinkFailed text = text ≡ codes "io\n"
+IsMessage fault.Io text = text ≡ codes "io\n"
+
+-- what is said of the fault went in whole
+abbrev pub TakesMessage : Fault → Option (List ℕ) → Option (List ℕ) → Type 0
+TakesMessage f old new = (text : List ℕ) × IsMessage f text × Appends old new text
+
+-- a prefix of what is said of it went in
+abbrev pub TakesFront : Fault → Option (List ℕ) → Option (List ℕ) → Type 0
+TakesFront f old new = (text : List ℕ) × IsMessage f text × AppendsFront old new text

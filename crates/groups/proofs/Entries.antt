@@ -1,0 +1,98 @@
+-- The entries of a directory, before and after a change of its table.
+use Rattle.std.proofs.Common.{suc, ◌≡◌, ℕ, ◌+◌, ◌-◌, ◌≤◌, cond, List, [], length, drop, slice_get, Option, Some, None, ap, sym, ◌∙◌, refl, inl, inr, arith, eq-eqb, eqb, nat_eq}
+use Rattle.std.specs.Cmp.{nat_cmp_total}
+use Rattle.std.specs.FinMap as map
+use Rattle.std.specs.HashMap as hash
+use Rattle.std.specs.HashMap.{HashMap}
+use Rattle.std.proofs.lemmas.Bool.{cases_eq, ne_eqb}
+use Rattle.std.proofs.lemmas.List.{drop_all}
+use Rattle.page_table.proofs.Maps.{find-lookup, get-insert, get-remove, same_nat_map}
+use Rattle.page_table.proofs.Members.{Sets, Sets-number}
+use Rattle.span.specs.Ids.{rank}
+use Rattle.span.specs.State.{SpanState}
+use Rattle.span.specs.declared.id.SpanId.{SpanId}
+use Rattle.groups.specs.Directory.{DirectoryState, entered, struck}
+use Rattle.groups.specs.DirectoryKept.{entries_of}
+use Rattle.groups.specs.declared.directory.Place.{Place}
+use Rattle.groups.proofs.MappedSpans.{drop_step}
+
+-- a directory is given by its parts
+pub same_directory : (a b : DirectoryState) → a.entries ≡ b.entries → a.room ≡ b.room → a ≡ b
+same_directory a b entries room i = record { entries = entries i; room = room i }
+
+module _ {S : Type 0} where
+  pub get-entries_of : (m : HashMap ℕ Place S) (q : ℕ) → map.get (entries_of m) q ≡ hash.get nat_eq m q
+  unfolding entries_of
+  get-entries_of m q = map.get-from_entries nat_cmp_total m.entries q ∙ find-lookup q m.entries
+
+  pub entries_of-empty : (m : HashMap ℕ Place S) → m.entries ≡ [] → entries_of m ≡ map.empty
+  unfolding entries_of
+  entries_of-empty m none = ap map.from_entries none
+
+  module _ (m n : HashMap ℕ Place S) where
+    pub entries_of-same : ((q : ℕ) → hash.get nat_eq n q ≡ hash.get nat_eq m q) → entries_of n ≡ entries_of m
+    entries_of-same same = same_nat_map _ _ (λ q. get-entries_of n q ∙ same q ∙ sym (get-entries_of m q))
+
+    set_at : (key : ℕ) (value : Option Place) → Sets (hash.get nat_eq m) (hash.get nat_eq n) key value → (q : ℕ) → hash.get nat_eq n q ≡ cond (eqb q key) value (map.get (entries_of m) q)
+    set_at key value set q = elim (cases_eq q key) [
+      | inl here ↦ ap (hash.get nat_eq n) here ∙ set.changed ∙ sym (ap (λ b. cond b value (map.get (entries_of m) q)) (eq-eqb q key here))
+      | inr other ↦ set.others q other ∙ sym (get-entries_of m q) ∙ sym (ap (λ b. cond b value (map.get (entries_of m) q)) (ne_eqb q key other))
+    ]
+
+    pub entries_of-insert : (key : ℕ) (place : Place) → hash.Updates nat_eq m n key (Some place) → entries_of n ≡ map.insert (entries_of m) key place
+    entries_of-insert key place updates = same_nat_map _ _ (λ q. get-entries_of n q ∙ set_at key (Some place) (Sets-number m n key (Some place) updates) q ∙ sym (get-insert (entries_of m) key place q))
+
+    pub entries_of-remove : (key : ℕ) → hash.Updates nat_eq m n key None → entries_of n ≡ map.remove (entries_of m) key
+    entries_of-remove key updates = same_nat_map _ _ (λ q. get-entries_of n q ∙ set_at key None (Sets-number m n key None updates) q ∙ sym (get-remove (entries_of m) key q))
+
+-- the guests from the first on are entered, up to this place; with the others it comes to all of them
+pub record IsEntering (before now : DirectoryState) (guests : List SpanState) (head : SpanId) (first place : ℕ) : Type 0 where
+  pub entries : entered now.entries (drop place guests) head (place + 1) ≡ entered before.entries (drop first guests) head (first + 1)
+  pub room : now.room + place ≡ before.room + first
+  pub least : first ≤ place
+
+pub IsEntering-first : (directory : DirectoryState) (guests : List SpanState) (head : SpanId) (first : ℕ) → IsEntering directory directory guests head first first
+IsEntering-first directory guests head first = record { entries = refl; room = refl; least = omega arith }
+
+module _ (before now : DirectoryState) (guests : List SpanState) (head : SpanId) (first place : ℕ) (is : IsEntering before now guests head first place) where
+  pub IsEntering-next : (guest : SpanState) → slice_get guests place ≡ Some guest → 1 ≤ now.room
+      → IsEntering before (record { entries = map.insert now.entries (rank guest.id) (record { head = head; place = place + 1 }); room = now.room - 1 }) guests head first (place + 1)
+  IsEntering-next guest here some = record {
+    entries =
+        let next : place + 1 ≡ suc place = omega arith in
+        let after : place + 1 + 1 ≡ suc (place + 1) = omega arith in
+        let with_it = map.insert now.entries (rank guest.id) (record { head = head; place = place + 1 }) in
+        ap (entered with_it (drop (place + 1) guests) head) after
+        ∙ ap (λ n. entered with_it (drop n guests) head (suc (place + 1))) next
+        ∙ ap (λ rest. entered now.entries rest head (place + 1)) (sym (drop_step guests place guest here)) ∙ is.entries;
+    room = omega (arith, is.room);
+    least = omega (arith, is.least);
+  }
+
+  pub IsEntering-all : length guests ≤ place → place ≤ length guests → now ≡ record { entries = entered before.entries (drop first guests) head (first + 1); room = before.room + first - length guests }
+  IsEntering-all most least =
+      let at : place ≡ length guests = omega arith in
+      same_directory now (record { entries = entered before.entries (drop first guests) head (first + 1); room = before.room + first - length guests })
+      (ap (λ rest. entered now.entries rest head (place + 1)) (sym (ap (λ n. drop n guests) at ∙ drop_all (length guests) guests (omega arith))) ∙ is.entries)
+      (omega (arith, is.room))
+
+-- the spans before the index are struck; with the others it comes to all of them
+pub record IsStriking (before now : DirectoryState) (spans : List SpanState) (index : ℕ) : Type 0 where
+  pub entries : struck now.entries (drop index spans) ≡ struck before.entries spans
+  pub room : now.room ≡ before.room
+
+module _ (before now : DirectoryState) (spans : List SpanState) (index : ℕ) (is : IsStriking before now spans index) where
+  pub IsStriking-next : (span : SpanState) → slice_get spans index ≡ Some span → IsStriking before (record now { entries = map.remove now.entries (rank span.id) }) spans (index + 1)
+  IsStriking-next span here = record {
+    entries =
+        let next : index + 1 ≡ suc index = omega arith in
+        ap (λ n. struck (map.remove now.entries (rank span.id)) (drop n spans)) next ∙ ap (struck now.entries) (sym (drop_step spans index span here)) ∙ is.entries;
+    room = is.room;
+  }
+
+  pub IsStriking-all : length spans ≤ index → index ≤ length spans → now ≡ record before { entries = struck before.entries spans }
+  IsStriking-all most least =
+      let at : index ≡ length spans = omega arith in
+      same_directory now (record before { entries = struck before.entries spans })
+      (ap (struck now.entries) (sym (ap (λ n. drop n spans) at ∙ drop_all (length spans) spans (omega arith))) ∙ is.entries)
+      is.room

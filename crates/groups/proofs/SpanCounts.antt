@@ -1,0 +1,83 @@
+-- How many spans groups have: no more than there are ids, where none stands twice.
+use Rattle.std.proofs.Common.{zero, suc, ◌≡◌, ℕ, ◌<◌, ◌≤◌, ◌+◌, ◌++◌, ◌||◌, Bool, true, false, List, [], ◌∷◌, length, map, get_or, take, slice_get, Some, ap, subst, sym, ◌∙◌, refl, arith, eqb, eqb-true}
+use Rattle.std.specs.Prelude.{count_by}
+use Rattle.std.specs.List.{flat_map, list_any}
+use Rattle.std.proofs.lemmas.List.{length-append}
+use Rattle.std.proofs.lemmas.Map.Keys.{IsDistinct-from_apart}
+use Rattle.std.proofs.lemmas.Map.Steps.{length-le_from_distinct_below}
+use Rattle.span.specs.Ids.{rank, same_span}
+use Rattle.span.specs.State.{SpanState}
+use Rattle.span.specs.declared.id.SpanId.{SpanId}
+use Rattle.span.proofs.Ids.{test_from_same_id}
+use Rattle.groups.proofs.Lists.{count-two}
+use Rattle.groups.proofs.Ranks.{id_from_rank}
+
+abbrev span_rank : SpanState → ℕ
+span_rank span = rank span.id
+
+length_ranks : (spans : List SpanState) → length (map span_rank spans) ≡ length spans
+length_ranks [] = refl
+length_ranks (span ∷ spans) = ap suc (length_ranks spans)
+
+-- the span whose rank stands at the place
+ranked_at : (spans : List SpanState) (at d : ℕ) → at < length spans → (span : SpanState) × (slice_get spans at ≡ Some span) × (get_or (map span_rank spans) at d ≡ rank span.id)
+ranked_at [] at d low = absurd (omega arith)
+ranked_at (span ∷ spans) zero d low = (span, refl, refl)
+ranked_at (span ∷ spans) (suc at) d low = ranked_at spans at d (omega arith)
+
+ranks_below : (spans : List SpanState) (number : ℕ) → list_any (eqb number) (map span_rank spans) ≡ true → number < 65536
+ranks_below [] number among = absurd cc
+ranks_below (span ∷ spans) number among = by_test (eqb number (rank span.id)) refl (ranks_below spans number) among
+  where
+    rank_fits : rank span.id < 65536
+    rank_fits =
+        let shard : span.id.shard < 64 = span.id.shard_in_range in
+        let serial : span.id.serial < 1024 = span.id.serial_in_range in
+        omega arith
+
+    by_test : (b : Bool) → eqb number (rank span.id) ≡ b → (list_any (eqb number) (map span_rank spans) ≡ true → number < 65536)
+        → (b || list_any (eqb number) (map span_rank spans)) ≡ true → number < 65536
+    by_test true e rest any = subst (λ n. n < 65536) (sym (eqb-true number (rank span.id) e)) rank_fits
+    by_test false e rest any = rest any
+
+-- spans of which none stands twice are at most as many as there are ids
+pub at_most_ids : (spans : List SpanState) → ((id : SpanId) → count_by (λ span. same_span span.id id) spans ≤ 1) → length spans ≤ 65536
+at_most_ids spans once =
+    let fewer = length-le_from_distinct_below (map span_rank spans) 65536 (IsDistinct-from_apart eqb (map span_rank spans) apart) (ranks_below spans) in
+    omega (arith, length_ranks spans)
+  where
+    apart : (low high d : ℕ) → low < high → high < length (map span_rank spans) → eqb (get_or (map span_rank spans) low d) (get_or (map span_rank spans) high d) ≡ false
+    apart low high d less within =
+        let long = length_ranks spans in
+        let first = ranked_at spans low d (omega arith) in
+        let second = ranked_at spans high d (omega arith) in
+        by_test first.0 second.0 first.1 second.1 first.2 second.2 (eqb (get_or (map span_rank spans) low d) (get_or (map span_rank spans) high d)) refl
+      where
+        by_test : (a b : SpanState) → slice_get spans low ≡ Some a → slice_get spans high ≡ Some b → get_or (map span_rank spans) low d ≡ rank a.id → get_or (map span_rank spans) high d ≡ rank b.id
+            → (t : Bool) → eqb (get_or (map span_rank spans) low d) (get_or (map span_rank spans) high d) ≡ t → eqb (get_or (map span_rank spans) low d) (get_or (map span_rank spans) high d) ≡ false
+        by_test a b at_low at_high low_is high_is false e = e
+        by_test a b at_low at_high low_is high_is true e = absurd (
+            let same : a.id ≡ b.id = id_from_rank a.id b.id (sym low_is ∙ eqb-true _ _ e ∙ high_is) in
+            let two = count-two (λ (s : SpanState). same_span s.id b.id) spans low high a b less at_low at_high (test_from_same_id a.id b.id same) (test_from_same_id b.id b.id refl) in
+            let most = once b.id in
+            omega arith)
+
+-- the spans of the first groups are no more than those of all
+pub length-take_spans : {G : Type 0} (spans_of : G → List SpanState) (groups : List G) (count : ℕ) → length (flat_map spans_of (take count groups)) ≤ length (flat_map spans_of groups)
+length-take_spans spans_of [] zero = omega arith
+length-take_spans spans_of [] (suc count) = omega arith
+length-take_spans spans_of (group ∷ groups) zero = omega arith
+length-take_spans spans_of (group ∷ groups) (suc count) =
+    omega (arith, length-append (spans_of group) (flat_map spans_of (take count groups)), length-append (spans_of group) (flat_map spans_of groups), length-take_spans spans_of groups count)
+
+-- the spans of the first groups and one more
+pub length-spans_more : {G : Type 0} (spans_of : G → List SpanState) (groups : List G) (at : ℕ) (group : G) → at < length groups → group ≡ get_or groups at group
+    → length (flat_map spans_of (take (at + 1) groups)) ≡ length (flat_map spans_of (take at groups)) + length (spans_of group)
+length-spans_more spans_of [] at group low is = absurd (omega arith)
+length-spans_more spans_of (first ∷ groups) zero group low is =
+    ap (λ g. length (spans_of g ++ [])) (sym is) ∙ length-append (spans_of group) [] ∙ omega arith
+length-spans_more spans_of (first ∷ groups) (suc at) group low is =
+    let rest = length-spans_more spans_of groups at group (omega arith) is in
+    let next : suc at + 1 ≡ suc (at + 1) = omega arith in
+    ap (λ n. length (flat_map spans_of (take n (first ∷ groups)))) next ∙ length-append (spans_of first) (flat_map spans_of (take (at + 1) groups))
+    ∙ omega (arith, length-append (spans_of first) (flat_map spans_of (take at groups)))

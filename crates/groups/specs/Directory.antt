@@ -1,0 +1,50 @@
+-- Where guests stand: the heads of their groups, and their places there.
+use Rattle.std.specs.Prelude.{suc, ◌≡◌, ℕ, List, [], ◌∷◌, Some, slice_get, refl}
+use Rattle.std.specs.Coded.{Coded, code_by, coded×, coded_ℕ}
+use Rattle.std.specs.Ordering.{nat_cmp}
+use Rattle.std.specs.FinMap as map
+use Rattle.span.specs.declared.id.SpanId.{SpanId}
+use Rattle.span.specs.Ids.{rank}
+use Rattle.span.specs.State.{SpanState}
+use Rattle.groups.specs.declared.directory.Place.{Place}
+
+-- for guests, by rank, where they stand
+abbrev pub Entries : Type 0
+Entries = map.FinMap nat_cmp Place
+
+-- the entries of a directory, and for how many more there is reserved room
+pub record DirectoryState : Type 0 where
+  pub entries : Entries
+  pub room : ℕ
+
+-- a directory is stored as the pair of its fields
+abbrev pub directory_code : Coded Place → Coded DirectoryState
+directory_code place = code_by (Entries × ℕ) (coded× (map.code coded_ℕ place) coded_ℕ) (λ d. (d.entries, d.room)) (λ p. record { entries = p.0; room = p.1 }) (λ _. refl)
+
+-- with the spans entered, one after another, as guests of the head from this place on
+abbrev pub entered : Entries → List SpanState → SpanId → ℕ → Entries
+entered entries [] head place = entries
+entered entries (span ∷ spans) head place = entered (map.insert entries (rank span.id) (record { head = head; place = place })) spans head (suc place)
+
+-- without the entries of the spans
+abbrev pub struck : Entries → List SpanState → Entries
+struck entries [] = entries
+struck entries (span ∷ spans) = struck (map.remove entries (rank span.id)) spans
+
+-- a guest of this rank stands there: a head stands at place 0, and its guests follow
+pub record IsGuestAt {G : Type 0} (head_of : G → SpanId) (guests_of : G → List SpanState) (groups : List G) (number : ℕ) (at : Place) : Type 0 where
+  pub index : ℕ
+  pub place : ℕ
+  pub group : G
+  pub guest : SpanState
+  pub group_is : slice_get groups index ≡ Some group
+  pub guest_is : slice_get (guests_of group) place ≡ Some guest
+  pub rank_is : rank guest.id ≡ number
+  pub head_is : at.head ≡ head_of group
+  pub place_is : at.place ≡ suc place
+
+-- the entries say of each guest of the groups where it stands, and of no other span
+pub record IsDirectory {G : Type 0} (head_of : G → SpanId) (guests_of : G → List SpanState) (groups : List G) (entries : Entries) : Type 0 where
+  pub known : (index place : ℕ) (group : G) (guest : SpanState) → slice_get groups index ≡ Some group → slice_get (guests_of group) place ≡ Some guest
+      → map.get entries (rank guest.id) ≡ Some (record { head = head_of group; place = suc place })
+  pub only : (number : ℕ) (at : Place) → map.get entries number ≡ Some at → IsGuestAt head_of guests_of groups number at

@@ -1,0 +1,139 @@
+// Where guests stand.
+ghost use Rattle.std.specs.Prelude.{◌≡◌, ◌<◌, ◌≤◌, ◌-◌, ◌+◌, OnOk, OnErr, Some, drop, length, max, nat_eq};
+ghost use Rattle.std.specs.FinMap as map;
+ghost use Rattle.std.specs.HashMap as hash;
+ghost use Rattle.span.specs.Ids.{rank};
+ghost use Rattle.groups.specs.Directory.{entered, struck};
+
+use span::{Log, Span, SpanId};
+use std::alloc::{AllocError, Global};
+use std::collections::HashMap;
+use std::marker::Model;
+
+/// Where a span stands: the head of its group, and its place there, 0 being the head.
+#[derive(Clone, Copy, PartialEq, Eq, Debug)]
+pub struct Place {
+    /// The id of the group's head.
+    pub head: SpanId,
+    /// How many spans of the group stand before it.
+    pub place: usize,
+}
+
+/// For the guests of an owner's groups, where they stand, so that a look-up of a guest walks neither
+/// groups nor guests.
+///
+/// A head needs no entry: groups stand by ascending head. An entry goes into reserved room, so that no
+/// group that comes or goes takes memory for its guests.
+#[derive(Drop)]
+pub struct Directory {
+    // By the rank of the guest.
+    places: HashMap<u32, Place>,
+    // For how many more entries the table has room.
+    room: usize,
+}
+
+impl Model for Directory {
+    ghost use Rattle.groups.specs.Directory.{DirectoryState, directory_code};
+    ghost use Rattle.std.specs.Coded.{codes};
+
+    ghost Value = { DirectoryState };
+
+    ghost coded = { directory_code (Prim.hlevel codes) };
+
+    ghost use Rattle.groups.specs.DirectoryKept.{IsKept, entries_of};
+
+    ghost view = { λ d. record { entries = entries_of d.places; room = d.room } };
+
+    ghost invariant = { IsKept };
+}
+
+impl Directory {
+    /// No entry. Takes no memory.
+    pub fn new(alloc: Global) -> Directory
+        ensures { result ≡ record { entries = map.empty; room = 0 } }
+    {
+        Directory {
+            places: HashMap::new(alloc),
+            room: 0,
+        }
+    }
+
+    /// Where the guest stands, if it has an entry.
+    pub fn place_of(&self, guest: SpanId) -> Option<Place>
+        ensures { result ≡ map.get self.now.entries (rank guest) }
+    {
+        self.places.get(&guest.rank()).copied()
+    }
+
+    /// Makes room for so many more entries, where less is reserved.
+    ///
+    /// # Errors
+    ///
+    /// `AllocError` where memory is refused. The directory is then as it was.
+    pub fn reserve(&mut self, guests: usize) -> Result<(), AllocError>
+        ensures ok { OnOk result (self.new ≡ record self.old { room = max self.old.room guests }) }
+        ensures err { OnErr result (self.new ≡ self.old) }
+    {
+        self.places.reserve(guests)?;
+        self.room = self.room.max(guests);
+        Ok(())
+    }
+
+    /// Enters the guests of the head but the first so many, in reserved room.
+    pub fn enter_from<L: Log>(&mut self, first: usize, guests: &[Span<L>], head: SpanId)
+        requires within { first ≤ length guests.now }
+        requires room { length guests.now ≤ self.old.room + first }
+        ensures { self.new ≡ record {
+          entries = entered self.old.entries (drop first guests.now) head (first + 1);
+          room = self.old.room + first - length guests.now;
+        } }
+    {
+        for place in first..guests.len() {
+            self.enter(guests[place].id(), head, place + 1);
+        }
+    }
+
+    // Enters the span as a guest of the head at the place, in reserved room.
+    fn enter(&mut self, guest: SpanId, head: SpanId, place: usize)
+        requires { 0 < self.old.room }
+        ensures { self.new ≡ record {
+          entries = map.insert self.old.entries (rank guest)
+              (record { head = head; place = place });
+          room = self.old.room - 1;
+        } }
+    {
+        insert_reserved(&mut self.places, guest.rank(), Place { head, place });
+        self.room -= 1;
+    }
+
+    /// Strikes the entries of the spans, which takes no memory and leaves the reserved room.
+    pub fn strike_all<L: Log>(&mut self, guests: &[Span<L>])
+        ensures { self.new ≡ record self.old { entries = struck self.old.entries guests.now } }
+    {
+        for index in 0..guests.len() {
+            self.strike(guests[index].id());
+        }
+    }
+
+    // Strikes the entry of the span, if it has one.
+    fn strike(&mut self, guest: SpanId)
+        ensures { self.new ≡ record self.old {
+          entries = map.remove self.old.entries
+              (rank guest);
+        } }
+    {
+        self.places.remove(&guest.rank());
+    }
+}
+
+// Inserts where there is room, which needs no memory.
+fn insert_reserved(places: &mut HashMap<u32, Place>, guest: u32, place: Place)
+    requires { 0 < hash.spare places.old }
+    ensures updates { hash.Updates nat_eq places.old places.new guest (Some place) }
+    ensures spare { hash.spare places.old ≤ hash.spare places.new + 1 }
+{
+    match places.insert(guest, place) {
+        Ok(_) => {}
+        Err(_) => unreachable!(),
+    }
+}

@@ -1,0 +1,272 @@
+// A head and its guests, whose live slots differ.
+ghost use Rattle.std.specs.Prelude.{[], ◌∷◌, ◌++◌, ◌≡◌, ◌<◌, ◌≤◌, ◌+◌, ℕ, IfOk, IfSome, OnOk, OnErr, MatchOption, Some, IsTrue, ◌↔◌, slice_get, slice_set, length, map, false, vec_len, vec_capacity};
+ghost use Rattle.std.specs.Bool.{OnTrue, OnFalse};
+ghost use Rattle.std.specs.FinSet as set;
+ghost use Rattle.bitmap.specs.Slots.{AreDisjoint, HasAllBelow, IsLowestOutside};
+ghost use Rattle.span.specs.Log.{live_slots, puts_of, Holds};
+ghost use Rattle.span.specs.SpanLogs.{AreLegal, room_for_logs, span_of_log};
+ghost use Rattle.span.specs.State.{SpanState};
+ghost use Rattle.groups.specs.Spans.{all_spans, taken, union_of, IsSpanAt, HasNoSpan, with_put, with_free_at, with_span_at, live_count};
+ghost use Rattle.bitmap.specs.declared.bits.TheConstants.{SLOTS};
+
+use bitmap::Bits256;
+use span::{Kept, Key, Log, Span, SpanId, SpanLog};
+use std::alloc::{AllocError, Global};
+use std::marker::Model;
+use std::mem::swap;
+
+/// A head and its guests, which are on one page: no slot is live in two of them (the idea is that of
+/// Mesh). The slots that are live in one of them are kept beside them.
+#[derive(Drop)]
+pub struct Spans<L: Log = Kept> {
+    head: Span<L>,
+    guests: Vec<Span<L>>,
+    occupied: Bits256,
+}
+
+impl<L: Log> Model for Spans<L> {
+    ghost use Rattle.groups.specs.Spans.{SpansState};
+
+    ghost Value = { SpansState };
+
+    ghost view = { λ s. record { head = s.head; guests = s.guests.items } };
+
+    ghost use Rattle.groups.specs.SpansKept.{IsKept};
+    ghost use Rattle.std.specs.Prelude.{◌∷◌};
+
+    ghost invariant = { λ s. IsKept (s.head ∷ s.guests.items) s.occupied };
+}
+
+impl<L: Log> Spans<L> {
+    /// A head with no guest. Takes no memory.
+    pub fn of(alloc: Global, head: Span<L>) -> Spans<L>
+        ensures { result ≡ record { head = head; guests = [] } }
+    {
+        let occupied = head.live();
+        Spans {
+            head,
+            guests: Vec::new(alloc),
+            occupied,
+        }
+    }
+
+    /// The id of the head, which names the group.
+    pub fn head_id(&self) -> SpanId
+        ensures { result ≡ self.now.head.id }
+    {
+        self.head.id()
+    }
+
+    /// How many spans there are, the head and its guests.
+    pub fn len(&self) -> usize
+        ensures { result ≡ length (all_spans self.now) }
+    {
+        1 + self.guests.len()
+    }
+
+    /// The guests, behind the head.
+    pub fn guests(&self) -> &[Span<L>]
+        ensures { result.now ≡ self.now.guests }
+    {
+        self.guests.as_slice()
+    }
+
+    /// Takes a guest in. Its live slots are live in none of the spans so far.
+    ///
+    /// # Errors
+    ///
+    /// `AllocError` where the list of guests could not grow. The spans are then as they were.
+    pub fn push(&mut self, guest: Span<L>) -> Result<(), AllocError>
+        requires { AreDisjoint (live_slots guest.log) (union_of (all_spans self.old)) }
+        ensures ok { OnOk result (self.new ≡ record self.old {
+          guests = self.old.guests
+              ++ guest ∷ [];
+        }) }
+        ensures err { OnErr result (self.new ≡ self.old) }
+    {
+        self.guests.reserve(1)?;
+        self.occupied = self.occupied.union(&guest.live());
+        self.guests.push_reserved(guest);
+        Ok(())
+    }
+
+    /// Takes the other spans in as its last guests, in a list with room for all its guests. The list that they
+    /// stood in before is given for it, with none. No slot is live on both sides. It takes no memory.
+    pub fn take_guests(&mut self, spans: Spans<L>, room: &mut Vec<Span<L>>)
+        requires apart { AreDisjoint (union_of (all_spans self.old)) (union_of (all_spans spans)) }
+        requires none { room.old.items ≡ [] }
+        requires room { length self.old.guests + length (all_spans spans) ≤ vec_capacity room.old }
+        ensures guests { self.new ≡ record self.old {
+          guests = self.old.guests
+              ++ all_spans spans;
+        } }
+        ensures none { room.new.items ≡ [] }
+    {
+        self.occupied = self.occupied.union(&spans.occupied);
+        append_all(&mut self.guests, room, spans.head, spans.guests);
+    }
+
+    /// The slots that are live in one of the spans.
+    pub fn occupied(&self) -> Bits256
+        ensures { result ≡ union_of (all_spans self.now) }
+    {
+        self.occupied
+    }
+
+    /// How many keys are live in the spans.
+    pub fn live(&self) -> usize
+        ensures live { result ≡ live_count (all_spans self.now) }
+        ensures at_most { result ≤ SLOTS }
+    {
+        self.occupied.count() as usize
+    }
+
+    /// The span at the place, 0 being the head.
+    pub fn span_at(&self, place: usize) -> &Span<L>
+        requires { place < length (all_spans self.now) }
+        ensures { slice_get (all_spans self.now) place ≡ Some result.now }
+    {
+        if place == 0 {
+            &self.head
+        } else {
+            &self.guests[place - 1]
+        }
+    }
+
+    /// The lowest slot that the head may be put at: it is live in no span, and not worn in the head.
+    pub fn lowest_usable(&self) -> Option<u8>
+        ensures lowest { MatchOption result (HasAllBelow (taken self.now) SLOTS)
+            (λ slot. (slot < SLOTS) × IsLowestOutside (taken self.now) slot) }
+        ensures in_range { IfSome result (λ slot. slot < SLOTS) }
+    {
+        self.occupied.union(&self.head.worn()).lowest_outside()
+    }
+
+    /// Puts the value at a slot that is live in no span, and not worn in the head, which gives out the key.
+    ///
+    /// # Errors
+    ///
+    /// `AllocError` where the head's log could not grow. The spans are then as they were.
+    pub fn put(&mut self, slot: u8, value: u128) -> Result<Key, AllocError>
+        requires { set.contains (taken self.old) slot ≡ false }
+        ensures key { IfOk result (λ key. (key.span ≡ self.old.head.id) × (key.slot ≡ slot)
+            × (key.generation ≡ puts_of slot self.old.head.log + 1)) }
+        ensures ok { OnOk result (self.new ≡ record self.old {
+          head = with_put self.old.head slot
+              value;
+        }) }
+        ensures err { OnErr result (self.new ≡ self.old) }
+    {
+        let key = self.head.put_at(slot, value)?;
+        self.occupied.insert(slot);
+        Ok(key)
+    }
+
+    /// Frees the slot in the span at the place, where it is live there at the generation. It takes no memory.
+    pub fn free(&mut self, place: usize, slot: u8, generation: u32) -> bool
+        requires { place < length (all_spans self.old) }
+        ensures found { (span : SpanState) → slice_get (all_spans self.old) place ≡ Some span
+            → (IsTrue result ↔ Holds span.log slot generation) }
+        ensures freed { (span : SpanState) → slice_get (all_spans self.old) place ≡ Some span
+            → OnTrue result (self.new ≡ with_span_at self.old place
+            (with_free_at span slot generation)) }
+        ensures unknown { OnFalse result (self.new ≡ self.old) }
+    {
+        if place == 0 {
+            self.free_in_head(slot, generation)
+        } else {
+            self.free_in_guest(place - 1, slot, generation)
+        }
+    }
+
+    fn free_in_head(&mut self, slot: u8, generation: u32) -> bool
+        ensures found { IsTrue result ↔ Holds self.old.head.log slot generation }
+        ensures freed { OnTrue result (self.new ≡ record self.old {
+          head = with_free_at
+              self.old.head slot generation;
+        }) }
+        ensures unknown { OnFalse result (self.new ≡ self.old) }
+    {
+        if !self.head.free_held(slot, generation) {
+            return false;
+        }
+        self.occupied.remove(slot);
+        true
+    }
+
+    fn free_in_guest(&mut self, at: usize, slot: u8, generation: u32) -> bool
+        requires { at < length self.old.guests }
+        ensures found { (span : SpanState) → slice_get self.old.guests at ≡ Some span
+            → (IsTrue result ↔ Holds span.log slot generation) }
+        ensures freed { (span : SpanState) → slice_get self.old.guests at ≡ Some span
+            → OnTrue result (self.new ≡ record self.old {
+              guests = slice_set self.old.guests at
+                  (with_free_at span slot generation);
+            }) }
+        ensures unknown { OnFalse result (self.new ≡ self.old) }
+    {
+        if !self.guests[at].free_held(slot, generation) {
+            return false;
+        }
+        self.occupied.remove(slot);
+        true
+    }
+}
+
+impl Spans<Kept> {
+    /// Moves the log of each of them, the head's first, to the end of a list with room for them. It takes no memory.
+    pub fn into_logs(self, logs: &mut Vec<SpanLog>)
+        requires room { length (all_spans self) ≤ room_for_logs logs.old }
+        ensures logs { map span_of_log logs.new.items ≡ map span_of_log logs.old.items
+            ++ all_spans self }
+        ensures legal { AreLegal logs.old.items → AreLegal logs.new.items }
+        ensures room { room_for_logs logs.old ≡ room_for_logs logs.new + length (all_spans self) }
+    {
+        push_log(logs, self.head);
+        for guest in self.guests {
+            push_log(logs, guest);
+        }
+    }
+}
+
+// Moves the span's log to the end of the list, in room that it has.
+fn push_log(logs: &mut Vec<SpanLog>, span: Span<Kept>)
+    requires { 1 ≤ room_for_logs logs.old }
+    ensures logs { map span_of_log logs.new.items ≡ map span_of_log logs.old.items ++ span ∷ [] }
+    ensures legal { AreLegal logs.old.items → AreLegal logs.new.items }
+    ensures room { room_for_logs logs.old ≡ room_for_logs logs.new + 1 }
+{
+    logs.push_reserved(span.into_log());
+}
+
+// Moves the head and the others after the guests, all of them into the list with room for them. The lists change
+// places, so that the one with room has none afterwards.
+fn append_all<L: Log>(
+    guests: &mut Vec<Span<L>>,
+    room: &mut Vec<Span<L>>,
+    head: Span<L>,
+    mut others: Vec<Span<L>>,
+)
+    requires none { room.old.items ≡ [] }
+    requires room { length guests.old.items + (1 + length others.items) ≤ vec_capacity room.old }
+    ensures guests { guests.new.items ≡ guests.old.items ++ head ∷ others.items }
+    ensures none { room.new.items ≡ [] }
+{
+    append_reserved(room, guests);
+    room.push_reserved(head);
+    append_reserved(room, &mut others);
+    swap(guests, room);
+}
+
+// Moves the spans of a list after those of another that has room for them, which needs no memory.
+fn append_reserved<L: Log>(spans: &mut Vec<Span<L>>, more: &mut Vec<Span<L>>)
+    requires { vec_len spans.old + vec_len more.old ≤ vec_capacity spans.old }
+    ensures items { spans.new.items ≡ spans.old.items ++ more.old.items }
+    ensures none { more.new.items ≡ [] }
+    ensures capacity { vec_capacity spans.old ≤ vec_capacity spans.new }
+{
+    match spans.append(more) {
+        Ok(()) => {}
+        Err(_) => unreachable!(),
+    }
+}

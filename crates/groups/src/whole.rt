@@ -1,0 +1,68 @@
+// A group on its way from one owner to another.
+ghost use Rattle.std.specs.Prelude.{◌≡◌, IsSome, IsTrue, ◌↔◌};
+ghost use Rattle.groups.specs.Whole.{IsSoundWhole, whole_with};
+
+use crate::spans::Spans;
+use page_table::PageWords;
+use span::{Kept, Log, SpanId};
+use std::marker::Model;
+
+/// A group on its way from one owner to another: its spans, and the words of its page, if it has one.
+///
+/// It keeps that the spans are sound on the words: no span stands twice, the word at each live slot is
+/// the one that its log says, and without a page no slot is live.
+#[derive(Drop)]
+pub struct Whole<L: Log = Kept> {
+    spans: Spans<L>,
+    words: Option<PageWords>,
+}
+
+impl<L: Log> Model for Whole<L> {
+    ghost use Rattle.groups.specs.Whole.{WholeState, IsSoundWhole, whole_with};
+
+    ghost Value = { WholeState };
+
+    ghost view = { λ w. whole_with w.spans w.words };
+
+    ghost invariant = { λ w. IsSoundWhole (whole_with w.spans w.words) };
+}
+
+impl<L: Log> Whole<L> {
+    /// The group of spans that are sound on the words.
+    pub fn new(spans: Spans<L>, words: Option<PageWords>) -> Whole<L>
+        requires { IsSoundWhole (whole_with spans words) }
+        ensures { result ≡ whole_with spans words }
+    {
+        Whole { spans, words }
+    }
+
+    /// The id of the head, which names the group.
+    pub fn head_id(&self) -> SpanId
+        ensures { result ≡ self.now.head.id }
+    {
+        self.spans.head_id()
+    }
+
+    /// The head and its guests.
+    pub fn spans(&self) -> &Spans<L>
+        ensures spans { result.now ≡ record { head = self.now.head; guests = self.now.guests } }
+        ensures sound { IsSoundWhole self.now }
+    {
+        &self.spans
+    }
+
+    /// Whether it has a page.
+    pub fn has_page(&self) -> bool
+        ensures { IsTrue result ↔ IsSome self.now.words }
+    {
+        self.words.is_some()
+    }
+
+    /// The spans, and the words of their page.
+    pub fn into_parts(self) -> (Spans<L>, Option<PageWords>)
+        ensures parts { self ≡ whole_with result.0 result.1 }
+        ensures sound { IsSoundWhole self }
+    {
+        (self.spans, self.words)
+    }
+}

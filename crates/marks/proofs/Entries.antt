@@ -1,0 +1,48 @@
+-- The groups that a mark sees, as entries.
+use Rattle.std.proofs.Common.{◌≡◌, ℕ, ◌+◌, ◌<◌, ◌≤◌, List, [], ◌∷◌, ◌++◌, length, map, refl, sym, ap, ◌∙◌, arith, inl, inr, nat_lt, get_or, take, ◌-◌, ◌^◌, ◌↔◌}
+use Rattle.std.specs.Prelude.{IsTrue, min, sum_by}
+use Rattle.std.proofs.lemmas.Bool.{lt-ltb, ltb-true}
+use Rattle.std.proofs.lemmas.List.{flat_map_more, length-append, length-map, map-append, take_more}
+use Rattle.std.proofs.lemmas.List.Sums.{sum_by-cons}
+use Rattle.bitmap.specs.Slots.{SlotSet}
+use Rattle.span.specs.declared.id.SpanId.{SpanId}
+use Rattle.shard.specs.Group.{GroupState}
+use Rattle.shard.specs.State.{ShardState, summary}
+use Rattle.abandoned.specs.State.{PoolState, PooledState, paged_groups, summary as pooled_summary}
+use Rattle.mesh_graph.specs.declared.entry.Entry.{Entry}
+use Rattle.marks.specs.Seen.{AreTooMany, entry_of, owned_entries}
+
+pub entries-summaries : {X : Type 0} (f : X → SpanId × SlotSet) (xs : List X) → map entry_of (map f xs) ≡ map (λ x. entry_of (f x)) xs
+entries-summaries f [] = refl
+entries-summaries f (x ∷ xs) = ap (λ entries. entry_of (f x) ∷ entries) (entries-summaries f xs)
+
+abbrev pub entries_in : List GroupState → List Entry
+entries_in groups = map (λ group. entry_of (summary group)) groups
+
+abbrev pub entries_pooled : List PooledState → List Entry
+entries_pooled groups = map (λ group. entry_of (pooled_summary group)) groups
+
+-- as many owned groups as the shards have pages
+pub length-owned : (shards : List ShardState) → length (owned_entries shards) ≡ sum_by (λ shard. length shard.groups) shards
+length-owned [] = refl
+length-owned (shard ∷ shards) =
+    length-append (entries_in shard.groups) (owned_entries shards)
+    ∙ omega (arith, length-map shard.groups (λ group. entry_of (summary group)), length-owned shards, sum_by-cons (λ (s : ShardState). length s.groups) shard shards)
+
+-- the entries of one shard more
+pub owned-more : {H : Type 0} (lent : H → ShardState) (shards : List H) (index : ℕ) (shard : H) → index < length shards → shard ≡ get_or shards index shard
+    → owned_entries (map lent (take index shards)) ++ entries_in (lent shard).groups ≡ owned_entries (map lent (take (index + 1) shards))
+owned-more lent shards index shard within is =
+    flat_map_more (λ (s : ShardState). entries_in s.groups) [] (map lent (take index shards)) (lent shard)
+    ∙ ap owned_entries (sym (map-append lent (take index shards) (shard ∷ [])) ∙ ap (map lent) (ap (λ s. take index shards ++ s ∷ []) is ∙ sym (take_more shards index shard within)))
+
+-- where the pool has few groups, a side has too many exactly where the shards have
+pub too_many-owned : (pool : PoolState) (shards : List ShardState) (pages owned : ℕ) → pages ≡ length (paged_groups pool) → pages ≤ 4096 → owned ≡ min (sum_by (λ shard. length shard.groups) shards) (2 ^ 64 - 1)
+    → IsTrue (nat_lt 4096 owned) ↔ AreTooMany pool shards
+too_many-owned pool shards pages owned pages_is few owned_is = (
+  λ more. inr (omega (arith, ltb-true 4096 owned more, length-owned shards)),
+  λ many. elim many [
+    | inl in_pool ↦ absurd (omega (arith, length-map (paged_groups pool) (λ group. entry_of (pooled_summary group))))
+    | inr in_shards ↦ lt-ltb 4096 owned (omega (arith, length-owned shards))
+  ],
+)

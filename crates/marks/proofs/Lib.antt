@@ -1,0 +1,5 @@
+pub mod Lists
+pub mod Flagged
+pub mod Closings
+pub mod Entries
+pub mod Few

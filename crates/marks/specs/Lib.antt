@@ -1,0 +1,4 @@
+pub mod Closings
+pub mod Numbers
+pub mod Plans
+pub mod Seen

@@ -1,0 +1,60 @@
+-- What a mark sees of the pool and the shards, and what it answers.
+use Rattle.std.specs.Prelude.{◌≡◌, ◌⊎◌, ℕ, ◌<◌, Bool, List, length, map, Some, slice_get}
+use Rattle.std.specs.List.{IsDistinct, flat_map}
+use Rattle.std.specs.List.Sorted.{IsPermutation}
+use Rattle.bitmap.specs.Slots.{SlotSet}
+use Rattle.span.specs.declared.id.SpanId.{SpanId}
+use Rattle.span.specs.Ids.{same_span}
+use Rattle.shard.specs.Sound.{IsSound as IsSoundShard}
+use Rattle.shard.specs.State.{ShardState, summary}
+use Rattle.abandoned.specs.State.{PoolState, paged_groups, summary as pooled_summary}
+use Rattle.mesh_graph.specs.declared.entry.Entry.{Entry}
+use Rattle.mesh_graph.specs.Groups.{Groups, IsAscending, ids}
+use Rattle.certificate.specs.declared.certificate.Certificate.{Certificate}
+use Rattle.certificate.specs.Plans.{IsBestPlanOf, IsCertificateOf, IsShortOf}
+use Rattle.certificate.specs.Text.{IsWritable}
+use Rattle.mesh_graph.specs.declared.build.TheConstants.{MOST_GROUPS}
+
+-- a group as a mark sees it: its head and its occupied set
+abbrev pub entry_of : SpanId × SlotSet → Entry
+entry_of group = record { id = group.0; occupied = group.1 }
+
+-- every group of the pool that has a page
+abbrev pub abandoned_entries : PoolState → List Entry
+abandoned_entries pool = map (λ group. entry_of (pooled_summary group)) (paged_groups pool)
+
+-- every group of every shard; a shard that has ended has none
+abbrev pub owned_entries : List ShardState → List Entry
+owned_entries shards = flat_map (λ shard. map (λ group. entry_of (summary group)) shard.groups) shards
+
+-- every group of the pool that has a page, and every group of every shard, each once, by ascending head
+pub record IsSeen (pool : PoolState) (shards : List ShardState) (groups : Groups) : Type 0 where
+  pub abandoned : IsPermutation (abandoned_entries pool) groups.abandoned
+  pub owned : IsPermutation (owned_entries shards) groups.owned
+  pub abandoned_ascending : IsAscending (ids groups.abandoned)
+  pub owned_ascending : IsAscending (ids groups.owned)
+
+-- no group stands twice on its side
+pub record AreDistinct (pool : PoolState) (shards : List ShardState) : Type 0 where
+  pub abandoned : IsDistinct same_span (ids (abandoned_entries pool))
+  pub owned : IsDistinct same_span (ids (owned_entries shards))
+
+-- each of the shards is sound; so one that has ended has no group
+abbrev pub AreSound : List ShardState → Type 0
+AreSound shards = (number : ℕ) (shard : ShardState) → slice_get shards number ≡ Some shard → IsSoundShard shard
+
+-- a side has more groups than a plan may have
+abbrev pub AreTooMany : PoolState → List ShardState → Type 0
+AreTooMany pool shards = (MOST_GROUPS < length (abandoned_entries pool)) ⊎ (MOST_GROUPS < length (owned_entries shards))
+
+-- a snapshot of the pool and the shards, a plan of it with the most pairs, and the short set that shows this; the whole can be written as a text
+pub record IsLargest (pool : PoolState) (shards : List ShardState) (found : Certificate) : Type 0 where
+  pub seen : IsSeen pool shards found.snapshot
+  pub best : IsBestPlanOf found.snapshot found.plan
+  pub short : IsShortOf found.snapshot found.plan found.short
+  pub certificate : IsCertificateOf found.snapshot found.plan found.short
+  pub writable : IsWritable found
+
+-- the pool, which knows whether a plan is open
+abbrev pub with_plan_told : PoolState → Bool → PoolState
+with_plan_told pool told = record pool { has_plan = told }

@@ -1,0 +1,61 @@
+// Values that lend a shard.
+ghost use Rattle.std.specs.Prelude.{◌≡◌};
+ghost use Rattle.std.specs.Sync.Mutex.{mutex_guard_value};
+ghost use Rattle.shard.specs.Closes.{Closes};
+ghost use Rattle.shard.specs.Sound.{IsSound};
+ghost use Rattle.shard.specs.State.{ShardState};
+
+use shard::Shard;
+use span::{Log, SpanId};
+use std::sync::MutexGuard;
+
+/// A value that lends a shard: the shard itself, or the guard of a lock that holds one. A mark of shards behind locks is
+/// so the same code as one of shards alone.
+pub trait LendsShard {
+    /// How the spans of the shard keep their logs.
+    type Log: Log;
+
+    /// The shard that is lent.
+    ghost lent: { Self → ShardState };
+
+    /// The shard, to look at.
+    fn shard(&self) -> &Shard<Self::Log>
+        ensures { result.now ≡ lent self.now };
+
+    /// Closes the group of the head, and says whether the shard has it, as [`Shard::close`] does. It takes no memory.
+    fn close(&mut self, head: SpanId) -> bool
+        ensures closes { Closes (lent self.old) head result (lent self.new) }
+        ensures sound { IsSound (lent self.new) };
+}
+
+impl<L: Log> LendsShard for Shard<L> {
+    type Log = L;
+
+    ghost lent = { λ shard. shard };
+
+    #[inline]
+    fn shard(&self) -> &Shard<L> {
+        self
+    }
+
+    #[inline]
+    fn close(&mut self, head: SpanId) -> bool {
+        Shard::close(self, head)
+    }
+}
+
+impl<L: Log> LendsShard for MutexGuard<'_, Shard<L>> {
+    type Log = L;
+
+    ghost lent = { λ guard. mutex_guard_value guard };
+
+    #[inline]
+    fn shard(&self) -> &Shard<L> {
+        &**self
+    }
+
+    #[inline]
+    fn close(&mut self, head: SpanId) -> bool {
+        (**self).close(head)
+    }
+}

@@ -1,0 +1,89 @@
+// The four numbers of a core or an arena.
+ghost use Rattle.std.specs.Prelude.{◌≡◌, ◌↔◌, IfSome, IsSome};
+ghost use Rattle.marks.specs.Numbers.{AreWithin, limits_of};
+
+use std::marker::Model;
+
+/// The numbers of a core or an arena, each within its range. The seats and the steward of an arena bear them too, so that a call
+/// that is lent two of these can ask that they fit.
+#[derive(Clone, Copy, PartialEq, Eq, Debug)]
+pub struct Limits {
+    shards: u32,
+    page_limit: usize,
+    ring_capacity: usize,
+    gens: u32,
+}
+
+impl Model for Limits {
+    ghost use Rattle.marks.specs.Numbers.{AreWithin, Limits as Numbers, limits_of};
+
+    ghost Value = { Numbers };
+
+    ghost view = { λ limits. limits_of limits.shards limits.page_limit limits.ring_capacity limits.gens };
+
+    ghost invariant = { λ limits. AreWithin
+        (limits_of limits.shards limits.page_limit limits.ring_capacity limits.gens) };
+
+    ghost inverse = { λ numbers. record { shards = numbers.shards; page_limit = numbers.page_limit; ring_capacity = numbers.ring_capacity; gens = numbers.gens } };
+}
+
+impl Limits {
+    /// The numbers, or `None` exactly where one is out of its range.
+    pub fn new(shards: u32, page_limit: usize, ring_capacity: usize, gens: u32) -> Option<Limits>
+        ensures in_range { IsSome result
+            ↔ AreWithin (limits_of shards page_limit ring_capacity gens) }
+        ensures parts { IfSome result
+            (λ limits. limits ≡ limits_of shards page_limit ring_capacity gens) }
+    {
+        if matches!(shards, 1..=64)
+            && matches!(page_limit, 1..=1024)
+            && matches!(ring_capacity, 1..=1024)
+            && gens >= 1
+        {
+            Some(Limits {
+                shards,
+                page_limit,
+                ring_capacity,
+                gens,
+            })
+        } else {
+            None
+        }
+    }
+
+    /// How many shards there are, each with one worker: 1 to 64.
+    #[inline]
+    pub fn shards(&self) -> u32
+        ensures shards { result ≡ self.now.shards }
+        ensures within { AreWithin self.now }
+    {
+        self.shards
+    }
+
+    /// How many pages of 256 slots a shard may have: 1 to 1,024.
+    #[inline]
+    pub fn page_limit(&self) -> usize
+        ensures page_limit { result ≡ self.now.page_limit }
+        ensures within { AreWithin self.now }
+    {
+        self.page_limit
+    }
+
+    /// How many keys a ring of deferred frees holds: 1 to 1,024.
+    #[inline]
+    pub fn ring_capacity(&self) -> usize
+        ensures ring_capacity { result ≡ self.now.ring_capacity }
+        ensures within { AreWithin self.now }
+    {
+        self.ring_capacity
+    }
+
+    /// The greatest generation of a slot, at least 1.
+    #[inline]
+    pub fn gens(&self) -> u32
+        ensures gens { result ≡ self.now.gens }
+        ensures within { AreWithin self.now }
+    {
+        self.gens
+    }
+}

@@ -1,0 +1,202 @@
+// What a mark sees, and the largest plan of it.
+ghost use Rattle.std.specs.Prelude.{◌≡◌, ◌≢◌, ◌↔◌, ◌+◌, ◌-◌, ◌^◌, ◌≤◌, ◌++◌, Err, IfOk, IsTrue, MatchResult, OnErr, OnOk, false, length, map, min, sum_by, true};
+ghost use Rattle.shard.specs.Sound.{IsSound as IsSoundShard};
+ghost use Rattle.shard.specs.State.{summary};
+ghost use Rattle.abandoned.specs.Sound.{IsSound as IsSoundPool};
+ghost use Rattle.certificate.specs.Plans.{IsBestPlanOf, IsCertificateOf, IsShortOf};
+ghost use Rattle.certificate.specs.Text.{IsWritable};
+ghost use Rattle.marks.specs.Closings.{closing};
+ghost use Rattle.marks.specs.Seen.{AreDistinct, AreSound, AreTooMany, IsLargest, IsSeen, with_plan_told, abandoned_entries, entry_of, owned_entries};
+ghost use Rattle.mesh_graph.specs.declared.build.TheConstants.{MOST_GROUPS};
+
+use crate::closing::close_planned;
+use crate::error::MarkError;
+use crate::lends_shard::LendsShard;
+use abandoned::Pool;
+use augment::plan;
+use bitmap::Bits256;
+use certificate::Certificate;
+use mesh_graph::{BuildError, Doubled, Entry, Graph, MOST_GROUPS, Snapshot};
+use span::{Log, SpanId};
+use std::alloc::{AllocError, Global};
+
+/// A mark of the pool and the shards that are lent: it takes a snapshot of every group of the pool that has a page and
+/// every group of the shards, makes a plan of as many folds as can be, tells the pool that a plan is open, and closes the
+/// groups onto which the plan folds, so that they take no put. It gives the snapshot, the plan and the short set that
+/// shows the plan best.
+///
+/// # Errors
+///
+/// The first of these that holds: `PlanOpen` where a plan is open; `TooMany` where a side has more than 4,096 groups;
+/// `Doubled` where two groups of a side have the same head, which takes memory to tell. `OutOfMemory` where a growth was
+/// refused and neither of the first two holds. All growths stand before the first change.
+pub fn mark_in<H: LendsShard>(
+    alloc: Global,
+    pool: &mut Pool<H::Log>,
+    shards: &mut [H],
+) -> Result<Certificate, MarkError>
+    requires { 1 ≤ length shards.old }
+    // What it gives, and what has changed then.
+    ensures largest { IfOk result (IsLargest pool.old (map H.lent shards.old)) }
+    ensures distinct { OnOk result (AreDistinct pool.old (map H.lent shards.old)) }
+    ensures closed { IfOk result
+        (λ found. map H.lent shards.new ≡ map (closing found.plan) (map H.lent shards.old)) }
+    ensures opened { OnOk result (pool.new ≡ with_plan_told pool.old true) }
+    // All is sound, before and after.
+    ensures sound { OnOk result (AreSound (map H.lent shards.old)) }
+    ensures sound_new { OnOk result (AreSound (map H.lent shards.new)) }
+    ensures sound_pool { OnOk result (IsSoundPool pool.new) }
+    // When it is refused, and that nothing has changed then.
+    ensures plan_open { (result ≡ Err MarkError.PlanOpen) ↔ (pool.old.has_plan ≡ true) }
+    ensures too_many { (result ≡ Err MarkError.TooMany)
+        ↔ ((pool.old.has_plan ≡ false) × AreTooMany pool.old (map H.lent shards.old)) }
+    ensures doubled { result ≡ Err MarkError.Doubled → AreDistinct pool.old (map H.lent shards.old)
+        → ⊥ }
+    ensures err { OnErr result (pool.new ≡ pool.old) }
+    ensures err_shards { OnErr result (shards.new ≡ shards.old) }
+{
+    if pool.has_plan() {
+        return Err(MarkError::PlanOpen);
+    }
+    if has_too_many(pool, shards) {
+        return Err(MarkError::TooMany);
+    }
+    let Ok(snapshot) = snapshot_of(alloc, pool, shards)? else {
+        return Err(MarkError::Doubled);
+    };
+    let found = largest_plan(alloc, snapshot, shards.len())?;
+    close_planned(shards, found.plan.pairs());
+    pool.plan_opened();
+    Ok(found)
+}
+
+/// Whether a side has more than 4,096 groups: the pool, of groups that have a page, or all shards together. It takes no
+/// memory.
+pub(crate) fn has_too_many<H: LendsShard>(pool: &Pool<H::Log>, shards: &[H]) -> bool
+    ensures { IsTrue result ↔ AreTooMany pool.now (map H.lent shards.now) }
+{
+    pool.pages() > MOST_GROUPS || owned_pages(shards) > MOST_GROUPS
+}
+
+// A plan with the most pairs, with what it is of and what shows it.
+fn largest_plan(alloc: Global, snapshot: Snapshot, pieces: usize) -> Result<Certificate, AllocError>
+    // The snapshot is not too large.
+    requires abandoned { length snapshot.abandoned ≤ MOST_GROUPS }
+    requires owned { length snapshot.owned ≤ MOST_GROUPS }
+    requires pieces { 1 ≤ pieces }
+
+    // Its largest plan, with what shows it.
+    ensures snapshot { IfOk result (λ found. found.snapshot ≡ snapshot) }
+    ensures best { IfOk result (λ found. IsBestPlanOf snapshot found.plan) }
+    ensures short { IfOk result (λ found. IsShortOf snapshot found.plan found.short) }
+    ensures certificate { IfOk result (λ found. IsCertificateOf snapshot found.plan found.short) }
+    ensures writable { IfOk result IsWritable }
+{
+    let graph = graph_of(alloc, &snapshot, pieces)?;
+    let (plan, short) = plan(alloc, &graph)?;
+    Ok(Certificate {
+        snapshot,
+        plan,
+        short,
+    })
+}
+
+// Every group of the pool that has a page, and every group of every shard, unless two of a side have one head.
+pub(crate) fn snapshot_of<H: LendsShard>(
+    alloc: Global,
+    pool: &Pool<H::Log>,
+    shards: &[H],
+) -> Result<Result<Snapshot, Doubled>, AllocError>
+    ensures seen { IfOk result (λ told. IfOk told (IsSeen pool.now (map H.lent shards.now))) }
+    ensures distinct { IfOk result
+        (λ told. OnOk told (AreDistinct pool.now (map H.lent shards.now))) }
+    ensures doubled { IfOk result
+        (λ told. OnErr told (AreDistinct pool.now (map H.lent shards.now) → ⊥)) }
+    ensures sound { OnOk result (AreSound (map H.lent shards.now)) }
+{
+    let abandoned = list_abandoned(alloc, pool)?;
+    let owned = list_owned(alloc, shards)?;
+    Ok(Snapshot::new(abandoned, owned))
+}
+
+// The graph of a snapshot that has few groups.
+fn graph_of(alloc: Global, snapshot: &Snapshot, pieces: usize) -> Result<Graph, AllocError>
+    requires abandoned { length snapshot.now.abandoned ≤ MOST_GROUPS }
+    requires owned { length snapshot.now.owned ≤ MOST_GROUPS }
+    requires pieces { 1 ≤ pieces }
+    ensures { IfOk result (λ graph. graph ≡ snapshot.now) }
+{
+    match Graph::build(alloc, snapshot, pieces) {
+        Ok(graph) => Ok(graph),
+        Err(BuildError::OutOfMemory) => Err(AllocError),
+        Err(BuildError::TooMany) => unreachable!(),
+    }
+}
+
+/// The groups of the pool that have a page, each with its occupied set.
+pub(crate) fn list_abandoned<L: Log>(
+    alloc: Global,
+    pool: &Pool<L>,
+) -> Result<Vec<Entry>, AllocError>
+    ensures { IfOk result (λ entries. entries.items ≡ abandoned_entries pool.now) }
+{
+    let groups = pool.groups()?;
+    let mut entries = Vec::new(alloc);
+    push_entries(&mut entries, &groups)?;
+    Ok(entries)
+}
+
+/// The groups of all shards, each with its occupied set.
+pub(crate) fn list_owned<H: LendsShard>(
+    alloc: Global,
+    shards: &[H],
+) -> Result<Vec<Entry>, AllocError>
+    ensures items { IfOk result (λ entries. entries.items ≡ owned_entries (map H.lent shards.now)) }
+    ensures sound { OnOk result (AreSound (map H.lent shards.now)) }
+{
+    let mut entries = Vec::new(alloc);
+    for shard in shards {
+        push_groups(&mut entries, shard)?;
+    }
+    Ok(entries)
+}
+
+// Appends the groups of the shard, where it has not ended. One that has ended has none.
+fn push_groups<H: LendsShard>(entries: &mut Vec<Entry>, lender: &H) -> Result<(), AllocError>
+    ensures items { IfOk result
+        (λ _. entries.new.items ≡ entries.old.items ++ map (λ group. entry_of (summary group))
+        (H.lent lender.now).groups) }
+    ensures sound { IsSoundShard (H.lent lender.now) }
+{
+    let shard = lender.shard();
+    if shard.ended() {
+        return Ok(());
+    }
+    let groups = shard.groups()?;
+    push_entries(entries, &groups)
+}
+
+// Appends the groups of these heads and occupied sets.
+fn push_entries(entries: &mut Vec<Entry>, groups: &[(SpanId, Bits256)]) -> Result<(), AllocError>
+    ensures { IfOk result (λ _. entries.new.items ≡ entries.old.items ++ map entry_of groups.now) }
+{
+    for (id, occupied) in groups {
+        entries.push(Entry {
+            id: *id,
+            occupied: *occupied,
+        })?;
+    }
+    Ok(())
+}
+
+// How many groups the shards have, or the greatest number where there are more.
+fn owned_pages<H: LendsShard>(shards: &[H]) -> usize
+    ensures { result ≡ min (sum_by (λ shard. length shard.groups) (map H.lent shards.now))
+        (2 ^ 64 - 1) }
+{
+    let mut pages: usize = 0;
+    for shard in shards {
+        pages = pages.saturating_add(shard.shard().pages());
+    }
+    pages
+}

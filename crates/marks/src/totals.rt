@@ -1,0 +1,9 @@
+// How much is kept.
+/// How much a core or an arena keeps, over its pool and all its shards.
+#[derive(Clone, Copy, PartialEq, Eq, Debug)]
+pub struct Totals {
+    /// How many pages, each of 256 slots, the groups have.
+    pub pages: usize,
+    /// How many keys are live.
+    pub live: usize,
+}

@@ -1,0 +1,16 @@
+// The limits that several crates speak of.
+
+/// How many shards there are at most: the shard of an id is below this.
+pub const MOST_SHARDS: u32 = 64;
+
+/// How many spans one shard opens at most: the serial of an id is below this.
+pub const MOST_SPANS: u32 = 1024;
+
+/// How many span ids there are: the rank of an id is below this.
+pub const ALL_IDS: u32 = MOST_SHARDS * MOST_SPANS;
+
+/// How many pages one shard has at most.
+pub const MOST_PAGES: usize = 1024;
+
+/// How many keys a ring of deferred frees holds at most.
+pub const MOST_RING_KEYS: usize = 1024;

@@ -1,0 +1,32 @@
+-- What is told, one line more.
+use Rattle.std.proofs.Common.{◌≡◌, ℕ, ◌+◌, Bool, List, [], ◌∷◌, ◌++◌, length, refl, sym, ap, ◌∙◌, arith, add-zero}
+use Rattle.std.specs.List.{fold}
+use Rattle.arena_core.specs.declared.event.Event.TheVariants.{Close, Mark, Step}
+use Rattle.arena_core.specs.declared.reply.Reply.TheVariants.{Marked, Stepped}
+use Rattle.trace_runner.specs.Made.{CalledEvent, Called, Did, Made}
+use Rattle.trace_runner.specs.News.{News, news_from, news_of, no_news, with_all_made, with_called, with_line, with_made}
+
+-- whether replies are asked for stays
+replies-called : (n : News) (called : CalledEvent) → (with_called n called).replies ≡ n.replies
+replies-called n (Called Step (Stepped abandoned owned outcome) core) = refl
+replies-called n (Called Close reply core) = refl
+replies-called n (Called Mark (Marked c) core) = refl
+replies-called n (Called Mark reply core) = refl
+replies-called n called = refl
+
+replies-all_called : (n : News) (called : List CalledEvent) → (fold with_called n called).replies ≡ n.replies
+replies-all_called n [] = refl
+replies-all_called n (c ∷ called) = replies-all_called (with_called n c) called ∙ replies-called n c
+
+pub replies-all_made : (n : News) (made : List Made) → (with_all_made n made).replies ≡ n.replies
+replies-all_made n [] = refl
+replies-all_made n (m ∷ made) = replies-all_made (with_made n m) made ∙ replies-all_called n m.called
+
+news_from-push : (number : ℕ) (n : News) (done : List Did) (did : Did) → news_from number n (done ++ did ∷ []) ≡ with_line (number + length done) (news_from number n done) did
+news_from-push number n [] did = ap (λ k. with_line k n did) (sym (add-zero number))
+news_from-push number n (d ∷ done) did =
+    let same : number + 1 + length done ≡ number + length (d ∷ done) = omega arith in
+    news_from-push (number + 1) (with_line number n d) done did ∙ ap (λ k. with_line k (news_from (number + 1) (with_line number n d) done) did) same
+
+pub news_of-push : (replies : Bool) (done : List Did) (did : Did) → news_of replies (done ++ did ∷ []) ≡ with_line (6 + length done) (news_of replies done) did
+news_of-push replies done did = news_from-push 6 (no_news replies) done did

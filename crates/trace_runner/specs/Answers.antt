@@ -1,0 +1,44 @@
+-- What the report tells of the replies to what lines ask for.
+use Rattle.std.specs.Prelude.{ℕ, Bool, true, false, List, ◌∷◌, map, Some, None}
+use Rattle.arena_core.specs.declared.reply.Refusal.TheVariants.{NothingToAdopt, RingFull}
+use Rattle.arena_core.specs.declared.reply.Reply.{Reply}
+use Rattle.arena_core.specs.declared.reply.Reply.TheVariants.{Issued, Found, Freed, Sent, ShardEnded, Adopted, Refused}
+use Rattle.trace_runner.specs.Made.{Asked, Calls, Leaves, Tends, CalledEvent, Called, Made, keys_taken}
+use Rattle.trace_runner.specs.Report.{answers_text}
+use Rattle.trace_runner.specs.declared.report.Answer.{Answer}
+use Rattle.trace_runner.specs.declared.report.Answer.TheVariants as answer
+use Rattle.trace_runner.specs.declared.report.LineAnswer.{LineAnswer}
+
+-- what is told of the reply to an event
+abbrev pub answer_told : Reply → Answer
+answer_told (Issued key) = answer.Key key
+answer_told (Found (Some value)) = answer.Value value
+answer_told (Found None) = answer.Absent
+answer_told (Freed true) = answer.Freed
+answer_told (Freed false) = answer.NotFreed
+answer_told Sent = answer.Sent
+answer_told ShardEnded = answer.Ended
+answer_told (Adopted head) = answer.Adopted head
+answer_told (Refused NothingToAdopt) = answer.NothingToAdopt
+answer_told (Refused RingFull) = answer.RingFull
+answer_told (Refused cause) = answer.PagesSpent
+-- no event of a line has another reply
+answer_told reply = answer.Unbound
+
+-- the reply to one thing that was asked for, after the events that were called
+abbrev pub answer_of : Asked → List CalledEvent → Answer
+answer_of (Calls event) (Called done reply core ∷ more) = answer_told reply
+answer_of Leaves called = answer.Ended
+answer_of (Tends workers shard) called = answer.Settled (keys_taken called)
+answer_of asked called = answer.Unbound
+
+abbrev pub answer_to : Made → Answer
+answer_to made = answer_of made.asked made.called
+
+-- an answer on the line of that number
+abbrev pub on_line : ℕ → Made → LineAnswer
+on_line number made = record { line = number; answer = answer_to made }
+
+-- a line for each answer to what was done at the line of that number, where replies are asked for
+abbrev pub told_of : Bool → ℕ → List Made → List ℕ
+told_of replies number made = answers_text replies (map (on_line number) made)
