@@ -14,8 +14,9 @@ use Rattle.groups.proofs.Heads.{one_of_head}
 use Rattle.groups.proofs.Lists.{same_some}
 use Rattle.abandoned.specs.Calls.{Adopts, HasDoubled, IsDoubled, IsFirstPaged, IsLowestPaged, Lifts, WouldDouble}
 use Rattle.abandoned.specs.Sound.{IsSound}
-use Rattle.abandoned.specs.State.{Ascend, HasNoHead, IsHeadOf, PoolState, PooledState, spans_of, whole_of}
-use Rattle.abandoned.proofs.Heads.{head_id}
+use Rattle.abandoned.specs.State.{PoolState, PooledState, whole_of}
+use Rattle.groups.specs.Group.{Ascend, HasNoHead, IsHeadOf, spans_of}
+use Rattle.groups.proofs.Standing.{head_id}
 
 some_page : (o : Option ℕ) → o ≡ None → IsSome o → ⊥
 some_page None is some = absurd cc

@@ -1,6 +1,6 @@
 -- The groups of a shard that has ended stand in the pool whole, and so do those that were there before.
 use Rattle.std.proofs.Common.{zero, suc, ◌≡◌, ℕ, ◌+◌, ◌≤◌, List, [], ◌∷◌, length, Option, Some, None, map, slice_get, ap, sym, subst, ◌∙◌, refl, inl, inr, arith}
-use Rattle.std.specs.Prelude.{MatchOption, option_map, unwrap_or}
+use Rattle.std.specs.Prelude.{option_map, unwrap_or}
 use Rattle.std.specs.FinMap as finite
 use Rattle.std.specs.FinSet as set
 use Rattle.std.proofs.lemmas.List.Edits.{length-insert}
@@ -11,12 +11,13 @@ use Rattle.page_table.specs.Words.{Words, blank_page}
 use Rattle.groups.specs.Spans.{union_of}
 use Rattle.groups.specs.Whole.{IsSoundWhole, WholeState, spans_moved}
 use Rattle.shard.specs.Moves.{whole_of as whole_of_shard}
-use Rattle.shard.specs.State.{ShardState, spans_in as spans_in_shard}
+use Rattle.shard.specs.State.{ShardState}
+use Rattle.groups.specs.Group.{spans_in, spans_of}
 use Rattle.groups.proofs.GroupSpans.{times}
 use Rattle.groups.proofs.Lists.{after-insert, get-insert}
 use Rattle.abandoned.specs.Calls.{HasReceived, IsPooled, TakesAll, TakesIn, with_rooms}
-use Rattle.abandoned.specs.Sound.{IsSound, IsSoundPaged}
-use Rattle.abandoned.specs.State.{PoolState, PooledState, spans_in, spans_of, whole_of}
+use Rattle.abandoned.specs.Sound.{IsSound}
+use Rattle.abandoned.specs.State.{PoolState, PooledState, whole_of}
 use Rattle.abandoned.proofs.TakenIn.{AreOnce, AreOnce-rest, AreSound, HasAll-TakesAll, IsElsewhere-next, IsElsewhereWhole, empty_or_not, pooled, table_with, table_without, words_now}
 use Rattle.abandoned.proofs.Together.{flat_map-whole_of}
 
@@ -57,10 +58,10 @@ module _ (old new : PoolState) (sound : IsSound old) (whole : WholeState) (fits 
   -- the groups that were there have the same pages
   same_pages : (at : ℕ) (group : PooledState) → slice_get old.groups at ≡ Some group → (q : ℕ) → group.page ≡ Some q → finite.get new.table.pages q ≡ finite.get old.table.pages q
   same_pages at group there q is = elim (empty_or_not (union_of (spans_moved whole))) [
-    | inl none ↦ ap (λ (p : PoolState). finite.get p.table.pages q) (takes.emptied none) ∙ ((table_without old sound whole fits elsewhere none).others at group there).page q is
+    | inl none ↦ ap (λ (p : PoolState). finite.get p.table.pages q) (takes.emptied none) ∙ ((table_without old sound whole fits elsewhere none).others at group there q is).words
     | inr live ↦
         let its = takes.live live in
-        ap (λ (p : PoolState). finite.get p.table.pages q) its.4 ∙ ((table_with old sound whole fits elsewhere live its.1 its.3 its.0 its.2).others at group there).page q is
+        ap (λ (p : PoolState). finite.get p.table.pages q) its.4 ∙ ((table_with old sound whole fits elsewhere live its.1 its.3 its.0 its.2).others at group there q is).words
   ]
 
   moved_on : (at : ℕ) (group : PooledState) → slice_get old.groups at ≡ Some group → (now : ℕ) × (slice_get new.groups now ≡ Some group)
@@ -122,12 +123,12 @@ HaveCome-TakesAll (whole ∷ wholes) old new sound fits once (mid, rest, takes) 
     by_place (suc at) other there here rest = rest at other there
 
 -- a group of a sound pool has a page exactly where a slot is live
-unpaged-sound : (table : TableState) (group : PooledState) (page : Option ℕ) → MatchOption page (union_of (spans_of group) ≡ set.empty) (IsSoundPaged table group) → union_of (spans_of group) ≡ set.empty → page ≡ None
-unpaged-sound table group None fine none = refl
-unpaged-sound table group (Some page) fine none = absurd (fine.live none)
+unpaged-sound : (pool : PoolState) → IsSound pool → (index : ℕ) (group : PooledState) → slice_get pool.groups index ≡ Some group → union_of (spans_of group) ≡ set.empty → (page : Option ℕ) → group.page ≡ page → page ≡ None
+unpaged-sound pool sound index group here none None is = refl
+unpaged-sound pool sound index group here none (Some page) is = absurd (sound.in_use index page group here is none)
 
 pub HasReceived-TakesAll : (old new : PoolState) (shard : ShardState) (pages spans : ℕ) → IsSound (with_rooms old pages spans) → IsSound old → AreSound (map (whole_of_shard shard.table) shard.groups)
-    → ((id : _) → times id (spans_in old.groups) + times id (spans_in_shard shard.groups) ≤ 1)
+    → ((id : _) → times id (spans_in old.groups) + times id (spans_in shard.groups) ≤ 1)
     → TakesAll (with_rooms old pages spans) (map (whole_of_shard shard.table) shard.groups) new → HasReceived old shard new
 HasReceived-TakesAll old new shard pages spans sound_room sound fits once all =
     let wholes : List WholeState = map (whole_of_shard shard.table) shard.groups in
@@ -143,7 +144,7 @@ HasReceived-TakesAll old new shard pages spans sound_room sound fits once all =
         head = refl;
         guests = refl;
         words = λ live. refl;
-        unpaged = unpaged-sound old.table group group.page (sound.groups index group there).page;
+        unpaged = λ none. unpaged-sound old sound index group there none group.page refl;
       });
       no_other = come.count ∙ ap (λ n. length old.groups + n) (length-map shard.groups (whole_of_shard shard.table));
     }

@@ -25,13 +25,15 @@ use Rattle.groups.proofs.Lists.{after-set, before-set, cases-set, count-set, sam
 use Rattle.groups.proofs.Logs.{was_held}
 use Rattle.groups.proofs.Removed.{before-remove, cases-remove, count-remove, set-insert}
 use Rattle.groups.proofs.Unions.{live_if_held, lose_held, member_of_union}
-use Rattle.abandoned.specs.Calls.{Frees, IsPlaceFor, Leaves, without_page_of}
-use Rattle.abandoned.specs.Sound.{IsSound, IsSoundGroup, IsSoundPaged, IsSoundSpan}
-use Rattle.abandoned.specs.State.{IsElsewhere, PoolState, PooledState, Stands, spans_of, with_span}
+use Rattle.abandoned.specs.Calls.{Frees, Leaves, without_page_of}
+use Rattle.groups.specs.Group.{IsElsewhere, IsPlaceFor, Stands, spans_of, with_span}
+use Rattle.abandoned.specs.Sound.{IsSound}
+use Rattle.groups.specs.Sound.{AreOnPage, IsOnPage, IsSoundGroup}
+use Rattle.abandoned.specs.State.{PoolState, PooledState}
 use Rattle.abandoned.proofs.Inserted.{IsSound-inserted, IsTableWith}
 use Rattle.abandoned.proofs.Lifted.{IsSound-left_over, elsewhere-left_over, left_over, once_in_group}
 use Rattle.abandoned.proofs.Pages.{IsSameOn, from-is_page, is_page-same, other_page, page_if_live, sound_paged}
-use Rattle.abandoned.proofs.Standing.{page-with_span, spans_of-with_span}
+use Rattle.groups.proofs.Standing.{page-with_span, spans_of-with_span}
 use Rattle.abandoned.proofs.Tables.{len-without, pages-without, spans-without}
 use Rattle.abandoned.proofs.TakenIn.{empty_or_not}
 
@@ -67,7 +69,7 @@ module _ (old : PoolState) (sound : IsSound old) (index place : ℕ) (group : Po
   same_group zero = refl
   same_group (suc p) = refl
 
-  before : IsSoundGroup old.table group
+  before : IsSoundGroup (λ page. page) old.table group
   before = sound.groups index group here.0
 
   less_live : AreApart (set (spans_of group) place changed)
@@ -93,15 +95,12 @@ module _ (old : PoolState) (sound : IsSound old) (index place : ℕ) (group : Po
     | inr that ↦ before.legal at s that.1
   ]
 
-  span_now : (page : ℕ) → IsSoundPaged old.table group page → (at : ℕ) (s : SpanState) → slice_get (spans_of (with_span group place changed)) at ≡ Some s → IsSoundSpan old.table page s
+  span_now : (page : ℕ) → AreOnPage old.table (spans_of group) page → (at : ℕ) (s : SpanState) → slice_get (spans_of (with_span group place changed)) at ≡ Some s → IsOnPage old.table page s
   span_now page paged at s there = elim (cases-set (spans_of group) place changed at s (ap (λ spans. slice_get spans at) spans_now ∙ there)) [
     | inl this ↦
-        let was = paged.spans place span here.1 in
-        subst (IsSoundSpan old.table page) this.1 (record {
-          mapped = was.mapped;
-          kept = record { legal = IsLegal-push span.gens span.log (Free key.slot key.generation) was.kept.legal holds; stored = λ q held is. was.kept.stored q held (was_held span key q held is) };
-        })
-    | inr that ↦ paged.spans at s that.1
+        let was = paged.each place span here.1 in
+        subst (IsOnPage old.table page) this.1 (record { mapped = was.mapped; stored = λ q held is. was.stored q held (was_held span key q held is) })
+    | inr that ↦ paged.each at s that.1
   ]
 
   -- a slot was live, so there was a page
@@ -138,7 +137,8 @@ module _ (old : PoolState) (sound : IsSound old) (index place : ℕ) (group : Po
   emptied_table : union_of (spans_of (with_span group place changed)) ≡ set_of.empty → IsTableWith rest (now None) rest.table
   emptied_table none = record {
     here = record { apart = subst AreApart spans_now less_live; legal = legal_now; page = none };
-    others = λ at other there. record { page = λ page is. refl; spans = λ page is p s t. refl };
+    others = λ at other there page is. record { words = refl; mapped = λ p s t. refl };
+    in_use = λ page is. absurd cc;
     own_page = λ page is. absurd cc;
     only = λ number page is. inl is;
     pages = omega arith;
@@ -152,16 +152,16 @@ module _ (old : PoolState) (sound : IsSound old) (index place : ℕ) (group : Po
 
   -- the group that still has a live slot
   module _ (live : union_of (spans_of (with_span group place changed)) ≢ set_of.empty) (page : ℕ) (is : group.page ≡ Some page) where
-    paged : IsSoundPaged old.table group page
+    paged : AreOnPage old.table (spans_of group) page
     paged = sound_paged old sound index group here.0 page is
 
     others_now : (at : ℕ) (other : PooledState) → slice_get rest.groups at ≡ Some other → IsSameOn rest.table old.table other
-    others_now at other there =
+    others_now at other there q its =
         let was = before-remove old.groups index at other there in
         record {
-          page = λ q its. sym (pages-without old.table group.page q (other_page old sound index group here.0 was.0 other was.2 was.1 q its));
-          spans = λ q its p s t.
-              let mapped = ((sound_paged old sound was.0 other was.2 q its).spans p s t).mapped in
+          words = sym (pages-without old.table group.page q (other_page old sound index group here.0 was.0 other was.2 was.1 q its));
+          mapped = λ p s t.
+              let mapped = ((sound_paged old sound was.0 other was.2 q its).each p s t).mapped in
               mapped ∙ sym (spans-without old.table group.page (rank s.id) q mapped (other_page old sound index group here.0 was.0 other was.2 was.1 q its));
         }
 
@@ -186,9 +186,10 @@ module _ (old : PoolState) (sound : IsSound old) (index place : ℕ) (group : Po
       here = record {
         apart = subst AreApart spans_now less_live;
         legal = legal_now;
-        page = subst (λ o. MatchOption o (union_of (spans_of (with_span group place changed)) ≡ set_of.empty) (IsSoundPaged old.table (now o))) (sym is) (record { has_page = paged.has_page; spans = span_now page paged; live = live });
+        page = subst (λ o. MatchOption o (union_of (spans_of (with_span group place changed)) ≡ set_of.empty) (AreOnPage old.table (spans_of (now o)))) (sym is) (record { has_page = paged.has_page; each = span_now page paged });
       };
       others = others_now;
+      in_use = λ q its. live;
       own_page = λ q its.
           let most = sound.own_page q in
           let less = count-remove (λ (g : PooledState). is_page g.page q) old.groups index group here.0 in

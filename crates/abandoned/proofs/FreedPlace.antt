@@ -9,7 +9,8 @@ use Rattle.page_table.specs.State.{TableState}
 use Rattle.groups.proofs.Lists.{same_some, set-same}
 use Rattle.abandoned.specs.Calls.{GivesUp}
 use Rattle.abandoned.specs.Groups.{FreesIn, GroupsState, HasHeadAt, standing}
-use Rattle.abandoned.specs.State.{IsHeadOf, PooledState, spans_of, with_span}
+use Rattle.abandoned.specs.State.{PooledState}
+use Rattle.groups.specs.Group.{IsHeadOf, spans_of, with_span}
 use Rattle.abandoned.proofs.GroupPlaces.{AtRank, place-IsHeadOf}
 use Rattle.abandoned.proofs.KnownGuests.{same_spans}
 use Rattle.abandoned.proofs.Places.{standing-set}

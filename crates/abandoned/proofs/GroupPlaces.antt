@@ -8,10 +8,11 @@ use Rattle.span.specs.declared.id.SpanId.{SpanId}
 use Rattle.shard.specs.Rooms.{has_index}
 use Rattle.groups.proofs.Lists.{cases-set, get-set, in_either, same_some, set-same, there_at}
 use Rattle.groups.proofs.Ranks.{id_from_rank}
-use Rattle.abandoned.specs.Calls.{HasNoPage, IsFirstPaged, IsPlaceFor}
+use Rattle.abandoned.specs.Calls.{HasNoPage, IsFirstPaged}
+use Rattle.groups.specs.Group.{HasNoHead, IsHeadOf, IsPlaceFor}
 use Rattle.abandoned.specs.Groups.{HaveSize, Removes, has_page, standing}
 use Rattle.abandoned.specs.Numbers.{HasNoneFrom, IsNext}
-use Rattle.abandoned.specs.State.{HasNoHead, IsHeadOf, PooledState}
+use Rattle.abandoned.specs.State.{PooledState}
 use Rattle.abandoned.proofs.Places.{before, before-less, before-within, place-lower, place_of, some_none, standing-take, standing_at}
 
 -- what is lent of an option, by what it holds

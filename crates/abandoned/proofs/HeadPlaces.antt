@@ -4,7 +4,8 @@ use Rattle.std.proofs.lemmas.Bool.{cases_lt}
 use Rattle.std.proofs.lemmas.Option.{slice_get_within}
 use Rattle.span.specs.Ids.{rank}
 use Rattle.groups.proofs.Lists.{there_at}
-use Rattle.abandoned.specs.State.{Ascend, PooledState}
+use Rattle.abandoned.specs.State.{PooledState}
+use Rattle.groups.specs.Group.{Ascend}
 
 -- heads that ascend are at most as many as there are ids
 pub at_most_ids : (groups : List PooledState) → Ascend groups → length groups ≤ 65536

@@ -2,11 +2,8 @@
 use Rattle.std.proofs.Common.{zero, suc, ◌≡◌, ℕ, ◌<◌, Bool, true, false, cond, List, [], ◌∷◌, slice_get, Some, arith}
 use Rattle.std.specs.Prelude.{filter}
 use Rattle.span.specs.Ids.{rank}
-use Rattle.span.specs.declared.id.SpanId.{SpanId}
-use Rattle.abandoned.specs.State.{Ascend, PooledState}
-
-abbrev pub head_id : PooledState → SpanId
-head_id group = group.head.id
+use Rattle.abandoned.specs.State.{PooledState}
+use Rattle.groups.specs.Group.{Ascend}
 
 -- a group that is left by a test stood before, and above all that it stood above
 module _ (p : PooledState → Bool) where

@@ -3,7 +3,8 @@ use Rattle.std.proofs.Common.{◌≡◌, ◌<◌, ℕ, List, length, Some, ◌�
 use Rattle.std.proofs.lemmas.Option.{slice_get_within}
 use Rattle.span.specs.State.{SpanState}
 use Rattle.span.specs.declared.id.SpanId.{SpanId}
-use Rattle.abandoned.specs.State.{IsHere, PooledState, spans_of}
+use Rattle.abandoned.specs.State.{PooledState}
+use Rattle.groups.specs.Group.{IsHere, spans_of}
 use Rattle.groups.proofs.Lists.{same_some}
 
 module _ (groups : List PooledState) (id : SpanId) (index place : ℕ) (group : PooledState) (span : SpanState) (here : IsHere groups id index place group span) where

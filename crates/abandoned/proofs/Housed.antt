@@ -8,7 +8,8 @@ use Rattle.page_table.specs.Words.{Words}
 use Rattle.groups.specs.Spans.{union_of}
 use Rattle.groups.specs.Whole.{WholeState, spans_moved}
 use Rattle.groups.specs.Tables.{with_page}
-use Rattle.abandoned.specs.Calls.{IsPlaceFor, TakesIn}
+use Rattle.abandoned.specs.Calls.{TakesIn}
+use Rattle.groups.specs.Group.{IsPlaceFor}
 use Rattle.abandoned.specs.State.{PooledState}
 use Rattle.abandoned.proofs.TakenIn.{empty_or_not, pooled}
 

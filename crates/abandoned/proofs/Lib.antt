@@ -22,7 +22,6 @@ pub mod Received
 pub mod Released
 pub mod Searches
 pub mod ShownLogs
-pub mod Standing
 pub mod Started
 pub mod Tables
 pub mod TakenIn

@@ -15,9 +15,12 @@ use Rattle.groups.proofs.GroupSpans.{count-spans_remove, elsewhere-times, times}
 use Rattle.groups.proofs.Lists.{count-some, same_some}
 use Rattle.groups.proofs.Removed.{after-remove, before-remove, count-remove, pairs-remove}
 use Rattle.abandoned.specs.Calls.{Lifts, without_page_of}
-use Rattle.abandoned.specs.Sound.{IsSound, IsSoundGroup, IsSoundPaged}
-use Rattle.abandoned.specs.State.{IsElsewhere, PoolState, PooledState, spans_of, whole_of}
-use Rattle.abandoned.proofs.Pages.{IsSameOn, IsSoundGroup-same, is_page-same, other_page, sound_paged}
+use Rattle.abandoned.specs.Sound.{IsSound}
+use Rattle.groups.specs.Sound.{AreOnPage, IsSoundGroup}
+use Rattle.abandoned.specs.State.{PoolState, PooledState, whole_of}
+use Rattle.groups.specs.Group.{IsElsewhere, spans_of}
+use Rattle.groups.proofs.Sound.{IsSoundGroup-same}
+use Rattle.abandoned.proofs.Pages.{IsSameOn, is_page-same, other_page, sound_paged}
 use Rattle.abandoned.proofs.Tables.{len-without, pages-without, spans-were, spans-without}
 
 module _ (old : PoolState) (sound : IsSound old) (index : ℕ) (group : PooledState) (here : slice_get old.groups index ≡ Some group) where
@@ -25,10 +28,10 @@ module _ (old : PoolState) (sound : IsSound old) (index : ℕ) (group : PooledSt
   left_over = record old { groups = remove old.groups index; table = without_page_of old.table group.page }
 
   same_there : (was : ℕ) (g : PooledState) → (was ≡ index → ⊥) → slice_get old.groups was ≡ Some g → IsSameOn old.table left_over.table g
-  same_there was g differ there = record {
-    page = λ page is. pages-without old.table group.page page (other_page old sound index group here was g there differ page is);
-    spans = λ page is place span at.
-        let mapped = ((sound_paged old sound was g there page is).spans place span at).mapped in
+  same_there was g differ there page is = record {
+    words = pages-without old.table group.page page (other_page old sound index group here was g there differ page is);
+    mapped = λ place span at.
+        let mapped = ((sound_paged old sound was g there page is).each place span at).mapped in
         spans-without old.table group.page (rank span.id) page mapped (other_page old sound index group here was g there differ page is) ∙ sym mapped;
   }
 
@@ -37,7 +40,8 @@ module _ (old : PoolState) (sound : IsSound old) (index : ℕ) (group : PooledSt
     ascending = pairs-remove (λ (a b : PooledState). rank a.head.id < rank b.head.id) old.groups index sound.ascending;
     groups = λ at g there.
         let before = before-remove old.groups index at g there in
-        IsSoundGroup-same old.table left_over.table g (same_there before.0 g before.1 before.2) (sound.groups before.0 g before.2);
+        IsSoundGroup-same (λ page. page) old.table left_over.table g (same_there before.0 g before.1 before.2) (sound.groups before.0 g before.2);
+    in_use = λ at page g there is. let before = before-remove old.groups index at g there in sound.in_use before.0 page g before.2 is;
     once = λ id.
         let most = sound.once id in
         let less = count-spans_remove spans_of (λ (s : SpanState). same_span s.id id) old.groups index group here in
@@ -82,14 +86,14 @@ module _ (old : PoolState) (sound : IsSound old) (index : ℕ) (group : PooledSt
   pub IsSoundWhole-whole_of : IsSoundWhole (whole_of old.table group)
   IsSoundWhole-whole_of = record { apart = its.apart; once = once_in_group; legal = its.legal; words = by_page group.page its.page }
     where
-      its : IsSoundGroup old.table group
+      its : IsSoundGroup (λ page. page) old.table group
       its = sound.groups index group here
 
-      by_page : (o : Option ℕ) → MatchOption o (union_of (spans_of group) ≡ set.empty) (IsSoundPaged old.table group)
+      by_page : (o : Option ℕ) → MatchOption o (union_of (spans_of group) ≡ set.empty) (AreOnPage old.table (spans_of group))
           → MatchOption (option_map (words_of old.table) o) (union_of (spans_of group) ≡ set.empty)
           (λ words. (place : ℕ) (span : SpanState) → slice_get (spans_of group) place ≡ Some span → IsSoundMoved words span)
       by_page None m = m
-      by_page (Some page) m = λ place span at. (m.spans place span at).kept
+      by_page (Some page) m = λ place span at. record { legal = its.legal place span at; stored = (m.each place span at).stored }
 
 pub IsSound-Lifts : (old new : PoolState) (head : SpanId) (answer : Option WholeState) → IsSound old → Lifts old head answer new → IsSound new
 IsSound-Lifts old new head None sound (none, new_is) = subst IsSound (sym new_is) sound

@@ -9,21 +9,22 @@ use Rattle.span.specs.State.{SpanState}
 use Rattle.page_table.specs.State.{TableState}
 use Rattle.groups.specs.Spans.{union_of, live_count}
 use Rattle.groups.proofs.LiveCounts.{len-union_of}
-use Rattle.abandoned.specs.Sound.{IsSoundGroup, IsSoundPaged}
-use Rattle.abandoned.specs.State.{PooledState, spans_in, spans_of}
+use Rattle.groups.specs.Sound.{AreOnPage, IsSoundGroup}
+use Rattle.abandoned.specs.State.{PooledState}
+use Rattle.groups.specs.Group.{spans_in, spans_of}
 use Rattle.abandoned.proofs.Passing.{paged}
 
 count-append : (xs ys : List SpanState) → live_count (xs ++ ys) ≡ live_count xs + live_count ys
 count-append xs ys = sum_by-append (λ (s : SpanState). set.len (live_slots s.log)) xs ys
 
-none-live : (table : TableState) (group : PooledState) → IsSoundGroup table group → paged group ≡ false → live_count (spans_of group) ≡ 0
+none-live : (table : TableState) (group : PooledState) → IsSoundGroup (λ page. page) table group → paged group ≡ false → live_count (spans_of group) ≡ 0
 none-live table group sound off = sym (len-union_of (spans_of group) sound.apart) ∙ ap (λ s. set.len s) (empty group.page off sound.page) ∙ set.len-empty nat_cmp
   where
-    empty : (page : Option ℕ) → is_some page ≡ false → MatchOption page (union_of (spans_of group) ≡ set.empty) (IsSoundPaged table group) → union_of (spans_of group) ≡ set.empty
+    empty : (page : Option ℕ) → is_some page ≡ false → MatchOption page (union_of (spans_of group) ≡ set.empty) (AreOnPage table (spans_of group)) → union_of (spans_of group) ≡ set.empty
     empty None is m = m
     empty (Some p) is m = absurd cc
 
-pub live_count-paged : (table : TableState) (groups : List PooledState) → ((index : ℕ) (group : PooledState) → slice_get groups index ≡ Some group → IsSoundGroup table group) → live_count (spans_in (filter paged groups)) ≡ live_count (spans_in groups)
+pub live_count-paged : (table : TableState) (groups : List PooledState) → ((index : ℕ) (group : PooledState) → slice_get groups index ≡ Some group → IsSoundGroup (λ page. page) table group) → live_count (spans_in (filter paged groups)) ≡ live_count (spans_in groups)
 live_count-paged table [] sound = refl
 live_count-paged table (group ∷ groups) sound = by_test (paged group) refl (live_count-paged table groups (λ index g there. sound (suc index) g there))
   where

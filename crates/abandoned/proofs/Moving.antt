@@ -12,21 +12,22 @@ use Rattle.page_table.specs.Words.{Words, blank_page}
 use Rattle.page_table.proofs.Maps.{get-remove}
 use Rattle.std.proofs.lemmas.Bool.{ne_eqb}
 use Rattle.std.specs.FinMap as finite
-use Rattle.shard.specs.Group.{GroupState, spans_of}
+use Rattle.shard.specs.Group.{GroupState}
+use Rattle.groups.specs.Group.{IsElsewhere, spans_in, spans_of}
 use Rattle.groups.specs.Spans.{union_of}
 use Rattle.groups.specs.Whole.{IsSoundWhole, WholeState, spans_moved}
 use Rattle.shard.specs.Moves.{LiftsLast, whole_of}
 use Rattle.groups.specs.Tables.{without_page}
 use Rattle.shard.specs.Sound.{IsSound as IsSoundShard}
-use Rattle.shard.specs.State.{ShardState, spans_in as spans_in_shard}
+use Rattle.shard.specs.State.{ShardState}
 use Rattle.groups.proofs.GroupSpans.{elsewhere-times, times}
 use Rattle.groups.proofs.Lists.{get-last, count-append, count-some, get_left}
 use Rattle.shard.proofs.PutHere.{other_page}
 use Rattle.span.proofs.Ids.{test_from_same_id}
 use Rattle.abandoned.specs.Calls.{MayTakeIn, TakesAll, TakesIn}
-use Rattle.abandoned.specs.Handover.{AreApart, HasRoomFor, IsEmptied}
+use Rattle.abandoned.specs.Handover.{AreApart, HasRoomFor, HasLetAllGo}
 use Rattle.abandoned.specs.Sound.{IsSound}
-use Rattle.abandoned.specs.State.{IsElsewhere, PoolState, spans_of as spans_of_pooled}
+use Rattle.abandoned.specs.State.{PoolState}
 use Rattle.abandoned.proofs.TakenIn.{empty_or_not, times-TakesIn}
 
 -- of the groups those behind have come, and the others are left, with the words that they had
@@ -66,8 +67,8 @@ IsMoving-first pool shard sound sound_shard apart room = record {
   span_room = refl;
 }
 
-pub IsEmptied-IsMoving : (pool₀ pool : PoolState) (shard₀ shard : ShardState) → IsMoving pool₀ shard₀ pool shard → shard.groups ≡ [] → IsEmptied shard₀ shard
-IsEmptied-IsMoving pool₀ pool shard₀ shard is none = record {
+pub HasLetAllGo-IsMoving : (pool₀ pool : PoolState) (shard₀ shard : ShardState) → IsMoving pool₀ shard₀ pool shard → shard.groups ≡ [] → HasLetAllGo shard₀ shard
+HasLetAllGo-IsMoving pool₀ pool shard₀ shard is none = record {
   groups = none;
   number = is.number;
   page_limit = is.page_limit;
@@ -108,20 +109,20 @@ module _ (pool₀ pool next : PoolState) (shard₀ shard left : ShardState) (who
   same_spans : spans_moved whole ≡ spans_of last
   same_spans = ap spans_moved lifted.3
 
-  spans_were : spans_in_shard shard.groups ≡ spans_in_shard left.groups ++ spans_moved whole
+  spans_were : spans_in shard.groups ≡ spans_in left.groups ++ spans_moved whole
   spans_were =
-      ap spans_in_shard lifted.2 ∙ flat_map-append spans_of groups_left (last ∷ [])
-      ∙ ap (λ xs. spans_in_shard groups_left ++ xs) (append-nil (spans_of last) ∙ sym same_spans)
-      ∙ ap (λ gs. spans_in_shard gs ++ spans_moved whole) (sym groups_are)
+      ap spans_in lifted.2 ∙ flat_map-append spans_of groups_left (last ∷ [])
+      ∙ ap (λ xs. spans_in groups_left ++ xs) (append-nil (spans_of last) ∙ sym same_spans)
+      ∙ ap (λ gs. spans_in gs ++ spans_moved whole) (sym groups_are)
 
-  count_last : (id : SpanId) → times id (spans_in_shard shard.groups) ≡ times id (spans_in_shard left.groups) + times id (spans_moved whole)
-  count_last id = ap (times id) spans_were ∙ count-append (λ (s : SpanState). same_span s.id id) (spans_in_shard left.groups) (spans_moved whole)
+  count_last : (id : SpanId) → times id (spans_in shard.groups) ≡ times id (spans_in left.groups) + times id (spans_moved whole)
+  count_last id = ap (times id) spans_were ∙ count-append (λ (s : SpanState). same_span s.id id) (spans_in left.groups) (spans_moved whole)
 
-  length_last : length (spans_in_shard shard.groups) ≡ length (spans_in_shard left.groups) + length (spans_moved whole)
-  length_last = ap length spans_were ∙ length-append (spans_in_shard left.groups) (spans_moved whole)
+  length_last : length (spans_in shard.groups) ≡ length (spans_in left.groups) + length (spans_moved whole)
+  length_last = ap length spans_were ∙ length-append (spans_in left.groups) (spans_moved whole)
 
   elsewhere_now : (place : ℕ) (span : SpanState) → slice_get (spans_moved whole) place ≡ Some span → IsElsewhere pool.groups span.id
-  elsewhere_now place span here = elsewhere-times spans_of_pooled pool.groups span.id (
+  elsewhere_now place span here = elsewhere-times spans_of pool.groups span.id (
       let most = is.apart span.id in
       let some = count-some (λ (s : SpanState). same_span s.id span.id) (spans_moved whole) place span here (test_from_same_id span.id span.id refl) in
       omega (arith, count_last span.id))

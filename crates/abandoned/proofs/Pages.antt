@@ -1,19 +1,16 @@
 -- The pages of a sound pool's groups, and when a group stays sound in another table.
-use Rattle.std.proofs.Common.{◌≡◌, ℕ, ◌<◌, ◌⊎◌, Bool, true, false, Option, Some, None, MatchOption, slice_get, ap, sym, subst, ◌∙◌, refl, inl, inr, arith, eq-eqb, eqb-true}
-use Rattle.std.specs.Prelude.{unwrap_or, ◌≢◌}
-use Rattle.std.specs.FinMap as map
+use Rattle.std.proofs.Common.{◌≡◌, ℕ, ◌<◌, ◌⊎◌, Bool, true, false, Option, Some, None, MatchOption, slice_get, ap, subst, ◌∙◌, refl, inl, inr, arith, eq-eqb, eqb-true}
+use Rattle.std.specs.Prelude.{◌≢◌}
 use Rattle.std.specs.FinSet as set
-use Rattle.std.specs.Option.{IsSome}
 use Rattle.std.proofs.lemmas.Bool.{cases_lt}
-use Rattle.span.specs.Ids.{rank}
-use Rattle.span.specs.State.{SpanState}
-use Rattle.page_table.specs.State.{TableState, is_page, words_of}
-use Rattle.page_table.specs.Words.{Words, blank_page}
+use Rattle.page_table.specs.State.{TableState, is_page}
 use Rattle.groups.specs.Spans.{union_of}
-use Rattle.groups.specs.Whole.{IsSoundMoved}
 use Rattle.groups.proofs.Lists.{count-two, same_some}
-use Rattle.abandoned.specs.Sound.{IsSound, IsSoundGroup, IsSoundPaged}
-use Rattle.abandoned.specs.State.{PoolState, PooledState, spans_of}
+use Rattle.groups.proofs.Sound.{AreSameOn}
+use Rattle.abandoned.specs.Sound.{IsSound}
+use Rattle.groups.specs.Sound.{AreOnPage}
+use Rattle.abandoned.specs.State.{PoolState, PooledState}
+use Rattle.groups.specs.Group.{spans_of}
 
 pub is_page-same : (page : ℕ) → is_page (Some page) page ≡ true
 is_page-same page = eq-eqb page page refl
@@ -24,18 +21,18 @@ from-is_page (Some other) page e = ap Some (eqb-true other page e)
 
 module _ (pool : PoolState) (sound : IsSound pool) (index : ℕ) (group : PooledState) (here : slice_get pool.groups index ≡ Some group) where
   -- a group's page is one of the table, and its spans are sound there
-  pub sound_paged : (page : ℕ) → group.page ≡ Some page → IsSoundPaged pool.table group page
+  pub sound_paged : (page : ℕ) → group.page ≡ Some page → AreOnPage pool.table (spans_of group) page
   sound_paged page is = at_page group.page (sound.groups index group here).page is
     where
-      at_page : (o : Option ℕ) → MatchOption o (union_of (spans_of group) ≡ set.empty) (IsSoundPaged pool.table group) → o ≡ Some page → IsSoundPaged pool.table group page
+      at_page : (o : Option ℕ) → MatchOption o (union_of (spans_of group) ≡ set.empty) (AreOnPage pool.table (spans_of group)) → o ≡ Some page → AreOnPage pool.table (spans_of group) page
       at_page None m e = absurd cc
-      at_page (Some other) m e = subst (IsSoundPaged pool.table group) (same_some e) m
+      at_page (Some other) m e = subst (AreOnPage pool.table (spans_of group)) (same_some e) m
 
   -- without a page no slot is live
   pub none_live : group.page ≡ None → union_of (spans_of group) ≡ set.empty
   none_live is = at_page group.page (sound.groups index group here).page is
     where
-      at_page : (o : Option ℕ) → MatchOption o (union_of (spans_of group) ≡ set.empty) (IsSoundPaged pool.table group) → o ≡ None → union_of (spans_of group) ≡ set.empty
+      at_page : (o : Option ℕ) → MatchOption o (union_of (spans_of group) ≡ set.empty) (AreOnPage pool.table (spans_of group)) → o ≡ None → union_of (spans_of group) ≡ set.empty
       at_page None m e = m
       at_page (Some other) m e = absurd cc
 
@@ -65,23 +62,5 @@ module _ (pool : PoolState) (sound : IsSound pool) (index : ℕ) (group : Pooled
       ]
 
 -- the tables have the same words on the group's page, and map its spans alike
-pub record IsSameOn (old new : TableState) (group : PooledState) : Type 0 where
-  pub page : (page : ℕ) → group.page ≡ Some page → map.get new.pages page ≡ map.get old.pages page
-  pub spans : (page : ℕ) → group.page ≡ Some page → (place : ℕ) (span : SpanState) → slice_get (spans_of group) place ≡ Some span → map.get new.spans (rank span.id) ≡ map.get old.spans (rank span.id)
-
-pub IsSoundGroup-same : (old new : TableState) (group : PooledState) → IsSameOn old new group → IsSoundGroup old group → IsSoundGroup new group
-IsSoundGroup-same old new group same was = record { apart = was.apart; legal = was.legal; page = by_page group.page same.page same.spans was.page }
-  where
-    by_page : (o : Option ℕ) → ((page : ℕ) → o ≡ Some page → map.get new.pages page ≡ map.get old.pages page)
-        → ((page : ℕ) → o ≡ Some page → (place : ℕ) (span : SpanState) → slice_get (spans_of group) place ≡ Some span → map.get new.spans (rank span.id) ≡ map.get old.spans (rank span.id))
-        → MatchOption o (union_of (spans_of group) ≡ set.empty) (IsSoundPaged old group) → MatchOption o (union_of (spans_of group) ≡ set.empty) (IsSoundPaged new group)
-    by_page None pages spans m = m
-    by_page (Some page) pages spans m =
-        let words : words_of new page ≡ words_of old page = ap (λ (o : Option Words). unwrap_or o blank_page) (pages page refl) in
-        record {
-          has_page = subst IsSome (sym (pages page refl)) m.has_page;
-          spans = λ place span here.
-              let s = m.spans place span here in
-              record { mapped = spans page refl place span here ∙ s.mapped; kept = subst (λ ws. IsSoundMoved ws span) (sym words) s.kept };
-          live = m.live;
-        }
+abbrev pub IsSameOn : TableState → TableState → PooledState → Type 0
+IsSameOn old new group = (page : ℕ) → group.page ≡ Some page → AreSameOn old new (spans_of group) page

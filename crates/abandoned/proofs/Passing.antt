@@ -13,7 +13,8 @@ use Rattle.shard.specs.Rooms.{has_index}
 use Rattle.groups.specs.Spans.{live_count}
 use Rattle.abandoned.specs.Groups.{has_page, standing}
 use Rattle.abandoned.specs.Numbers.{HasNoneFrom, IsNext}
-use Rattle.abandoned.specs.State.{PooledState, spans_in, spans_of}
+use Rattle.abandoned.specs.State.{PooledState}
+use Rattle.groups.specs.Group.{spans_in, spans_of}
 use Rattle.abandoned.proofs.GroupPlaces.{AtRank, KnowsPaged, page-some}
 use Rattle.abandoned.proofs.Places.{passing-none, passing-one}
 

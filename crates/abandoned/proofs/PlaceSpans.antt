@@ -3,7 +3,8 @@ use Rattle.std.proofs.Common.{◌≡◌, ◌++◌, List, [], ◌∷◌, Option, 
 use Rattle.std.specs.List.{flat_map}
 use Rattle.span.specs.State.{SpanState}
 use Rattle.abandoned.specs.Groups.{standing}
-use Rattle.abandoned.specs.State.{PooledState, spans_in, spans_of}
+use Rattle.abandoned.specs.State.{PooledState}
+use Rattle.groups.specs.Group.{spans_in, spans_of}
 
 -- the spans of the group that stands there, if one does
 abbrev pub spans_at : Option PooledState → List SpanState

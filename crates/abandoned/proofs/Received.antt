@@ -9,7 +9,8 @@ use Rattle.page_table.specs.Words.{Words}
 use Rattle.span.specs.Ids.{same_span}
 use Rattle.span.specs.State.{SpanState}
 use Rattle.span.proofs.Ids.{same_id_from_test}
-use Rattle.shard.specs.Group.{GroupState, spans_of as spans_in_group}
+use Rattle.shard.specs.Group.{GroupState}
+use Rattle.groups.specs.Group.{IsElsewhere, spans_in, spans_of}
 use Rattle.groups.specs.Whole.{IsSoundWhole, WholeState}
 use Rattle.shard.specs.Moves.{whole_of}
 use Rattle.shard.specs.Sound.{IsSound as IsSoundShard}
@@ -17,9 +18,9 @@ use Rattle.shard.specs.State.{ShardState}
 use Rattle.groups.proofs.GroupSpans.{count-spans_in, times, times-elsewhere}
 use Rattle.shard.proofs.LiftedGroup.{IsSoundWhole-lifted}
 use Rattle.abandoned.specs.Calls.{IsInPool}
-use Rattle.abandoned.specs.Handover.{AreApart, IsEmptied}
+use Rattle.abandoned.specs.Handover.{AreApart, HasLetAllGo}
 use Rattle.abandoned.specs.Sound.{IsSound}
-use Rattle.abandoned.specs.State.{IsElsewhere, PoolState, spans_in, spans_of}
+use Rattle.abandoned.specs.State.{PoolState}
 use Rattle.abandoned.proofs.TakenIn.{AreSound}
 use Rattle.std.proofs.lemmas.Bool.{cases_eq, false_from_ne_true, ne_eqb}
 use Rattle.std.proofs.lemmas.Option.{none-some}
@@ -30,7 +31,7 @@ AreApart-receiving pool shard sound sound_shard apart id = elim (cases_eq (times
   | inl none ↦ let most = sound_shard.once id in omega arith
   | inr some ↦
       let most = sound.once id in
-      let none = count-spans_in spans_in_group (λ (s : SpanState). same_span s.id id) shard.groups (λ index place group span stands. false_from_ne_true (same_span span.id id) (λ same.
+      let none = count-spans_in spans_of (λ (s : SpanState). same_span s.id id) shard.groups (λ index place group span stands. false_from_ne_true (same_span span.id id) (λ same.
       apart (
         index,
         group,
@@ -87,7 +88,7 @@ no_page pages none = same_nat_map pages finite.empty (λ q. by_get q (finite.get
         omega arith)
 
 -- an ended shard has no span and no page
-pub ended_after : (old new : ShardState) → IsEmptied old new → IsSoundShard new
+pub ended_after : (old new : ShardState) → HasLetAllGo old new → IsSoundShard new
     → ◌≡◌ {A = ShardState} (record new { ended = true; onto = None }) (record old { ended = true; onto = None; groups = []; table = record old.table { spans = finite.empty; pages = finite.empty } })
 ended_after old new is sound =
     let spans : new.table.spans ≡ finite.empty = no_span new.table.spans (λ number page mapped. let found = sound.only number page mapped in none-some _ (ap (λ (gs : List GroupState). slice_get gs found.0) (sym is.groups) ∙ found.4.0)) in

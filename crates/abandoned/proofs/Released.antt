@@ -10,7 +10,8 @@ use Rattle.groups.specs.Spans.{union_of}
 use Rattle.groups.proofs.Unions.{live_if_held, member_of_union}
 use Rattle.abandoned.specs.Calls.{GivesUp, Leaves, without_page_of}
 use Rattle.abandoned.specs.Sound.{IsSound}
-use Rattle.abandoned.specs.State.{PoolState, PooledState, spans_of}
+use Rattle.abandoned.specs.State.{PoolState, PooledState}
+use Rattle.groups.specs.Group.{spans_of}
 use Rattle.abandoned.proofs.Pages.{none_live, sound_paged}
 use Rattle.abandoned.proofs.TakenIn.{empty_or_not}
 

@@ -28,7 +28,8 @@ use Rattle.groups.proofs.Unions.{member_of_union}
 use Rattle.abandoned.specs.Calls.{Frees, Gets}
 use Rattle.abandoned.specs.Shown.{shown}
 use Rattle.abandoned.specs.Sound.{IsSound}
-use Rattle.abandoned.specs.State.{IsElsewhere, IsHere, PoolState, PooledState, spans_in, spans_of}
+use Rattle.abandoned.specs.State.{PoolState, PooledState}
+use Rattle.groups.specs.Group.{IsElsewhere, IsHere, spans_in, spans_of}
 use Rattle.abandoned.proofs.Freed.{IsSound-Frees, groups-Leaves}
 use Rattle.abandoned.proofs.Pages.{none_live, sound_paged}
 
@@ -57,8 +58,8 @@ module _ (pool : PoolState) (sound : IsSound pool) where
           → (o : Option ℕ) → group.page ≡ o → value_by pool.table key (Some span) ≡ value_in span.log key.slot key.generation
       by_page index place group here there same None is = nothing_live (map.get (replay span.log) key.slot) key.generation (word_of pool.table key.span key.slot) (not_live index place group span key.slot here there is)
       by_page index place group here there same (Some page) is =
-          let its = (sound_paged pool sound index group here page is).spans place span there in
-          value_by-mapped pool.table key page span its.mapped (λ held is. its.kept.stored key.slot held is) same
+          let its = (sound_paged pool sound index group here page is).each place span there in
+          value_by-mapped pool.table key page span its.mapped (λ held is. its.stored key.slot held is) same
 
   -- the words of the pages are what the logs say
   pub shown-logged : shown pool ≡ logged (spans_in pool.groups) nothing_pending
@@ -85,7 +86,7 @@ module _ (pool : PoolState) (sound : IsSound pool) where
   pub value_found-Gets : (key : Key) (answer : Found) → Gets pool key answer → value_found answer ≡ (shown pool).value_of key
   value_found-Gets key (found.Value value at) (index, place, page, group, span, here, paged, holds, word, before) =
       sym (value-logged key ∙ ap (logged_by key) (span_named-here key.span index place group span here)
-      ∙ value_in-held span.log key.slot key.generation value holds (λ held is. word ∙ ((sound_paged pool sound index group here.group_is page paged).spans place span here.span_is).kept.stored key.slot held is))
+      ∙ value_in-held span.log key.slot key.generation value holds (λ held is. word ∙ ((sound_paged pool sound index group here.group_is page paged).each place span here.span_is).stored key.slot held is))
   value_found-Gets key (Gone at) (index, place, group, span, here, gone, before) =
       sym (value-logged key ∙ ap (logged_by key) (span_named-here key.span index place group span here) ∙ value_in-gone span.log key.slot key.generation gone)
   value_found-Gets key NotHere elsewhere = sym (value-logged key ∙ ap (logged_by key) (span_named-elsewhere key.span elsewhere))

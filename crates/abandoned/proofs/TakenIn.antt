@@ -25,9 +25,11 @@ use Rattle.groups.proofs.Mapped.{get-with_mapped_in, get-with_mapped_out, with_m
 use Rattle.groups.proofs.Ranks.{id_from_rank}
 use Rattle.groups.proofs.Tables.{get-insert_other, get-insert_same}
 use Rattle.abandoned.specs.Calls.{TakesAll, TakesIn, less_room, with_rooms}
-use Rattle.abandoned.specs.Sound.{IsSound, IsSoundGroup, IsSoundPaged}
-use Rattle.abandoned.specs.State.{IsElsewhere, PoolState, PooledState, spans_in, spans_of}
+use Rattle.abandoned.specs.Sound.{IsSound}
+use Rattle.abandoned.specs.State.{PoolState, PooledState}
+use Rattle.groups.specs.Group.{IsElsewhere, spans_in, spans_of}
 use Rattle.abandoned.proofs.Inserted.{IsSound-inserted, IsTableWith}
+use Rattle.groups.proofs.Sound.{IsSoundGroup-same}
 use Rattle.abandoned.proofs.Pages.{from-is_page, sound_paged}
 
 -- a set has no member, or some
@@ -43,7 +45,7 @@ empty_or_not s = by_items (set.items s) (same_slots _ _ (λ q. set.contains-from
 
 -- the group as it stands in the pool
 abbrev pub pooled : WholeState → Option ℕ → PooledState
-pooled whole page = record { head = whole.head; guests = whole.guests; page = page }
+pooled whole page = record { head = whole.head; guests = whole.guests; page = page; closed = tt }
 
 abbrev pub IsElsewhereWhole : PoolState → WholeState → Type 0
 IsElsewhereWhole pool whole = (place : ℕ) (span : SpanState) → slice_get (spans_moved whole) place ≡ Some span → IsElsewhere pool.groups span.id
@@ -53,7 +55,8 @@ module _ (old : PoolState) (sound : IsSound old) (whole : WholeState) (fits : Is
   pub table_without : union_of (spans_moved whole) ≡ set.empty → IsTableWith old (pooled whole None) (less_room old.table (length (spans_moved whole)))
   table_without none = record {
     here = record { apart = fits.apart; legal = fits.legal; page = none };
-    others = λ index other there. record { page = λ page is. refl; spans = λ page is place span at. refl };
+    others = λ index other there page is. record { words = refl; mapped = λ place span at. refl };
+    in_use = λ page is. absurd cc;
     own_page = λ page is. absurd cc;
     only = λ number page is. inl is;
     pages = omega arith;
@@ -84,15 +87,18 @@ module _ (old : PoolState) (sound : IsSound old) (whole : WholeState) (fits : Is
         legal = fits.legal;
         page = record {
           has_page = subst IsSome (sym get_page) refl;
-          spans = λ place span at. record { mapped = get-with_mapped_in (spans_moved whole) old.table.spans page place span at; kept = subst (λ ws. IsSoundMoved ws span) (sym words_now) (words_here place span at) };
-          live = live;
+          each = λ place span at. record {
+            mapped = get-with_mapped_in (spans_moved whole) old.table.spans page place span at;
+            stored = λ slot held is. rw words_now ((words_here place span at).stored slot held is);
+          };
         };
       };
-      others = λ index other there. record {
-        page = λ q is. get-insert_other old.table.pages page words q (λ same. not_of_group index other there (is ∙ ap Some same));
-        spans = λ q is place span at. get-with_mapped_out (spans_moved whole) old.table.spans page (rank span.id)
+      others = λ index other there q is. record {
+        words = get-insert_other old.table.pages page words q (λ same. not_of_group index other there (is ∙ ap Some same));
+        mapped = λ place span at. get-with_mapped_out (spans_moved whole) old.table.spans page (rank span.id)
             (λ place' moved at' same. elsewhere place' moved at' index other there place (span, at, id_from_rank span.id moved.id (sym same)));
       };
+      in_use = λ q is. live;
       own_page = λ q is. count-none (λ (g : PooledState). is_page g.page q) old.groups (λ index g there. false_from_ne_true (is_page g.page q) (λ its. not_of_group index g there (from-is_page g.page q its ∙ sym is)));
       only = λ number q is. elim (with_mapped-was (spans_moved whole) old.table.spans page number q is) [
         | inl before ↦ inl before
@@ -141,19 +147,13 @@ times-TakesIn old new whole sound fits elsewhere takes id =
 pub IsSound-with_rooms : (pool : PoolState) (pages spans : ℕ) → IsSound pool → IsSound (with_rooms pool pages spans)
 IsSound-with_rooms pool pages spans sound = record {
   ascending = sound.ascending;
-  groups = λ index group there. same_group group (sound.groups index group there);
+  groups = λ index group there. IsSoundGroup-same (λ page. page) pool.table (with_rooms pool pages spans).table group (λ page is. record { words = refl; mapped = λ place span at. refl }) (sound.groups index group there);
+  in_use = sound.in_use;
   once = sound.once;
   own_page = sound.own_page;
   only = sound.only;
   pages = sound.pages;
 }
-  where
-    same_group : (group : PooledState) → IsSoundGroup pool.table group → IsSoundGroup (with_rooms pool pages spans).table group
-    same_group group was = record { apart = was.apart; legal = was.legal; page = by_page group.page was.page }
-      where
-        by_page : (o : Option ℕ) → MatchOption o (union_of (spans_of group) ≡ set.empty) (IsSoundPaged pool.table group) → MatchOption o (union_of (spans_of group) ≡ set.empty) (IsSoundPaged (with_rooms pool pages spans).table group)
-        by_page None m = m
-        by_page (Some page) m = record { has_page = m.has_page; spans = λ place span here. let s = m.spans place span here in record { mapped = s.mapped; kept = s.kept }; live = m.live }
 
 -- several groups, one after another
 

@@ -15,7 +15,8 @@ use Rattle.shard.specs.Moves.{TakesIn as TakesInShard, whole_of as whole_of_shar
 use Rattle.groups.specs.Shown.{issued_by, span_named}
 use Rattle.shard.specs.Shown.{shown as shown_by_shard}
 use Rattle.shard.specs.Sound.{IsSound as IsSoundShard}
-use Rattle.shard.specs.State.{ShardState, spans_in as spans_in_shard}
+use Rattle.shard.specs.State.{ShardState}
+use Rattle.groups.specs.Group.{spans_in, spans_of}
 use Rattle.groups.proofs.GroupSpans.{put_in, taken_out, times}
 use Rattle.groups.proofs.Lists.{count-append, find-none}
 use Rattle.groups.proofs.Logged.{logged, logged_by, nothing_pending, same_plain_map}
@@ -24,7 +25,7 @@ use Rattle.shard.proofs.ShownLogs.{shown-logged as shown-logged_shard}
 use Rattle.abandoned.specs.Calls.{Lifts, TakesAll, TakesIn, with_rooms}
 use Rattle.abandoned.specs.Shown.{first_of, shown, together}
 use Rattle.abandoned.specs.Sound.{IsSound}
-use Rattle.abandoned.specs.State.{PoolState, spans_in, spans_of}
+use Rattle.abandoned.specs.State.{PoolState}
 use Rattle.abandoned.proofs.ShownLogs.{shown-logged}
 use Rattle.abandoned.proofs.TakenIn.{AreOnce, AreOnce-rest, AreSound, HasAll-TakesAll, IsElsewhere-next, IsElsewhereWhole, is_in-TakesIn, pooled}
 
@@ -219,12 +220,12 @@ Alike-swap xs ys once id = elim (cases_eq (times id ys) 0) [
 ]
 
 -- the spans of the groups on their way are those of the shard
-pub flat_map-whole_of : (table : TableState) (groups : List GroupState) → flat_map spans_moved (map (whole_of_shard table) groups) ≡ spans_in_shard groups
+pub flat_map-whole_of : (table : TableState) (groups : List GroupState) → flat_map spans_moved (map (whole_of_shard table) groups) ≡ spans_in groups
 flat_map-whole_of table [] = refl
 flat_map-whole_of table (group ∷ groups) = ap (λ xs. (group.head ∷ group.guests) ++ xs) (flat_map-whole_of table groups)
 
 pub together-Receives : (old new : PoolState) (shard : ShardState) (pages spans : ℕ) → IsSound (with_rooms old pages spans) → IsSound old → IsSoundShard shard → AreSound (map (whole_of_shard shard.table) shard.groups)
-    → ((id : SpanId) → times id (spans_in old.groups) + times id (spans_in_shard shard.groups) ≤ 1)
+    → ((id : SpanId) → times id (spans_in old.groups) + times id (spans_in shard.groups) ≤ 1)
     → TakesAll (with_rooms old pages spans) (map (whole_of_shard shard.table) shard.groups) new
     → shown new ≡ together (shown old) (shown_by_shard shard)
 together-Receives old new shard pages spans sound_room sound sound_shard fits once all =
@@ -232,7 +233,7 @@ together-Receives old new shard pages spans sound_room sound sound_shard fits on
     let same = flat_map-whole_of shard.table shard.groups in
     let once_all : AreOnce (with_rooms old pages spans) wholes = λ id. let most = once id in let count = ap (times id) same in omega arith in
     let mine : List SpanState = spans_in old.groups in
-    let theirs : List SpanState = spans_in_shard shard.groups in
+    let theirs : List SpanState = spans_in shard.groups in
     let sound_new = (HasAll-TakesAll wholes (with_rooms old pages spans) new sound_room fits once_all all).sound in
     let alike : Alike (spans_in new.groups) (mine ++ theirs) = λ id.
     Alike-TakesAll wholes (with_rooms old pages spans) new sound_room fits once_all all id

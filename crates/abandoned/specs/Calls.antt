@@ -9,19 +9,20 @@ use Rattle.span.specs.Log.{Holds}
 use Rattle.span.specs.State.{SpanState}
 use Rattle.page_table.specs.State.{TableState, word_at, words_of}
 use Rattle.page_table.specs.Words.{Words}
-use Rattle.shard.specs.Group.{GroupState, spans_of as spans_in_shard}
-use Rattle.groups.specs.Spans.{IsSpanAt, union_of, with_free}
+use Rattle.shard.specs.Group.{GroupState}
+use Rattle.groups.specs.Group.{HasNoHead, IsElsewhere, IsHeadOf, IsHere, spans_of, with_span, IsPlaceFor}
+use Rattle.groups.specs.Spans.{union_of, with_free}
 use Rattle.groups.specs.Brief.{IsBriefOf}
 use Rattle.groups.specs.Whole.{WholeState, spans_moved}
 use Rattle.shard.specs.Moves.{TakesIn as TakesInShard, whole_of as whole_of_shard, with_room as with_room_in}
 use Rattle.groups.specs.Tables.{with_page, without_page}
-use Rattle.shard.specs.State.{ShardState, IsElsewhere as IsElsewhereInShard}
+use Rattle.shard.specs.State.{ShardState}
 use Rattle.groups.specs.declared.brief.Brief.{Brief}
 use Rattle.shard.specs.declared.shard.Found.{Found}
 use Rattle.shard.specs.declared.shard.Found.TheVariants.{Value, Gone, NotHere}
 use Rattle.shard.specs.declared.shard.Freed.{Freed}
 use Rattle.shard.specs.declared.shard.Freed.TheVariants as freed
-use Rattle.abandoned.specs.State.{HasNoHead, IsElsewhere, IsHeadOf, IsHere, PoolState, PooledState, spans_of, whole_of, with_span}
+use Rattle.abandoned.specs.State.{PoolState, PooledState, whole_of}
 
 -- what a look-up of the key finds: the word at its slot of its span's page, and how many changes its span's log has
 abbrev pub Gets : PoolState → Key → Found → Type 0
@@ -36,14 +37,6 @@ Gets pool key NotHere = IsElsewhere pool.groups key.span
 -- the group of the head, and what the brief tells of it; a group of the pool is never closed
 abbrev pub IsBriefHere : List PooledState → SpanId → Brief → Type 0
 IsBriefHere groups head brief = (index : ℕ) × (group : PooledState) × IsHeadOf groups head index group × IsBriefOf (spans_of group) (is_some group.page) false brief
-
--- the span of this id stands at the place of the head's group
-abbrev pub IsMemberAt : List PooledState → SpanId → ℕ → SpanId → Type 0
-IsMemberAt groups head place id = (index : ℕ) × (group : PooledState) × IsHeadOf groups head index group × IsSpanAt (spans_of group) id place
-
--- no group has the head, or its group has no such place
-abbrev pub HasNoMember : List PooledState → SpanId → ℕ → Type 0
-HasNoMember groups head place = (index : ℕ) (group : PooledState) → IsHeadOf groups head index group → length (spans_of group) ≤ place
 
 -- the table without the page of a group, if the group has one
 abbrev pub without_page_of : TableState → Option ℕ → TableState
@@ -72,12 +65,6 @@ Frees old key (freed.No at) new =
     × (Holds span.log key.slot key.generation → ⊥) × (at ≡ length span.log) × (new ≡ old)
 Frees old key freed.NotHere new = IsElsewhere old.groups key.span × (new ≡ old)
 
--- the place of a head among the groups: the heads before it are lower, and the head there is higher
-pub record IsPlaceFor (groups : List PooledState) (id : SpanId) (index : ℕ) : Type 0 where
-  pub within : index ≤ length groups
-  pub before : (other : ℕ) (group : PooledState) → other < index → slice_get groups other ≡ Some group → rank group.head.id < rank id
-  pub after : (other : ℕ) (group : PooledState) → index ≤ other → slice_get groups other ≡ Some group → rank id < rank group.head.id
-
 -- the group of the head leaves the pool, with its page, if it has one, and its spans, and all else stays
 abbrev pub Lifts : PoolState → SpanId → Option WholeState → PoolState → Type 0
 Lifts old head None new = HasNoHead old.groups head × (new ≡ old)
@@ -104,9 +91,9 @@ pub record TakesIn (old : PoolState) (whole : WholeState) (new : PoolState) : Ty
   pub index : ℕ
   pub place : IsPlaceFor old.groups whole.head.id index
   pub emptied : union_of (spans_moved whole) ≡ set.empty
-      → new ≡ record old { groups = insert old.groups index (record { head = whole.head; guests = whole.guests; page = None }); table = less_room old.table (length (spans_moved whole)) }
+      → new ≡ record old { groups = insert old.groups index (record { head = whole.head; guests = whole.guests; page = None; closed = tt }); table = less_room old.table (length (spans_moved whole)) }
   pub live : union_of (spans_moved whole) ≢ set.empty → (page : ℕ) × (words : Words) × (finite.get old.table.pages page ≡ None) × (whole.words ≡ Some words)
-      × (new ≡ record old { groups = insert old.groups index (record { head = whole.head; guests = whole.guests; page = Some page }); table = with_page old.table (spans_moved whole) page words })
+      × (new ≡ record old { groups = insert old.groups index (record { head = whole.head; guests = whole.guests; page = Some page; closed = tt }); table = with_page old.table (spans_moved whole) page words })
 
 -- the groups come into the pool, one after another, the last of them first
 abbrev pub TakesAll : PoolState → List WholeState → PoolState → Type 0
@@ -147,7 +134,7 @@ HasAny groups spans = (place : ℕ) × (span : SpanState) × (slice_get spans pl
 
 -- a span that would move is in the pool already
 abbrev pub IsInPool : PoolState → ShardState → Type 0
-IsInPool pool shard = (index : ℕ) × (group : GroupState) × (slice_get shard.groups index ≡ Some group) × HasAny pool.groups (spans_in_shard group)
+IsInPool pool shard = (index : ℕ) × (group : GroupState) × (slice_get shard.groups index ≡ Some group) × HasAny pool.groups (spans_of group)
 
 -- the first of the groups that has a page
 pub record IsFirstPaged (groups : List PooledState) (index : ℕ) (group : PooledState) : Type 0 where
@@ -185,7 +172,7 @@ pub record Adopts (old : PoolState) (shard : ShardState) (head : SpanId) (new : 
 
 -- the shard has a span of this id, or is the one that opens it
 abbrev pub IsTaken : ShardState → SpanId → Type 0
-IsTaken shard id = (id.shard ≡ shard.number) ⊎ (IsElsewhereInShard shard.groups id → ⊥)
+IsTaken shard id = (id.shard ≡ shard.number) ⊎ (IsElsewhere shard.groups id → ⊥)
 
 -- one of the spans is in the shard already, or bears its number
 abbrev pub HasDoubled : ShardState → List SpanState → Type 0

@@ -6,7 +6,8 @@ use Rattle.span.specs.State.{SpanState}
 use Rattle.page_table.specs.State.{TableState}
 use Rattle.shard.specs.Rooms.{has_index}
 use Rattle.abandoned.specs.Calls.{GivesUp}
-use Rattle.abandoned.specs.State.{HasNoHead, IsHeadOf, PooledState, with_span}
+use Rattle.abandoned.specs.State.{PooledState}
+use Rattle.groups.specs.Group.{HasNoHead, IsHeadOf, with_span}
 use Rattle.span.specs.declared.limits.TheConstants.{ALL_IDS}
 
 -- groups by ascending head, and for how many more there is reserved room

@@ -1,17 +1,13 @@
 -- What a pool keeps.
-use Rattle.std.specs.Prelude.{◌≤◌, List}
-use Rattle.groups.specs.Directory.{Entries, IsDirectory}
+use Rattle.std.specs.Prelude.{◌≤◌}
+use Rattle.groups.specs.Directory.{KnowsGuests}
 use Rattle.abandoned.specs.Sound.{IsSound}
-use Rattle.abandoned.specs.State.{PoolState, PooledState}
+use Rattle.abandoned.specs.State.{PoolState}
 use Rattle.abandoned.specs.declared.pool.Pool.TheInside.{Inside}
 
 -- what contracts see of the fields: the table with the room that the pool has reserved
 abbrev pub state_of : {L : Type 0} → Inside L → PoolState
 state_of p = record { groups = p.groups.groups; table = record p.table { page_room = p.page_room; span_room = p.span_room }; has_plan = p.has_plan }
-
--- the entries say where each guest of the groups stands
-abbrev pub KnowsGuests : List PooledState → Entries → Type 0
-KnowsGuests groups entries = IsDirectory (λ group. group.head.id) (λ group. group.guests) groups entries
 
 -- the pool is sound, and the reserved room is there, in the table and among the groups
 pub record IsKept {L : Type 0} (p : Inside L) : Type 0 where

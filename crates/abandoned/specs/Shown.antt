@@ -3,7 +3,8 @@ use Rattle.std.specs.Prelude.{◌||◌, [], Option, None, Some}
 use Rattle.span.specs.Log.{Value}
 use Rattle.span.specs.PlainMap.{PlainMap}
 use Rattle.groups.specs.Shown.{issued_by, span_named, value_by}
-use Rattle.abandoned.specs.State.{PoolState, spans_in}
+use Rattle.abandoned.specs.State.{PoolState}
+use Rattle.groups.specs.Group.{spans_in}
 
 -- the map of the keys of the pool's spans: what their logs leave live, each with the word of its page
 abbrev pub shown : PoolState → PlainMap

@@ -7,10 +7,11 @@ ghost use Rattle.span.specs.SpanLogs.{AreLegal, room_for_logs, span_of_log};
 ghost use Rattle.span.specs.State.{SpanState};
 ghost use Rattle.page_table.specs.State.{HasPage};
 ghost use Rattle.groups.specs.Spans.{with_free_at, live_count};
-ghost use Rattle.abandoned.specs.Calls.{HasNoPage, IsFirstPaged, IsPlaceFor};
+ghost use Rattle.abandoned.specs.Calls.{HasNoPage, IsFirstPaged};
+ghost use Rattle.groups.specs.Group.{HasNoHead, IsHeadOf, IsPlaceFor, spans_in, spans_of, summary};
 ghost use Rattle.abandoned.specs.Groups.{AreReady, FreesIn, HasHeadAt, HaveSize, Removes};
 ghost use Rattle.abandoned.specs.Numbers.{HasNoneFrom};
-ghost use Rattle.abandoned.specs.State.{HasNoHead, IsHeadOf, PooledState, spans_in, spans_of, summary};
+ghost use Rattle.abandoned.specs.State.{PooledState};
 ghost use Rattle.span.specs.declared.limits.TheConstants.{ALL_IDS};
 ghost use Rattle.bitmap.specs.declared.bits.TheConstants.{SLOTS};
 

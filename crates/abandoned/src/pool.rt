@@ -10,7 +10,8 @@ ghost use Rattle.groups.specs.Tables.{no_pages};
 ghost use Rattle.abandoned.specs.Calls.{Frees, Gets};
 ghost use Rattle.abandoned.specs.Shown.{shown};
 ghost use Rattle.abandoned.specs.Sound.{IsSound};
-ghost use Rattle.abandoned.specs.State.{IsElsewhere, IsHere, live_keys, paged_groups, summary};
+ghost use Rattle.abandoned.specs.State.{paged_groups};
+ghost use Rattle.groups.specs.Group.{IsElsewhere, IsHere, live_in, summary};
 ghost use Rattle.span.specs.declared.limits.TheConstants.{ALL_IDS};
 ghost use Rattle.bitmap.specs.declared.bits.TheConstants.{SLOTS};
 
@@ -120,7 +121,7 @@ impl<L: Log> Pool<L> {
 
     /// How many keys are live in it.
     pub fn live(&self) -> usize
-        ensures live { result ≡ live_keys self.now }
+        ensures live { result ≡ live_in self.now.groups }
         ensures at_most { result ≤ SLOTS * length self.now.groups }
         ensures groups { length self.now.groups ≤ ALL_IDS }
     {

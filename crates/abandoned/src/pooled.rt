@@ -7,7 +7,8 @@ ghost use Rattle.page_table.specs.State.{HasPage};
 ghost use Rattle.groups.specs.Spans.{HasNoSpan, IsSpanAt, union_of, with_free_at, live_count};
 ghost use Rattle.groups.specs.Brief.{IsBriefOf};
 ghost use Rattle.abandoned.specs.Calls.{GivesUp};
-ghost use Rattle.abandoned.specs.State.{group_of, spans_of, with_span};
+ghost use Rattle.abandoned.specs.State.{group_of};
+ghost use Rattle.groups.specs.Group.{spans_of, with_span};
 ghost use Rattle.bitmap.specs.declared.bits.TheConstants.{SLOTS};
 
 use bitmap::Bits256;

@@ -6,16 +6,16 @@ use Rattle.span.specs.SpanLogs.{AreLegal}
 use Rattle.span.specs.declared.span_log.SpanLog.{SpanLog}
 use Rattle.span.specs.declared.key.Key.{Key}
 use Rattle.shard.specs.Calls.{Frees}
-use Rattle.shard.specs.Group.{spans_of, with_span}
+use Rattle.groups.specs.Group.{spans_of, with_span}
 use Rattle.groups.specs.Spans.{with_free}
 use Rattle.shard.specs.State.{ShardState}
 use Rattle.shard.specs.declared.shard.Freed.{Freed}
 use Rattle.shard.specs.declared.shard.Freed.TheVariants as freed
 use Rattle.groups.proofs.Lists.{same_some}
-use Rattle.shard.proofs.Standing.{spans_of-with_span}
+use Rattle.groups.proofs.Standing.{spans_of-with_span}
 use Rattle.abandoned.specs.Calls.{Frees as FreesPooled}
 use Rattle.abandoned.specs.Sound.{IsSound}
-use Rattle.abandoned.specs.State.{PoolState, spans_of as spans_of_pooled}
+use Rattle.abandoned.specs.State.{PoolState}
 use Rattle.abandoned.proofs.Freed.{groups-Leaves}
 use Rattle.arena.specs.SpanCounts.{pooled_spans, shard_spans, spans_of_all}
 
@@ -39,8 +39,8 @@ shard_spans-Frees old new key freed.NotHere (elsewhere, new_is) = ap shard_spans
 pub pooled_spans-Frees : (old new : PoolState) (key : Key) (answer : Freed) → IsSound old → FreesPooled old key answer new → pooled_spans new ≡ pooled_spans old
 pooled_spans-Frees old new key (freed.Yes at) sound (index, place, group, span, here, holds, at_is, leaves) =
     let now = groups-Leaves old sound index place group span key (here.group_is, here.span_is) holds new leaves in
-    ap (λ gs. length (flat_map spans_of_pooled gs)) now.1
-    ∙ length-flat_map-set spans_of_pooled old.groups index group now.0 here.group_is (ap length now.2 ∙ length-set (spans_of_pooled group) place (with_free span key))
+    ap (λ gs. length (flat_map spans_of gs)) now.1
+    ∙ length-flat_map-set spans_of old.groups index group now.0 here.group_is (ap length now.2 ∙ length-set (spans_of group) place (with_free span key))
 pooled_spans-Frees old new key (freed.No at) sound (index, place, group, span, here, gone, at_is, new_is) = ap pooled_spans new_is
 pooled_spans-Frees old new key freed.NotHere sound (elsewhere, new_is) = ap pooled_spans new_is
 

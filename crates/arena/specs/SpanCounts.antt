@@ -1,7 +1,8 @@
 -- How many spans are behind the locks of an arena.
 use Rattle.std.specs.Prelude.{ℕ, List, length, sum_by}
-use Rattle.shard.specs.State.{ShardState, spans_in}
-use Rattle.abandoned.specs.State.{PoolState, spans_in as spans_in_pool}
+use Rattle.shard.specs.State.{ShardState}
+use Rattle.groups.specs.Group.{spans_in}
+use Rattle.abandoned.specs.State.{PoolState}
 
 -- how many spans the shard has
 abbrev pub shard_spans : ShardState → ℕ
@@ -13,4 +14,4 @@ spans_of_all shards = sum_by shard_spans shards
 
 -- how many spans the pool has
 abbrev pub pooled_spans : PoolState → ℕ
-pooled_spans pool = length (spans_in_pool pool.groups)
+pooled_spans pool = length (spans_in pool.groups)

@@ -5,10 +5,11 @@ use Rattle.std.specs.List.{AllByRecursion, IsDistinct}
 use Rattle.std.proofs.lemmas.List.{map-append}
 use Rattle.span.specs.declared.id.SpanId.{SpanId}
 use Rattle.span.specs.Ids.{same_span}
-use Rattle.shard.specs.Group.{GroupState, spans_of}
-use Rattle.shard.specs.State.{ShardState, spans_in}
+use Rattle.shard.specs.Group.{GroupState}
+use Rattle.groups.specs.Group.{spans_in, spans_of}
+use Rattle.shard.specs.State.{ShardState}
 use Rattle.groups.proofs.Lists.{count-append, count-cons, one_where}
-use Rattle.abandoned.specs.State.{PooledState, spans_in as pooled_spans, spans_of as pooled_spans_of}
+use Rattle.abandoned.specs.State.{PooledState}
 use Rattle.mesh_graph.specs.declared.entry.Entry.{Entry}
 use Rattle.mesh_graph.specs.Groups.{ids}
 use Rattle.span.proofs.Ids.{same_span-flip}
@@ -69,23 +70,23 @@ heads_owned id (shard ∷ shards) =
       heads_owned id shards,
     )
 
-heads_pooled : (id : SpanId) (groups : List PooledState) → count_by (is_id id) (ids (entries_pooled (filter (λ group. is_some group.page) groups))) ≤ count_by (is_named id) (pooled_spans groups)
+heads_pooled : (id : SpanId) (groups : List PooledState) → count_by (is_id id) (ids (entries_pooled (filter (λ group. is_some group.page) groups))) ≤ count_by (is_named id) (spans_in groups)
 heads_pooled id [] = omega arith
 heads_pooled id (group ∷ groups) = by_page (is_some group.page) (heads_pooled id groups)
   where
     rest : List PooledState
     rest = filter (λ (other : PooledState). is_some other.page) groups
 
-    by_page : (b : Bool) → count_by (is_id id) (ids (entries_pooled rest)) ≤ count_by (is_named id) (pooled_spans groups)
-        → count_by (is_id id) (ids (entries_pooled (cond b (group ∷ rest) rest))) ≤ count_by (is_named id) (pooled_spans (group ∷ groups))
+    by_page : (b : Bool) → count_by (is_id id) (ids (entries_pooled rest)) ≤ count_by (is_named id) (spans_in groups)
+        → count_by (is_id id) (ids (entries_pooled (cond b (group ∷ rest) rest))) ≤ count_by (is_named id) (spans_in (group ∷ groups))
     by_page true fewer =
         omega (
           arith,
           count-cons (is_id id) group.head.id (ids (entries_pooled rest)),
-          count-append (is_named id) (pooled_spans_of group) (pooled_spans groups),
+          count-append (is_named id) (spans_of group) (spans_in groups),
           count-cons (is_named id) group.head group.guests,
         )
-    by_page false fewer = omega (arith, count-append (is_named id) (pooled_spans_of group) (pooled_spans groups))
+    by_page false fewer = omega (arith, count-append (is_named id) (spans_of group) (spans_in groups))
 
 -- where no span stands twice, no group does
 pub AreDistinct-once : (core : CoreState) → ((id : SpanId) → times id core ≤ 1) → AreDistinct core.pool core.shards

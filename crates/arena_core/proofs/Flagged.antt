@@ -6,7 +6,7 @@ use Rattle.span.specs.Ids.{same_span}
 use Rattle.span.specs.State.{SpanState}
 use Rattle.shard.specs.Group.{GroupState}
 use Rattle.shard.specs.State.{ShardState}
-use Rattle.abandoned.specs.State.{spans_in as pooled_spans}
+use Rattle.groups.specs.Group.{spans_in}
 use Rattle.arena_core.specs.Sound.{HasSoundGroups, IsSoundAt}
 use Rattle.arena_core.specs.State.{CoreState, all_spans, opened_of, shard_spans, shown}
 use Rattle.arena_core.proofs.Changes.{indicator}
@@ -29,7 +29,7 @@ module _ (closed : GroupState → Bool) where
 
   module _ (core : CoreState) (sound : HasSoundGroups core) where
     all_spans-flagged : all_spans (with_all_flags closed core) ≡ all_spans core
-    all_spans-flagged = ap (λ spans. spans ++ pooled_spans core.pool.groups) (shard_spans-flagged core.shards)
+    all_spans-flagged = ap (λ spans. spans ++ spans_in core.pool.groups) (shard_spans-flagged core.shards)
 
     pub HasSoundGroups-flagged : HasSoundGroups (with_all_flags closed core)
     HasSoundGroups-flagged = record {

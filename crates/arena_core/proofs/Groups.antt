@@ -10,16 +10,17 @@ use Rattle.span.specs.Log.{Value as Word}
 use Rattle.span.specs.State.{SpanState}
 use Rattle.shard.specs.Calls.{Puts, Frees, new_group}
 use Rattle.groups.specs.Spans.{new_span, with_free, union_of, with_put}
-use Rattle.shard.specs.Group.{GroupState, spans_of, with_span}
+use Rattle.shard.specs.Group.{GroupState}
+use Rattle.groups.specs.Group.{spans_of, with_span}
 use Rattle.page_table.specs.State.{TableState}
 use Rattle.shard.specs.Moves.{TakesIn, whole_of, with_room}
 use Rattle.groups.specs.Whole.{WholeState, spans_moved}
 use Rattle.shard.specs.State.{ShardState}
 use Rattle.shard.specs.declared.shard.Freed.TheVariants.{Yes}
-use Rattle.shard.proofs.Standing.{spans_of-with_span}
+use Rattle.groups.proofs.Standing.{spans_of-with_span}
 use Rattle.abandoned.specs.Calls.{Adopts, Frees as FreesPooled, Receives, TakesAll, TakesIn as TakesInPool, with_rooms}
 use Rattle.abandoned.specs.Sound.{IsSound as IsSoundPool}
-use Rattle.abandoned.specs.State.{PoolState, PooledState, spans_of as pooled_spans_of}
+use Rattle.abandoned.specs.State.{PoolState, PooledState}
 use Rattle.abandoned.proofs.Freed.{groups-Leaves}
 use Rattle.abandoned.proofs.TakenIn.{empty_or_not}
 use Rattle.fold.proofs.Sums.{sum_by-Lifts}
@@ -89,15 +90,15 @@ module _ (w : SpanState → ℕ) where
         sum_by-set_at w (spans_of group) place span changed there,
       )
 
-  sum_pooled-with_span : (before after : PoolState) (index place : ℕ) (group : PooledState) (span changed : SpanState) (other : PooledState) → slice_get before.groups index ≡ Some group → slice_get (pooled_spans_of group) place ≡ Some span → w changed ≡ w span
-      → pooled_spans_of other ≡ set (pooled_spans_of group) place changed → after.groups ≡ set before.groups index other → sum_pooled w after ≡ sum_pooled w before
+  sum_pooled-with_span : (before after : PoolState) (index place : ℕ) (group : PooledState) (span changed : SpanState) (other : PooledState) → slice_get before.groups index ≡ Some group → slice_get (spans_of group) place ≡ Some span → w changed ≡ w span
+      → spans_of other ≡ set (spans_of group) place changed → after.groups ≡ set before.groups index other → sum_pooled w after ≡ sum_pooled w before
   sum_pooled-with_span before after index place group span changed other here there same spans is =
       omega (
         arith,
-        ap (λ gs. sum_by w (flat_map pooled_spans_of gs)) is,
-        flat-set w pooled_spans_of before.groups index group other here,
+        ap (λ gs. sum_by w (flat_map spans_of gs)) is,
+        flat-set w spans_of before.groups index group other here,
         ap (sum_by w) spans,
-        sum_by-set_at w (pooled_spans_of group) place span changed there,
+        sum_by-set_at w (spans_of group) place span changed there,
       )
 
 own-more : (a s n o : ℕ) → cond {A = ℕ} (eqb a n && ltb s (o + 1)) 1 0 ≡ cond {A = ℕ} (eqb a n && ltb s o) 1 0 + cond {A = ℕ} (eqb n a && eqb o s) 1 0
@@ -160,7 +161,7 @@ IsPoolCall-Frees before after key at sound (index, place, group, span, here, hol
   strays_are = λ gens. kept (strays gens) refl;
 }
   where
-    changed : (now : PooledState) × (after.groups ≡ set before.groups index now) × (pooled_spans_of now ≡ set (pooled_spans_of group) place (with_free span key))
+    changed : (now : PooledState) × (after.groups ≡ set before.groups index now) × (spans_of now ≡ set (spans_of group) place (with_free span key))
     changed = groups-Leaves before sound index place group span key (here.group_is, here.span_is) holds after leaves
 
     kept : (w : SpanState → ℕ) → w (with_free span key) ≡ w span → sum_pooled w after ≡ sum_pooled w before
@@ -179,8 +180,8 @@ sum_in-TakesIn w old new whole takes =
 
 pub sum_pooled-TakesIn : (w : SpanState → ℕ) (old new : PoolState) (whole : WholeState) → TakesInPool old whole new → sum_pooled w new ≡ sum_pooled w old + sum_moved w whole
 sum_pooled-TakesIn w old new whole takes = elim (empty_or_not (union_of (spans_moved whole))) [
-  | inl none ↦ ap (λ (p : PoolState). sum_pooled w p) (takes.emptied none) ∙ flat-insert w pooled_spans_of old.groups takes.index (record { head = whole.head; guests = whole.guests; page = None })
-  | inr live ↦ let its = takes.live live in ap (λ (p : PoolState). sum_pooled w p) its.4 ∙ flat-insert w pooled_spans_of old.groups takes.index (record { head = whole.head; guests = whole.guests; page = Some its.0 })
+  | inl none ↦ ap (λ (p : PoolState). sum_pooled w p) (takes.emptied none) ∙ flat-insert w spans_of old.groups takes.index (record { head = whole.head; guests = whole.guests; page = None; closed = tt })
+  | inr live ↦ let its = takes.live live in ap (λ (p : PoolState). sum_pooled w p) its.4 ∙ flat-insert w spans_of old.groups takes.index (record { head = whole.head; guests = whole.guests; page = Some its.0; closed = tt })
 ]
 
 pub sum_pooled-TakesAll : (w : SpanState → ℕ) (wholes : List WholeState) (old new : PoolState) → TakesAll old wholes new → sum_pooled w new ≡ sum_pooled w old + sum_by (sum_moved w) wholes

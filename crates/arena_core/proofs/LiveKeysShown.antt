@@ -7,10 +7,9 @@ use Rattle.span.specs.declared.key.Key.{Key}
 use Rattle.span.specs.Log.{live_slots}
 use Rattle.span.specs.PlainMap.{same_key}
 use Rattle.span.specs.State.{SpanState}
-use Rattle.shard.specs.Group.{spans_of}
-use Rattle.shard.specs.State.{ShardState, spans_in}
+use Rattle.groups.specs.Group.{spans_in, spans_of}
+use Rattle.shard.specs.State.{ShardState}
 use Rattle.groups.proofs.Logged.{logged_by}
-use Rattle.abandoned.specs.State.{spans_in as pooled_spans, spans_of as pooled_spans_of}
 use Rattle.arena_core.specs.Sound.{HasSoundGroups}
 use Rattle.arena_core.specs.State.{CoreState, HasKeys, all_spans, live_keys, shard_spans, shown}
 use Rattle.arena_core.proofs.Changes.{at_most_once}
@@ -21,10 +20,10 @@ use Rattle.arena_core.proofs.Spans.{is_named, sum_all-parts}
 
 legal-spans : (core : CoreState) → HasSoundGroups core → AllByRecursion IsLegalSpan (all_spans core)
 legal-spans core sound =
-    each-append IsLegalSpan (shard_spans core.shards) (pooled_spans core.pool.groups)
+    each-append IsLegalSpan (shard_spans core.shards) (spans_in core.pool.groups)
     (each-flat_map IsLegalSpan (λ (shard : ShardState). spans_in shard.groups) core.shards
-    (λ number shard at. each-flat_map IsLegalSpan spans_of shard.groups (λ index group here. each-from IsLegalSpan (spans_of group) (λ place span there. (((sound.shards number shard at).sound.groups index group here).spans place span there).legal))))
-    (each-flat_map IsLegalSpan pooled_spans_of core.pool.groups (λ index group here. each-from IsLegalSpan (pooled_spans_of group) (λ place span there. (sound.pool.groups index group here).legal place span there)))
+    (λ number shard at. each-flat_map IsLegalSpan spans_of shard.groups (λ index group here. each-from IsLegalSpan (spans_of group) (λ place span there. ((sound.shards number shard at).sound.groups index group here).legal place span there))))
+    (each-flat_map IsLegalSpan spans_of core.pool.groups (λ index group here. each-from IsLegalSpan (spans_of group) (λ place span there. (sound.pool.groups index group here).legal place span there)))
 
 live_where-logged : (key : Key) (o : Option SpanState) → live_where key o ≡ cond {A = ℕ} (is_some (logged_by key o)) 1 0
 live_where-logged key None = refl

@@ -7,11 +7,10 @@ use Rattle.span.specs.PlainMap.{PlainMap}
 use Rattle.span.specs.State.{SpanState}
 use Rattle.groups.specs.Shown.{issued_by, span_named}
 use Rattle.shard.specs.Shown.{shown as shown_by}
-use Rattle.shard.specs.State.{spans_in}
+use Rattle.groups.specs.Group.{spans_in}
 use Rattle.groups.proofs.Logged.{logged_by, same_plain_map}
 use Rattle.shard.proofs.ShownLogs.{shown-logged}
 use Rattle.abandoned.specs.Shown.{shown as shown_by_pool}
-use Rattle.abandoned.specs.State.{spans_in as pooled_spans}
 use Rattle.abandoned.proofs.ShownLogs.{shown-logged as shown_by_pool-logged}
 use Rattle.arena_core.specs.Rings.{pending_at}
 use Rattle.arena_core.specs.Sound.{HasSoundGroups}
@@ -52,10 +51,10 @@ module _ (core : CoreState) (sound : HasSoundGroups core) (key : Key) where
   issued-shards = sum_by-same _ _ core.shards (λ number shard here. sym (issued-spans key (spans_in shard.groups) ((sound.shards number shard here).sound.once key.span)))
 
   value-pool : code ((shown_by_pool core.pool).value_of key) ≡ sum_pooled (value_weight key) core.pool
-  value-pool = ap (λ (m : PlainMap). code (m.value_of key)) (shown_by_pool-logged core.pool sound.pool) ∙ sym (value-spans key (pooled_spans core.pool.groups) (sound.pool.once key.span))
+  value-pool = ap (λ (m : PlainMap). code (m.value_of key)) (shown_by_pool-logged core.pool sound.pool) ∙ sym (value-spans key (spans_in core.pool.groups) (sound.pool.once key.span))
 
   issued-pool : bit ((shown_by_pool core.pool).is_issued key) ≡ sum_pooled (issued_weight key) core.pool
-  issued-pool = sym (issued-spans key (pooled_spans core.pool.groups) (sound.pool.once key.span))
+  issued-pool = sym (issued-spans key (spans_in core.pool.groups) (sound.pool.once key.span))
 
   value-all : code ((shown core).value_of key) ≡ sum_all (value_weight key) core
   value-all = omega (arith, value-sum core key (at_most_once core sound key.span), sum_all-parts (value_weight key) core, value-shards, value-pool)

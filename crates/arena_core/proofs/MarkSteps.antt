@@ -7,7 +7,8 @@ use Rattle.std.specs.Vec.{with_item}
 use Rattle.std.proofs.lemmas.List.{length-map}
 use Rattle.span.specs.declared.id.SpanId.{SpanId}
 use Rattle.shard.specs.Closes.{opened_group}
-use Rattle.shard.specs.Group.{GroupState, occupied}
+use Rattle.shard.specs.Group.{GroupState}
+use Rattle.groups.specs.Group.{occupied}
 use Rattle.shard.specs.Sound.{IsSound as IsSoundShard}
 use Rattle.shard.specs.State.{ShardState}
 use Rattle.groups.proofs.Lists.{set-same}
@@ -45,7 +46,7 @@ HasSoundGroups-retold core told plan sound = record {
   within = sound.within;
   count = sound.count;
   shards = sound.shards;
-  pool = record { ascending = sound.pool.ascending; groups = sound.pool.groups; once = sound.pool.once; own_page = sound.pool.own_page; only = sound.pool.only; pages = sound.pool.pages };
+  pool = record { ascending = sound.pool.ascending; groups = sound.pool.groups; in_use = sound.pool.in_use; once = sound.pool.once; own_page = sound.pool.own_page; only = sound.pool.only; pages = sound.pool.pages };
   gens = sound.gens;
   once = sound.once;
 }

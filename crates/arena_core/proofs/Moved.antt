@@ -8,7 +8,8 @@ use Rattle.span.specs.Ids.{rank}
 use Rattle.shard.specs.Calls.{Frees, Gets, value_found}
 use Rattle.shard.specs.Shown.{shown as shown_by}
 use Rattle.shard.specs.Sound.{IsSound as IsSoundShard}
-use Rattle.shard.specs.State.{IsElsewhere, ShardState}
+use Rattle.shard.specs.State.{ShardState}
+use Rattle.groups.specs.Group.{IsElsewhere}
 use Rattle.shard.specs.declared.shard.Found.{Found}
 use Rattle.shard.specs.declared.shard.Found.TheVariants as found
 use Rattle.shard.specs.declared.shard.Freed.{Freed}

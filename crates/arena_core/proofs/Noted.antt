@@ -8,13 +8,13 @@ use Rattle.span.specs.declared.id.SpanId.{SpanId}
 use Rattle.span.specs.Ids.{rank}
 use Rattle.span.specs.State.{SpanState}
 use Rattle.span.proofs.Ids.{same_id_from_test}
-use Rattle.shard.specs.Calls.{Ascend}
-use Rattle.shard.specs.Group.{GroupState, spans_of}
+use Rattle.groups.specs.Group.{Ascend, HasNoHead, HasNoMember, IsHeadOf, IsMemberAt, spans_in, spans_of}
+use Rattle.shard.specs.Group.{GroupState}
 use Rattle.groups.specs.Spans.{IsSpanAt}
-use Rattle.shard.specs.Moves.{HasNoHead, HasNoMember, IsBriefHere, IsHeadOf, IsMemberAt, with_guests, with_room}
+use Rattle.shard.specs.Moves.{IsBriefHere, with_guests, with_room}
 use Rattle.groups.specs.Whole.{WholeState, spans_moved}
 use Rattle.groups.specs.Shown.{span_named}
-use Rattle.shard.specs.State.{ShardState, spans_in}
+use Rattle.shard.specs.State.{ShardState}
 use Rattle.groups.specs.declared.brief.Brief.{Brief}
 use Rattle.shard.proofs.HeadsHere.{same_group}
 use Rattle.groups.proofs.Lists.{cases-set, found_at, get-insert, get-set, same_some}

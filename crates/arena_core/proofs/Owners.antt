@@ -11,7 +11,8 @@ use Rattle.groups.specs.Shown.{issued_by, value_by}
 use Rattle.shard.specs.State.{ShardState}
 use Rattle.groups.proofs.Lists.{find-none}
 use Rattle.abandoned.specs.Shown.{shown as shown_by_pool}
-use Rattle.abandoned.specs.State.{PoolState, spans_in as pooled_spans}
+use Rattle.abandoned.specs.State.{PoolState}
+use Rattle.groups.specs.Group.{spans_in}
 use Rattle.arena_core.specs.State.{CoreState, has_span, shard_with, shown, shown_at}
 use Rattle.arena_core.proofs.Spans.{has_span-uncounted, is_named, span-missed, times, times-parts, times_in, times_in-found, times_in-missed, times_owned, times_owned-cons, times_pooled}
 
@@ -72,10 +73,10 @@ pub value-missed : (shard : ShardState) (key : Key) → times_in key.span shard 
 value-missed shard key none = ap (value_by shard.table key) (span-missed key.span shard (has_span-uncounted key.span shard none))
 
 pub issued-unpooled : (pool : PoolState) (key : Key) → times_pooled key.span pool ≡ 0 → (shown_by_pool pool).is_issued key ≡ false
-issued-unpooled pool key none = ap (issued_by key) (find-none (is_named key.span) (pooled_spans pool.groups) none)
+issued-unpooled pool key none = ap (issued_by key) (find-none (is_named key.span) (spans_in pool.groups) none)
 
 pub value-unpooled : (pool : PoolState) (key : Key) → times_pooled key.span pool ≡ 0 → (shown_by_pool pool).value_of key ≡ None
-value-unpooled pool key none = ap (value_by pool.table key) (find-none (is_named key.span) (pooled_spans pool.groups) none)
+value-unpooled pool key none = ap (value_by pool.table key) (find-none (is_named key.span) (spans_in pool.groups) none)
 
 -- the value and the issue of a key, as sums
 

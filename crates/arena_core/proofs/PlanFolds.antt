@@ -6,10 +6,10 @@ use Rattle.std.proofs.lemmas.Option.{slice_get_within}
 use Rattle.span.specs.declared.id.SpanId.{SpanId}
 use Rattle.span.specs.State.{SpanState}
 use Rattle.shard.specs.Group.{GroupState}
-use Rattle.shard.specs.Moves.{IsHeadOf}
+use Rattle.groups.specs.Group.{IsHeadOf}
 use Rattle.shard.specs.State.{ShardState}
 use Rattle.groups.proofs.Lists.{cases-set, same_some}
-use Rattle.abandoned.specs.State.{IsHeadOf as IsPooledHeadOf, PoolState, PooledState}
+use Rattle.abandoned.specs.State.{PoolState, PooledState}
 use Rattle.groups.proofs.Removed.{after-remove}
 use Rattle.arena_core.specs.Plan.{IsCarriedOut, IsEmptyInPool, IsGuest, IsOwned, IsPooled, IsUnderWay, IsWaiting}
 use Rattle.marks.specs.Plans.{is_planned, with_next_done, OpenPlan}
@@ -31,7 +31,7 @@ pub record IsFold (old : CoreState) (pair : SpanId × SpanId) (number : ℕ) (af
   pub head : SpanState
   pub guests : List SpanState
   pub here : slice_get old.shards number ≡ Some before
-  pub is_abandoned : IsPooledHeadOf old.pool.groups pair.0 from abandoned
+  pub is_abandoned : IsHeadOf old.pool.groups pair.0 from abandoned
   pub is_owned : IsHeadOf before.groups pair.1 at owned
   pub head_is : head.id ≡ pair.0
   pub pool_is : pool.groups ≡ remove old.pool.groups from

@@ -14,19 +14,20 @@ use Rattle.span.specs.Log.{Value as Word, live_slots}
 use Rattle.span.specs.State.{SpanState}
 use Rattle.span.proofs.Slots.{live_slots-free}
 use Rattle.shard.specs.Calls.{Frees, Puts}
-use Rattle.shard.specs.Group.{GroupState, occupied, spans_of, with_span}
+use Rattle.shard.specs.Group.{GroupState}
+use Rattle.groups.specs.Group.{occupied, spans_of, with_span}
 use Rattle.groups.specs.Spans.{IsSpanAt, union_of, with_free, with_put}
 use Rattle.groups.specs.Whole.{WholeState}
 use Rattle.shard.specs.State.{ShardState}
 use Rattle.shard.specs.declared.shard.Freed.TheVariants.{Yes}
 use Rattle.groups.proofs.Lists.{after-insert, after-set, same_some}
-use Rattle.shard.proofs.Standing.{spans_of-with_span}
+use Rattle.groups.proofs.Standing.{spans_of-with_span}
 use Rattle.abandoned.specs.Calls.{Frees as FreesPooled, Receives, TakesAll, TakesIn, with_rooms}
 use Rattle.abandoned.specs.Sound.{IsSound as IsSoundPool}
-use Rattle.abandoned.specs.State.{PoolState, PooledState, spans_of as pooled_spans_of, with_span as pooled_with_span}
+use Rattle.abandoned.specs.State.{PoolState, PooledState}
 use Rattle.abandoned.proofs.Freed.{groups-Leaves}
 use Rattle.abandoned.proofs.Released.{has_page_if_held}
-use Rattle.abandoned.proofs.Standing.{page-with_span}
+use Rattle.groups.proofs.Standing.{page-with_span}
 use Rattle.abandoned.proofs.TakenIn.{empty_or_not}
 use Rattle.arena_core.specs.Plan.{IsCarriedOut, IsOwned, IsPooled, IsUnderWay, IsWaiting}
 use Rattle.marks.specs.Plans.{plans_onto, OpenPlan}
@@ -75,7 +76,7 @@ union_of-fewer (first ∷ spans) (suc place) span now here fewer slot live =
 -- every group of the pool stays, none grows, and none without a page gets one
 abbrev pub KeepsPooled : List PooledState → List PooledState → Type 0
 KeepsPooled old new = (index : ℕ) (group : PooledState) → slice_get old index ≡ Some group
-    → (place : ℕ) × (now : PooledState) × (slice_get new place ≡ Some now) × (now.head.id ≡ group.head.id) × IsWithin (union_of (pooled_spans_of now)) (union_of (pooled_spans_of group)) × (group.page ≡ None → now.page ≡ None)
+    → (place : ℕ) × (now : PooledState) × (slice_get new place ≡ Some now) × (now.head.id ≡ group.head.id) × IsWithin (union_of (spans_of now)) (union_of (spans_of group)) × (group.page ≡ None → now.page ≡ None)
 
 -- the group is as it was, save that it may have lost slots
 pub record IsFewer (group now : GroupState) : Type 0 where
@@ -123,7 +124,7 @@ plans_onto-pair (first ∷ pairs) (suc k) pair here = ap (λ b. same_span first.
 
 -- the plan goes on
 module _ (old new : CoreState) (pooled : KeepsPooled old.pool.groups new.pool.groups) (owned : KeepsAllClosed old.shards new.shards) where
-  IsPooled-kept : (head : SpanId) (group : PooledState) → IsPooled old head group → (now : PooledState) × IsPooled new head now × IsWithin (union_of (pooled_spans_of now)) (union_of (pooled_spans_of group)) × (group.page ≡ None → now.page ≡ None)
+  IsPooled-kept : (head : SpanId) (group : PooledState) → IsPooled old head group → (now : PooledState) × IsPooled new head now × IsWithin (union_of (spans_of now)) (union_of (spans_of group)) × (group.page ≡ None → now.page ≡ None)
   IsPooled-kept head group is =
       let (place, now, there, head_is, fewer, no_page) = pooled is.index group is.head_of.here in
       (now, record { index = place; head_of = record { here = there; head_is = head_is ∙ is.head_of.head_is } }, fewer, no_page)
@@ -144,7 +145,7 @@ module _ (old new : CoreState) (pooled : KeepsPooled old.pool.groups new.pool.gr
           owned = b;
           is_abandoned = a_is;
           is_owned = b_is;
-          apart = AreDisjoint-within (union_of (pooled_spans_of waits.abandoned)) (union_of (pooled_spans_of a)) (occupied waits.owned) (occupied b) fewer_a fewer_b.slots waits.apart;
+          apart = AreDisjoint-within (union_of (spans_of waits.abandoned)) (union_of (spans_of a)) (occupied waits.owned) (occupied b) fewer_a fewer_b.slots waits.apart;
         }
 
     IsCarriedOut-kept : (k : ℕ) (pair : SpanId × SpanId) → slice_get plan.pairs k ≡ Some pair → IsCarriedOut old pair → IsCarriedOut new pair
@@ -215,7 +216,7 @@ KeepsClosed-Frees before after key at (index, place, group, span, here, holds, a
 
 -- the pool
 
-pooled_head : (now group : PooledState) (place : ℕ) (span after : SpanState) → slice_get (pooled_spans_of group) place ≡ Some span → after.id ≡ span.id → pooled_spans_of now ≡ set (pooled_spans_of group) place after → now.head.id ≡ group.head.id
+pooled_head : (now group : PooledState) (place : ℕ) (span after : SpanState) → slice_get (spans_of group) place ≡ Some span → after.id ≡ span.id → spans_of now ≡ set (spans_of group) place after → now.head.id ≡ group.head.id
 pooled_head now group zero span after here same is =
     let first : group.head ≡ span = same_some here in
     let head : now.head ≡ after = same_some (ap (λ spans. slice_get spans 0) is) in
@@ -225,31 +226,31 @@ pooled_head now group (suc place) span after here same is = let head : now.head 
 pub KeepsPooled-Frees : (before after : PoolState) (key : Key) (at : ℕ) → IsSoundPool before → FreesPooled before key (Yes at) after → KeepsPooled before.groups after.groups
 KeepsPooled-Frees before after key at sound (index, place, group, span, here, holds, at_is, leaves) other there at_other = by_place (cases_eq other index)
   where
-    changed : (now : PooledState) × (after.groups ≡ set before.groups index now) × (pooled_spans_of now ≡ set (pooled_spans_of group) place (with_free span key))
+    changed : (now : PooledState) × (after.groups ≡ set before.groups index now) × (spans_of now ≡ set (spans_of group) place (with_free span key))
     changed = groups-Leaves before sound index place group span key (here.group_is, here.span_is) holds after leaves
 
-    by_place : (other ≡ index) ⊎ (other ≢ index) → (place : ℕ) × (now : PooledState) × (slice_get after.groups place ≡ Some now) × (now.head.id ≡ there.head.id) × IsWithin (union_of (pooled_spans_of now)) (union_of (pooled_spans_of there)) × (there.page ≡ None → now.page ≡ None)
+    by_place : (other ≡ index) ⊎ (other ≢ index) → (place : ℕ) × (now : PooledState) × (slice_get after.groups place ≡ Some now) × (now.head.id ≡ there.head.id) × IsWithin (union_of (spans_of now)) (union_of (spans_of there)) × (there.page ≡ None → now.page ≡ None)
     by_place (inl same) =
         let is : group ≡ there = same_some (sym here.group_is ∙ ap (slice_get before.groups) (sym same) ∙ at_other) in (
           index,
           changed.0,
           ap (λ gs. slice_get gs index) changed.1 ∙ slice_get-set_same before.groups index group changed.0 here.group_is,
           pooled_head changed.0 group place span (with_free span key) here.span_is refl changed.2 ∙ ap (λ (g : PooledState). g.head.id) is,
-          (λ slot live. ap (λ (g : PooledState). contains (union_of (pooled_spans_of g)) slot) (sym is)
-              ∙ union_of-fewer (pooled_spans_of group) place span (with_free span key) here.span_is (live_slots-fewer span key) slot (ap (λ spans. contains (union_of spans) slot) (sym changed.2) ∙ live)),
+          (λ slot live. ap (λ (g : PooledState). contains (union_of (spans_of g)) slot) (sym is)
+              ∙ union_of-fewer (spans_of group) place span (with_free span key) here.span_is (live_slots-fewer span key) slot (ap (λ spans. contains (union_of spans) slot) (sym changed.2) ∙ live)),
           (λ none. absurd (has_page_if_held before sound index place group span key.slot key.generation here.group_is here.span_is holds (ap (λ (g : PooledState). g.page) is ∙ none))),
         )
     by_place (inr differ) = (other, there, ap (λ gs. slice_get gs other) changed.1 ∙ slice_get-set_other before.groups index other changed.0 differ ∙ at_other, refl, (λ slot e. e), λ none. none)
 
 -- the pool knows of the plan as before
 pub has_plan-Frees : (before after : PoolState) (key : Key) (at : ℕ) → IsSoundPool before → FreesPooled before key (Yes at) after → after.has_plan ≡ before.has_plan
-has_plan-Frees before after key at sound (index, place, group, span, here, holds, at_is, leaves) = by_case (empty_or_not (union_of (pooled_spans_of (pooled_with_span group place (with_free span key)))))
+has_plan-Frees before after key at sound (index, place, group, span, here, holds, at_is, leaves) = by_case (empty_or_not (union_of (spans_of (with_span group place (with_free span key)))))
   where
-    by_page : (o : Option ℕ) → group.page ≡ o → union_of (pooled_spans_of (pooled_with_span group place (with_free span key))) ≡ set_of.empty → after.has_plan ≡ before.has_plan
+    by_page : (o : Option ℕ) → group.page ≡ o → union_of (spans_of (with_span group place (with_free span key))) ≡ set_of.empty → after.has_plan ≡ before.has_plan
     by_page None is none = absurd (has_page_if_held before sound index place group span key.slot key.generation here.group_is here.span_is holds is)
     by_page (Some page) is none = ap (λ (p : PoolState). p.has_plan) (leaves.emptied none page (page-with_span group place (with_free span key) ∙ is))
 
-    by_case : (union_of (pooled_spans_of (pooled_with_span group place (with_free span key))) ≡ set_of.empty) ⊎ (union_of (pooled_spans_of (pooled_with_span group place (with_free span key))) ≢ set_of.empty) → after.has_plan ≡ before.has_plan
+    by_case : (union_of (spans_of (with_span group place (with_free span key))) ≡ set_of.empty) ⊎ (union_of (spans_of (with_span group place (with_free span key))) ≢ set_of.empty) → after.has_plan ≡ before.has_plan
     by_case (inl none) = by_page group.page refl none
     by_case (inr live) = ap (λ (p : PoolState). p.has_plan) (leaves.live live)
 

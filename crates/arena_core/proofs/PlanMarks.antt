@@ -14,9 +14,10 @@ use Rattle.bitmap.specs.Slots.{AreDisjoint}
 use Rattle.span.specs.declared.id.SpanId.{SpanId}
 use Rattle.span.specs.Ids.{same_span}
 use Rattle.span.proofs.Ids.{same_id_from_test, test_from_same_id}
-use Rattle.shard.specs.Group.{GroupState, occupied}
-use Rattle.shard.specs.State.{ShardState, summary}
-use Rattle.abandoned.specs.State.{PooledState, summary as pooled_summary}
+use Rattle.shard.specs.Group.{GroupState}
+use Rattle.groups.specs.Group.{occupied, summary}
+use Rattle.shard.specs.State.{ShardState}
+use Rattle.abandoned.specs.State.{PooledState}
 use Rattle.mesh_graph.specs.Groups.{Groups, any_compatible, are_compatible}
 use Rattle.mesh_graph.specs.declared.entry.Entry.{Entry}
 use Rattle.certificate.specs.Plans.{IsPlanOf, sides_of}
@@ -49,14 +50,14 @@ any-which {X = X} {P = P} test (x ∷ xs) all some = by_test (test x) refl some 
 
 -- the entry is that of a group of the pool
 abbrev pub TellsPooled : List PooledState → Entry → Type 0
-TellsPooled groups entry = (index : ℕ) × (group : PooledState) × (slice_get groups index ≡ Some group) × (entry_of (pooled_summary group) ≡ entry)
+TellsPooled groups entry = (index : ℕ) × (group : PooledState) × (slice_get groups index ≡ Some group) × (entry_of (summary group) ≡ entry)
 
-tells_pooled : (groups : List PooledState) → AllByRecursion (TellsPooled groups) (map (λ group. entry_of (pooled_summary group)) (filter (λ group. is_some group.page) groups))
+tells_pooled : (groups : List PooledState) → AllByRecursion (TellsPooled groups) (map (λ group. entry_of (summary group)) (filter (λ group. is_some group.page) groups))
 tells_pooled [] = tt
 tells_pooled (group ∷ groups) = by_page (is_some group.page) (each-to _ (λ entry tells. (suc tells.0, tells.1, tells.2, tells.3)) (tells_pooled groups))
   where
-    by_page : (b : Bool) → AllByRecursion (TellsPooled (group ∷ groups)) (map (λ g. entry_of (pooled_summary g)) (filter (λ g. is_some g.page) groups))
-        → AllByRecursion (TellsPooled (group ∷ groups)) (map (λ g. entry_of (pooled_summary g)) (cond b (group ∷ filter (λ g. is_some g.page) groups) (filter (λ g. is_some g.page) groups)))
+    by_page : (b : Bool) → AllByRecursion (TellsPooled (group ∷ groups)) (map (λ g. entry_of (summary g)) (filter (λ g. is_some g.page) groups))
+        → AllByRecursion (TellsPooled (group ∷ groups)) (map (λ g. entry_of (summary g)) (cond b (group ∷ filter (λ g. is_some g.page) groups) (filter (λ g. is_some g.page) groups)))
     by_page true rest = ((0, group, refl, refl), rest)
     by_page false rest = rest
 
@@ -154,5 +155,5 @@ IsUnderWay-marked old new seen pairs abandoned owned plan pooled_still owned_sti
           owned = now;
           is_abandoned = pooled_still pair.0 found.abandoned found.is_abandoned;
           is_owned = now_is;
-          apart = subst (AreDisjoint (pooled_summary found.abandoned).1) (sym same) found.apart;
+          apart = subst (AreDisjoint (summary found.abandoned).1) (sym same) found.apart;
         }

@@ -9,7 +9,8 @@ use Rattle.span.specs.Log.{Value as Word}
 use Rattle.span.specs.PlainMap.{with_put as with_key, without}
 use Rattle.span.proofs.Ids.{same_id_from_test}
 use Rattle.shard.specs.Calls.{Frees, Puts, new_group, was_freed}
-use Rattle.shard.specs.Group.{GroupState, with_span}
+use Rattle.shard.specs.Group.{GroupState}
+use Rattle.groups.specs.Group.{with_span}
 use Rattle.groups.specs.Spans.{with_free, with_put}
 use Rattle.shard.specs.State.{ShardState}
 use Rattle.shard.specs.Shown.{shown as shown_by}

@@ -10,10 +10,11 @@ use Rattle.span.specs.Log.{Value}
 use Rattle.span.specs.PlainMap.{PlainMap, same_key, with_put, without}
 use Rattle.shard.specs.Shown.{shown as shown_by}
 use Rattle.groups.specs.Shown.{span_named}
-use Rattle.shard.specs.State.{ShardState, spans_in}
+use Rattle.shard.specs.State.{ShardState}
+use Rattle.groups.specs.Group.{spans_in}
 use Rattle.groups.proofs.Logged.{same_plain_map}
 use Rattle.abandoned.specs.Shown.{shown as shown_by_pool}
-use Rattle.abandoned.specs.State.{PoolState, spans_in as pooled_spans}
+use Rattle.abandoned.specs.State.{PoolState}
 use Rattle.arena_core.specs.Rings.{pending_at}
 use Rattle.arena_core.specs.State.{CoreState, has_span, shard_with, shown, shown_at, with_pool, with_shard}
 use Rattle.arena_core.proofs.Lists.{count_by-found, count_by-missed, find-counted, sum_by-set_at}
@@ -109,10 +110,10 @@ IsSumOf read core = read (shown core) ≡ sum_of read core
 
 -- the pool has the span
 abbrev pub has_pooled : SpanId → PoolState → Bool
-has_pooled id pool = is_some (span_named (pooled_spans pool.groups) id)
+has_pooled id pool = is_some (span_named (spans_in pool.groups) id)
 
 pub has_pooled-counted : (id : SpanId) (pool : PoolState) → 1 ≤ times_pooled id pool → has_pooled id pool ≡ true
-has_pooled-counted id pool some = find-counted (is_named id) (pooled_spans pool.groups) some
+has_pooled-counted id pool some = find-counted (is_named id) (spans_in pool.groups) some
 
 module _ (old new : CoreState) (once : (id : SpanId) → times id old ≤ 1) (once_new : (id : SpanId) → times id new ≤ 1) where
   pub IsLocal-shard : (number : ℕ) (before after : ShardState) → slice_get old.shards number ≡ Some before → new ≡ with_shard old number after → IsLocal old new (shown_by before) (shown_by after) (λ id. has_span id after)
@@ -138,19 +139,19 @@ module _ (old new : CoreState) (once : (id : SpanId) → times id old ≤ 1) (on
   pub IsLocal-pool : (pool : PoolState) → new ≡ with_pool old pool → IsLocal old new (shown_by_pool old.pool) (shown_by_pool pool) (λ id. has_pooled id pool)
   IsLocal-pool pool is = record {
     rings = ap (λ (c : CoreState). c.rings) is;
-    alike = λ x y same. ap is_some (find-same x y (pooled_spans pool.groups) same);
+    alike = λ x y same. ap is_some (find-same x y (spans_in pool.groups) same);
     value = λ key. read_with_pool (λ plain. code (plain.value_of key)) (value-sum old key (once key.span)) (value-sum new key (once_new key.span));
     issued = λ key. read_with_pool (λ plain. bit (plain.is_issued key)) (issued-sum old key (once key.span)) (issued-sum new key (once_new key.span));
     value_here = λ key has. ap (λ o. (shown_at new.pool o).value_of key) (found key.span has) ∙ ap (λ (c : CoreState). (shown_by_pool c.pool).value_of key) is;
     issued_here = λ key has. ap (λ o. (shown_at new.pool o).is_issued key) (found key.span has) ∙ ap (λ (c : CoreState). (shown_by_pool c.pool).is_issued key) is;
-    value_only = λ key none. value-unpooled pool key (count_by-missed (is_named key.span) (pooled_spans pool.groups) (None-if_not_some _ none));
-    issued_only = λ key none. issued-unpooled pool key (count_by-missed (is_named key.span) (pooled_spans pool.groups) (None-if_not_some _ none));
+    value_only = λ key none. value-unpooled pool key (count_by-missed (is_named key.span) (spans_in pool.groups) (None-if_not_some _ none));
+    issued_only = λ key none. issued-unpooled pool key (count_by-missed (is_named key.span) (spans_in pool.groups) (None-if_not_some _ none));
   }
     where
       read_with_pool : (read : PlainMap → ℕ) → IsSumOf read old → IsSumOf read new → read (shown new) + read (shown_by_pool old.pool) ≡ read (shown old) + read (shown_by_pool pool)
       read_with_pool read sum_old sum_new = omega (arith, sum_old, sum_new, ap (sum_of read) is)
 
-      found : (id : SpanId) → is_some (span_named (pooled_spans pool.groups) id) ≡ true → shard_with new.shards id ≡ None
+      found : (id : SpanId) → is_some (span_named (spans_in pool.groups) id) ≡ true → shard_with new.shards id ≡ None
       found id has =
           shard_with-nowhere id new.shards
-          (omega (arith, times-parts id new, once_new id, ap (λ (c : CoreState). times_pooled id c.pool) is, count_by-found (is_named id) (pooled_spans pool.groups) has))
+          (omega (arith, times-parts id new, once_new id, ap (λ (c : CoreState). times_pooled id c.pool) is, count_by-found (is_named id) (spans_in pool.groups) has))

@@ -7,9 +7,10 @@ use Rattle.span.specs.declared.id.SpanId.{SpanId}
 use Rattle.span.specs.Ids.{same_span}
 use Rattle.span.specs.State.{SpanState}
 use Rattle.span.proofs.Ids.{same_id_from_test, test_from_same_id}
-use Rattle.shard.specs.State.{ShardState, spans_in}
+use Rattle.shard.specs.State.{ShardState}
+use Rattle.groups.specs.Group.{spans_in}
 use Rattle.groups.proofs.Lists.{count-append, count-none, find-none}
-use Rattle.abandoned.specs.State.{PoolState, spans_in as pooled_spans}
+use Rattle.abandoned.specs.State.{PoolState}
 use Rattle.arena_core.specs.State.{CoreState, all_spans, has_span, shard_spans, shard_with, with_pool, with_shard}
 use Rattle.arena_core.proofs.Lists.{count_by-found, count_by-missed, find-counted, sum_by-flat_map, sum_by-set_at}
 
@@ -19,14 +20,14 @@ abbrev pub sum_in : (SpanState → ℕ) → ShardState → ℕ
 sum_in w shard = sum_by w (spans_in shard.groups)
 
 abbrev pub sum_pooled : (SpanState → ℕ) → PoolState → ℕ
-sum_pooled w pool = sum_by w (pooled_spans pool.groups)
+sum_pooled w pool = sum_by w (spans_in pool.groups)
 
 abbrev pub sum_all : (SpanState → ℕ) → CoreState → ℕ
 sum_all w core = sum_by w (all_spans core)
 
 pub sum_all-parts : (w : SpanState → ℕ) (core : CoreState) → sum_all w core ≡ sum_by (sum_in w) core.shards + sum_pooled w core.pool
 sum_all-parts w core =
-    sum_by-append w (shard_spans core.shards) (pooled_spans core.pool.groups)
+    sum_by-append w (shard_spans core.shards) (spans_in core.pool.groups)
     ∙ ap (λ n. n + sum_pooled w core.pool) (sum_by-flat_map w (λ (shard : ShardState). spans_in shard.groups) core.shards)
 
 pub sum_all-with_shard : (w : SpanState → ℕ) (core : CoreState) (number : ℕ) (before after : ShardState) → slice_get core.shards number ≡ Some before
@@ -51,7 +52,7 @@ abbrev pub times_in : SpanId → ShardState → ℕ
 times_in id shard = count_by (is_named id) (spans_in shard.groups)
 
 abbrev pub times_pooled : SpanId → PoolState → ℕ
-times_pooled id pool = count_by (is_named id) (pooled_spans pool.groups)
+times_pooled id pool = count_by (is_named id) (spans_in pool.groups)
 
 -- how often the span stands in the shards
 abbrev pub times_owned : SpanId → List ShardState → ℕ
@@ -62,7 +63,7 @@ abbrev pub times : SpanId → CoreState → ℕ
 times id core = count_by (is_named id) (all_spans core)
 
 pub times-parts : (id : SpanId) (core : CoreState) → times id core ≡ times_owned id core.shards + times_pooled id core.pool
-times-parts id core = count-append (is_named id) (shard_spans core.shards) (pooled_spans core.pool.groups)
+times-parts id core = count-append (is_named id) (shard_spans core.shards) (spans_in core.pool.groups)
 
 pub times_owned-cons : (id : SpanId) (shard : ShardState) (shards : List ShardState) → times_owned id (shard ∷ shards) ≡ times_in id shard + times_owned id shards
 times_owned-cons id shard shards = count-append (is_named id) (spans_in shard.groups) (shard_spans shards)

@@ -5,16 +5,16 @@ use Rattle.std.proofs.lemmas.Option.{none-some}
 use Rattle.bitmap.specs.Slots.{SlotSet, AreDisjoint}
 use Rattle.bitmap.specs.Operations.{AreDisjoint-at, AreDisjoint-by_slot}
 use Rattle.span.specs.declared.id.SpanId.{SpanId}
-use Rattle.shard.specs.Group.{GroupState, occupied}
+use Rattle.shard.specs.Group.{GroupState}
+use Rattle.groups.specs.Group.{IsHeadOf, occupied, spans_of}
 use Rattle.groups.specs.Spans.{union_of}
-use Rattle.shard.specs.Moves.{IsHeadOf}
 use Rattle.groups.specs.Whole.{WholeState}
 use Rattle.shard.specs.Sound.{IsSound as IsSoundShard}
 use Rattle.shard.specs.State.{ShardState}
 use Rattle.shard.proofs.HeadsHere.{same_group}
 use Rattle.groups.proofs.Lists.{same_some}
 use Rattle.abandoned.specs.Sound.{IsSound as IsSoundPool}
-use Rattle.abandoned.specs.State.{PoolState, PooledState, spans_of as pooled_spans_of}
+use Rattle.abandoned.specs.State.{PoolState, PooledState}
 use Rattle.abandoned.proofs.Adopted.{one_head}
 use Rattle.fold.specs.Folds as fold
 use Rattle.fold.specs.Folds.{Folds, Steps}
@@ -112,9 +112,9 @@ module _ (old : CoreState) (sound : IsSound old) (plan : OpenPlan) (pair : SpanI
     no_clash (index, place, group, onto, head_a, head_b, clash) =
         let one_a : waits.abandoned ≡ group = one_head old.pool sound.groups.pool waits.is_abandoned.index index waits.abandoned group waits.is_abandoned.head_of.here head_a.here (waits.is_abandoned.head_of.head_is ∙ sym head_a.head_is) in
         let one_b : waits.owned ≡ onto = same_group before.groups sound_before.ascending pair.1 waits.is_owned.index place waits.owned onto owned_here head_b in
-        clash (subst (λ (g : GroupState). AreDisjoint (occupied g) (union_of (pooled_spans_of group))) one_b
-        (subst (λ (g : PooledState). AreDisjoint (occupied waits.owned) (union_of (pooled_spans_of g))) one_a
-        (disjoint_swap (union_of (pooled_spans_of waits.abandoned)) (occupied waits.owned) waits.apart)))
+        clash (subst (λ (g : GroupState). AreDisjoint (occupied g) (union_of (spans_of group))) one_b
+        (subst (λ (g : PooledState). AreDisjoint (occupied waits.owned) (union_of (spans_of g))) one_a
+        (disjoint_swap (union_of (spans_of waits.abandoned)) (occupied waits.owned) waits.apart)))
 
     folded : (after : ShardState) (pool : PoolState) → Folds old.pool before pair.0 pair.1 pool after → pool.has_plan ≡ old.pool.has_plan → IsSoundShard after → IsSoundPool pool
         → IsSoundStep old Step (Stepped pair.0 pair.1 Folded) (with_plan (with_pool (with_shard old number after) pool) (Some (with_next_done plan)))

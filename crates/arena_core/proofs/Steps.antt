@@ -10,7 +10,8 @@ use Rattle.shard.specs.Calls.{Frees, IsSpent, Puts, was_freed}
 use Rattle.shard.specs.Group.{GroupState}
 use Rattle.shard.specs.Shown.{shown as shown_by}
 use Rattle.shard.specs.Sound.{IsSound as IsSoundShard}
-use Rattle.shard.specs.State.{IsElsewhere, IsHere, ShardState}
+use Rattle.shard.specs.State.{ShardState}
+use Rattle.groups.specs.Group.{IsElsewhere, IsHere, spans_of}
 use Rattle.shard.specs.declared.error.PutError.{PutError}
 use Rattle.shard.specs.declared.error.PutError.TheVariants as put_error
 use Rattle.shard.specs.declared.shard.Freed.{Freed}
@@ -22,7 +23,7 @@ use Rattle.span.specs.State.{SpanState}
 use Rattle.abandoned.specs.Calls.{Frees as FreesPooled, HasDoubled, IsDoubled, IsInPool}
 use Rattle.abandoned.specs.Shown.{shown as shown_by_pool}
 use Rattle.abandoned.specs.Sound.{IsSound as IsSoundPool}
-use Rattle.abandoned.specs.State.{IsElsewhere as IsElsewherePooled, PoolState, PooledState, spans_of as pooled_spans_of}
+use Rattle.abandoned.specs.State.{PoolState, PooledState}
 use Rattle.arena_core.specs.declared.event.Event.{Event}
 use Rattle.arena_core.specs.declared.event.Event.TheVariants.{Put, Free}
 use Rattle.arena_core.specs.declared.reply.Reply.{Reply}
@@ -65,11 +66,11 @@ has_span-elsewhere shard id sound some = by_test (has_span id shard) refl
     by_test true e = refl
     by_test false e = absurd (some (elsewhere-has_span shard id sound e))
 
-pub pooled-somewhere : (pool : PoolState) (id : SpanId) → (IsElsewherePooled pool.groups id → ⊥) → 1 ≤ times_pooled id pool
+pub pooled-somewhere : (pool : PoolState) (id : SpanId) → (IsElsewhere pool.groups id → ⊥) → 1 ≤ times_pooled id pool
 pooled-somewhere pool id some = by_count (times_pooled id pool) refl
   where
     by_count : (n : ℕ) → times_pooled id pool ≡ n → 1 ≤ n
-    by_count zero e = absurd (some (elsewhere-times pooled_spans_of pool.groups id e))
+    by_count zero e = absurd (some (elsewhere-times spans_of pool.groups id e))
     by_count (suc n) e = omega arith
 
 module _ (core : CoreState) (sound : HasSoundGroups core) where
@@ -95,7 +96,7 @@ module _ (core : CoreState) (sound : HasSoundGroups core) where
       omega (arith, pooled-somewhere core.pool span.id some, times_in-le span.id core.shards number shard here, times-parts span.id core, at_most_once core sound span.id)
 
   -- a span of a group of the pool is in no shard, and bears the number of none that runs
-  pub not_doubled_in : (number : ℕ) (shard : ShardState) → slice_get core.shards number ≡ Some shard → shard.ended ≡ false → (index : ℕ) (group : PooledState) → slice_get core.pool.groups index ≡ Some group → HasDoubled shard (pooled_spans_of group) → ⊥
+  pub not_doubled_in : (number : ℕ) (shard : ShardState) → slice_get core.shards number ≡ Some shard → shard.ended ≡ false → (index : ℕ) (group : PooledState) → slice_get core.pool.groups index ≡ Some group → HasDoubled shard (spans_of group) → ⊥
   not_doubled_in number shard here running index group at (place, span, there, either) =
       let pooled : 1 ≤ times_pooled span.id core.pool = pooled-somewhere core.pool span.id (λ elsewhere. elsewhere index group at place (span, there, refl)) in
       let one : 1 ≤ times_in span.id shard = by_case pooled either in

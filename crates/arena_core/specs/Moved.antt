@@ -3,7 +3,7 @@ use Rattle.std.specs.Prelude.{◌≡◌, ◌≢◌, ◌⊎◌, ◌<◌, ◌≤�
 use Rattle.span.specs.declared.id.SpanId.{SpanId}
 use Rattle.span.specs.Ids.{rank}
 use Rattle.shard.specs.Group.{GroupState}
-use Rattle.shard.specs.Moves.{IsMemberAt}
+use Rattle.groups.specs.Group.{IsMemberAt}
 use Rattle.shard.specs.State.{ShardState}
 use Rattle.arena_core.specs.State.{has_span}
 

@@ -2,11 +2,11 @@
 use Rattle.std.specs.Prelude.{◌≡◌, ◌⊎◌, ℕ, ◌<◌, ◌≤◌, length, Some, None, is_some, MatchOption, slice_get}
 use Rattle.bitmap.specs.Slots.{AreDisjoint}
 use Rattle.span.specs.declared.id.SpanId.{SpanId}
-use Rattle.shard.specs.Group.{GroupState, occupied}
+use Rattle.shard.specs.Group.{GroupState}
+use Rattle.groups.specs.Group.{IsHeadOf, occupied, summary}
 use Rattle.groups.specs.Spans.{IsSpanAt}
-use Rattle.shard.specs.Moves.{IsHeadOf}
 use Rattle.shard.specs.State.{ShardState}
-use Rattle.abandoned.specs.State.{IsHeadOf as IsPooledHeadOf, PooledState, summary as pooled_summary}
+use Rattle.abandoned.specs.State.{PooledState}
 use Rattle.arena_core.specs.State.{CoreState}
 use Rattle.marks.specs.Plans.{AreClosedAsPlanned, OpenPlan}
 
@@ -26,7 +26,7 @@ pub record IsOwned (core : CoreState) (head : SpanId) (group : GroupState) : Typ
 -- the group of this head stands in the pool
 pub record IsPooled (core : CoreState) (head : SpanId) (group : PooledState) : Type 0 where
   pub index : ℕ
-  pub head_of : IsPooledHeadOf core.pool.groups head index group
+  pub head_of : IsHeadOf core.pool.groups head index group
 
 -- the abandoned group is in the pool and the owned one in a shard, and no slot is occupied in both
 pub record IsWaiting (core : CoreState) (pair : SpanId × SpanId) : Type 0 where
@@ -34,7 +34,7 @@ pub record IsWaiting (core : CoreState) (pair : SpanId × SpanId) : Type 0 where
   pub owned : GroupState
   pub is_abandoned : IsPooled core pair.0 abandoned
   pub is_owned : IsOwned core pair.1 owned
-  pub apart : AreDisjoint (pooled_summary abandoned).1 (occupied owned)
+  pub apart : AreDisjoint (summary abandoned).1 (occupied owned)
 
 -- the abandoned group is a guest of its partner
 pub record IsGuest (core : CoreState) (pair : SpanId × SpanId) : Type 0 where

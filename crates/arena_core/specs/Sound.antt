@@ -4,7 +4,8 @@ use Rattle.span.specs.declared.id.SpanId.{SpanId}
 use Rattle.span.specs.Ids.{same_span}
 use Rattle.span.specs.State.{SpanState}
 use Rattle.shard.specs.Sound.{IsSound as IsSoundShard}
-use Rattle.shard.specs.State.{ShardState, spans_in}
+use Rattle.shard.specs.State.{ShardState}
+use Rattle.groups.specs.Group.{spans_in}
 use Rattle.abandoned.specs.Sound.{IsSound as IsSoundPool}
 use Rattle.arena_core.specs.Plan.{HasSoundPlan}
 use Rattle.arena_core.specs.Rings.{RingState, ring_at}

@@ -7,10 +7,11 @@ use Rattle.span.specs.PlainMap.{PlainMap, same_key}
 use Rattle.span.specs.State.{SpanState}
 use Rattle.shard.specs.Shown.{shown as shown_by}
 use Rattle.groups.specs.Shown.{span_named}
-use Rattle.shard.specs.State.{ShardState, spans_in, live_keys as live_keys_of}
+use Rattle.shard.specs.State.{ShardState}
+use Rattle.groups.specs.Group.{live_in, spans_in}
 use Rattle.groups.specs.Tables.{no_pages}
 use Rattle.abandoned.specs.Shown.{shown as shown_by_pool}
-use Rattle.abandoned.specs.State.{PoolState, paged_groups, spans_in as pooled_spans, live_keys as live_keys_pooled}
+use Rattle.abandoned.specs.State.{PoolState, paged_groups}
 use Rattle.marks.specs.Numbers.{Limits}
 use Rattle.marks.specs.Plans.{OpenPlan}
 use Rattle.arena_core.specs.Rings.{RingState, new_rings, pending_at}
@@ -57,7 +58,7 @@ shard_spans shards = flat_map (λ shard. spans_in shard.groups) shards
 
 -- the spans of all shards, and then those of the pool
 abbrev pub all_spans : CoreState → List SpanState
-all_spans core = shard_spans core.shards ++ pooled_spans core.pool.groups
+all_spans core = shard_spans core.shards ++ spans_in core.pool.groups
 
 -- one of the shard's groups has the span
 abbrev pub has_span : SpanId → ShardState → Bool
@@ -93,9 +94,13 @@ shown core = record {
 abbrev pub pages : CoreState → ℕ
 pages core = sum_by (λ shard. length shard.groups) core.shards + length (paged_groups core.pool)
 
+-- how many keys are live in the shard
+abbrev pub shard_keys : ShardState → ℕ
+shard_keys shard = live_in shard.groups
+
 -- how many keys are live in the shards and the pool
 abbrev pub live_keys : CoreState → ℕ
-live_keys core = sum_by live_keys_of core.shards + live_keys_pooled core.pool
+live_keys core = sum_by shard_keys core.shards + live_in core.pool.groups
 
 -- these keys are those that have a value in the map, each once
 abbrev pub AreLive : List Key → PlainMap → Type 0

@@ -1,8 +1,9 @@
 //! Receipts that agree with a log, and lists that differ from them in one thing.
-use crate::{AuditCause, AuditError, audit};
+use crate::{AuditCause, AuditError, audit, audit_by_threads};
 use span::{Call, Change, Key, Receipt, SpanId, SpanLog};
 use std::alloc::Global;
 use std::test::Fail;
+use std::thread::Threads;
 
 const PUT: Change = Change::Put {
     slot: 0,
@@ -187,5 +188,47 @@ fn looks_at_each_part(rt: HostRuntime) -> Result<(), Fail> {
         Some(AuditCause::Reply),
     ];
     assert_eq!(rt; other_causes(rt.alloc())?, wanted);
+    Ok(())
+}
+
+// Why the audit of the two lists, each on a thread of its own, is not passed, if it is not.
+fn told_by_threads<R: Threads + Sync>(
+    rt: &R,
+    alloc: Global,
+    first: &[Receipt],
+    second: &[Receipt],
+) -> Result<Option<AuditCause>, Fail> {
+    let logs = [log_of(alloc, &[PUT, FREE])?];
+    let lists = [list_of(alloc, first)?, list_of(alloc, second)?];
+    let mut answer = audit_by_threads(rt, alloc, &logs, &lists);
+    if answer == Err(AuditError::OutOfMemory) {
+        answer = audit_by_threads(rt, alloc, &logs, &lists);
+    }
+    match answer {
+        Ok(()) => Ok(None),
+        Err(AuditError::Fault(cause)) => Ok(Some(cause)),
+        Err(AuditError::OutOfMemory) => Err("out of memory".into()),
+    }
+}
+
+// Of the parts that lists fail the first is told, whichever list fails it: here the second fails the reply, and the first
+// the order, which comes after it.
+fn causes_by_threads<R: Threads + Sync>(
+    rt: &R,
+    alloc: Global,
+) -> Result<[Option<AuditCause>; 2], Fail> {
+    let key = some_key()?;
+    let (put_0, free_1) = (put(key, 0, 0), free(key, 0, 1, true));
+    let turned = [free_1, put_0];
+    Ok([
+        told_by_threads(rt, alloc, &[put_0, free_1], &[get(key, 0, 1, Some(5))])?,
+        told_by_threads(rt, alloc, &turned, &[get(key, 0, 1, None)])?,
+    ])
+}
+
+#[test]
+fn asks_lists_side_by_side(rt: HostRuntime) -> Result<(), Fail> {
+    let causes = causes_by_threads(&rt, rt.alloc())?;
+    assert_eq!(rt; causes, [None, Some(AuditCause::Reply)]);
     Ok(())
 }

@@ -178,10 +178,10 @@ abbrev pub Follows : Option SpanId → SpanId → Type 0
 Follows None id = Unit {0}
 Follows (Some last) id = rank last < rank id
 
--- a result by what it shows
-abbrev pub shown : {X Y E : Type 0} → (X → Y) → Result X E → Result Y E
-shown f (Ok x) = Ok (f x)
-shown f (Err e) = Err e
+-- the result with the function over what is answered
+abbrev pub result_map : {X Y E : Type 0} → (X → Y) → Result X E → Result Y E
+result_map f (Ok x) = Ok (f x)
+result_map f (Err e) = Err e
 
 -- what is read is what the grammar says, and so is each refusal but that of an allocation
 abbrev pub Reads : {X Y : Type 0} → (X → Y) → Result X ReadError → Result Y ReadError → Type 0

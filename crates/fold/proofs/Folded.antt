@@ -6,9 +6,10 @@ use Rattle.std.specs.Prelude.{option_map}
 use Rattle.bitmap.specs.Slots.{AreDisjoint}
 use Rattle.span.specs.declared.id.SpanId.{SpanId}
 use Rattle.page_table.specs.State.{words_of}
-use Rattle.shard.specs.Group.{GroupState, occupied}
+use Rattle.shard.specs.Group.{GroupState}
+use Rattle.groups.specs.Group.{IsHeadOf, occupied, spans_of}
 use Rattle.groups.specs.Spans.{union_of}
-use Rattle.shard.specs.Moves.{Grafts, IsHeadOf as IsHeadOfInShard, MayGraft, head_among, with_room}
+use Rattle.shard.specs.Moves.{Grafts, MayGraft, head_among, with_room}
 use Rattle.groups.specs.Whole.{WholeState, spans_moved}
 use Rattle.shard.specs.Shown.{shown as shown_by_shard}
 use Rattle.shard.specs.Sound.{IsSound as IsSoundShard}
@@ -20,7 +21,7 @@ use Rattle.shard.proofs.ShownLogs.{shown-logged as shown-logged_shard}
 use Rattle.abandoned.specs.Calls.{Lifts}
 use Rattle.abandoned.specs.Shown.{shown, together}
 use Rattle.abandoned.specs.Sound.{IsSound}
-use Rattle.abandoned.specs.State.{IsHeadOf, PoolState, PooledState, spans_of, whole_of}
+use Rattle.abandoned.specs.State.{PoolState, PooledState, whole_of}
 use Rattle.abandoned.proofs.Adopted.{one_head}
 use Rattle.abandoned.proofs.ShownLogs.{shown-logged}
 use Rattle.abandoned.proofs.TakenIn.{empty_or_not}
@@ -31,7 +32,7 @@ use Rattle.fold.proofs.Sums.{spans_in-Grafts}
 
 module _ (pool : PoolState) (sound : IsSound pool) (shard : ShardState) (a b : SpanId) (may : MayFold pool shard a b) where
   -- the group of the shard
-  onto : (place : ℕ) × (group : GroupState) × IsHeadOfInShard shard.groups b place group
+  onto : (place : ℕ) × (group : GroupState) × IsHeadOf shard.groups b place group
   onto = elim (none_or_head shard.groups b) [
     | inl none ↦ absurd (may.present (inr (inl none)))
     | inr here ↦ here

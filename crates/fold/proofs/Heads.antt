@@ -4,7 +4,7 @@ use Rattle.span.proofs.Ids.{same_id_from_test, test_from_same_id}
 use Rattle.span.specs.Ids.{same_span}
 use Rattle.span.specs.declared.id.SpanId.{SpanId}
 use Rattle.shard.specs.Group.{GroupState}
-use Rattle.shard.specs.Moves.{HasNoHead, IsHeadOf}
+use Rattle.groups.specs.Group.{HasNoHead, IsHeadOf}
 use Rattle.groups.proofs.Lists.{same_some}
 
 -- no group has the head, or one does

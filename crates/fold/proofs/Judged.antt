@@ -3,24 +3,24 @@ use Rattle.std.proofs.Common.{◌≡◌, ℕ, true, false, is_some, ◌∙◌, a
 use Rattle.std.proofs.option.Match.{None-if_not_some}
 use Rattle.bitmap.specs.Slots.{AreDisjoint, SlotSet}
 use Rattle.span.specs.declared.id.SpanId.{SpanId}
-use Rattle.shard.specs.Group.{GroupState, occupied}
+use Rattle.shard.specs.Group.{GroupState}
+use Rattle.groups.specs.Group.{IsHeadOf, occupied, spans_of}
 use Rattle.groups.specs.Spans.{union_of}
-use Rattle.shard.specs.Moves.{IsHeadOf as IsHeadOfInShard}
 use Rattle.shard.specs.Sound.{IsSound as IsSoundShard}
 use Rattle.shard.specs.State.{ShardState}
 use Rattle.shard.proofs.HeadsHere.{same_group}
 use Rattle.abandoned.specs.Calls.{WouldDouble}
 use Rattle.abandoned.specs.Sound.{IsSound}
-use Rattle.abandoned.specs.State.{IsHeadOf, PoolState, PooledState, spans_of}
+use Rattle.abandoned.specs.State.{PoolState, PooledState}
 use Rattle.abandoned.proofs.Adopted.{one_head}
 use Rattle.fold.specs.Folds.{IsAbsent, IsClash, IsEmptied, MayFold}
 
-module _ (pool : PoolState) (sound : IsSound pool) (shard : ShardState) (sound_shard : IsSoundShard shard) (a b : SpanId) (index place : ℕ) (group : PooledState) (onto : GroupState) (from : IsHeadOf pool.groups a index group) (to : IsHeadOfInShard shard.groups b place onto)
+module _ (pool : PoolState) (sound : IsSound pool) (shard : ShardState) (sound_shard : IsSoundShard shard) (a b : SpanId) (index place : ℕ) (group : PooledState) (onto : GroupState) (from : IsHeadOf pool.groups a index group) (to : IsHeadOf shard.groups b place onto)
     (fresh : WouldDouble pool shard a → ⊥) where
   same_from : (other : ℕ) (g : PooledState) → IsHeadOf pool.groups a other g → g ≡ group
   same_from other g its = one_head pool sound other index g group its.here from.here (its.head_is ∙ sym from.head_is)
 
-  same_onto : (other : ℕ) (g : GroupState) → IsHeadOfInShard shard.groups b other g → g ≡ onto
+  same_onto : (other : ℕ) (g : GroupState) → IsHeadOf shard.groups b other g → g ≡ onto
   same_onto other g its = same_group shard.groups sound_shard.ascending b other place g onto its to
 
   present : IsAbsent pool shard a b → ⊥

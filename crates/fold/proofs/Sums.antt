@@ -7,38 +7,38 @@ use Rattle.span.specs.State.{SpanState}
 use Rattle.span.specs.declared.id.SpanId.{SpanId}
 use Rattle.page_table.specs.State.{words_of}
 use Rattle.page_table.specs.Words.{Words}
-use Rattle.shard.specs.Group.{spans_of}
+use Rattle.groups.specs.Group.{spans_in, spans_of}
 use Rattle.shard.specs.Moves.{Grafts, with_guests, with_room}
 use Rattle.groups.specs.Whole.{WholeState, spans_moved}
 use Rattle.shard.specs.Sound.{IsSound as IsSoundShard}
-use Rattle.shard.specs.State.{ShardState, spans_in as spans_in_shard}
+use Rattle.shard.specs.State.{ShardState}
 use Rattle.groups.proofs.Lists.{split_at}
 use Rattle.shard.proofs.MovedGroups.{AreBetween}
 use Rattle.abandoned.specs.Calls.{Lifts}
-use Rattle.abandoned.specs.State.{PoolState, PooledState, paged_groups, spans_in}
+use Rattle.abandoned.specs.State.{PoolState, PooledState, paged_groups}
 use Rattle.groups.proofs.Removed.{count-remove}
 use Rattle.abandoned.proofs.Together.{spans_in-Lifts}
 use Rattle.fold.specs.Folds.{Folds}
 
 -- after a graft the spans are the old ones with those that came behind the last guest of the group
-pub spans_in-Grafts : (old new : ShardState) (head : SpanId) (whole : WholeState) → Grafts old head whole new → AreBetween (spans_in_shard new.groups) (spans_in_shard old.groups) (spans_moved whole)
+pub spans_in-Grafts : (old new : ShardState) (head : SpanId) (whole : WholeState) → Grafts old head whole new → AreBetween (spans_in new.groups) (spans_in old.groups) (spans_moved whole)
 spans_in-Grafts old new head whole grafts =
     let cut = split_at old.groups grafts.index grafts.group grafts.here.here in
-    let left : List SpanState = spans_in_shard cut.left in
-    let right : List SpanState = spans_in_shard cut.right in
+    let left : List SpanState = spans_in cut.left in
+    let right : List SpanState = spans_in cut.right in
     let own : List SpanState = spans_of grafts.group in
     let moved : List SpanState = spans_moved whole in
     record {
       left = left ++ own;
       right = right;
       with_is =
-          ap (λ (s : ShardState). spans_in_shard s.groups) grafts.after
-          ∙ ap spans_in_shard (cut.after_set (with_guests grafts.group moved))
+          ap (λ (s : ShardState). spans_in s.groups) grafts.after
+          ∙ ap spans_in (cut.after_set (with_guests grafts.group moved))
           ∙ flat_map-append spans_of cut.left (with_guests grafts.group moved ∷ cut.right)
           ∙ ap (λ (xs : List SpanState). left ++ xs) (append_assoc own moved right)
           ∙ sym (append_assoc left own (moved ++ right));
       without_is =
-          ap spans_in_shard cut.whole ∙ flat_map-append spans_of cut.left (grafts.group ∷ cut.right) ∙ sym (append_assoc left own right);
+          ap spans_in cut.whole ∙ flat_map-append spans_of cut.left (grafts.group ∷ cut.right) ∙ sym (append_assoc left own right);
     }
 
 -- sums over the spans
@@ -48,7 +48,7 @@ sum_by-Lifts w old new head whole lifts =
     let out = spans_in-Lifts old new head whole lifts in
     omega (arith, ap (sum_by w) out.2, ap (sum_by w) out.3, sum_by-append w out.0 out.1, sum_by-append w out.0 (spans_moved whole ++ out.1), sum_by-append w (spans_moved whole) out.1)
 
-pub sum_by-Grafts : (w : SpanState → ℕ) (old new : ShardState) (head : SpanId) (whole : WholeState) → Grafts old head whole new → sum_by w (spans_in_shard new.groups) ≡ sum_by w (spans_in_shard old.groups) + sum_by w (spans_moved whole)
+pub sum_by-Grafts : (w : SpanState → ℕ) (old new : ShardState) (head : SpanId) (whole : WholeState) → Grafts old head whole new → sum_by w (spans_in new.groups) ≡ sum_by w (spans_in old.groups) + sum_by w (spans_moved whole)
 sum_by-Grafts w old new head whole grafts =
     let into = spans_in-Grafts old new head whole grafts in
     omega (
@@ -62,7 +62,7 @@ sum_by-Grafts w old new head whole grafts =
 
 module _ (pool : PoolState) (shard : ShardState) (a b : SpanId) (pool_new : PoolState) (shard_new : ShardState) (folds : Folds pool shard a b pool_new shard_new) where
   -- the shard has the spans of a's group more
-  pub sum_by-Folds_shard : (w : SpanState → ℕ) → sum_by w (spans_in_shard shard_new.groups) ≡ sum_by w (spans_in_shard shard.groups) + sum_by w (spans_moved folds.whole)
+  pub sum_by-Folds_shard : (w : SpanState → ℕ) → sum_by w (spans_in shard_new.groups) ≡ sum_by w (spans_in shard.groups) + sum_by w (spans_moved folds.whole)
   sum_by-Folds_shard w = sum_by-Grafts w (with_room shard (Some b) (length (spans_moved folds.whole))) shard_new b folds.whole folds.grafts
 
   -- and the pool has them less
@@ -70,7 +70,7 @@ module _ (pool : PoolState) (shard : ShardState) (a b : SpanId) (pool_new : Pool
   sum_by-Folds_pool w = sum_by-Lifts w pool pool_new a folds.whole folds.lifts
 
   -- so that both together have the same
-  pub sum_by-Folds : (w : SpanState → ℕ) → sum_by w (spans_in_shard shard_new.groups) + sum_by w (spans_in pool_new.groups) ≡ sum_by w (spans_in_shard shard.groups) + sum_by w (spans_in pool.groups)
+  pub sum_by-Folds : (w : SpanState → ℕ) → sum_by w (spans_in shard_new.groups) + sum_by w (spans_in pool_new.groups) ≡ sum_by w (spans_in shard.groups) + sum_by w (spans_in pool.groups)
   sum_by-Folds w = omega (arith, sum_by-Folds_shard w, sum_by-Folds_pool w)
 
   pub number-Folds : shard_new.number ≡ shard.number

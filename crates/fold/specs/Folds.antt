@@ -2,19 +2,20 @@
 use Rattle.std.specs.Prelude.{◌≡◌, ◌⊎◌, ℕ, length, None, Some}
 use Rattle.bitmap.specs.Slots.{AreDisjoint}
 use Rattle.span.specs.declared.id.SpanId.{SpanId}
-use Rattle.shard.specs.Group.{GroupState, occupied}
+use Rattle.shard.specs.Group.{GroupState}
+use Rattle.groups.specs.Group.{HasNoHead, IsHeadOf, occupied, spans_of}
 use Rattle.groups.specs.Spans.{union_of}
-use Rattle.shard.specs.Moves.{Grafts, HasNoHead as HasNoHeadInShard, IsHeadOf as IsHeadOfInShard, with_room}
+use Rattle.shard.specs.Moves.{Grafts, with_room}
 use Rattle.groups.specs.Whole.{WholeState, spans_moved}
 use Rattle.shard.specs.State.{ShardState}
 use Rattle.abandoned.specs.Calls.{Lifts, WouldDouble}
-use Rattle.abandoned.specs.State.{HasNoHead, IsHeadOf, PoolState, PooledState, spans_of}
+use Rattle.abandoned.specs.State.{PoolState, PooledState}
 use Rattle.fold.specs.declared.step.Step.{Step}
 use Rattle.fold.specs.declared.step.Step.TheVariants.{Absent, Clash, Emptied, Folded}
 
 -- a heads no group of the pool, or b no group of the shard, or a span would stand twice
 abbrev pub IsAbsent : PoolState → ShardState → SpanId → SpanId → Type 0
-IsAbsent pool shard a b = HasNoHead pool.groups a ⊎ (HasNoHeadInShard shard.groups b ⊎ WouldDouble pool shard a)
+IsAbsent pool shard a b = HasNoHead pool.groups a ⊎ (HasNoHead shard.groups b ⊎ WouldDouble pool shard a)
 
 -- neither group is absent, and that of a has no page
 abbrev pub IsEmptied : PoolState → ShardState → SpanId → SpanId → Type 0
@@ -23,7 +24,7 @@ IsEmptied pool shard a b = (IsAbsent pool shard a b → ⊥) × ((index : ℕ) �
 -- a slot is live in both groups
 abbrev pub AreClashing : PoolState → ShardState → SpanId → SpanId → Type 0
 AreClashing pool shard a b =
-    (index place : ℕ) × (group : PooledState) × (onto : GroupState) × IsHeadOf pool.groups a index group × IsHeadOfInShard shard.groups b place onto
+    (index place : ℕ) × (group : PooledState) × (onto : GroupState) × IsHeadOf pool.groups a index group × IsHeadOf shard.groups b place onto
     × (AreDisjoint (occupied onto) (union_of (spans_of group)) → ⊥)
 
 -- neither group is absent, both have a page, and a slot is live in both

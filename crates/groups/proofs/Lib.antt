@@ -6,6 +6,7 @@ pub mod GuestDirectory
 pub mod Guests
 pub mod HeadPlaces
 pub mod Heads
+pub mod KnownGuests
 pub mod Lists
 pub mod LiveCounts
 pub mod Logged
@@ -15,6 +16,8 @@ pub mod MappedSpans
 pub mod Places
 pub mod Ranks
 pub mod Removed
+pub mod Sound
 pub mod SpanCounts
+pub mod Standing
 pub mod Tables
 pub mod Unions

@@ -6,6 +6,7 @@ use Rattle.std.specs.FinMap as map
 use Rattle.span.specs.declared.id.SpanId.{SpanId}
 use Rattle.span.specs.Ids.{rank}
 use Rattle.span.specs.State.{SpanState}
+use Rattle.groups.specs.Group.{Group}
 use Rattle.groups.specs.declared.directory.Place.{Place}
 
 -- for guests, by rank, where they stand
@@ -48,3 +49,7 @@ pub record IsDirectory {G : Type 0} (head_of : G → SpanId) (guests_of : G → 
   pub known : (index place : ℕ) (group : G) (guest : SpanState) → slice_get groups index ≡ Some group → slice_get (guests_of group) place ≡ Some guest
       → map.get entries (rank guest.id) ≡ Some (record { head = head_of group; place = suc place })
   pub only : (number : ℕ) (at : Place) → map.get entries number ≡ Some at → IsGuestAt head_of guests_of groups number at
+
+-- the entries say where each guest of the groups stands
+abbrev pub KnowsGuests : {Page Closed : Type 0} → List (Group Page Closed) → Entries → Type 0
+KnowsGuests groups entries = IsDirectory (λ group. group.head.id) (λ group. group.guests) groups entries

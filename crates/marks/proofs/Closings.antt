@@ -7,7 +7,7 @@ use Rattle.std.proofs.Math.Bool.{or-false}
 use Rattle.span.specs.declared.id.SpanId.{SpanId}
 use Rattle.span.specs.Ids.{rank, same_span}
 use Rattle.span.proofs.Ids.{same_id_from_test, test_from_same_id}
-use Rattle.shard.specs.Calls.{Ascend}
+use Rattle.groups.specs.Group.{Ascend}
 use Rattle.shard.specs.Closes.{Closes, closed_group}
 use Rattle.shard.specs.Group.{GroupState}
 use Rattle.shard.specs.State.{ShardState}

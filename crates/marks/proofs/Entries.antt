@@ -7,8 +7,9 @@ use Rattle.std.proofs.lemmas.List.Sums.{sum_by-cons}
 use Rattle.bitmap.specs.Slots.{SlotSet}
 use Rattle.span.specs.declared.id.SpanId.{SpanId}
 use Rattle.shard.specs.Group.{GroupState}
-use Rattle.shard.specs.State.{ShardState, summary}
-use Rattle.abandoned.specs.State.{PoolState, PooledState, paged_groups, summary as pooled_summary}
+use Rattle.shard.specs.State.{ShardState}
+use Rattle.groups.specs.Group.{summary}
+use Rattle.abandoned.specs.State.{PoolState, PooledState, paged_groups}
 use Rattle.mesh_graph.specs.declared.entry.Entry.{Entry}
 use Rattle.marks.specs.Seen.{AreTooMany, entry_of, owned_entries}
 
@@ -20,7 +21,7 @@ abbrev pub entries_in : List GroupState → List Entry
 entries_in groups = map (λ group. entry_of (summary group)) groups
 
 abbrev pub entries_pooled : List PooledState → List Entry
-entries_pooled groups = map (λ group. entry_of (pooled_summary group)) groups
+entries_pooled groups = map (λ group. entry_of (summary group)) groups
 
 -- as many owned groups as the shards have pages
 pub length-owned : (shards : List ShardState) → length (owned_entries shards) ≡ sum_by (λ shard. length shard.groups) shards
@@ -42,7 +43,7 @@ pub too_many-owned : (pool : PoolState) (shards : List ShardState) (pages owned 
 too_many-owned pool shards pages owned pages_is few owned_is = (
   λ more. inr (omega (arith, ltb-true 4096 owned more, length-owned shards)),
   λ many. elim many [
-    | inl in_pool ↦ absurd (omega (arith, length-map (paged_groups pool) (λ group. entry_of (pooled_summary group))))
+    | inl in_pool ↦ absurd (omega (arith, length-map (paged_groups pool) (λ group. entry_of (summary group))))
     | inr in_shards ↦ lt-ltb 4096 owned (omega (arith, length-owned shards))
   ],
 )

@@ -4,9 +4,11 @@ use Rattle.std.specs.Prelude.{count_by}
 use Rattle.std.proofs.lemmas.List.{length-map}
 use Rattle.span.specs.Ids.{rank, same_span}
 use Rattle.span.specs.State.{SpanState}
-use Rattle.shard.specs.Group.{GroupState, spans_of}
-use Rattle.shard.specs.Sound.{IsSound as IsSoundShard, IsSoundGroup}
-use Rattle.shard.specs.State.{ShardState, spans_in}
+use Rattle.shard.specs.Group.{GroupState}
+use Rattle.groups.specs.Group.{spans_in, spans_of}
+use Rattle.shard.specs.Sound.{IsSound as IsSoundShard}
+use Rattle.groups.specs.Sound.{IsSoundGroup}
+use Rattle.shard.specs.State.{ShardState}
 use Rattle.groups.proofs.Lists.{count-cons, same_some}
 use Rattle.marks.proofs.Lists.{slice_get-map_at}
 
@@ -53,10 +55,10 @@ module _ (closed : GroupState → Bool) where
     groups = λ index group at.
         let (was, here, is) = map_back (with_flag closed) shard.groups index group at in
         let fine = sound.groups index was here in
-        subst (IsSoundGroup shard.table) is (record {
+        subst (IsSoundGroup Some shard.table) is (record {
           apart = fine.apart;
-          has_page = fine.has_page;
-          spans = λ place span there. let its = fine.spans place span there in record { legal = its.legal; mapped = its.mapped; stored = its.stored };
+          legal = fine.legal;
+          page = fine.page;
         });
     once = λ id. subst (λ spans. count_by (λ (s : SpanState). same_span s.id id) spans ≤ 1) (sym (spans_in-flagged shard.groups)) (sound.once id);
     own_page = λ page. subst (λ n. n ≤ 1) (sym (pages-flagged page shard.groups)) (sound.own_page page);

@@ -6,8 +6,9 @@ use Rattle.bitmap.specs.Slots.{SlotSet}
 use Rattle.span.specs.declared.id.SpanId.{SpanId}
 use Rattle.span.specs.Ids.{same_span}
 use Rattle.shard.specs.Sound.{IsSound as IsSoundShard}
-use Rattle.shard.specs.State.{ShardState, summary}
-use Rattle.abandoned.specs.State.{PoolState, paged_groups, summary as pooled_summary}
+use Rattle.shard.specs.State.{ShardState}
+use Rattle.groups.specs.Group.{summary}
+use Rattle.abandoned.specs.State.{PoolState, paged_groups}
 use Rattle.mesh_graph.specs.declared.entry.Entry.{Entry}
 use Rattle.mesh_graph.specs.Groups.{Groups, IsAscending, ids}
 use Rattle.certificate.specs.declared.certificate.Certificate.{Certificate}
@@ -21,7 +22,7 @@ entry_of group = record { id = group.0; occupied = group.1 }
 
 -- every group of the pool that has a page
 abbrev pub abandoned_entries : PoolState → List Entry
-abandoned_entries pool = map (λ group. entry_of (pooled_summary group)) (paged_groups pool)
+abandoned_entries pool = map (λ group. entry_of (summary group)) (paged_groups pool)
 
 -- every group of every shard; a shard that has ended has none
 abbrev pub owned_entries : List ShardState → List Entry

@@ -6,13 +6,12 @@ ghost use Rattle.span.specs.Order.{HasNoneFrom, IsFirstFrom};
 ghost use Rattle.span.specs.State.{SpanState};
 ghost use Rattle.span.specs.PlainMap as plain;
 ghost use Rattle.shard.specs.Group.{GroupState, IsLowestUsable};
-ghost use Rattle.shard.specs.Moves.{HasNoHead, IsHeadOf};
+ghost use Rattle.groups.specs.Group.{Ascend, HasNoHead, IsElsewhere, IsHeadOf, IsHere, live_in, summary};
 ghost use Rattle.shard.specs.Rooms.{HasRooms, IsFirstRoom};
 ghost use Rattle.shard.specs.Shown.{shown};
 ghost use Rattle.shard.specs.Sound.{IsSound};
-ghost use Rattle.shard.specs.State.{IsElsewhere, IsHere, live_keys, summary};
 ghost use Rattle.groups.specs.Tables.{no_pages};
-ghost use Rattle.shard.specs.Calls.{Ascend, Frees, Gets, IsFull, IsLowestRoom, IsSpent, Puts, PutsHere, PutsInNew, value_found, was_freed};
+ghost use Rattle.shard.specs.Calls.{Frees, Gets, IsFull, IsLowestRoom, IsSpent, Puts, PutsHere, PutsInNew, value_found, was_freed};
 ghost use Rattle.bitmap.specs.declared.bits.TheConstants.{SLOTS};
 ghost use Rattle.span.specs.declared.limits.TheConstants.{MOST_PAGES, MOST_SHARDS, MOST_SPANS};
 
@@ -192,7 +191,7 @@ impl<L: Log> Shard<L> {
 
     /// How many keys are live in it.
     pub fn live(&self) -> usize
-        ensures live { result ≡ live_keys self.now }
+        ensures live { result ≡ live_in self.now.groups }
         ensures at_most { result ≤ SLOTS * length self.now.groups }
     {
         let mut live = 0;

@@ -8,7 +8,7 @@ use Rattle.trace_text.specs.declared.cause.ParseError.{ParseError}
 use Rattle.trace_text.specs.declared.cause.ParseError.TheVariants.{OutOfMemory, BadTrace}
 use Rattle.trace_text.specs.declared.trace.Trace.{Trace}
 use Rattle.trace_text.specs.Form.{HasForm}
-use Rattle.trace_text.specs.Causes.{BeginsAtFault, HasCause, IsNextLine, Reads, awaits_mark, first_cause}
+use Rattle.trace_text.specs.Causes.{BeginsAtFault, HasCause, IsNextLine, AreReadAs, awaits_mark, first_cause}
 use Rattle.trace_text.specs.Words.{lines_of}
 use Rattle.trace_text.specs.Trace.{Spells, IsTrace, IsFault, IsFaultAt, IsReadAs}
 use Rattle.trace_text.proofs.Heads.{HasHeader-fine, HasHeader-same}
@@ -27,7 +27,7 @@ next_or_fault h before bytes l c next (inr (w, form, first)) =
 
 -- lines of which neither one nor the end is at fault, and of which one is, or the end
 read_or_fault : (h : Header) (before : List Line) (above rest : List (List ℕ)) (ls ms : List Line) (c : Cause)
-    → Reads h before (above ++ rest) ls → awaits_mark (before ++ ls) ≡ false → Reads h before above ms → BeginsAtFault h (before ++ ms) rest c → ⊥
+    → AreReadAs h before (above ++ rest) ls → awaits_mark (before ++ ls) ≡ false → AreReadAs h before above ms → BeginsAtFault h (before ++ ms) rest c → ⊥
 read_or_fault h before [] [] [] [] c all settled fine fault = let clash : true ≡ false = sym fault.1 ∙ settled in cc
 read_or_fault h before [] [] (l ∷ ls) ms c all settled fine fault = absurd all
 read_or_fault h before [] [] [] (m ∷ ms) c all settled fine fault = absurd fine
@@ -38,7 +38,7 @@ read_or_fault h before (t ∷ ts) rest [] ms c all settled fine fault = absurd a
 read_or_fault h before (t ∷ ts) rest (l ∷ ls) [] c all settled fine fault = absurd fine
 read_or_fault h before (t ∷ ts) rest (l ∷ ls) (m ∷ ms) c all settled fine fault =
     let one : l ≡ m = same_line h.version t l m all.0.0 fine.0.0 in
-    let P : Line → Type 0 = λ x. Reads h (before ++ x ∷ []) (ts ++ rest) ls in
+    let P : Line → Type 0 = λ x. AreReadAs h (before ++ x ∷ []) (ts ++ rest) ls in
     let Q : Line → Type 0 = λ x. awaits_mark (before ++ x ∷ ls) ≡ false in
     read_or_fault h (before ++ m ∷ []) ts rest ls ms c (subst P one all.1) (rw append_assoc (subst Q one settled)) fine.1 (rw append_assoc fault)
 
@@ -47,11 +47,11 @@ pub spelled_has_no_fault : (text : List ℕ) (h : Header) (lines : List Line) (n
 spelled_has_no_fault text h lines n c spelled (inl fault) = HasHeader-fine h (lines_of text) spelled.below n c spelled.head fault
 spelled_has_no_fault text h lines n c spelled (inr (g, below, head, fault)) =
     let same = HasHeader-same h g (lines_of text) spelled.below below spelled.head head in
-    let all : Reads g [] (fault.above ++ fault.rest) lines = rw (same.0, same.1, fault.split) at spelled.body in
+    let all : AreReadAs g [] (fault.above ++ fault.rest) lines = rw (same.0, same.1, fault.split) at spelled.body in
     read_or_fault g [] fault.above fault.rest lines fault.lines c all spelled.settled fault.fine fault.fault
 
 -- texts are read as one list of lines
-same_lines : (h : Header) (before : List Line) (texts : List (List ℕ)) (ls ms : List Line) → Reads h before texts ls → Reads h before texts ms → ls ≡ ms
+same_lines : (h : Header) (before : List Line) (texts : List (List ℕ)) (ls ms : List Line) → AreReadAs h before texts ls → AreReadAs h before texts ms → ls ≡ ms
 same_lines h before [] [] [] a b = refl
 same_lines h before [] (l ∷ ls) ms a b = absurd a
 same_lines h before [] [] (m ∷ ms) a b = absurd b
@@ -59,14 +59,14 @@ same_lines h before (t ∷ ts) [] ms a b = absurd a
 same_lines h before (t ∷ ts) (l ∷ ls) [] a b = absurd b
 same_lines h before (t ∷ ts) (l ∷ ls) (m ∷ ms) a b =
     let one : m ≡ l = same_line h.version t m l b.0.0 a.0.0 in
-    let P : Line → Type 0 = λ x. Reads h (before ++ x ∷ []) ts ms in
+    let P : Line → Type 0 = λ x. AreReadAs h (before ++ x ∷ []) ts ms in
     let more = same_lines h (before ++ l ∷ []) ts ls ms a.1 (subst P one b.1) in cc
 
 -- so it is read, as the trace that it spells
 pub spelled_is_read : (text : List ℕ) (h : Header) (lines : List Line) (r : Result Trace ParseError) → Spells text h lines → IfOk r (IsTrace text) → IfErr r (IsFault text) → IsReadAs r h lines
 spelled_is_read text h lines (Ok trace) spelled read fault =
     let same = HasHeader-same trace.header h (lines_of text) read.below spelled.below read.head spelled.head in
-    let body : Reads h [] spelled.below trace.lines.items = rw (same.0, same.1) at read.body in
+    let body : AreReadAs h [] spelled.below trace.lines.items = rw (same.0, same.1) at read.body in
     (same.0, same_lines h [] spelled.below trace.lines.items lines body spelled.body)
 spelled_is_read text h lines (Err OutOfMemory) spelled read fault = tt
 spelled_is_read text h lines (Err (BadTrace n c)) spelled read fault = spelled_has_no_fault text h lines n c spelled fault

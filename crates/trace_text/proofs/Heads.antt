@@ -7,7 +7,7 @@ use Rattle.certificate.specs.Number.{number_in}
 use Rattle.trace_text.specs.Form.{AreWords, Verb}
 use Rattle.trace_text.specs.Form as form
 use Rattle.trace_text.specs.Header.{BeginWith, FailsField, FailsHeader, Field, HasHeader, IsAtFault, IsHeaderFault, IsWithin, Opening, SaysNumber, Size, field_in, fields, number_of, numbers_of, opening_of}
-use Rattle.trace_text.specs.Number.{IsOutside, Says}
+use Rattle.trace_text.specs.Number.{IsOutside, KeepsNumber}
 use Rattle.trace_text.specs.Words.{words_of}
 use Rattle.trace_text.specs.declared.header.Header.{Header}
 use Rattle.trace_text.specs.declared.header.Version.{Version}
@@ -60,10 +60,10 @@ field_in-found word (a ∷ b ∷ []) n e = elim (chosen (bytes_eq a word) (numbe
 field_in-found word (a ∷ b ∷ c ∷ more) n e = cc
 
 -- its number is outside the range
-pub size_outside : (word bytes : List ℕ) (most : ℕ) (number : Number) (lines rest : List (List ℕ)) → lines ≡ bytes ∷ rest → Says (Some number) (field_in word (words_of bytes)) → IsOutside most number → IsAtFault (Size word most) lines cause.Limit
+pub size_outside : (word bytes : List ℕ) (most : ℕ) (number : Number) (lines rest : List (List ℕ)) → lines ≡ bytes ∷ rest → KeepsNumber (Some number) (field_in word (words_of bytes)) → IsOutside most number → IsAtFault (Size word most) lines cause.Limit
 size_outside word bytes most number lines rest split says out = subst (λ ls. IsAtFault (Size word most) ls cause.Limit) (sym split) (let found = go (field_in word (words_of bytes)) refl says in inr (refl, found.0, found.1, found.2))
   where
-    go : (o : Option ℕ) → field_in word (words_of bytes) ≡ o → Says (Some number) o → (n : ℕ) × AreWords (words_of bytes) (Verb word ∷ form.Number n ∷ []) × (IsInRange 1 most n → ⊥)
+    go : (o : Option ℕ) → field_in word (words_of bytes) ≡ o → KeepsNumber (Some number) o → (n : ℕ) × AreWords (words_of bytes) (Verb word ∷ form.Number n ∷ []) × (IsInRange 1 most n → ⊥)
     go None e says = absurd says
     go (Some n) e says = (n, field_in-found word (words_of bytes) n e, out n says)
 

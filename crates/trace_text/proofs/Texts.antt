@@ -9,16 +9,16 @@ use Rattle.trace_text.specs.Form.{form_of, HasForm}
 use Rattle.trace_text.specs.Within.{clip_line, is_value_over, within}
 use Rattle.trace_text.specs.Header.{IsWithinLimits}
 use Rattle.trace_text.specs.Earlier.{Few}
-use Rattle.trace_text.specs.Causes.{awaits_mark, is_call, HasCause, IsNextLine, IsSound, Reads, first_cause, IsFirstFault}
+use Rattle.trace_text.specs.Causes.{awaits_mark, is_call, HasCause, IsNextLine, IsSound, AreReadAs, first_cause, IsFirstFault}
 use Rattle.trace_text.proofs.Lines.{chosen, form_found, form_again}
 use Rattle.trace_text.proofs.Clips.{first_cause-clip, clip_line-fine, over-value}
 
 -- one line more
-Reads-push : (h : Header) (before : List Line) (texts : List (List ℕ)) (lines : List Line) (bytes : List ℕ) (l : Line) → Reads h before texts lines → IsNextLine h (before ++ lines) bytes l → Reads h before (texts ++ bytes ∷ []) (lines ++ l ∷ [])
-Reads-push h before [] [] bytes l all next = ((next.0, rw append-nil at next.1), tt)
-Reads-push h before (b ∷ bs) (m ∷ ms) bytes l (first, rest) next = (first, Reads-push h (before ++ m ∷ []) bs ms bytes l rest (rw append_assoc next))
-Reads-push h before [] (m ∷ ms) bytes l all next = absurd all
-Reads-push h before (b ∷ bs) [] bytes l all next = absurd all
+AreReadAs-push : (h : Header) (before : List Line) (texts : List (List ℕ)) (lines : List Line) (bytes : List ℕ) (l : Line) → AreReadAs h before texts lines → IsNextLine h (before ++ lines) bytes l → AreReadAs h before (texts ++ bytes ∷ []) (lines ++ l ∷ [])
+AreReadAs-push h before [] [] bytes l all next = ((next.0, rw append-nil at next.1), tt)
+AreReadAs-push h before (b ∷ bs) (m ∷ ms) bytes l (first, rest) next = (first, AreReadAs-push h (before ++ m ∷ []) bs ms bytes l rest (rw append_assoc next))
+AreReadAs-push h before [] (m ∷ ms) bytes l all next = absurd all
+AreReadAs-push h before (b ∷ bs) [] bytes l all next = absurd all
 
 -- what is kept of a line that has a form
 within_ok : (form : Option Line) (l : Line) → within form ≡ Ok l → (w : Line) × (form ≡ Some w) × (clip_line w ≡ l)
@@ -58,17 +58,17 @@ unread_line h before bytes c read = elim (within_err (form_of h.version bytes) c
 ]
 
 -- as many lines are read as there are texts
-Reads-length : (h : Header) (before : List Line) (texts : List (List ℕ)) (lines : List Line) → Reads h before texts lines → length lines ≡ length texts
-Reads-length h before [] [] all = refl
-Reads-length h before (b ∷ bs) (m ∷ ms) all = omega (arith, Reads-length h (before ++ m ∷ []) bs ms all.1)
-Reads-length h before [] (m ∷ ms) all = absurd all
-Reads-length h before (b ∷ bs) [] all = absurd all
+AreReadAs-length : (h : Header) (before : List Line) (texts : List (List ℕ)) (lines : List Line) → AreReadAs h before texts lines → length lines ≡ length texts
+AreReadAs-length h before [] [] all = refl
+AreReadAs-length h before (b ∷ bs) (m ∷ ms) all = omega (arith, AreReadAs-length h (before ++ m ∷ []) bs ms all.1)
+AreReadAs-length h before [] (m ∷ ms) all = absurd all
+AreReadAs-length h before (b ∷ bs) [] all = absurd all
 
 -- of those texts the first ones are read as these lines, and the rest stand below
 pub record SoFar (h : Header) (texts rest : List (List ℕ)) (lines : List Line) : Type 0 where
   pub above : List (List ℕ)
   pub split : texts ≡ above ++ rest
-  pub fine : Reads h [] above lines
+  pub fine : AreReadAs h [] above lines
 
 -- before the first line
 pub SoFar-start : (h : Header) (texts : List (List ℕ)) → SoFar h texts texts []
@@ -79,12 +79,12 @@ pub SoFar-more : (h : Header) (texts rest more : List (List ℕ)) (lines : List 
 SoFar-more h texts rest more lines bytes l far next fine = record {
   above = far.above ++ bytes ∷ [];
   split = rw append_assoc (far.split ∙ ap (λ ls. far.above ++ ls) next);
-  fine = Reads-push h [] far.above lines bytes l far.fine fine;
+  fine = AreReadAs-push h [] far.above lines bytes l far.fine fine;
 }
 
 -- all texts are read
-pub SoFar-all : (h : Header) (texts rest : List (List ℕ)) (lines : List Line) → SoFar h texts rest lines → rest ≡ [] → Reads h [] texts lines
-SoFar-all h texts rest lines far end = subst (λ ts. Reads h [] ts lines) (sym (far.split ∙ ap (λ ls. far.above ++ ls) end ∙ append-nil far.above)) far.fine
+pub SoFar-all : (h : Header) (texts rest : List (List ℕ)) (lines : List Line) → SoFar h texts rest lines → rest ≡ [] → AreReadAs h [] texts lines
+SoFar-all h texts rest lines far end = subst (λ ts. AreReadAs h [] ts lines) (sym (far.split ∙ ap (λ ls. far.above ++ ls) end ∙ append-nil far.above)) far.fine
 
 -- the first line of the rest is at fault
 pub SoFar-fault : (h : Header) (texts rest more : List (List ℕ)) (lines : List Line) (bytes : List ℕ) (n : ℕ) (c : Cause) → SoFar h texts rest lines → rest ≡ bytes ∷ more → HasCause h lines bytes c → n ≡ length lines + 6 → IsFirstFault h texts n c
@@ -92,31 +92,31 @@ SoFar-fault h texts rest more lines bytes n c far next fault place = record {
   above = far.above;
   rest = bytes ∷ more;
   split = far.split ∙ ap (λ ls. far.above ++ ls) next;
-  place = omega (arith, place, Reads-length h [] far.above lines far.fine);
+  place = omega (arith, place, AreReadAs-length h [] far.above lines far.fine);
   lines = lines;
   fine = far.fine;
   fault = fault;
 }
 
 -- the end of the text at fault
-pub end_fault : (h : Header) (texts : List (List ℕ)) (lines : List Line) (n : ℕ) → Reads h [] texts lines → awaits_mark lines ≡ true → n ≡ length lines + 6 → IsFirstFault h texts n cause.Adopt
+pub end_fault : (h : Header) (texts : List (List ℕ)) (lines : List Line) (n : ℕ) → AreReadAs h [] texts lines → awaits_mark lines ≡ true → n ≡ length lines + 6 → IsFirstFault h texts n cause.Adopt
 end_fault h texts lines n fine awaits place = record {
   above = texts;
   rest = [];
   split = sym (append-nil texts);
-  place = omega (arith, place, Reads-length h [] texts lines fine);
+  place = omega (arith, place, AreReadAs-length h [] texts lines fine);
   lines = lines;
   fine = fine;
   fault = (refl, awaits);
 }
 
 -- no cause holds of a line that was read after those lines and the ones above it
-Reads-fine : (h : Header) (before : List Line) (texts : List (List ℕ)) (lines : List Line) (place : ℕ) (l : Line) → Reads h before texts lines → slice_get lines place ≡ Some l → first_cause h (before ++ take place lines) l ≡ None
-Reads-fine h before [] [] place l all at = cc
-Reads-fine h before [] (m ∷ ms) place l all at = absurd all
-Reads-fine h before (b ∷ bs) [] place l all at = absurd all
-Reads-fine h before (b ∷ bs) (m ∷ ms) zero l all at = let is : m ≡ l = cc at in rw append-nil (subst (λ (x : Line). first_cause h before x ≡ None) is all.0.1)
-Reads-fine h before (b ∷ bs) (m ∷ ms) (suc place) l all at = rw append_assoc at (Reads-fine h (before ++ m ∷ []) bs ms place l all.1 at)
+AreReadAs-fine : (h : Header) (before : List Line) (texts : List (List ℕ)) (lines : List Line) (place : ℕ) (l : Line) → AreReadAs h before texts lines → slice_get lines place ≡ Some l → first_cause h (before ++ take place lines) l ≡ None
+AreReadAs-fine h before [] [] place l all at = cc
+AreReadAs-fine h before [] (m ∷ ms) place l all at = absurd all
+AreReadAs-fine h before (b ∷ bs) [] place l all at = absurd all
+AreReadAs-fine h before (b ∷ bs) (m ∷ ms) zero l all at = let is : m ≡ l = cc at in rw append-nil (subst (λ (x : Line). first_cause h before x ≡ None) is all.0.1)
+AreReadAs-fine h before (b ∷ bs) (m ∷ ms) (suc place) l all at = rw append_assoc at (AreReadAs-fine h (before ++ m ∷ []) bs ms place l all.1 at)
 
-pub IsSound-Reads : (h : Header) (texts : List (List ℕ)) (lines : List Line) → Reads h [] texts lines → IsSound h lines
-IsSound-Reads h texts lines all = λ place l at. Reads-fine h [] texts lines place l all at
+pub IsSound-AreReadAs : (h : Header) (texts : List (List ℕ)) (lines : List Line) → AreReadAs h [] texts lines → IsSound h lines
+IsSound-AreReadAs h texts lines all = λ place l at. AreReadAs-fine h [] texts lines place l all at

@@ -205,11 +205,11 @@ abbrev pub IsNextLine : Header → List Line → List ℕ → Line → Type 0
 IsNextLine h before bytes line = HasForm h.version line bytes × (first_cause h before line ≡ None)
 
 -- after those lines the texts are these lines, and none is at fault
-abbrev pub Reads : Header → List Line → List (List ℕ) → List Line → Type 0
-Reads h before [] [] = Unit {0}
-Reads h before (bytes ∷ texts) (line ∷ lines) = IsNextLine h before bytes line × Reads h (before ++ line ∷ []) texts lines
-Reads h before [] (line ∷ lines) = ⊥
-Reads h before (bytes ∷ texts) [] = ⊥
+abbrev pub AreReadAs : Header → List Line → List (List ℕ) → List Line → Type 0
+AreReadAs h before [] [] = Unit {0}
+AreReadAs h before (bytes ∷ texts) (line ∷ lines) = IsNextLine h before bytes line × AreReadAs h (before ++ line ∷ []) texts lines
+AreReadAs h before [] (line ∷ lines) = ⊥
+AreReadAs h before (bytes ∷ texts) [] = ⊥
 
 -- after those lines the first of the texts is at fault by this cause; or the end, where no text is left and an adoption waits for its mark
 abbrev pub BeginsAtFault : Header → List Line → List (List ℕ) → Cause → Type 0
@@ -223,7 +223,7 @@ pub record IsFirstFault (h : Header) (texts : List (List ℕ)) (number : ℕ) (c
   pub split : texts ≡ above ++ rest
   pub place : number ≡ length above + 6
   pub lines : List Line
-  pub fine : Reads h [] above lines
+  pub fine : AreReadAs h [] above lines
   pub fault : BeginsAtFault h lines rest c
 
 -- the word that a refusal says

@@ -15,11 +15,11 @@ HasValue (Fits n) m = n ≡ m
 HasValue Large m = 2 ^ 128 ≤ m
 
 -- what is kept says this number, or neither is a number
-abbrev pub Says : Option Number → Option ℕ → Type 0
-Says None None = Unit {0}
-Says (Some number) (Some n) = HasValue number n
-Says None (Some n) = ⊥
-Says (Some number) None = ⊥
+abbrev pub KeepsNumber : Option Number → Option ℕ → Type 0
+KeepsNumber None None = Unit {0}
+KeepsNumber (Some number) (Some n) = HasValue number n
+KeepsNumber None (Some n) = ⊥
+KeepsNumber (Some number) None = ⊥
 
 -- what is kept is of no number from 1 to `most`
 abbrev pub IsOutside : (most : ℕ) → Number → Type 0

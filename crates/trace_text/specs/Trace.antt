@@ -2,7 +2,7 @@
 use Rattle.std.specs.Prelude.{◌≡◌, ◌⊎◌, ℕ, false, List, [], Result, Ok, Err}
 use Rattle.trace_text.specs.Words.{lines_of}
 use Rattle.trace_text.specs.Header.{HasHeader, IsHeaderFault}
-use Rattle.trace_text.specs.Causes.{Reads, IsFirstFault, awaits_mark}
+use Rattle.trace_text.specs.Causes.{AreReadAs, IsFirstFault, awaits_mark}
 use Rattle.trace_text.specs.declared.header.Header.{Header}
 use Rattle.trace_text.specs.declared.line.Line.{Line}
 use Rattle.trace_text.specs.declared.trace.Trace.{Trace}
@@ -14,7 +14,7 @@ use Rattle.trace_text.specs.declared.cause.ParseError.TheVariants.{OutOfMemory, 
 pub record Spells (text : List ℕ) (header : Header) (lines : List Line) : Type 0 where
   pub below : List (List ℕ)
   pub head : HasHeader header (lines_of text) below
-  pub body : Reads header [] below lines
+  pub body : AreReadAs header [] below lines
   pub settled : awaits_mark lines ≡ false
 
 -- the text spells this trace

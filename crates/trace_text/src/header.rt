@@ -7,7 +7,7 @@ ghost use Rattle.std.specs.List.{list_any};
 ghost use Rattle.std.specs.Str.{bytes_eq};
 ghost use Rattle.trace_text.specs.Form.{bare_verbs, binding_verbs, reading_verbs};
 ghost use Rattle.trace_text.specs.Header.{BeginWith, FailsField, FailsHeader, HasHeader, IsWithinLimits, Opening, Size, field_in, number_of, opening_of};
-ghost use Rattle.trace_text.specs.Number.{IsOutside, Says};
+ghost use Rattle.trace_text.specs.Number.{IsOutside, KeepsNumber};
 ghost use Rattle.trace_text.specs.Words.{lines_of, words_of};
 ghost use Rattle.trace_text.specs.declared.header.Version.{Version};
 ghost use Rattle.trace_text.specs.declared.numeral.Number.TheVariants.{Fits};
@@ -79,7 +79,7 @@ pub struct Header {
 
 /// The number after the word, where these two are all words.
 fn field(word: &[u8], words: &[&[u8]]) -> Option<Number>
-    ensures { Says result (field_in word.now (contents_of words.now)) }
+    ensures { KeepsNumber result (field_in word.now (contents_of words.now)) }
 {
     match words {
         [first, number] if *first == word => parse_number(number),
@@ -89,7 +89,7 @@ fn field(word: &[u8], words: &[&[u8]]) -> Option<Number>
 
 /// The number after the word, where the line has these two words.
 fn number_behind(word: &[u8], line: &[u8]) -> Option<Number>
-    ensures { Says result (field_in word.now (words_of line.now)) }
+    ensures { KeepsNumber result (field_in word.now (words_of line.now)) }
 {
     match words(line) {
         None => None,

@@ -5,7 +5,7 @@ ghost use Rattle.std.specs.Char.{is_ascii_digit};
 ghost use Rattle.std.specs.List.{list_all};
 ghost use Rattle.std.specs.Str.Parse.{AllDigits, digits_value};
 ghost use Rattle.certificate.specs.Number.{number_in};
-ghost use Rattle.trace_text.specs.Number.{clipped_number, HasValue, Says};
+ghost use Rattle.trace_text.specs.Number.{clipped_number, HasValue, KeepsNumber};
 
 /// A number in digits, of any length.
 #[derive(Clone, Copy, Debug, PartialEq, Eq)]
@@ -26,7 +26,7 @@ fn has_digits_only(word: &[u8]) -> bool
 /// The number that the word says, or none where it is not a number in digits without a sign and
 /// without a leading zero.
 pub fn parse_number(word: &[u8]) -> Option<Number>
-    ensures { Says result (number_in word.now) }
+    ensures { KeepsNumber result (number_in word.now) }
 {
     match word {
         [] | [b'0', _, ..] => None,

@@ -3,7 +3,7 @@
 ghost use Rattle.std.specs.Prelude.{◌≡◌, [], List, IfOk, IfErr};
 ghost use Rattle.trace_text.specs.declared.header.Header.{Header};
 ghost use Rattle.trace_text.specs.declared.line.Line.{Line};
-ghost use Rattle.trace_text.specs.Causes.{HasCause, IsNextLine, Reads};
+ghost use Rattle.trace_text.specs.Causes.{HasCause, IsNextLine, AreReadAs};
 ghost use Rattle.trace_text.specs.Header.{IsWithinLimits};
 ghost use Rattle.trace_text.specs.Earlier.{Knows};
 ghost use Rattle.trace_text.specs.Places.{place_at, places_from};
@@ -53,7 +53,7 @@ fn read_body(alloc: Global, header: &Header, text: &[u8]) -> Result<Body, ParseE
     requires { IsWithinLimits header.now }
     ensures known { IfOk result (λ body. Knows body.lines.items body.earlier) }
     ensures placed { IfOk result (λ body. body.places.items ≡ places_from [] body.lines.items) }
-    ensures ok { IfOk result (λ body. Reads header.now [] (lines_of text.now) body.lines.items) }
+    ensures ok { IfOk result (λ body. AreReadAs header.now [] (lines_of text.now) body.lines.items) }
     ensures err { IfErr result (FailsAt header.now (lines_of text.now)) }
 {
     let mut lines = Vec::new(alloc);

@@ -8,12 +8,12 @@ ghost use Rattle.groups.specs.Spans.{all_spans};
 ghost use Rattle.shard.specs.Moves.{whole_of};
 ghost use Rattle.shard.specs.Shown.{shown as shown_by_shard};
 ghost use Rattle.shard.specs.Sound.{IsSound as IsSoundShard};
-ghost use Rattle.shard.specs.State.{spans_in as spans_in_shard};
+ghost use Rattle.groups.specs.Group.{IsHeadOf, spans_in, spans_of};
 ghost use Rattle.abandoned.specs.Calls.{Adopts, HasAny, HasDoubled, HasNothingToAdopt, HasReceived, IsDoubled, IsHeadOfLowest, IsInPool, Receives, TakesAll, WouldDouble};
-ghost use Rattle.abandoned.specs.Handover.{AreApart, HasRoomFor, IsEmptied};
+ghost use Rattle.abandoned.specs.Handover.{AreApart, HasRoomFor, HasLetAllGo};
 ghost use Rattle.abandoned.specs.Shown.{shown, together};
 ghost use Rattle.abandoned.specs.Sound.{IsSound};
-ghost use Rattle.abandoned.specs.State.{IsHeadOf, PooledState, spans_of};
+ghost use Rattle.abandoned.specs.State.{PooledState};
 
 use super::Pool;
 use crate::error::{AdoptError, ReceiveError};
@@ -104,7 +104,7 @@ impl<L: Log> Pool<L> {
         // All groups come over.
         ensures moved { TakesAll self.old (map (whole_of shard.old.table) shard.old.groups)
             self.new }
-        ensures emptied { IsEmptied shard.old shard.new }
+        ensures emptied { HasLetAllGo shard.old shard.new }
         ensures sound { IsSound self.new }
         ensures sound_shard { IsSoundShard shard.new }
     {

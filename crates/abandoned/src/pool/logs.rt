@@ -1,7 +1,7 @@
 // The logs of a pool that is no more.
 ghost use Rattle.std.specs.Prelude.{◌≡◌, ◌+◌, ◌++◌, ◌≤◌, length, map};
 ghost use Rattle.span.specs.SpanLogs.{AreLegal, room_for_logs, span_of_log};
-ghost use Rattle.abandoned.specs.State.{spans_in};
+ghost use Rattle.groups.specs.Group.{spans_in};
 ghost use Rattle.span.specs.declared.limits.TheConstants.{ALL_IDS};
 
 use super::Pool;

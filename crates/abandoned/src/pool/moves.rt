@@ -6,9 +6,9 @@ ghost use Rattle.page_table.specs.State.{HasPage, words_of};
 ghost use Rattle.page_table.specs.Words.{Words};
 ghost use Rattle.groups.specs.Spans.{all_spans, union_of};
 ghost use Rattle.groups.specs.Tables.{with_page};
-ghost use Rattle.abandoned.specs.Calls.{HasNoMember, IsBriefHere, IsMemberAt, Lifts, MayTakeIn, TakesIn, with_room, with_rooms, without_page_of};
+ghost use Rattle.abandoned.specs.Calls.{IsBriefHere, Lifts, MayTakeIn, TakesIn, with_room, with_rooms, without_page_of};
+ghost use Rattle.groups.specs.Group.{HasNoHead, HasNoMember, IsMemberAt};
 ghost use Rattle.abandoned.specs.Sound.{IsSound};
-ghost use Rattle.abandoned.specs.State.{HasNoHead};
 
 use super::Pool;
 use crate::pooled::Pooled;

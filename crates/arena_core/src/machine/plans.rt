@@ -1,7 +1,7 @@
 // Marks, the steps of their plans, and closes.
 ghost use Rattle.std.specs.Prelude.{◌≡◌, ◌<◌, ℕ, MatchResult, length};
-ghost use Rattle.shard.specs.Group.{GroupState, spans_of};
-ghost use Rattle.shard.specs.Moves.{IsHeadOf};
+ghost use Rattle.shard.specs.Group.{GroupState};
+ghost use Rattle.groups.specs.Group.{IsHeadOf, spans_of};
 ghost use Rattle.shard.specs.Sound.{IsSound as IsSoundShard};
 ghost use Rattle.arena_core.specs.Moved.{StandsIn};
 ghost use Rattle.arena_core.specs.Plan.{IsNext};

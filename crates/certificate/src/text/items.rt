@@ -1,7 +1,7 @@
 // The lists of a certificate: a title with a count, and a line for each item.
 ghost use Rattle.std.specs.Prelude.{◌≡◌, ◌+◌, ◌<◌, ◌≤◌, codes, length, map, option_map, IfOk};
 ghost use Rattle.mesh_graph.specs.Groups.{IsAscending, ids};
-ghost use Rattle.certificate.specs.Grammar.{Follows, Reads, at_line, count_in, entry_in, entry_parts, id_in, id_parts, item_in, line_in, list_in, order_of, pair_in, pair_parts, shown};
+ghost use Rattle.certificate.specs.Grammar.{Follows, Reads, at_line, count_in, entry_in, entry_parts, id_in, id_parts, item_in, line_in, list_in, order_of, pair_in, pair_parts, result_map};
 ghost use Rattle.certificate.specs.Words.{lines_of};
 ghost use Rattle.mesh_graph.specs.declared.build.TheConstants.{MOST_GROUPS};
 
@@ -53,7 +53,7 @@ fn count_at(lines: &mut Lines, title: &[u8]) -> Result<usize, Cause>
 }
 
 fn entry_at(lines: &mut Lines, last: Option<SpanId>) -> Result<Entry, Cause>
-    ensures line { shown entry_parts result ≡ line_in
+    ensures line { result_map entry_parts result ≡ line_in
         (item_in entry_in (λ x. x.0) (option_map id_parts last))
         (lines_of lines.old.text.now) lines.old.at }
     ensures after { IfOk result (λ entry. Follows last entry.id) }
@@ -66,7 +66,7 @@ fn entry_at(lines: &mut Lines, last: Option<SpanId>) -> Result<Entry, Cause>
 }
 
 fn pair_at(lines: &mut Lines, last: Option<SpanId>) -> Result<(SpanId, SpanId), Cause>
-    ensures line { shown pair_parts result ≡ line_in
+    ensures line { result_map pair_parts result ≡ line_in
         (item_in pair_in (λ p. p.0) (option_map id_parts last))
         (lines_of lines.old.text.now) lines.old.at }
     ensures after { IfOk result (λ pair. Follows last pair.0) }
@@ -79,7 +79,7 @@ fn pair_at(lines: &mut Lines, last: Option<SpanId>) -> Result<(SpanId, SpanId), 
 }
 
 fn id_at(lines: &mut Lines, last: Option<SpanId>) -> Result<SpanId, Cause>
-    ensures line { shown id_parts result ≡ line_in
+    ensures line { result_map id_parts result ≡ line_in
         (item_in id_in (λ id. id) (option_map id_parts last))
         (lines_of lines.old.text.now) lines.old.at }
     ensures after { IfOk result (λ id. Follows last id) }

@@ -1,6 +1,6 @@
 // A text, read line by line.
 ghost use Rattle.std.specs.Prelude.{◌==◌, ◌≡◌, ◌+◌, ◌≤◌, drop, if◌then◌else◌, IfOk, length, Ok, Err, position};
-ghost use Rattle.certificate.specs.Grammar.{end_in, shown, whole_line};
+ghost use Rattle.certificate.specs.Grammar.{end_in, result_map, whole_line};
 ghost use Rattle.certificate.specs.Words.{lines_of};
 ghost use Rattle.certificate.specs.declared.text.cause.Cause.TheVariants.{Tail};
 
@@ -42,7 +42,7 @@ impl<'a> Lines<'a> {
 
     /// The next line, where a line feed ends it.
     pub(super) fn next_line(&mut self) -> Result<&'a [u8], Cause>
-        ensures line { shown (λ line. line.now) result
+        ensures line { result_map (λ line. line.now) result
             ≡ whole_line (lines_of self.old.text.now) self.old.at }
         ensures text { self.new.text.now ≡ self.old.text.now }
         ensures read { IfOk result (λ _. self.new.at ≡ self.old.at + 1) }

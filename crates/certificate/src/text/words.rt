@@ -1,7 +1,7 @@
 // What the words of a line say.
 ghost use Rattle.std.specs.Prelude.{◌≡◌, ℕ, Option, option_map};
 ghost use Rattle.certificate.specs.Number.{clip};
-ghost use Rattle.certificate.specs.Grammar.{both_ids, count_in, count_of_number, entry_in, entry_of, entry_parts, fixed_in, id_in, id_of_numbers, id_parts, pair_in, pair_parts, shown};
+ghost use Rattle.certificate.specs.Grammar.{both_ids, count_in, count_of_number, entry_in, entry_of, entry_parts, fixed_in, id_in, id_of_numbers, id_parts, pair_in, pair_parts, result_map};
 
 use super::cause::Cause;
 use super::numeral::parse_number;
@@ -12,7 +12,7 @@ use span::SpanId;
 
 /// A shard, a full stop and a serial.
 pub(super) fn parse_id(word: &[u8]) -> Result<SpanId, Cause>
-    ensures { shown id_parts result ≡ id_in word.now }
+    ensures { result_map id_parts result ≡ id_in word.now }
 {
     let Some(numbers) = parts(b'.', word) else {
         return Err(Cause::Form);
@@ -26,7 +26,7 @@ pub(super) fn parse_id(word: &[u8]) -> Result<SpanId, Cause>
 /// The id of these numbers.
 fn id_of(shard: Option<u32>, serial: Option<u32>) -> Result<SpanId, Cause>
     ensures { (a b : Option ℕ) → shard ≡ option_map clip a → serial ≡ option_map clip b
-        → shown id_parts result ≡ id_of_numbers a b }
+        → result_map id_parts result ≡ id_of_numbers a b }
 {
     match (shard, serial) {
         (Some(shard), Some(serial)) => SpanId::new(shard, serial).ok_or(Cause::Limit),
@@ -36,7 +36,7 @@ fn id_of(shard: Option<u32>, serial: Option<u32>) -> Result<SpanId, Cause>
 
 /// A group's line: its id and its set.
 pub(super) fn parse_entry(line: &[u8]) -> Result<Entry, Cause>
-    ensures { shown entry_parts result ≡ entry_in line.now }
+    ensures { result_map entry_parts result ≡ entry_in line.now }
 {
     let Some(words) = parts(b' ', line) else {
         return Err(Cause::Form);
@@ -49,7 +49,7 @@ pub(super) fn parse_entry(line: &[u8]) -> Result<Entry, Cause>
 
 /// The group of these two words.
 fn entry_of(id: &[u8], set: &[u8]) -> Result<Entry, Cause>
-    ensures { shown entry_parts result ≡ entry_of id.now set.now }
+    ensures { result_map entry_parts result ≡ entry_of id.now set.now }
 {
     let id = parse_id(id)?;
     let occupied = Bits256::from_hex(set).ok_or(Cause::Set)?;
@@ -58,7 +58,7 @@ fn entry_of(id: &[u8], set: &[u8]) -> Result<Entry, Cause>
 
 /// A fold's line: an abandoned id and an owned one.
 pub(super) fn parse_pair(line: &[u8]) -> Result<(SpanId, SpanId), Cause>
-    ensures { shown pair_parts result ≡ pair_in line.now }
+    ensures { result_map pair_parts result ≡ pair_in line.now }
 {
     let Some(words) = parts(b' ', line) else {
         return Err(Cause::Form);
@@ -74,7 +74,7 @@ fn both(
     abandoned: Result<SpanId, Cause>,
     owned: Result<SpanId, Cause>,
 ) -> Result<(SpanId, SpanId), Cause>
-    ensures { shown pair_parts result ≡ both_ids (shown id_parts abandoned) (shown id_parts owned) }
+    ensures { result_map pair_parts result ≡ both_ids (result_map id_parts abandoned) (result_map id_parts owned) }
 {
     match (abandoned, owned) {
         (Ok(abandoned), Ok(owned)) => Ok((abandoned, owned)),

@@ -1,5 +1,6 @@
 use Rattle.std.proofs.Common.{◌∙◌, ◌++◌, ap, map}
-use Rattle.abandoned.specs.State.{paged_groups, summary}
+use Rattle.abandoned.specs.State.{paged_groups}
+use Rattle.groups.specs.Group.{summary}
 use Rattle.marks.specs.Seen.{entry_of}
 use Rattle.marks.proofs.Entries.{entries-summaries}
 use Rattle.marks.proofs.marking.list_abandoned.Goals as goal

@@ -1,6 +1,7 @@
 use Rattle.std.proofs.Common.{◌≡◌, ◌∙◌, ◌++◌, List, ap, map, subst}
 use Rattle.std.specs.Prelude.{IfOk}
-use Rattle.shard.specs.State.{ShardState, summary}
+use Rattle.shard.specs.State.{ShardState}
+use Rattle.groups.specs.Group.{summary}
 use Rattle.mesh_graph.specs.declared.entry.Entry.{Entry}
 use Rattle.marks.specs.Seen.{entry_of}
 use Rattle.marks.proofs.Entries.{entries-summaries}

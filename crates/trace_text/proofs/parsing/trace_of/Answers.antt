@@ -2,11 +2,11 @@ use Rattle.std.proofs.Common.{arith, ◌≡◌, true, sym, ◌∙◌, inr}
 use Rattle.std.proofs.lemmas.Grind.{common_steps}
 use Rattle.trace_text.specs.Causes.{awaits_mark}
 use Rattle.trace_text.specs.Words.{lines_of}
-use Rattle.trace_text.proofs.Texts.{IsSound-Reads, end_fault}
+use Rattle.trace_text.proofs.Texts.{IsSound-AreReadAs, end_fault}
 use Rattle.trace_text.proofs.parsing.trace_of.Goals as goal
 
 pub invariant_of-result-clause-sound : goal.invariant_of-result-clause-sound
-invariant_of-result-clause-sound c = IsSound-Reads c.in_ok-header.header (lines_of c.in_ok-header.below.now) c.in_ok-lines.field-0.lines.items c.in_ok-lines.ensures.ok
+invariant_of-result-clause-sound c = IsSound-AreReadAs c.in_ok-header.header (lines_of c.in_ok-header.below.now) c.in_ok-lines.field-0.lines.items c.in_ok-lines.ensures.ok
 
 pub returns-then-awaits_mark-clause-fault : goal.returns-then-awaits_mark-clause-fault
 returns-then-awaits_mark-clause-fault c =

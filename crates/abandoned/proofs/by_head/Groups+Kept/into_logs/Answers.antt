@@ -6,7 +6,7 @@ use Rattle.span.specs.SpanLogs.{span_of_log}
 use Rattle.span.specs.State.{SpanState}
 use Rattle.groups.specs.Spans.{SpansState, all_spans}
 use Rattle.abandoned.specs.Groups.{GroupsState}
-use Rattle.abandoned.specs.State.{spans_in, spans_of}
+use Rattle.groups.specs.Group.{spans_in, spans_of}
 use Rattle.abandoned.proofs.PlaceSpans.{spans_at, spans_in-standing}
 use Rattle.abandoned.proofs.by_head.Groups+Kept.into_logs.Goals as goal
 

@@ -2,7 +2,7 @@ use Rattle.std.proofs.Common.{◌≡◌, ◌+◌, ◌++◌, length, map}
 use Rattle.std.specs.List.{flat_map}
 use Rattle.std.specs.Vec.Iter.{into_iter_items}
 use Rattle.span.specs.SpanLogs.{AreLegal, room_for_logs, span_of_log}
-use Rattle.abandoned.specs.State.{spans_in}
+use Rattle.groups.specs.Group.{spans_in}
 use Rattle.abandoned.proofs.PlaceSpans.{spans_at}
 use Rattle.abandoned.proofs.by_head.Groups+Kept.into_logs.Given as goal
 

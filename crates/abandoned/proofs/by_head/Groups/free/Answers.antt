@@ -6,7 +6,8 @@ use Rattle.groups.specs.Spans.{with_free_at}
 use Rattle.groups.proofs.Lists.{same_some, there_at}
 use Rattle.abandoned.specs.Groups.{FreesIn, GroupsState, HasHeadAt, standing}
 use Rattle.abandoned.specs.GroupsKept.{state_of}
-use Rattle.abandoned.specs.State.{IsHeadOf, PooledState, spans_of}
+use Rattle.abandoned.specs.State.{PooledState}
+use Rattle.groups.specs.Group.{IsHeadOf, spans_of}
 use Rattle.abandoned.proofs.FreedPlace.{FreesIn-places, at_within, group_at, on_false, on_true, one_group, read_group, same_head, unchanged}
 use Rattle.abandoned.proofs.GroupPlaces.{AtRank-set, HaveSize-set, KnowsPaged-set, place_within}
 use Rattle.abandoned.proofs.by_head.Groups.free.Goals as goal

@@ -3,7 +3,7 @@ use Rattle.std.proofs.lemmas.Option.{slice_get_read, slice_get_within}
 use Rattle.span.specs.Ids.{rank}
 use Rattle.groups.proofs.Lists.{same_some}
 use Rattle.abandoned.specs.Groups.{GroupsState, HasHeadAt}
-use Rattle.abandoned.specs.State.{HasNoHead}
+use Rattle.groups.specs.Group.{HasNoHead}
 use Rattle.abandoned.proofs.GroupPlaces.{HasNoHead-places, IsHeadOf-places, MatchOption-lent}
 use Rattle.abandoned.proofs.Places.{before}
 use Rattle.abandoned.proofs.by_head.Groups.get.Goals as goal

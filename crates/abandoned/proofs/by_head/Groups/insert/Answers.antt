@@ -2,9 +2,9 @@ use Rattle.std.proofs.Common.{◌≡◌, ◌∙◌, ◌-◌, ◌<◌, length-set
 use Rattle.std.specs.Prelude.{insert}
 use Rattle.span.specs.Ids.{rank}
 use Rattle.groups.proofs.Lists.{same_some}
-use Rattle.abandoned.specs.Calls.{IsPlaceFor}
+use Rattle.groups.specs.Group.{HasNoHead, IsPlaceFor}
 use Rattle.abandoned.specs.Groups.{GroupsState, standing}
-use Rattle.abandoned.specs.State.{HasNoHead, PooledState}
+use Rattle.abandoned.specs.State.{PooledState}
 use Rattle.abandoned.proofs.GroupPlaces.{AtRank-set, HaveSize-set, IsPlaceFor-places, KnowsPaged-set, place_free}
 use Rattle.abandoned.proofs.Places.{before, standing-put}
 use Rattle.abandoned.proofs.by_head.Groups.insert.Goals as goal

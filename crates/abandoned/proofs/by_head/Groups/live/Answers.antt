@@ -5,7 +5,8 @@ use Rattle.bitmap.specs.Slots.{SlotSet}
 use Rattle.groups.specs.Spans.{live_count}
 use Rattle.abandoned.specs.Groups.{GroupsState}
 use Rattle.abandoned.specs.Numbers.{HasNoneFrom, IsNext}
-use Rattle.abandoned.specs.State.{PooledState, spans_in}
+use Rattle.abandoned.specs.State.{PooledState}
+use Rattle.groups.specs.Group.{spans_in}
 use Rattle.abandoned.proofs.GroupPlaces.{few_parts}
 use Rattle.abandoned.proofs.Passing.{filter_shorter, live_count-push, paged, passing, passing-end, passing-next, read_there}
 use Rattle.abandoned.proofs.by_head.Groups.live.Goals as goal

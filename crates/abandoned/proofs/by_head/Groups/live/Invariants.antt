@@ -1,6 +1,6 @@
 use Rattle.std.proofs.Common.{◌≡◌, ◌*◌, ◌-◌, ◌≤◌, length}
 use Rattle.groups.specs.Spans.{live_count}
-use Rattle.abandoned.specs.State.{spans_in}
+use Rattle.groups.specs.Group.{spans_in}
 use Rattle.abandoned.proofs.Passing.{passing}
 use Rattle.abandoned.proofs.by_head.Groups.live.Given as goal
 

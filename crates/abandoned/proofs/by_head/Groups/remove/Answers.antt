@@ -2,7 +2,8 @@ use Rattle.std.proofs.Common.{◌≡◌, ◌∙◌, false, length-set, Option, S
 use Rattle.std.proofs.lemmas.Option.{slice_get_read, slice_get_within}
 use Rattle.span.specs.Ids.{rank}
 use Rattle.abandoned.specs.Groups.{GroupsState, Removes, standing}
-use Rattle.abandoned.specs.State.{HasNoHead, PooledState}
+use Rattle.abandoned.specs.State.{PooledState}
+use Rattle.groups.specs.Group.{HasNoHead}
 use Rattle.abandoned.proofs.GroupPlaces.{AtRank-set, HasNoHead-places, HaveSize-set, KnowsPaged-set, Removes-places}
 use Rattle.abandoned.proofs.by_head.Groups.remove.Goals as goal
 

@@ -2,7 +2,8 @@ use Rattle.std.proofs.Common.{◌∙◌, ◌+◌, List, Option, ap, arith, lengt
 use Rattle.std.specs.List.{flat_map}
 use Rattle.groups.proofs.SpanCounts.{length-spans_more, length-take_spans}
 use Rattle.abandoned.specs.Groups.{GroupsState}
-use Rattle.abandoned.specs.State.{PooledState, spans_in}
+use Rattle.abandoned.specs.State.{PooledState}
+use Rattle.groups.specs.Group.{spans_in}
 use Rattle.abandoned.proofs.Passing.{take_all}
 use Rattle.abandoned.proofs.PlaceSpans.{spans_at, spans_in-standing}
 use Rattle.abandoned.proofs.by_head.Groups.span_count.Goals as goal

@@ -4,7 +4,7 @@ use Rattle.std.proofs.lemmas.List.{map-append}
 use Rattle.bitmap.specs.Slots.{SlotSet}
 use Rattle.abandoned.specs.Groups.{GroupsState}
 use Rattle.abandoned.specs.Numbers.{HasNoneFrom, IsNext}
-use Rattle.abandoned.specs.State.{summary}
+use Rattle.groups.specs.Group.{summary}
 use Rattle.abandoned.proofs.GroupPlaces.{few_parts}
 use Rattle.abandoned.proofs.Passing.{paged, passing, passing-end, passing-next, read_there}
 use Rattle.abandoned.proofs.by_head.Groups.summaries.Goals as goal

@@ -1,5 +1,5 @@
 use Rattle.std.proofs.Common.{◌≡◌, ◌-◌, ◌≤◌, map}
-use Rattle.abandoned.specs.State.{summary}
+use Rattle.groups.specs.Group.{summary}
 use Rattle.abandoned.proofs.Passing.{passing}
 use Rattle.abandoned.proofs.by_head.Groups.summaries.Given as goal
 

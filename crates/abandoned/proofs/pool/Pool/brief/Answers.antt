@@ -1,5 +1,6 @@
 use Rattle.std.proofs.Common.{subst}
-use Rattle.abandoned.specs.State.{IsHeadOf, PoolState}
+use Rattle.abandoned.specs.State.{PoolState}
+use Rattle.groups.specs.Group.{IsHeadOf}
 use Rattle.abandoned.proofs.pool.Pool.brief.Goals as goal
 
 pub returns-clause-brief : goal.returns-clause-brief

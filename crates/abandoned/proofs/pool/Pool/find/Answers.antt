@@ -1,7 +1,9 @@
 use Rattle.std.proofs.Common.{subst}
-use Rattle.abandoned.specs.State.{IsElsewhere, PoolState}
+use Rattle.abandoned.specs.State.{PoolState}
+use Rattle.groups.specs.Group.{IsElsewhere}
 use Rattle.abandoned.proofs.Here.{HasSpanAt}
-use Rattle.abandoned.proofs.KnownGuests.{HasSpanAt-guest, IsElsewhere-guest}
+use Rattle.groups.proofs.KnownGuests.{IsElsewhere-guest}
+use Rattle.abandoned.proofs.KnownGuests.{HasSpanAt-guest}
 use Rattle.abandoned.proofs.pool.Pool.find.Goals as goal
 
 pub returns-in_default-clause-place : goal.returns-in_default-clause-place

@@ -2,7 +2,7 @@ use Rattle.std.proofs.Common.{◌≡◌, ap, subst, sym, is_some}
 use Rattle.std.specs.Prelude.{IfSome}
 use Rattle.span.proofs.Next.{first-held}
 use Rattle.abandoned.specs.Shown.{shown}
-use Rattle.abandoned.specs.State.{IsElsewhere, IsHere}
+use Rattle.groups.specs.Group.{IsElsewhere, IsHere}
 use Rattle.abandoned.proofs.Here.{IsHere-read, place_within}
 use Rattle.abandoned.proofs.ShownLogs.{value_of-elsewhere, value_of-here}
 use Rattle.abandoned.proofs.pool.Pool.first_from.Goals as goal

@@ -5,7 +5,8 @@ use Rattle.shard.specs.declared.shard.Freed.TheVariants.{No, NotHere, Yes}
 use Rattle.abandoned.specs.Calls.{Leaves}
 use Rattle.abandoned.specs.Groups.{GroupsState}
 use Rattle.abandoned.specs.Kept.{state_of}
-use Rattle.abandoned.specs.State.{IsHeadOf, PoolState, PooledState, with_span}
+use Rattle.abandoned.specs.State.{PoolState, PooledState}
+use Rattle.groups.specs.Group.{IsHeadOf, with_span}
 use Rattle.abandoned.proofs.Freed.{IsSound-Frees, IsSound-Leaves}
 use Rattle.abandoned.proofs.Here.{IsHere-read, place_within}
 use Rattle.abandoned.proofs.KnownGuests.{KnowsGuests-free}

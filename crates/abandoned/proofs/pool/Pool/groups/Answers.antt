@@ -2,7 +2,8 @@ use Rattle.std.specs.Prelude.{is_some}
 use Rattle.abandoned.specs.Kept.{state_of}
 use Rattle.abandoned.specs.State.{PooledState, paged_groups}
 use Rattle.groups.proofs.Heads.{IsStrictlyIncreasing-heads}
-use Rattle.abandoned.proofs.Heads.{Ascend-filter, head_id}
+use Rattle.groups.proofs.Standing.{head_id}
+use Rattle.abandoned.proofs.Heads.{Ascend-filter}
 use Rattle.abandoned.proofs.pool.Pool.groups.Goals as goal
 
 pub returns-clause-ascending : goal.returns-clause-ascending

@@ -2,7 +2,8 @@ use Rattle.std.proofs.Common.{◌≡◌, ℕ, Bool, Bor, true, false, Option, So
 use Rattle.std.specs.Prelude.{◌↔◌, IsTrue}
 use Rattle.span.specs.State.{SpanState}
 use Rattle.span.specs.declared.id.SpanId.{SpanId}
-use Rattle.abandoned.specs.State.{IsElsewhere, IsHere, PooledState}
+use Rattle.abandoned.specs.State.{PooledState}
+use Rattle.groups.specs.Group.{IsElsewhere, IsHere}
 use Rattle.abandoned.proofs.pool.Pool.has.Goals as goal
 
 has_span : (groups : List PooledState) (id : SpanId) (o : Option (Bor PooledState × ℕ)) → MatchOption o (IsElsewhere groups id) (λ at. (index : ℕ) × (span : SpanState) × IsHere groups id index at.1 at.0.now span)

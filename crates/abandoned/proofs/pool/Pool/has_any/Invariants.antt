@@ -1,7 +1,7 @@
 use Rattle.std.proofs.Common.{◌≡◌, ◌<◌, ℕ, Some, slice_get}
 use Rattle.span.specs.State.{SpanState}
 use Rattle.groups.specs.Spans.{all_spans}
-use Rattle.abandoned.specs.State.{IsElsewhere}
+use Rattle.groups.specs.Group.{IsElsewhere}
 use Rattle.abandoned.proofs.pool.Pool.has_any.Given as goal
 
 abbrev pub invariant-loop-place : goal.invariant-loop-place

@@ -1,6 +1,7 @@
 use Rattle.std.proofs.Common.{refl, subst, sym, arith}
 use Rattle.std.proofs.lemmas.Bool.{false≢true}
-use Rattle.shard.specs.Group.{GroupState, spans_of}
+use Rattle.shard.specs.Group.{GroupState}
+use Rattle.groups.specs.Group.{spans_of}
 use Rattle.groups.specs.Spans.{SpansState, all_spans}
 use Rattle.groups.proofs.Lists.{there_at}
 use Rattle.abandoned.specs.Calls.{HasAny}

@@ -1,5 +1,6 @@
 use Rattle.std.proofs.Common.{◌≡◌, ◌<◌, ℕ, Some, slice_get}
-use Rattle.shard.specs.Group.{GroupState, spans_of}
+use Rattle.shard.specs.Group.{GroupState}
+use Rattle.groups.specs.Group.{spans_of}
 use Rattle.abandoned.specs.Calls.{HasAny}
 use Rattle.abandoned.proofs.pool.Pool.has_one_of.Given as goal
 

@@ -7,8 +7,9 @@ use Rattle.abandoned.specs.Calls.{without_page_of}
 use Rattle.abandoned.specs.Groups.{GroupsState}
 use Rattle.abandoned.specs.Kept.{state_of}
 use Rattle.abandoned.specs.Sound.{IsSound}
-use Rattle.abandoned.specs.State.{IsHeadOf, PoolState, PooledState, whole_of}
-use Rattle.abandoned.proofs.KnownGuests.{KnowsGuests-remove}
+use Rattle.abandoned.specs.State.{PoolState, PooledState, whole_of}
+use Rattle.groups.specs.Group.{IsHeadOf}
+use Rattle.groups.proofs.KnownGuests.{KnowsGuests-remove}
 use Rattle.abandoned.proofs.Lifted.{IsSound-left_over, IsSoundWhole-whole_of}
 use Rattle.abandoned.proofs.Released.{page_there, same_rooms, with_rooms-without}
 use Rattle.abandoned.proofs.pool.Pool.lift.Goals as goal

@@ -1,4 +1,4 @@
-use Rattle.abandoned.specs.State.{IsHeadOf}
+use Rattle.groups.specs.Group.{IsHeadOf}
 use Rattle.abandoned.proofs.Adopted.{IsDoubled-lowest, WouldDouble-here}
 use Rattle.abandoned.proofs.pool.Pool.lowest_would_double.Goals as goal
 

@@ -1,6 +1,7 @@
 use Rattle.std.proofs.Common.{◌∙◌, ap, arith, length}
 use Rattle.groups.proofs.SpanCounts.{at_most_ids}
-use Rattle.abandoned.specs.State.{PoolState, spans_in}
+use Rattle.abandoned.specs.State.{PoolState}
+use Rattle.groups.specs.Group.{spans_in}
 use Rattle.abandoned.proofs.pool.Pool.span_count.Goals as goal
 
 pub span_count-requires : goal.span_count-requires

@@ -9,12 +9,13 @@ use Rattle.groups.specs.Tables.{with_page}
 use Rattle.groups.specs.Spans.{union_of}
 use Rattle.page_table.specs.State.{TableState}
 use Rattle.page_table.specs.Words.{Words}
-use Rattle.abandoned.specs.Calls.{IsPlaceFor, MayTakeIn, TakesIn}
+use Rattle.abandoned.specs.Calls.{MayTakeIn, TakesIn}
+use Rattle.groups.specs.Group.{HasNoHead, IsPlaceFor}
 use Rattle.abandoned.specs.Groups.{GroupsState}
 use Rattle.abandoned.specs.Kept.{state_of}
-use Rattle.abandoned.specs.State.{HasNoHead, PoolState, PooledState, group_of}
+use Rattle.abandoned.specs.State.{PoolState, PooledState, group_of}
 use Rattle.abandoned.proofs.Housed.{TakesIn-housed, rooms-housed}
-use Rattle.abandoned.proofs.KnownGuests.{KnowsGuests-insert}
+use Rattle.groups.proofs.KnownGuests.{KnowsGuests-insert}
 use Rattle.abandoned.proofs.TakenIn.{IsSound-TakesIn, pooled, words_if_live}
 use Rattle.abandoned.proofs.pool.Pool.take_in.Goals as goal
 

@@ -4,7 +4,8 @@ use Rattle.std.proofs.lemmas.Bool.{false≢true}
 use Rattle.groups.specs.Spans.{SpansState, all_spans}
 use Rattle.abandoned.specs.Calls.{HasDoubled}
 use Rattle.abandoned.specs.Sound.{IsSound}
-use Rattle.abandoned.specs.State.{HasNoHead, IsHeadOf, PoolState}
+use Rattle.abandoned.specs.State.{PoolState}
+use Rattle.groups.specs.Group.{HasNoHead, IsHeadOf}
 use Rattle.abandoned.proofs.Adopted.{WouldDouble-here, WouldDouble-none}
 use Rattle.abandoned.proofs.pool.Pool.would_double.Goals as goal
 

@@ -3,7 +3,7 @@ use Rattle.std.proofs.lemmas.Bool.{false≢true}
 use Rattle.span.specs.State.{SpanState}
 use Rattle.span.specs.declared.id.SpanId.{SpanId}
 use Rattle.groups.specs.Spans.{all_spans}
-use Rattle.shard.specs.State.{IsElsewhere}
+use Rattle.groups.specs.Group.{IsElsewhere}
 use Rattle.abandoned.proofs.Searches.{below_next, not_there}
 use Rattle.abandoned.proofs.pool.handover.is_doubled.Goals as goal
 

@@ -2,7 +2,8 @@ use Rattle.std.proofs.Common.{◌≡◌, Some, subst, slice_get, true}
 use Rattle.std.specs.Prelude.{◌↔◌, IsTrue}
 use Rattle.span.specs.Log.{Holds}
 use Rattle.span.specs.State.{SpanState}
-use Rattle.abandoned.specs.State.{PooledState, spans_of}
+use Rattle.abandoned.specs.State.{PooledState}
+use Rattle.groups.specs.Group.{spans_of}
 use Rattle.abandoned.proofs.pooled.Pooled.free.Goals as goal
 
 pub returns-clause-found : goal.returns-clause-found

@@ -1,6 +1,7 @@
 use Rattle.std.proofs.Common.{◌∙◌, ap, refl, sym}
 use Rattle.groups.specs.Spans.{union_of}
-use Rattle.abandoned.specs.State.{PooledState, spans_of}
+use Rattle.abandoned.specs.State.{PooledState}
+use Rattle.groups.specs.Group.{spans_of}
 use Rattle.abandoned.proofs.Released.{not_empty}
 use Rattle.abandoned.proofs.pooled.Pooled.give_up_page.Goals as goal
 

@@ -2,12 +2,12 @@ use Rattle.std.proofs.Common.{◌≡◌, ap, arith, is_some, length, subst, sym,
 use Rattle.std.specs.Prelude.{sum_by}
 use Rattle.std.proofs.lemmas.List.{take_all}
 use Rattle.std.proofs.lemmas.List.Sums.{sum_by_more}
-use Rattle.shard.specs.State.{ShardState, live_keys}
+use Rattle.shard.specs.State.{ShardState}
 use Rattle.abandoned.specs.State.{PooledState}
 use Rattle.arena_core.proofs.Fields.{IsFew, IsFew-fields}
 use Rattle.arena_core.proofs.Lists.{length-filter_most}
 use Rattle.arena_core.specs.Sound.{IsSound}
-use Rattle.arena_core.specs.State.{HasKeys, live_keys as core_keys, shown}
+use Rattle.arena_core.specs.State.{HasKeys, live_keys, shard_keys, shown}
 use Rattle.arena_core.proofs.LiveKeysShown.{HasKeys-live_keys}
 use Rattle.arena_core.proofs.machine.Core.totals.Goals as goal
 
@@ -26,7 +26,7 @@ loop-shard-preserved g c =
     let few : IsFew c.loop-shard.shard-index c.shard-item.result = IsFew-fields c.self.inside c.deref-shard-items.result.now c.loop-shard.shard-index c.shard-item.result c.self.invariant.sound.groups c.deref-shard-items.ensures.value c.loop-shard-test.true c.shard-item.is in
     record {
       pages = omega (arith, sum_by_more (λ (shard : ShardState). length shard.groups) c.deref-shard-items.result.now c.loop-shard.shard-index c.shard-item.result c.loop-shard-test.true, ap (λ (shard : ShardState). length shard.groups) c.shard-item.is);
-      live = omega (arith, sum_by_more live_keys c.deref-shard-items.result.now c.loop-shard.shard-index c.shard-item.result c.loop-shard-test.true, ap live_keys c.shard-item.is);
+      live = omega (arith, sum_by_more shard_keys c.deref-shard-items.result.now c.loop-shard.shard-index c.shard-item.result c.loop-shard-test.true, ap shard_keys c.shard-item.is);
       few_pages = omega (arith, few.pages);
       few_keys = omega (arith, few.pages, c.live-in-loop-shard.ensures.at_most);
     }
@@ -35,6 +35,6 @@ pub returns-clause-shown : goal.returns-clause-shown
 returns-clause-shown g c =
     let shards = c.deref-shard-items.result.now in
     let all : take c.loop-shard.shard-index shards ≡ shards = take_all c.loop-shard.shard-index shards (omega arith) in
-    let owned : sum_by live_keys (take c.loop-shard.shard-index shards) ≡ sum_by live_keys c.self.inside.shards.items = ap (sum_by live_keys) (all ∙ c.deref-shard-items.ensures.value) in
-    let live : c.loop-shard.totals.live ≡ core_keys c.args.self.now = omega (arith, c.loop-shard.invariant.live, owned, c.live.ensures.live) ∙ ap core_keys c.self.view_is in
+    let owned : sum_by shard_keys (take c.loop-shard.shard-index shards) ≡ sum_by shard_keys c.self.inside.shards.items = ap (sum_by shard_keys) (all ∙ c.deref-shard-items.ensures.value) in
+    let live : c.loop-shard.totals.live ≡ live_keys c.args.self.now = omega (arith, c.loop-shard.invariant.live, owned, c.live.ensures.live) ∙ ap live_keys c.self.view_is in
     subst (HasKeys (shown c.args.self.now)) (sym live) (HasKeys-live_keys c.args.self.now (subst IsSound c.self.view_is c.self.invariant.sound).groups)

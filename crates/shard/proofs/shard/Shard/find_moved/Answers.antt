@@ -1,9 +1,8 @@
 use Rattle.std.proofs.Common.{subst, sym}
-use Rattle.shard.specs.Moves.{HasNoHead}
-use Rattle.shard.specs.State.{ShardState, IsElsewhere}
+use Rattle.groups.specs.Group.{HasNoHead, IsElsewhere}
+use Rattle.shard.specs.State.{ShardState}
 use Rattle.shard.proofs.HeadsHere.{IsHeadAt}
-use Rattle.shard.proofs.Here.{Somewhere}
-use Rattle.shard.proofs.KnownGuests.{IsElsewhere-guest, Somewhere-guest}
+use Rattle.groups.proofs.KnownGuests.{IsElsewhere-guest, Somewhere, Somewhere-guest}
 use Rattle.shard.proofs.shard.Shard.find_moved.Goals as goal
 
 pub returns-in_default : goal.returns-in_default
@@ -14,6 +13,6 @@ returns-in_default g c =
 
 pub returns : goal.returns
 returns g c =
+    let at : IsHeadAt c.self.inside.groups.items c.unwrap_or-at.result.head c.in-Some.index = subst (λ (s : ShardState). IsHeadAt s.groups c.unwrap_or-at.result.head c.in-Some.index) (sym c.self.view_is) c.in-Some.ensures.head in
     subst (λ (s : ShardState). Somewhere s.groups c.args.id c.in-Some.index c.unwrap_or-at.result.place) c.self.view_is
-    (Somewhere-guest c.self.inside.groups.items c.self.inside.directory.entries c.self.invariant.guests_known c.args.id c.place_of.result c.place_of.ensures c.unwrap_or-at.result c.unwrap_or-at.ensures c.self.invariant.sound.ascending c.in-Some.index
-    (subst (λ (s : ShardState). IsHeadAt s.groups c.unwrap_or-at.result.head c.in-Some.index) (sym c.self.view_is) c.in-Some.ensures.head))
+    (Somewhere-guest c.self.inside.groups.items c.self.inside.directory.entries c.self.invariant.guests_known c.args.id c.place_of.result c.place_of.ensures c.unwrap_or-at.result c.unwrap_or-at.ensures c.self.invariant.sound.ascending c.in-Some.index at.0 at.1)

@@ -2,7 +2,8 @@ use Rattle.std.proofs.Common.{◌≡◌, ap, arith, subst, sym, is_some}
 use Rattle.std.specs.Prelude.{IfSome}
 use Rattle.span.proofs.Next.{first-held}
 use Rattle.shard.specs.Shown.{shown}
-use Rattle.shard.specs.State.{IsElsewhere, IsHere, ShardState}
+use Rattle.shard.specs.State.{ShardState}
+use Rattle.groups.specs.Group.{IsElsewhere, IsHere}
 use Rattle.shard.proofs.Here.{found_in, here_read, index_within, place_within}
 use Rattle.shard.proofs.ShownLogs.{value_of-elsewhere, value_of-here}
 use Rattle.shard.proofs.shard.Shard.first_from.Goals as goal

@@ -3,13 +3,15 @@ use Rattle.std.specs.Prelude.{vec_capacity}
 use Rattle.std.proofs.lemmas.Bool.{true≢false}
 use Rattle.std.proofs.lemmas.Option.{slice_get_within}
 use Rattle.span.specs.Log.{Holds}
-use Rattle.shard.specs.Group.{GroupState, with_span}
+use Rattle.shard.specs.Group.{GroupState}
+use Rattle.groups.specs.Group.{IsHere, with_span}
 use Rattle.groups.specs.Spans.{with_free}
-use Rattle.shard.specs.Kept.{KnowsGuests, state_of}
+use Rattle.groups.specs.Directory.{KnowsGuests}
+use Rattle.shard.specs.Kept.{state_of}
 use Rattle.shard.specs.Moves.{HasGuestRoom}
 use Rattle.shard.specs.Rooms.{HasRooms}
 use Rattle.shard.specs.Sound.{IsSound}
-use Rattle.shard.specs.State.{ShardState, IsHere}
+use Rattle.shard.specs.State.{ShardState}
 use Rattle.shard.specs.declared.shard.Freed.TheVariants.{No, NotHere, Yes}
 use Rattle.shard.proofs.FreeHere.{IsSound-free_here}
 use Rattle.shard.proofs.GuestRoom.{HasGuestRoom-span}
@@ -17,7 +19,7 @@ use Rattle.shard.proofs.Here.{found_in, here_read, read_is}
 use Rattle.groups.proofs.Lists.{set-same}
 use Rattle.shard.proofs.RoomBits.{HasRooms-free}
 use Rattle.shard.proofs.ShownLogs.{IsSound-Frees, shown-Frees, was_freed-Frees}
-use Rattle.shard.proofs.KnownGuests.{KnowsGuests-span}
+use Rattle.groups.proofs.KnownGuests.{KnowsGuests-span}
 use Rattle.shard.proofs.shard.Shard.free.Goals as goal
 
 pub returns-in_default-clause-step : goal.returns-in_default-clause-step

@@ -1,7 +1,8 @@
 use Rattle.std.proofs.Common.{◌∙◌, ap, refl, subst, sym}
 use Rattle.std.proofs.lemmas.Bool.{true≢false}
 use Rattle.page_table.specs.State.{word_at}
-use Rattle.shard.specs.State.{ShardState, IsHere}
+use Rattle.shard.specs.State.{ShardState}
+use Rattle.groups.specs.Group.{IsHere}
 use Rattle.shard.specs.declared.shard.Found.TheVariants.{Gone, NotHere, Value}
 use Rattle.shard.proofs.Here.{found_in, here_read, read_is}
 use Rattle.shard.proofs.ShownLogs.{value_found-Gets}
@@ -16,7 +17,7 @@ returns-in_default-clause-plain g c = value_found-Gets c.args.self.now c.find.en
 pub value_at-requires : goal.value_at-requires
 value_at-requires g c =
     let found = found_in c.args.self.now.groups c.self.inside.groups.items c.args.key.now.span c.in-Some.index c.in-Some.place (ap (λ (s : ShardState). s.groups) (sym c.self.view_is)) c.in-Some.ensures.place in
-    rw c.page.ensures (c.self.invariant.sound.groups c.in-Some.index c.index-group.result.now (read_is _ _ _ _ found.0 found.1 found.2 c.index-group.result.now c.index-group.ensures)).has_page
+    rw c.page.ensures (c.self.invariant.sound.groups c.in-Some.index c.index-group.result.now (read_is _ _ _ _ found.0 found.1 found.2 c.index-group.result.now c.index-group.ensures)).page.has_page
 
 pub returns-then-holds-clause-found : goal.returns-then-holds-clause-found
 returns-then-holds-clause-found g c =

@@ -1,16 +1,16 @@
 use Rattle.std.proofs.Common.{◌≡◌, ◌∙◌, ◌++◌, ◌∷◌, [], List, None, Some, ap, length, refl, slice_get, subst, sym, arith}
 use Rattle.std.specs.Prelude.{Option, option_to_list, remove}
 use Rattle.page_table.specs.State.{TableState}
-use Rattle.groups.specs.Directory.{DirectoryState, struck}
+use Rattle.groups.specs.Directory.{DirectoryState, KnowsGuests, struck}
 use Rattle.shard.specs.Group.{GroupState}
-use Rattle.shard.specs.Kept.{KnowsGuests, state_of}
+use Rattle.shard.specs.Kept.{state_of}
 use Rattle.groups.specs.Tables.{without_page}
 use Rattle.shard.specs.Rooms.{HasRooms}
 use Rattle.shard.specs.Sound.{IsSound}
 use Rattle.shard.specs.State.{ShardState}
 use Rattle.std.specs.FinSet as set
 use Rattle.shard.proofs.GuestRoom.{HasGuestRoom-none}
-use Rattle.shard.proofs.KnownGuests.{KnowsGuests-remove}
+use Rattle.groups.proofs.KnownGuests.{KnowsGuests-remove}
 use Rattle.shard.proofs.LastGroup.{HasRooms-last}
 use Rattle.groups.proofs.Lists.{get-last, remove-last}
 use Rattle.shard.proofs.LiftedGroup.{IsSound-lifted, IsSoundWhole-lifted}

@@ -7,7 +7,8 @@ use Rattle.span.specs.Log.{live_slots, puts_of, worn_slots}
 use Rattle.span.specs.State.{SpanState}
 use Rattle.span.specs.declared.id.SpanId.{SpanId}
 use Rattle.page_table.specs.State.{with_word, TableState, HasPage}
-use Rattle.shard.specs.Calls.{IsFull, IsPlaceFor, new_group}
+use Rattle.shard.specs.Calls.{IsFull, new_group}
+use Rattle.groups.specs.Group.{IsPlaceFor}
 use Rattle.groups.specs.Tables.{with_open}
 use Rattle.shard.specs.Group.{GroupState, group_of}
 use Rattle.groups.specs.Spans.{with_put}
@@ -17,7 +18,7 @@ use Rattle.shard.proofs.GuestRoom.{HasGuestRoom-none}
 use Rattle.groups.proofs.Logs.{contains-live_slots-empty, contains-worn_slots-empty}
 use Rattle.groups.proofs.HeadPlaces.{IsLower}
 use Rattle.shard.proofs.HeadPlaces.{IsPlaceFor-lower, no_head_next}
-use Rattle.shard.proofs.Heads.{head_id}
+use Rattle.groups.proofs.Standing.{head_id}
 use Rattle.shard.proofs.PutInNew.{IsSound-put_in_new}
 use Rattle.shard.proofs.RoomBits.{HasRooms-only}
 use Rattle.groups.proofs.Tables.{HasPage-with_open_same}

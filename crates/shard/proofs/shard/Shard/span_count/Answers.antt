@@ -1,6 +1,6 @@
 use Rattle.std.proofs.Common.{◌+◌, ◌≤◌, List, arith, length, refl, subst, sym}
-use Rattle.shard.specs.Group.{GroupState, spans_of}
-use Rattle.shard.specs.State.{spans_in}
+use Rattle.shard.specs.Group.{GroupState}
+use Rattle.groups.specs.Group.{spans_in, spans_of}
 use Rattle.groups.proofs.SpanCounts.{at_most_ids, length-spans_more, length-take_spans}
 use Rattle.shard.proofs.shard.Shard.span_count.Goals as goal
 

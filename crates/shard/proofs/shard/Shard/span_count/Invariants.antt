@@ -1,5 +1,5 @@
 use Rattle.std.proofs.Common.{◌≡◌, ◌≤◌, length, take}
-use Rattle.shard.specs.State.{spans_in}
+use Rattle.groups.specs.Group.{spans_in}
 use Rattle.shard.proofs.shard.Shard.span_count.Given as goal
 
 abbrev pub invariant-loop-group : goal.invariant-loop-group

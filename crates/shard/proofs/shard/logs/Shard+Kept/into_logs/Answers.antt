@@ -3,9 +3,9 @@ use Rattle.std.proofs.lemmas.List.{append_assoc, length-append}
 use Rattle.std.specs.Vec.Iter.{into_iter_items}
 use Rattle.span.specs.SpanLogs.{span_of_log}
 use Rattle.span.specs.State.{SpanState}
-use Rattle.shard.specs.Group.{GroupState, spans_of}
+use Rattle.shard.specs.Group.{GroupState}
+use Rattle.groups.specs.Group.{spans_in, spans_of}
 use Rattle.groups.specs.Spans.{SpansState, all_spans}
-use Rattle.shard.specs.State.{spans_in}
 use Rattle.shard.proofs.shard.logs.Shard+Kept.into_logs.Goals as goal
 
 pub loop-group-preserved : goal.loop-group-preserved

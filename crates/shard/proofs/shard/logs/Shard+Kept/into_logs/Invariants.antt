@@ -1,7 +1,7 @@
 use Rattle.std.proofs.Common.{◌≡◌, ◌+◌, ◌++◌, length, map}
 use Rattle.std.specs.Vec.Iter.{into_iter_items}
 use Rattle.span.specs.SpanLogs.{AreLegal, room_for_logs, span_of_log}
-use Rattle.shard.specs.State.{spans_in}
+use Rattle.groups.specs.Group.{spans_in}
 use Rattle.shard.proofs.shard.logs.Shard+Kept.into_logs.Given as goal
 
 abbrev pub invariant-loop-group : goal.invariant-loop-group
