@@ -28,31 +28,30 @@ pub enum Version {
 fn binds(verb: &[u8]) -> bool
     ensures { result ≡ list_any (bytes_eq verb.now) binding_verbs }
 {
-    verb == b"put".as_slice() || verb == b"fill".as_slice()
+    matches!(verb, b"put" | b"fill")
 }
 
 /// Whether the verb is one of a call that reads a name.
 fn reads(verb: &[u8]) -> bool
     ensures { result ≡ list_any (bytes_eq verb.now) reading_verbs }
 {
-    verb == b"get".as_slice()
-        || verb == b"free".as_slice()
-        || verb == b"sweep".as_slice()
-        || verb == b"later".as_slice()
+    matches!(verb, b"get" | b"free" | b"sweep" | b"later")
 }
 
 /// Whether the verb is one of a call with no more words.
 fn is_bare(verb: &[u8]) -> bool
     ensures { result ≡ list_any (bytes_eq verb.now) bare_verbs }
 {
-    verb == b"tend".as_slice() || verb == b"end".as_slice()
+    matches!(verb, b"tend" | b"end")
 }
 
 impl Version {
     ghost use Rattle.std.specs.Prelude.{◌≡◌};
     ghost use Rattle.trace_text.specs.Form.{has_verb};
 
-    /// Whether a thread's call may have that verb.
+    /// Whether a thread's call may have that verb. It stays out of the readers of lines, which are then small enough to stand
+    /// where they are called.
+    #[inline(never)]
     pub(crate) fn has_verb(self, verb: &[u8]) -> bool
         ensures { result ≡ has_verb self verb.now }
     {
