@@ -28,6 +28,20 @@
 //! The public fact of the crate is that a pool is a plain map of keys: [`Pool::get`] and
 //! [`Pool::free`] answer and do what a map would (`shown` in `specs/Shown.antt`), and
 //! [`Pool::receive`] and [`Pool::adopt`] change nothing of what pool and shard show together.
+//!
+//! # Examples
+//!
+//! ```text
+//! let mut pool = Pool::new(alloc);
+//! let mut first = Shard::new(alloc, 0, 4, 9)?;
+//! let mut second = Shard::new(alloc, 1, 4, 9)?;
+//! let (key, _) = first.put(7)?;                  // 0.0/0/1
+//! pool.receive(&mut first)?;                     // shard 0 has ended, and its group is here
+//! pool.get(&key);                                // Found::Value(7, 1)
+//! pool.adopt(&mut second)?;                      // 0.0, the head of the group that has gone to shard 1
+//! second.get(&key);                              // Found::Value(7, 1), as ever
+//! pool.get(&key);                                // Found::NotHere
+//! ```
 #![tactic(auto)]
 
 mod by_head;

@@ -12,6 +12,21 @@
 //! ```
 //!
 //! The definitions in `specs/` and the lemmas in `proofs/` are those that both owners cite.
+//!
+//! # Examples
+//!
+//! ```text
+//! let mut spans = Spans::of(alloc, head);         // a span, and no guest yet
+//! let key = spans.put(3, 7)?;                     // at slot 3 of the head, generation 1; the word itself goes into the page
+//! spans.lowest_usable();                          // Some(0)
+//! spans.push(guest)?;                             // a span whose live slots differ
+//! spans.free(0, 3, 1);                            // true: the key was live in the span at place 0, the head
+//!
+//! let mut directory = Directory::new(alloc);
+//! directory.reserve(1)?;
+//! directory.enter_from(0, spans.guests(), spans.head_id());
+//! directory.place_of(guest_id);                   // Some(Place { head, place: 1 })
+//! ```
 #![tactic(auto)]
 
 mod brief;

@@ -4,6 +4,12 @@
 //! threads come to, one beside the other, is shown by runs: each call leaves its receipt, and when all is done the receipts
 //! are held against the logs of all spans. The tests run ten sections of 1,000 calls of each worker, with a mark after each, or
 //! with marks all the while. All of it is compiled for tests alone, and so proved once.
+//!
+//! # Examples
+//!
+//! ```text
+//! rt test stress      runs eight workers beside a steward, twice as above, and has what they were told audited
+//! ```
 #![tactic(auto)]
 
 #[cfg(test)]

@@ -18,6 +18,17 @@
 //! The public facts (`specs/Calls.antt`): each call is the event of the core that it is named for, and what it answers is what the core
 //! replies. So what [`Core::step`](arena_core::Core::step) promises, of the plain map of keys, of refusals and of largest plans, is
 //! promised to every caller that keeps a handle as `c/teurlaks.h` says.
+//!
+//! # Examples
+//!
+//! ```text
+//! struct teurlaks_handle core = {0};
+//! if (teurlaks_new(&core, 2, 4, 1, 9) != TEURLAKS_OK) return 1;    // two shards of up to four pages
+//! struct teurlaks_put_reply put = teurlaks_put(&core, 0, (struct teurlaks_word){7, 0});
+//! teurlaks_end(&core, 0);                                          // its group goes to the pool
+//! teurlaks_get(&core, put.key).value.low;                          // 7, as ever
+//! teurlaks_drop(&core);
+//! ```
 #![tactic(auto)]
 
 mod calls;

@@ -18,6 +18,16 @@
 //!
 //! What a contract can say of a run by threads is what its receipts say (`specs/Threaded.antt`). That the lines run side by side
 //! is shown by a test, with [`replay_gated`].
+//!
+//! # Examples
+//!
+//! ```text
+//! let mut report = Memory::new(alloc);
+//! let mut certificate = Vec::new(alloc);
+//! let trace = b"mesh 1\nshards 2\npages 4\nring 4\ngens 9\n0 put a 7\n1 put b 8\n";
+//! replay_threads(&rt, alloc, trace, false, &mut report, &mut certificate)?;
+//! // report.bytes: "end pages 2 live 2 calls 2\naudit ok\n", whoever put first
+//! ```
 #![tactic(auto)]
 
 mod body;
