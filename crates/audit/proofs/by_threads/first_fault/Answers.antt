@@ -1,4 +1,4 @@
-use Rattle.std.proofs.Common.{◌≡◌, length, map, vec_items, vec_len, arith}
+use Rattle.std.proofs.Common.{map, vec_items, arith}
 use Rattle.std.proofs.lemmas.List.{length-map}
 use Rattle.std.proofs.lemmas.Option.{MatchOption-at_some}
 use Rattle.audit.proofs.Judging.{if_some, judged}

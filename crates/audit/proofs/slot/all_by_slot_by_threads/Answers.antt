@@ -1,6 +1,5 @@
-use Rattle.std.proofs.Common.{◌≡◌, ◌∙◌, ◌++◌, drop, length, take, map, subst, sym, vec_items, arith}
+use Rattle.std.proofs.Common.{◌≡◌, ◌∙◌, ◌++◌, drop, length, take, vec_items, arith}
 use Rattle.std.proofs.lemmas.List.{take-append-le, take_all}
-use Rattle.audit.specs.Slots.{AreBySlot}
 use Rattle.audit.proofs.Sorting.{AreBySlot-sorted}
 use Rattle.audit.proofs.slot.all_by_slot_by_threads.Goals as goal
 

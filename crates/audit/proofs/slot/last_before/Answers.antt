@@ -1,4 +1,4 @@
-use Rattle.std.proofs.Common.{ℕ, ◌-◌, get_or, arith}
+use Rattle.std.proofs.Common.{◌-◌, get_or, arith}
 use Rattle.std.proofs.lemmas.Option.{slice_get-get_or}
 use Rattle.audit.specs.declared.slot.SlotChange.{SlotChange}
 use Rattle.audit.proofs.BySlot.{last_split, quiet_split, quiet_split_other}
