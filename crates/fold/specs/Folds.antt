@@ -1,5 +1,5 @@
 -- What a fold of a group of the pool onto a group of a shard does, and where there is none.
-use Rattle.std.specs.Prelude.{◌≡◌, ◌⊎◌, ℕ, length, None, Some}
+use Rattle.std.specs.Prelude.{◌≡◌, ◌⊎◌, ℕ, List, length, None, Some}
 use Rattle.bitmap.specs.Slots.{AreDisjoint}
 use Rattle.span.specs.declared.id.SpanId.{SpanId}
 use Rattle.shard.specs.Group.{GroupState}
@@ -43,12 +43,9 @@ pub record Folds (pool : PoolState) (shard : ShardState) (a b : SpanId) (pool_ne
   pub lifts : Lifts pool a (Some whole) pool_new
   pub grafts : Grafts (with_room shard (Some b) (length (spans_moved whole))) b whole shard_new
 
--- the answer that two groups get
-abbrev pub IsStepFor : PoolState → ShardState → SpanId → SpanId → Step → Type 0
-IsStepFor pool shard a b Absent = IsAbsent pool shard a b
-IsStepFor pool shard a b Emptied = IsEmptied pool shard a b
-IsStepFor pool shard a b Clash = IsClash pool shard a b
-IsStepFor pool shard a b Folded = MayFold pool shard a b
+-- the group of this head has so many spans
+abbrev pub HasSpans : List PooledState → SpanId → ℕ → Type 0
+HasSpans groups head spans = (index : ℕ) × (group : PooledState) × IsHeadOf groups head index group × (spans ≡ length (spans_of group))
 
 -- the answer and what it changes: nothing, but for a fold
 abbrev pub Steps : PoolState → ShardState → SpanId → SpanId → Step → PoolState → ShardState → Type 0

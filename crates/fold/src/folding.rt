@@ -1,11 +1,11 @@
 // A fold of a group of the pool onto a group of a shard.
-ghost use Rattle.std.specs.Prelude.{◌≡◌, ◌+◌, IfOk, OnErr, OnOk, Ok, length};
+ghost use Rattle.std.specs.Prelude.{◌≡◌, ◌≢◌, ◌+◌, IfErr, IfOk, OnErr, OnOk, Ok, length};
 ghost use Rattle.shard.specs.Shown.{shown as shown_by_shard};
 ghost use Rattle.shard.specs.Sound.{IsSound as IsSoundShard};
 ghost use Rattle.abandoned.specs.Shown.{shown, together};
 ghost use Rattle.abandoned.specs.Sound.{IsSound};
 ghost use Rattle.abandoned.specs.State.{paged_groups};
-ghost use Rattle.fold.specs.Folds.{Folds, IsStepFor, MayFold, Steps};
+ghost use Rattle.fold.specs.Folds.{Folds, HasSpans, MayFold, Steps};
 
 use crate::step::Step;
 use abandoned::Pool;
@@ -49,41 +49,52 @@ pub fn fold_one<L: Log>(
     ensures sound { IsSound pool.new }
     ensures sound_shard { IsSoundShard shard.new }
 {
-    let step = step_for(pool, shard, a, b);
-    if step != Step::Folded {
-        return Ok(step);
-    }
-    carry_out(pool, shard, a, b)?;
+    let spans = match spans_to_fold(pool, shard, a, b) {
+        Ok(spans) => spans,
+        Err(step) => return Ok(step),
+    };
+    carry_out(pool, shard, a, b, spans)?;
     Ok(Step::Folded)
 }
 
-// What a fold of the two groups comes to, memory aside.
-fn step_for<L: Log>(pool: &Pool<L>, shard: &Shard<L>, a: SpanId, b: SpanId) -> Step
-    ensures step { IsStepFor pool.now shard.now a b result }
+// How many spans a fold of the two groups moves, memory aside, or what it comes to where it changes nothing.
+fn spans_to_fold<L: Log>(
+    pool: &Pool<L>,
+    shard: &Shard<L>,
+    a: SpanId,
+    b: SpanId,
+) -> Result<usize, Step>
+    // The groups may be folded, and so many spans come; or nothing changes.
+    ensures may { OnOk result (MayFold pool.now shard.now a b) }
+    ensures spans { IfOk result (λ spans. HasSpans pool.now.groups a spans) }
+    ensures step { IfErr result (λ step. Steps pool.now shard.now a b step pool.now shard.now) }
+    ensures unlike { IfErr result (λ step. step ≢ Step.Folded) }
+
+    // Both are sound.
     ensures sound { IsSound pool.now }
     ensures sound_shard { IsSoundShard shard.now }
 {
     let from = pool.brief(a);
     // An ended shard has no group.
     if shard.ended() {
-        return Step::Absent;
+        return Err(Step::Absent);
     }
     let Some(from) = from else {
-        return Step::Absent;
+        return Err(Step::Absent);
     };
     let Some(onto) = shard.brief(b) else {
-        return Step::Absent;
+        return Err(Step::Absent);
     };
     if pool.would_double(shard, a) {
-        return Step::Absent;
+        return Err(Step::Absent);
     }
     if !from.paged {
-        return Step::Emptied;
+        return Err(Step::Emptied);
     }
     if onto.occupied.is_disjoint(&from.occupied) {
-        Step::Folded
+        Ok(from.spans)
     } else {
-        Step::Clash
+        Err(Step::Clash)
     }
 }
 
@@ -93,9 +104,11 @@ fn carry_out<L: Log>(
     shard: &mut Shard<L>,
     a: SpanId,
     b: SpanId,
+    spans: usize,
 ) -> Result<(), AllocError>
-    // The fold may be.
+    // The fold may be, and moves so many spans.
     requires may { MayFold pool.old shard.old a b }
+    requires spans { HasSpans pool.old.groups a spans }
     requires sound { IsSound pool.old }
     requires sound_shard { IsSoundShard shard.old }
 
@@ -106,10 +119,7 @@ fn carry_out<L: Log>(
     ensures sound { IsSound pool.new }
     ensures sound_shard { IsSoundShard shard.new }
 {
-    let Some(from) = pool.brief(a) else {
-        unreachable!();
-    };
-    shard.reserve_for(Some(b), from.spans)?;
+    shard.reserve_for(Some(b), spans)?;
     let Some(whole) = pool.lift(a) else {
         unreachable!();
     };

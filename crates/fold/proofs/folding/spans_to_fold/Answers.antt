@@ -1,0 +1,30 @@
+use Rattle.std.proofs.Common.{◌∙◌, sym, refl}
+use Rattle.std.proofs.lemmas.Bool.{false≢true}
+use Rattle.fold.proofs.Judged.{AreDisjoint-same, IsClash-here, IsEmptied-here, MayFold-here}
+use Rattle.fold.proofs.folding.spans_to_fold.Goals as goal
+
+pub returns-then-not-from-clause-step : goal.returns-then-not-from-clause-step
+returns-then-not-from-clause-step g c =
+    let (index, group, from, its) = c.in-Some.ensures.brief in
+    let (place, onto, to, others) = c.in-Some-brief.ensures in
+    (IsEmptied-here c.args.pool.now c.in-Some.ensures.sound c.args.shard.now c.ended.ensures.sound c.args.a c.args.b index place group onto from to (λ would. false≢true (c.if-would_double.ensures.doubles.1 would)) (sym its.paged_is ∙ c.if-not-from.true), refl, refl)
+
+pub returns-else-is_disjoint-clause-step : goal.returns-else-is_disjoint-clause-step
+returns-else-is_disjoint-clause-step g c =
+    let (index, group, from, its) = c.in-Some.ensures.brief in
+    let (place, onto, to, others) = c.in-Some-brief.ensures in (
+      IsClash-here c.args.pool.now c.in-Some.ensures.sound c.args.shard.now c.ended.ensures.sound c.args.a c.args.b index place group onto from to (λ would. false≢true (c.if-would_double.ensures.doubles.1 would)) (sym its.paged_is ∙ c.if-not-from.false)
+          (λ apart. false≢true (c.if-is_disjoint.ensures.1 (AreDisjoint-same _ _ _ _ (sym others.occupied_is) (sym its.occupied_is) apart))),
+      refl,
+      refl,
+    )
+
+pub returns-then-is_disjoint-clause-may : goal.returns-then-is_disjoint-clause-may
+returns-then-is_disjoint-clause-may g c =
+    let (index, group, from, its) = c.in-Some.ensures.brief in
+    let (place, onto, to, others) = c.in-Some-brief.ensures in
+    MayFold-here c.args.pool.now c.in-Some.ensures.sound c.args.shard.now c.ended.ensures.sound c.args.a c.args.b index place group onto from to (λ would. false≢true (c.if-would_double.ensures.doubles.1 would)) (sym its.paged_is ∙ c.if-not-from.false)
+    (AreDisjoint-same _ _ _ _ others.occupied_is its.occupied_is (c.if-is_disjoint.ensures.0 refl))
+
+pub returns-then-is_disjoint-clause-spans : goal.returns-then-is_disjoint-clause-spans
+returns-then-is_disjoint-clause-spans g c = let (index, group, from, its) = c.in-Some.ensures.brief in (index, group, from, its.spans_is)
