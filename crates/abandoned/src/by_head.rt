@@ -19,7 +19,7 @@ use crate::numbers::{lowest, mark, next};
 use crate::pooled::Pooled;
 use bitmap::Bits256;
 use page_table::Table;
-use span::{Kept, Log, SpanId, SpanLog};
+use span::{Entry, Kept, Log, SpanId, SpanLog};
 use std::alloc::{AllocError, Global};
 use std::marker::Model;
 
@@ -209,7 +209,7 @@ impl<L: Log> Groups<L> {
     /// # Errors
     ///
     /// `AllocError` where the list could not grow.
-    pub(crate) fn summaries(&self, alloc: Global) -> Result<Vec<(SpanId, Bits256)>, AllocError>
+    pub(crate) fn summaries(&self, alloc: Global) -> Result<Vec<Entry>, AllocError>
         ensures { IfOk result (λ list. list.items
             ≡ map summary (filter (λ group. is_some group.page) self.now.groups)) }
     {
@@ -219,7 +219,7 @@ impl<L: Log> Groups<L> {
             let Some(group) = &self.places[rank] else {
                 unreachable!();
             };
-            list.push((group.head_id(), group.occupied()))?;
+            list.push(group.entry())?;
             from = rank + 1;
         }
         Ok(list)

@@ -17,11 +17,10 @@ ghost use Rattle.bitmap.specs.declared.bits.TheConstants.{SLOTS};
 
 use crate::by_head::Groups;
 use crate::pooled::Pooled;
-use bitmap::Bits256;
 use groups::{Directory, Place};
 use page_table::Table;
 use shard::{Found, Freed};
-use span::{Kept, Key, Log, SpanId};
+use span::{Entry, Kept, Key, Log, SpanId};
 use std::alloc::{AllocError, Global};
 use std::marker::Model;
 
@@ -133,7 +132,7 @@ impl<L: Log> Pool<L> {
     /// # Errors
     ///
     /// `AllocError` where the list could not grow.
-    pub fn groups(&self) -> Result<Vec<(SpanId, Bits256)>, AllocError>
+    pub fn groups(&self) -> Result<Vec<Entry>, AllocError>
         ensures items { IfOk result (λ groups. groups.items ≡ map summary (paged_groups self.now)) }
         ensures ascending { IsStrictlyIncreasing (map (λ group. rank group.head.id)
             (paged_groups self.now)) }

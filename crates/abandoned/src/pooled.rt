@@ -8,13 +8,12 @@ ghost use Rattle.groups.specs.Spans.{HasNoSpan, IsSpanAt, union_of, with_free_at
 ghost use Rattle.groups.specs.Brief.{IsBriefOf};
 ghost use Rattle.abandoned.specs.Calls.{GivesUp};
 ghost use Rattle.abandoned.specs.State.{group_of};
-ghost use Rattle.groups.specs.Group.{spans_of, with_span};
+ghost use Rattle.groups.specs.Group.{spans_of, summary, with_span};
 ghost use Rattle.bitmap.specs.declared.bits.TheConstants.{SLOTS};
 
-use bitmap::Bits256;
 use groups::{Brief, Spans};
 use page_table::{Page, Table};
-use span::{Log, Span, SpanId};
+use span::{Entry, Log, Span, SpanId};
 use std::marker::Model;
 
 /// A head and its guests, and their page, which they have exactly while one of their slots is live.
@@ -101,11 +100,11 @@ impl<L: Log> Pooled<L> {
         self.spans.len()
     }
 
-    /// The slots that are live in one of the spans.
-    pub(crate) fn occupied(&self) -> Bits256
-        ensures { result ≡ union_of (spans_of self.now) }
+    /// The group as a plan sees it.
+    pub(crate) fn entry(&self) -> Entry
+        ensures { result ≡ summary self.now }
     {
-        self.spans.occupied()
+        self.spans.entry()
     }
 
     /// How many keys are live in the spans.

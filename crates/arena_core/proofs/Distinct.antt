@@ -10,7 +10,7 @@ use Rattle.groups.specs.Group.{spans_in, spans_of}
 use Rattle.shard.specs.State.{ShardState}
 use Rattle.groups.proofs.Lists.{count-append, count-cons, one_where}
 use Rattle.abandoned.specs.State.{PooledState}
-use Rattle.mesh_graph.specs.declared.entry.Entry.{Entry}
+use Rattle.span.specs.declared.entry.Entry.{Entry}
 use Rattle.mesh_graph.specs.Groups.{ids}
 use Rattle.span.proofs.Ids.{same_span-flip}
 use Rattle.marks.specs.Seen.{AreDistinct, abandoned_entries, owned_entries}

@@ -18,11 +18,12 @@ use Rattle.shard.specs.Group.{GroupState}
 use Rattle.groups.specs.Group.{occupied, summary}
 use Rattle.shard.specs.State.{ShardState}
 use Rattle.abandoned.specs.State.{PooledState}
-use Rattle.mesh_graph.specs.Groups.{Groups, any_compatible, are_compatible}
-use Rattle.mesh_graph.specs.declared.entry.Entry.{Entry}
+use Rattle.mesh_graph.specs.Groups.{Groups, any_compatible}
+use Rattle.span.specs.Entries.{are_compatible}
+use Rattle.span.specs.declared.entry.Entry.{Entry}
 use Rattle.certificate.specs.Plans.{IsPlanOf, sides_of}
 use Rattle.arena_core.specs.Plan.{IsOwned, IsPooled, IsUnderWay, IsWaiting}
-use Rattle.marks.specs.Seen.{abandoned_entries, entry_of, owned_entries}
+use Rattle.marks.specs.Seen.{abandoned_entries, owned_entries}
 use Rattle.arena_core.specs.State.{CoreState}
 use Rattle.arena_core.proofs.Lists.{each-append}
 use Rattle.marks.proofs.Lists.{slice_get-map_at}
@@ -50,33 +51,33 @@ any-which {X = X} {P = P} test (x ∷ xs) all some = by_test (test x) refl some 
 
 -- the entry is that of a group of the pool
 abbrev pub TellsPooled : List PooledState → Entry → Type 0
-TellsPooled groups entry = (index : ℕ) × (group : PooledState) × (slice_get groups index ≡ Some group) × (entry_of (summary group) ≡ entry)
+TellsPooled groups entry = (index : ℕ) × (group : PooledState) × (slice_get groups index ≡ Some group) × (summary group ≡ entry)
 
-tells_pooled : (groups : List PooledState) → AllByRecursion (TellsPooled groups) (map (λ group. entry_of (summary group)) (filter (λ group. is_some group.page) groups))
+tells_pooled : (groups : List PooledState) → AllByRecursion (TellsPooled groups) (map summary (filter (λ group. is_some group.page) groups))
 tells_pooled [] = tt
 tells_pooled (group ∷ groups) = by_page (is_some group.page) (each-to _ (λ entry tells. (suc tells.0, tells.1, tells.2, tells.3)) (tells_pooled groups))
   where
-    by_page : (b : Bool) → AllByRecursion (TellsPooled (group ∷ groups)) (map (λ g. entry_of (summary g)) (filter (λ g. is_some g.page) groups))
-        → AllByRecursion (TellsPooled (group ∷ groups)) (map (λ g. entry_of (summary g)) (cond b (group ∷ filter (λ g. is_some g.page) groups) (filter (λ g. is_some g.page) groups)))
+    by_page : (b : Bool) → AllByRecursion (TellsPooled (group ∷ groups)) (map summary (filter (λ g. is_some g.page) groups))
+        → AllByRecursion (TellsPooled (group ∷ groups)) (map summary (cond b (group ∷ filter (λ g. is_some g.page) groups) (filter (λ g. is_some g.page) groups)))
     by_page true rest = ((0, group, refl, refl), rest)
     by_page false rest = rest
 
 -- the entry is that of a group of these
 abbrev pub TellsGroup : List GroupState → Entry → Type 0
-TellsGroup groups entry = (index : ℕ) × (group : GroupState) × (slice_get groups index ≡ Some group) × (entry_of (summary group) ≡ entry)
+TellsGroup groups entry = (index : ℕ) × (group : GroupState) × (slice_get groups index ≡ Some group) × (summary group ≡ entry)
 
 -- the entry is that of a group of a shard
 abbrev pub TellsOwned : List ShardState → Entry → Type 0
 TellsOwned shards entry = (number : ℕ) × (shard : ShardState) × (slice_get shards number ≡ Some shard) × TellsGroup shard.groups entry
 
-tells_groups : (groups : List GroupState) → AllByRecursion (TellsGroup groups) (map (λ group. entry_of (summary group)) groups)
+tells_groups : (groups : List GroupState) → AllByRecursion (TellsGroup groups) (map summary groups)
 tells_groups [] = tt
 tells_groups (group ∷ groups) = ((0, group, refl, refl), each-to _ (λ entry tells. (suc tells.0, tells.1, tells.2, tells.3)) (tells_groups groups))
 
 tells_owned : (shards : List ShardState) → AllByRecursion (TellsOwned shards) (owned_entries shards)
 tells_owned [] = tt
 tells_owned (shard ∷ shards) =
-    each-append (TellsOwned (shard ∷ shards)) (map (λ group. entry_of (summary group)) shard.groups) (owned_entries shards)
+    each-append (TellsOwned (shard ∷ shards)) (map summary shard.groups) (owned_entries shards)
     (each-to _ (λ entry tells. (0, shard, refl, tells)) (tells_groups shard.groups))
     (each-to _ (λ entry tells. (suc tells.0, tells.1, tells.2, tells.3)) (tells_owned shards))
 
@@ -155,5 +156,5 @@ IsUnderWay-marked old new seen pairs abandoned owned plan pooled_still owned_sti
           owned = now;
           is_abandoned = pooled_still pair.0 found.abandoned found.is_abandoned;
           is_owned = now_is;
-          apart = subst (AreDisjoint (summary found.abandoned).1) (sym same) found.apart;
+          apart = subst (AreDisjoint (occupied found.abandoned)) (sym same) found.apart;
         }

@@ -3,7 +3,7 @@ use Rattle.std.specs.Prelude.{◌≡◌, ◌⊎◌, ℕ, ◌<◌, ◌≤◌, len
 use Rattle.bitmap.specs.Slots.{AreDisjoint}
 use Rattle.span.specs.declared.id.SpanId.{SpanId}
 use Rattle.shard.specs.Group.{GroupState}
-use Rattle.groups.specs.Group.{IsHeadOf, occupied, summary}
+use Rattle.groups.specs.Group.{IsHeadOf, occupied}
 use Rattle.groups.specs.Spans.{IsSpanAt}
 use Rattle.shard.specs.State.{ShardState}
 use Rattle.abandoned.specs.State.{PooledState}
@@ -34,7 +34,7 @@ pub record IsWaiting (core : CoreState) (pair : SpanId × SpanId) : Type 0 where
   pub owned : GroupState
   pub is_abandoned : IsPooled core pair.0 abandoned
   pub is_owned : IsOwned core pair.1 owned
-  pub apart : AreDisjoint (summary abandoned).1 (occupied owned)
+  pub apart : AreDisjoint (occupied abandoned) (occupied owned)
 
 -- the abandoned group is a guest of its partner
 pub record IsGuest (core : CoreState) (pair : SpanId × SpanId) : Type 0 where

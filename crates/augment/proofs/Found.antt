@@ -10,7 +10,7 @@ use Rattle.augment.specs.Mates.{mate, ArePaired}
 use Rattle.mesh_graph.specs.Groups.{Groups, IsAscending, any_compatible, are_partners, compatible_at, ids}
 use Rattle.augment.specs.Walks.{Joins, group, before, Stands, IsSearched}
 use Rattle.augment.specs.Listed.{is_short}
-use Rattle.mesh_graph.specs.declared.entry.Entry.{Entry}
+use Rattle.span.specs.declared.entry.Entry.{Entry}
 use Rattle.mesh_graph.proofs.Entries.{any_compatible-at}
 use Rattle.mesh_graph.proofs.Order.{distinct-from_ascending}
 use Rattle.certificate.specs.Plans.{sides_of}

@@ -8,8 +8,9 @@ use Rattle.span.specs.declared.id.SpanId.{SpanId}
 use Rattle.bitmap.specs.Slots.{has_bit}
 use Rattle.span.specs.Ids.{rank, same_span}
 use Rattle.certificate.specs.Chosen.{has_chosen}
-use Rattle.mesh_graph.specs.declared.entry.Entry.{Entry}
-use Rattle.mesh_graph.specs.Groups.{Groups, IsAscending, any_compatible, are_compatible, ids}
+use Rattle.span.specs.declared.entry.Entry.{Entry}
+use Rattle.mesh_graph.specs.Groups.{Groups, IsAscending, any_compatible, ids}
+use Rattle.span.specs.Entries.{are_compatible}
 use Rattle.mesh_graph.proofs.Entries.{any_at}
 use Rattle.certificate.specs.Plans.{partners_of, sides_of}
 use Rattle.certificate.proofs.Verdicts.{tells_span}

@@ -13,7 +13,7 @@ use Rattle.bitmap.specs.Slots.{SlotSet, set_text, slots_of_text}
 use Rattle.bitmap.proofs.HexText.{is_hex_digit-at, is_set_text-set_text, length-is_set_text}
 use Rattle.span.specs.declared.id.SpanId.{SpanId}
 use Rattle.span.specs.Texts.{id_text}
-use Rattle.mesh_graph.specs.declared.entry.Entry.{Entry}
+use Rattle.span.specs.declared.entry.Entry.{Entry}
 use Rattle.certificate.specs.Grammar.{count_in, entry_in, entry_parts, id_in, id_parts, pair_in, pair_parts}
 use Rattle.certificate.specs.Number.{is_numeral, number_in}
 use Rattle.certificate.specs.Words.{parts_of}

@@ -7,7 +7,7 @@ use Rattle.bitmap.specs.Slots.{set_text, slots_of_text}
 use Rattle.span.specs.declared.id.SpanId.{SpanId}
 use Rattle.span.specs.Ids.{rank}
 use Rattle.span.specs.Texts.{id_text}
-use Rattle.mesh_graph.specs.declared.entry.Entry.{Entry}
+use Rattle.span.specs.declared.entry.Entry.{Entry}
 use Rattle.mesh_graph.specs.Groups.{IsAscending, ids}
 use Rattle.certificate.specs.declared.certificate.Certificate.{Certificate}
 use Rattle.certificate.specs.declared.text.cause.Cause.{Cause}

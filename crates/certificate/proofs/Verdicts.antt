@@ -7,9 +7,10 @@ use Rattle.std.proofs.lemmas.List.{length-map, map-id}
 use Rattle.span.specs.declared.id.SpanId.{SpanId}
 use Rattle.span.specs.Ids.{same_span}
 use Rattle.span.proofs.Ids.{same_id_from_test, test_from_same_id}
-use Rattle.mesh_graph.specs.declared.entry.Entry.{Entry}
+use Rattle.span.specs.declared.entry.Entry.{Entry}
 use Rattle.certificate.specs.Sides.{among, IsChoice}
-use Rattle.mesh_graph.specs.Groups.{Groups, any_compatible, are_compatible, has_id, ids}
+use Rattle.mesh_graph.specs.Groups.{Groups, any_compatible, has_id, ids}
+use Rattle.span.specs.Entries.{are_compatible}
 use Rattle.certificate.specs.Plans.{IsCertificateOf, IsPlanOf, partners_of, sides_of}
 use Rattle.certificate.proofs.Members.{Tells}
 

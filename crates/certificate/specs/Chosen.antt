@@ -3,8 +3,8 @@ use Rattle.std.specs.Prelude.{ℕ, ◌&&◌, Bool, List}
 use Rattle.std.specs.List.{list_any}
 use Rattle.bitmap.specs.Slots.{has_bit}
 use Rattle.span.specs.Ids.{rank}
-use Rattle.mesh_graph.specs.declared.entry.Entry.{Entry}
-use Rattle.mesh_graph.specs.Groups.{are_compatible}
+use Rattle.span.specs.declared.entry.Entry.{Entry}
+use Rattle.span.specs.Entries.{are_compatible}
 
 -- whether some group whose id is in the set is compatible with the group y
 abbrev pub has_chosen : List ℕ → List Entry → Entry → Bool

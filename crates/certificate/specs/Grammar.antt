@@ -6,7 +6,7 @@ use Rattle.bitmap.specs.HexText.{is_set_text}
 use Rattle.bitmap.specs.Slots.{SlotSet, slots_of_text}
 use Rattle.span.specs.declared.id.SpanId.{SpanId}
 use Rattle.span.specs.Ids.{rank}
-use Rattle.mesh_graph.specs.declared.entry.Entry.{Entry}
+use Rattle.span.specs.declared.entry.Entry.{Entry}
 use Rattle.certificate.specs.Number.{number_in}
 use Rattle.certificate.specs.Words.{parts_of}
 use Rattle.certificate.specs.declared.text.cause.Cause.{Cause}

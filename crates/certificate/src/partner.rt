@@ -3,7 +3,7 @@ ghost use Rattle.std.specs.Prelude.{◌≡◌, ◌<◌, ◌^◌, length, map, If
 ghost use Rattle.std.specs.List.{count_by, filter, list_any};
 ghost use Rattle.bitmap.specs.Slots.{has_bit};
 ghost use Rattle.span.specs.Ids.{rank};
-ghost use Rattle.mesh_graph.specs.Groups.{are_compatible};
+ghost use Rattle.span.specs.Entries.{are_compatible};
 ghost use Rattle.certificate.specs.Chosen.{has_chosen};
 ghost use Rattle.certificate.specs.Plans.{partners_of};
 

@@ -2,6 +2,7 @@
 use Rattle.std.specs.Prelude.{zero, suc, ◌≡◌, ℕ, ◌<◌, ◌≤◌, List, ◌∷◌, Some, length, slice_get, slice_set}
 use Rattle.std.specs.List.{flat_map}
 use Rattle.bitmap.specs.Slots.{SlotSet}
+use Rattle.span.specs.declared.entry.Entry.{Entry}
 use Rattle.span.specs.declared.id.SpanId.{SpanId}
 use Rattle.span.specs.Ids.{rank}
 use Rattle.span.specs.State.{SpanState}
@@ -22,9 +23,9 @@ spans_of group = group.head ∷ group.guests
 abbrev pub occupied : {Page Closed : Type 0} → Group Page Closed → SlotSet
 occupied group = union_of (spans_of group)
 
--- a group as others see it: its head and its occupied set
-abbrev pub summary : {Page Closed : Type 0} → Group Page Closed → SpanId × SlotSet
-summary group = (group.head.id, occupied group)
+-- a group as a plan sees it: its head and its occupied set
+abbrev pub summary : {Page Closed : Type 0} → Group Page Closed → Entry
+summary group = record { id = group.head.id; occupied = occupied group }
 
 -- the group with another span at the place, 0 being the head
 abbrev pub with_span : {Page Closed : Type 0} → Group Page Closed → ℕ → SpanState → Group Page Closed

@@ -10,7 +10,7 @@ ghost use Rattle.groups.specs.Spans.{all_spans, taken, union_of, IsSpanAt, HasNo
 ghost use Rattle.bitmap.specs.declared.bits.TheConstants.{SLOTS};
 
 use bitmap::Bits256;
-use span::{Kept, Key, Log, Span, SpanId, SpanLog};
+use span::{Entry, Kept, Key, Log, Span, SpanId, SpanLog};
 use std::alloc::{AllocError, Global};
 use std::marker::Model;
 use std::mem::swap;
@@ -111,6 +111,20 @@ impl<L: Log> Spans<L> {
         ensures { result ≡ union_of (all_spans self.now) }
     {
         self.occupied
+    }
+
+    /// The group as a plan sees it: the id of its head, and the slots that are live in one of its spans.
+    pub fn entry(&self) -> Entry
+        ensures { result ≡ record {
+          id = self.now.head.id;
+          occupied = union_of
+              (all_spans self.now);
+        } }
+    {
+        Entry {
+            id: self.head_id(),
+            occupied: self.occupied,
+        }
     }
 
     /// How many keys are live in the spans.

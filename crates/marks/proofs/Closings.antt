@@ -76,7 +76,7 @@ closed_by-named pairs pair group named =
     ap (λ b. record group { closed = b }) (sym (or_right group.closed (plans_onto (pairs ++ pair ∷ []) group.head.id)
     (plans_onto-more pairs pair group.head.id ∙ or_right (plans_onto pairs group.head.id) (same_span pair.1 group.head.id) (test_from_same_id pair.1 group.head.id (sym named)))))
 
-closed-others : (pairs : List (SpanId × SpanId)) (pair : SpanId × SpanId) (groups : List GroupState) → ((index : ℕ) (group : GroupState) → slice_get groups index ≡ Some group → group.head.id ≡ pair.1 → ⊥)
+pub closed-others : (pairs : List (SpanId × SpanId)) (pair : SpanId × SpanId) (groups : List GroupState) → ((index : ℕ) (group : GroupState) → slice_get groups index ≡ Some group → group.head.id ≡ pair.1 → ⊥)
     → map (closed_by pairs) groups ≡ map (closed_by (pairs ++ pair ∷ [])) groups
 closed-others pairs pair [] others = refl
 closed-others pairs pair (group ∷ groups) others =
@@ -151,23 +151,10 @@ closing-open pairs (shard ∷ shards) none =
 
 -- lists of values that lend shards
 
-get_or-lent : {H : Type 0} (lent : H → ShardState) (items : List H) (index : ℕ) (item : H) → get_or (map lent items) index (lent item) ≡ lent (get_or items index item)
-get_or-lent lent [] index item = refl
-get_or-lent lent (first ∷ items) zero item = refl
-get_or-lent lent (first ∷ items) (suc index) item = get_or-lent lent items index item
-
-lent-set : {H : Type 0} (lent : H → ShardState) (items : List H) (index : ℕ) (item : H) → map lent (set items index item) ≡ set (map lent items) index (lent item)
+pub lent-set : {H : Type 0} (lent : H → ShardState) (items : List H) (index : ℕ) (item : H) → map lent (set items index item) ≡ set (map lent items) index (lent item)
 lent-set lent [] index item = refl
 lent-set lent (first ∷ items) zero item = refl
 lent-set lent (first ∷ items) (suc index) item = ap (λ rest. lent first ∷ rest) (lent-set lent items index item)
-
--- of the lent shards, one more gives way to what the function makes of it
-pub lent-written-more : {H : Type 0} (lent : H → ShardState) (f : ShardState → ShardState) (before now : List H) (index : ℕ) (item after : H) → map lent now ≡ map f (take index (map lent before)) ++ drop index (map lent before) → index < length now
-    → lent after ≡ f (lent (get_or now index item))
-    → map lent (set now index after) ≡ map f (take (index + 1) (map lent before)) ++ drop (index + 1) (map lent before)
-lent-written-more lent f before now index item after now_is within after_is =
-    lent-set lent now index after
-    ∙ written-more f (map lent before) (map lent now) index (lent item) (lent after) now_is (omega (arith, within, length-map now lent)) (after_is ∙ ap f (sym (get_or-lent lent now index item)))
 
 -- lists of sound shards
 

@@ -1,34 +1,29 @@
 -- The groups that a mark sees, as entries.
-use Rattle.std.proofs.Common.{◌≡◌, ℕ, ◌+◌, ◌<◌, ◌≤◌, List, [], ◌∷◌, ◌++◌, length, map, refl, sym, ap, ◌∙◌, arith, inl, inr, nat_lt, get_or, take, ◌-◌, ◌^◌, ◌↔◌}
+use Rattle.std.proofs.Common.{◌≡◌, ℕ, ◌+◌, ◌<◌, ◌≤◌, List, [], ◌∷◌, ◌++◌, length, map, refl, sym, ap, ◌∙◌, arith, inl, inr, nat_lt, get_or, take, Some, slice_get, ◌-◌, ◌^◌, ◌↔◌}
 use Rattle.std.specs.Prelude.{IsTrue, min, sum_by}
 use Rattle.std.proofs.lemmas.Bool.{lt-ltb, ltb-true}
 use Rattle.std.proofs.lemmas.List.{flat_map_more, length-append, length-map, map-append, take_more}
 use Rattle.std.proofs.lemmas.List.Sums.{sum_by-cons}
-use Rattle.bitmap.specs.Slots.{SlotSet}
-use Rattle.span.specs.declared.id.SpanId.{SpanId}
+use Rattle.std.proofs.lemmas.Option.{get_or_from_slice_get, slice_get_within}
 use Rattle.shard.specs.Group.{GroupState}
 use Rattle.shard.specs.State.{ShardState}
 use Rattle.groups.specs.Group.{summary}
 use Rattle.abandoned.specs.State.{PoolState, PooledState, paged_groups}
-use Rattle.mesh_graph.specs.declared.entry.Entry.{Entry}
-use Rattle.marks.specs.Seen.{AreTooMany, entry_of, owned_entries}
-
-pub entries-summaries : {X : Type 0} (f : X → SpanId × SlotSet) (xs : List X) → map entry_of (map f xs) ≡ map (λ x. entry_of (f x)) xs
-entries-summaries f [] = refl
-entries-summaries f (x ∷ xs) = ap (λ entries. entry_of (f x) ∷ entries) (entries-summaries f xs)
+use Rattle.span.specs.declared.entry.Entry.{Entry}
+use Rattle.marks.specs.Seen.{AreTooMany, owned_entries}
 
 abbrev pub entries_in : List GroupState → List Entry
-entries_in groups = map (λ group. entry_of (summary group)) groups
+entries_in groups = map summary groups
 
 abbrev pub entries_pooled : List PooledState → List Entry
-entries_pooled groups = map (λ group. entry_of (summary group)) groups
+entries_pooled groups = map summary groups
 
 -- as many owned groups as the shards have pages
 pub length-owned : (shards : List ShardState) → length (owned_entries shards) ≡ sum_by (λ shard. length shard.groups) shards
 length-owned [] = refl
 length-owned (shard ∷ shards) =
     length-append (entries_in shard.groups) (owned_entries shards)
-    ∙ omega (arith, length-map shard.groups (λ group. entry_of (summary group)), length-owned shards, sum_by-cons (λ (s : ShardState). length s.groups) shard shards)
+    ∙ omega (arith, length-map shard.groups summary, length-owned shards, sum_by-cons (λ (s : ShardState). length s.groups) shard shards)
 
 -- the entries of one shard more
 pub owned-more : {H : Type 0} (lent : H → ShardState) (shards : List H) (index : ℕ) (shard : H) → index < length shards → shard ≡ get_or shards index shard
@@ -43,7 +38,13 @@ pub too_many-owned : (pool : PoolState) (shards : List ShardState) (pages owned 
 too_many-owned pool shards pages owned pages_is few owned_is = (
   λ more. inr (omega (arith, ltb-true 4096 owned more, length-owned shards)),
   λ many. elim many [
-    | inl in_pool ↦ absurd (omega (arith, length-map (paged_groups pool) (λ group. entry_of (summary group))))
+    | inl in_pool ↦ absurd (omega (arith, length-map (paged_groups pool) summary))
     | inr in_shards ↦ lt-ltb 4096 owned (omega (arith, length-owned shards))
   ],
 )
+
+-- the entry of one group more of a shard
+pub entries-more : (groups : List GroupState) (index : ℕ) (group : GroupState) → slice_get groups index ≡ Some group → entries_in (take index groups) ++ summary group ∷ [] ≡ entries_in (take (index + 1) groups)
+entries-more groups index group here =
+    sym (map-append summary (take index groups) (group ∷ []))
+    ∙ ap (map summary) (ap (λ g. take index groups ++ g ∷ []) (sym (get_or_from_slice_get groups index group group here)) ∙ sym (take_more groups index group (slice_get_within groups index group here)))

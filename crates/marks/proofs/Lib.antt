@@ -3,3 +3,4 @@ pub mod Flagged
 pub mod Closings
 pub mod Entries
 pub mod Few
+pub mod OneShard

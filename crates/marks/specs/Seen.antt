@@ -2,31 +2,25 @@
 use Rattle.std.specs.Prelude.{◌≡◌, ◌⊎◌, ℕ, ◌<◌, Bool, List, length, map, Some, slice_get}
 use Rattle.std.specs.List.{IsDistinct, flat_map}
 use Rattle.std.specs.List.Sorted.{IsPermutation}
-use Rattle.bitmap.specs.Slots.{SlotSet}
-use Rattle.span.specs.declared.id.SpanId.{SpanId}
 use Rattle.span.specs.Ids.{same_span}
 use Rattle.shard.specs.Sound.{IsSound as IsSoundShard}
 use Rattle.shard.specs.State.{ShardState}
 use Rattle.groups.specs.Group.{summary}
 use Rattle.abandoned.specs.State.{PoolState, paged_groups}
-use Rattle.mesh_graph.specs.declared.entry.Entry.{Entry}
+use Rattle.span.specs.declared.entry.Entry.{Entry}
 use Rattle.mesh_graph.specs.Groups.{Groups, IsAscending, ids}
 use Rattle.certificate.specs.declared.certificate.Certificate.{Certificate}
 use Rattle.certificate.specs.Plans.{IsBestPlanOf, IsCertificateOf, IsShortOf}
 use Rattle.certificate.specs.Text.{IsWritable}
 use Rattle.mesh_graph.specs.declared.build.TheConstants.{MOST_GROUPS}
 
--- a group as a mark sees it: its head and its occupied set
-abbrev pub entry_of : SpanId × SlotSet → Entry
-entry_of group = record { id = group.0; occupied = group.1 }
-
 -- every group of the pool that has a page
 abbrev pub abandoned_entries : PoolState → List Entry
-abandoned_entries pool = map (λ group. entry_of (summary group)) (paged_groups pool)
+abandoned_entries pool = map summary (paged_groups pool)
 
 -- every group of every shard; a shard that has ended has none
 abbrev pub owned_entries : List ShardState → List Entry
-owned_entries shards = flat_map (λ shard. map (λ group. entry_of (summary group)) shard.groups) shards
+owned_entries shards = flat_map (λ shard. map summary shard.groups) shards
 
 -- every group of the pool that has a page, and every group of every shard, each once, by ascending head
 pub record IsSeen (pool : PoolState) (shards : List ShardState) (groups : Groups) : Type 0 where

@@ -1,6 +1,12 @@
 // Closes the groups onto which a plan folds, and opens them again.
-ghost use Rattle.std.specs.Prelude.{◌≡◌, map};
-ghost use Rattle.marks.specs.Closings.{closing, reopened};
+ghost use Rattle.std.specs.Prelude.{[], ◌≡◌, ◌++◌, ◌∷◌, List, map};
+ghost use Rattle.std.specs.List.{IsDistinct};
+ghost use Rattle.span.specs.Ids.{same_span};
+ghost use Rattle.span.specs.declared.id.SpanId.{SpanId};
+ghost use Rattle.mesh_graph.specs.Groups.{ids};
+ghost use Rattle.shard.specs.State.{ShardState};
+ghost use Rattle.marks.specs.Closings.{ClosesAt, IsOnce, closing, reopened};
+ghost use Rattle.marks.specs.Seen.{owned_entries};
 
 use crate::lends_shard::LendsShard;
 use shard::Shard;
@@ -9,10 +15,11 @@ use span::{Log, SpanId};
 /// Closes each owned group onto which a pair folds, in the shard that has it, so that it takes no put. It takes no
 /// memory.
 pub(crate) fn close_planned<H: LendsShard>(shards: &mut [H], pairs: &[(SpanId, SpanId)])
+    requires { IsDistinct same_span (ids (owned_entries (map H.lent shards.old))) }
     ensures { map H.lent shards.new ≡ map (closing pairs.now) (map H.lent shards.old) }
 {
-    for shard in shards.iter_mut() {
-        close_in(shard, pairs);
+    for pair in pairs {
+        close_one(shards, *pair);
     }
 }
 
@@ -25,11 +32,29 @@ pub fn reopen_all<L: Log>(shards: &mut [Shard<L>])
     }
 }
 
-// Closes the groups onto which a pair folds and which stand in this shard.
-fn close_in<H: LendsShard>(shard: &mut H, pairs: &[(SpanId, SpanId)])
-    ensures { H.lent shard.new ≡ closing pairs.now (H.lent shard.old) }
+// Closes the group onto which the pair folds, after those of other pairs. A shard that did not end has the groups that it
+// opened, so the one of the head's number is asked before the others.
+fn close_one<H: LendsShard>(shards: &mut [H], pair: (SpanId, SpanId))
+    ensures { (first : List ShardState) (done : List (SpanId × SpanId)) → IsOnce first pair.1
+        → map H.lent shards.old ≡ map (closing done) first
+        → map H.lent shards.new ≡ map (closing (done ++ pair ∷ [])) first }
 {
-    for pair in pairs {
-        shard.close(pair.1);
+    if close_at(shards, pair.1.shard as usize, pair.1) {
+        return;
     }
+    for place in 0..shards.len() {
+        if close_at(shards, place, pair.1) {
+            return;
+        }
+    }
+}
+
+// Closes the group of the head in the shard at the place, if there is one, and says whether it has the group.
+fn close_at<H: LendsShard>(shards: &mut [H], place: usize, head: SpanId) -> bool
+    ensures { ClosesAt (map H.lent shards.old) place head result (map H.lent shards.new) }
+{
+    if place >= shards.len() {
+        return false;
+    }
+    shards[place].close(head)
 }

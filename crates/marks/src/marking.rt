@@ -6,7 +6,8 @@ ghost use Rattle.abandoned.specs.Sound.{IsSound as IsSoundPool};
 ghost use Rattle.certificate.specs.Plans.{IsBestPlanOf, IsCertificateOf, IsShortOf};
 ghost use Rattle.certificate.specs.Text.{IsWritable};
 ghost use Rattle.marks.specs.Closings.{closing};
-ghost use Rattle.marks.specs.Seen.{AreDistinct, AreSound, AreTooMany, IsLargest, IsSeen, with_plan_told, abandoned_entries, entry_of, owned_entries};
+ghost use Rattle.marks.specs.Seen.{AreDistinct, AreSound, AreTooMany, IsLargest, IsSeen, with_plan_told, owned_entries};
+ghost use Rattle.mesh_graph.specs.Groups.{IsAscending};
 ghost use Rattle.mesh_graph.specs.declared.build.TheConstants.{MOST_GROUPS};
 
 use crate::closing::close_planned;
@@ -14,10 +15,8 @@ use crate::error::MarkError;
 use crate::lends_shard::LendsShard;
 use abandoned::Pool;
 use augment::plan;
-use bitmap::Bits256;
-use certificate::Certificate;
+use certificate::{Certificate, Plan, Short};
 use mesh_graph::{BuildError, Doubled, Entry, Graph, MOST_GROUPS, Snapshot};
-use span::{Log, SpanId};
 use std::alloc::{AllocError, Global};
 
 /// A mark of the pool and the shards that are lent: it takes a snapshot of every group of the pool that has a page and
@@ -92,8 +91,7 @@ fn largest_plan(alloc: Global, snapshot: Snapshot, pieces: usize) -> Result<Cert
     ensures certificate { IfOk result (λ found. IsCertificateOf snapshot found.plan found.short) }
     ensures writable { IfOk result IsWritable }
 {
-    let graph = graph_of(alloc, &snapshot, pieces)?;
-    let (plan, short) = plan(alloc, &graph)?;
+    let (plan, short) = plan_of(alloc, &snapshot, pieces)?;
     Ok(Certificate {
         snapshot,
         plan,
@@ -114,36 +112,27 @@ pub(crate) fn snapshot_of<H: LendsShard>(
         (λ told. OnErr told (AreDistinct pool.now (map H.lent shards.now) → ⊥)) }
     ensures sound { OnOk result (AreSound (map H.lent shards.now)) }
 {
-    let abandoned = list_abandoned(alloc, pool)?;
+    let abandoned = pool.groups()?;
     let owned = list_owned(alloc, shards)?;
     Ok(Snapshot::new(abandoned, owned))
 }
 
-// The graph of a snapshot that has few groups.
-fn graph_of(alloc: Global, snapshot: &Snapshot, pieces: usize) -> Result<Graph, AllocError>
+// The largest plan of a snapshot that has few groups, and its short set.
+fn plan_of(alloc: Global, snapshot: &Snapshot, pieces: usize) -> Result<(Plan, Short), AllocError>
     requires abandoned { length snapshot.now.abandoned ≤ MOST_GROUPS }
     requires owned { length snapshot.now.owned ≤ MOST_GROUPS }
     requires pieces { 1 ≤ pieces }
-    ensures { IfOk result (λ graph. graph ≡ snapshot.now) }
+    ensures best { IfOk result (λ found. IsBestPlanOf snapshot.now found.0) }
+    ensures short { IfOk result (λ found. IsShortOf snapshot.now found.0 found.1) }
+    ensures certificate { IfOk result (λ found. IsCertificateOf snapshot.now found.0 found.1) }
+    ensures ascending { IfOk result (λ found. IsAscending (map (λ p. p.0) found.0)) }
+    ensures short_ascending { IfOk result (λ found. IsAscending found.1) }
 {
     match Graph::build(alloc, snapshot, pieces) {
-        Ok(graph) => Ok(graph),
+        Ok(graph) => plan(alloc, &graph),
         Err(BuildError::OutOfMemory) => Err(AllocError),
         Err(BuildError::TooMany) => unreachable!(),
     }
-}
-
-/// The groups of the pool that have a page, each with its occupied set.
-pub(crate) fn list_abandoned<L: Log>(
-    alloc: Global,
-    pool: &Pool<L>,
-) -> Result<Vec<Entry>, AllocError>
-    ensures { IfOk result (λ entries. entries.items ≡ abandoned_entries pool.now) }
-{
-    let groups = pool.groups()?;
-    let mut entries = Vec::new(alloc);
-    push_entries(&mut entries, &groups)?;
-    Ok(entries)
 }
 
 /// The groups of all shards, each with its occupied set.
@@ -163,8 +152,7 @@ pub(crate) fn list_owned<H: LendsShard>(
 
 // Appends the groups of the shard, where it has not ended. One that has ended has none.
 fn push_groups<H: LendsShard>(entries: &mut Vec<Entry>, lender: &H) -> Result<(), AllocError>
-    ensures items { IfOk result
-        (λ _. entries.new.items ≡ entries.old.items ++ map (λ group. entry_of (summary group))
+    ensures items { IfOk result (λ _. entries.new.items ≡ entries.old.items ++ map summary
         (H.lent lender.now).groups) }
     ensures sound { IsSoundShard (H.lent lender.now) }
 {
@@ -172,19 +160,8 @@ fn push_groups<H: LendsShard>(entries: &mut Vec<Entry>, lender: &H) -> Result<()
     if shard.ended() {
         return Ok(());
     }
-    let groups = shard.groups()?;
-    push_entries(entries, &groups)
-}
-
-// Appends the groups of these heads and occupied sets.
-fn push_entries(entries: &mut Vec<Entry>, groups: &[(SpanId, Bits256)]) -> Result<(), AllocError>
-    ensures { IfOk result (λ _. entries.new.items ≡ entries.old.items ++ map entry_of groups.now) }
-{
-    for (id, occupied) in groups {
-        entries.push(Entry {
-            id: *id,
-            occupied: *occupied,
-        })?;
+    for index in 0..shard.pages() {
+        entries.push(shard.spans_at(index).entry())?;
     }
     Ok(())
 }

@@ -9,8 +9,9 @@ use Rattle.std.proofs.lemmas.Option.{slice_get-get_or, slice_get_past}
 use Rattle.std.proofs.lemmas.Nat.Bits.{bit_at_set_same, bit_at_set_other}
 use Rattle.bitmap.proofs.Edits.{other_bit, same_bit}
 use Rattle.bitmap.specs.Slots.{has_bit}
-use Rattle.mesh_graph.specs.declared.entry.Entry.{Entry}
-use Rattle.mesh_graph.specs.Groups.{Groups, are_compatible, are_partners, compatible_at, has_partner}
+use Rattle.span.specs.declared.entry.Entry.{Entry}
+use Rattle.mesh_graph.specs.Groups.{Groups, are_partners, compatible_at, has_partner}
+use Rattle.span.specs.Entries.{are_compatible}
 use Rattle.mesh_graph.specs.Rows.{AreRows, IsRow}
 
 module _ (words : List ℕ) (slot : ℕ) (within : slot / 64 < length words) where

@@ -1,18 +1,16 @@
 -- Entries in ascending order of ids
-use Rattle.std.proofs.Common.{ℕ, ◌+◌, ◌<◌, ◌≤◌, ◌≡◌, Bool, true, false, ◌&&◌, List, length, map, refl, sym, ◌∙◌, ap, inl, inr, arith, get_or, eqb-true, eq-eqb, eqb, [], ◌∷◌, IsTrue, ◌↔◌, Option, Some, None, is_some, IfSome, IfNone}
+use Rattle.std.proofs.Common.{ℕ, ◌+◌, ◌<◌, ◌≤◌, ◌≡◌, Bool, true, false, ◌&&◌, List, length, map, refl, sym, ◌∙◌, ap, inl, inr, arith, get_or, eqb-true, eq-eqb, eqb, [], ◌∷◌, Option, Some, None, is_some, IfSome, IfNone}
 use Rattle.std.specs.List.{list_any}
 use Rattle.std.proofs.Math.Bool.{and-false}
 use Rattle.std.proofs.lemmas.Bool.{cases_Bool, cases_lt, cases_eq, both_ways, and_parts, and_from, or_parts}
 use Rattle.std.proofs.lemmas.List.{get_or_default, length-map, get_or-map}
-use Rattle.std.specs.Ordering.{nat_cmp}
-use Rattle.std.specs.FinSet.{len, len-empty, empty_of_len, intersection}
-use Rattle.bitmap.specs.Slots.{AreDisjoint}
 use Rattle.std.proofs.lemmas.List.Folds.{list_any_at, list_any_none}
 use Rattle.std.proofs.lemmas.List.Kept.{AllPairs-from_increasing}
 use Rattle.span.specs.declared.id.SpanId.{SpanId}
 use Rattle.span.specs.Ids.{rank, same_span}
-use Rattle.mesh_graph.specs.declared.entry.Entry.{Entry}
-use Rattle.mesh_graph.specs.Groups.{Groups, IsAscending, ids, has_id, are_compatible, any_compatible}
+use Rattle.span.specs.declared.entry.Entry.{Entry}
+use Rattle.mesh_graph.specs.Groups.{Groups, IsAscending, ids, has_id, any_compatible}
+use Rattle.span.specs.Entries.{are_compatible}
 
 -- the rank of the id at place k
 abbrev pub rank_at : List Entry → ℕ → ℕ
@@ -103,14 +101,6 @@ any_none [] id test h = refl
 any_none (x ∷ entries) id test h =
     let p : (same_span x.id id ≡ false) × (has_id entries id ≡ false) = or_parts (same_span x.id id) (list_any (λ y. same_span y.id id) entries) h in
     rw p.0 (any_none entries id test p.1)
-
--- the test whether two groups are compatible, from what the test of their sets ensures
-pub are_compatible-is : (x y : Entry) (r : Bool) → IsTrue r ↔ AreDisjoint x.occupied y.occupied → r ≡ are_compatible x y
-are_compatible-is x y true h = sym (eq-eqb _ 0 (ap len (h.0 refl) ∙ len-empty nat_cmp))
-are_compatible-is x y false h = elim (cases_Bool (are_compatible x y)) [
-  | inl e ↦ absurd (both_ways false refl (h.1 (empty_of_len (intersection x.occupied y.occupied) (eqb-true _ 0 e))))
-  | inr e ↦ sym e
-]
 
 -- the groups of two ids
 pub any_compatible-at : (s : Groups) (a b : SpanId) (i j : ℕ) (d e : Entry) → IsAscending (ids s.abandoned) → IsAscending (ids s.owned) → i < length s.abandoned → j < length s.owned

@@ -2,7 +2,7 @@
 use Rattle.std.specs.Prelude.{ℕ, ◌≡◌, ◌<◌, ◌≤◌, ◌+◌, ◌/◌, List, [], length, slice_index_or}
 use Rattle.std.specs.List.{slice_get}
 use Rattle.bitmap.specs.Slots.{has_bit}
-use Rattle.mesh_graph.specs.declared.entry.Entry.{Entry}
+use Rattle.span.specs.declared.entry.Entry.{Entry}
 use Rattle.mesh_graph.specs.Groups.{Groups, compatible_at, has_partner}
 use Rattle.mesh_graph.specs.declared.build.TheConstants.{MOST_GROUPS}
 

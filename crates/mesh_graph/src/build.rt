@@ -5,9 +5,9 @@ ghost use Rattle.mesh_graph.specs.Rows.{IsRow};
 ghost use Rattle.mesh_graph.specs.declared.build.BuildError.TheVariants.{OutOfMemory, TooMany};
 ghost use Rattle.mesh_graph.specs.declared.build.TheConstants.{MOST_GROUPS};
 
-use crate::entry::Entry;
 use crate::graph::Graph;
 use crate::snapshot::Snapshot;
+use span::Entry;
 use std::alloc::{AllocError, Global};
 
 /// The most groups that a graph has on a side.
@@ -16,7 +16,7 @@ pub const MOST_GROUPS: usize = 4096;
 /// Why a graph was not built.
 #[derive(Clone, Copy, PartialEq, Eq, Debug, thiserror::Error)]
 pub enum BuildError {
-    /// The rows or the copy of the snapshot could not grow.
+    /// The rows could not grow.
     #[error("out of memory")]
     OutOfMemory,
     /// The snapshot has more than 4,096 groups on a side.
@@ -32,11 +32,15 @@ impl From<AllocError> for BuildError {
     }
 }
 
-impl Graph {
-    /// The graph of a snapshot. The number of `pieces` that are to build its rows is not used yet.
-    /// `TooMany` comes exactly where a side has more than 4,096 groups, and `OutOfMemory` where the
-    /// rows or the copy of the snapshot could not grow.
-    pub fn build(alloc: Global, snapshot: &Snapshot, pieces: usize) -> Result<Graph, BuildError>
+impl<'a> Graph<'a> {
+    /// The graph of a snapshot, which is lent to it. The number of `pieces` that are to build its rows
+    /// is not used yet. `TooMany` comes exactly where a side has more than 4,096 groups, and
+    /// `OutOfMemory` where the rows could not grow.
+    pub fn build(
+        alloc: Global,
+        snapshot: &'a Snapshot,
+        pieces: usize,
+    ) -> Result<Graph<'a>, BuildError>
         requires { 1 ≤ pieces }
         ensures graph { IfOk result (λ graph. graph ≡ snapshot.now) }
         ensures too_many { (result ≡ Err TooMany) ↔ ((MOST_GROUPS < length snapshot.now.abandoned)
@@ -49,7 +53,6 @@ impl Graph {
             return Err(BuildError::TooMany);
         }
         let rows = rows_of(alloc, snapshot.abandoned(), snapshot.owned())?;
-        let snapshot = snapshot.try_clone(alloc)?;
         Ok(Graph { snapshot, rows })
     }
 }

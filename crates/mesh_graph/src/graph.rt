@@ -9,30 +9,30 @@ use span::SpanId;
 use std::marker::Model;
 
 /// Which abandoned group of a snapshot is compatible with which owned one, by their places in the
-/// snapshot. It has a copy of the snapshot, and a row of bits for each abandoned group.
+/// snapshot. It is lent the snapshot, and has a row of bits for each abandoned group.
 #[derive(Drop)]
-pub struct Graph {
-    pub(crate) snapshot: Snapshot,
+pub struct Graph<'a> {
+    pub(crate) snapshot: &'a Snapshot,
     pub(crate) rows: Vec<Vec<u64>>,
 }
 
-impl Model for Graph {
+impl<'a> Model for Graph<'a> {
     ghost use Rattle.std.specs.Coded.{codes};
     ghost use Rattle.std.specs.Prelude.{map};
     ghost use Rattle.mesh_graph.specs.Groups.{Groups};
     ghost use Rattle.mesh_graph.specs.Rows.{AreRows};
-    ghost use Rattle.mesh_graph.specs.contracts.entry.Entry as entry;
+    ghost use Rattle.span.specs.contracts.entry.Entry as entry;
 
     ghost Value = { Groups };
 
     ghost coded = { Prim.hlevel (codes, entry.the_row.coded) };
 
-    ghost view = { λ g. g.snapshot };
+    ghost view = { λ g. g.snapshot.now };
 
-    ghost invariant = { λ g. AreRows g.snapshot (map (λ r. r.items) g.rows.items) };
+    ghost invariant = { λ g. AreRows g.snapshot.now (map (λ r. r.items) g.rows.items) };
 }
 
-impl Graph {
+impl<'a> Graph<'a> {
     /// How many abandoned groups there are.
     pub fn abandoned(&self) -> usize
         ensures count { result ≡ length self.now.abandoned }

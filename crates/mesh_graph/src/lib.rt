@@ -31,14 +31,13 @@
 #![tactic(auto)]
 
 mod build;
-mod entry;
 mod graph;
 mod snapshot;
 
 pub use build::{BuildError, MOST_GROUPS};
-pub use entry::Entry;
 pub use graph::Graph;
 pub use snapshot::{Doubled, Snapshot};
+pub use span::Entry;
 
 #[cfg(test)]
 mod tests;

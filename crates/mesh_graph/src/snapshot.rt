@@ -5,9 +5,7 @@ ghost use Rattle.std.specs.List.Sorted.{IsPermutation};
 ghost use Rattle.span.specs.Ids.{same_span};
 ghost use Rattle.mesh_graph.specs.Groups.{IsAscending, any_compatible, has_id, ids};
 
-use crate::entry::Entry;
-use span::SpanId;
-use std::alloc::{AllocError, Global};
+use span::{Entry, SpanId};
 use std::marker::Model;
 
 /// An id stands twice on a side.
@@ -26,7 +24,7 @@ pub struct Snapshot {
 impl Model for Snapshot {
     ghost use Rattle.std.specs.Coded.{codes};
     ghost use Rattle.mesh_graph.specs.Groups.{Groups, IsAscending, ids};
-    ghost use Rattle.mesh_graph.specs.contracts.entry.Entry as entry;
+    ghost use Rattle.span.specs.contracts.entry.Entry as entry;
 
     ghost Value = { Groups };
 
@@ -99,15 +97,6 @@ impl Snapshot {
             return false;
         };
         self.abandoned()[i].is_compatible(&self.owned()[j])
-    }
-
-    // A copy of the snapshot.
-    pub(crate) fn try_clone(&self, alloc: Global) -> Result<Snapshot, AllocError>
-        ensures { IfOk result (λ copy. copy ≡ self.now) }
-    {
-        let abandoned = Vec::from_slice(alloc, &self.abandoned)?;
-        let owned = Vec::from_slice(alloc, &self.owned)?;
-        Ok(Snapshot { abandoned, owned })
     }
 }
 

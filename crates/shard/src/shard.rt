@@ -18,10 +18,9 @@ ghost use Rattle.span.specs.declared.limits.TheConstants.{MOST_PAGES, MOST_SHARD
 use crate::error::{Config, PutError};
 use crate::group::Group;
 use crate::rooms::Rooms;
-use bitmap::Bits256;
 use groups::{Directory, Place, Spans};
 use page_table::Table;
-use span::{Kept, Key, Log, MOST_PAGES, MOST_SHARDS, MOST_SPANS, Span, SpanId};
+use span::{Entry, Kept, Key, Log, MOST_PAGES, MOST_SHARDS, MOST_SPANS, Span, SpanId};
 use std::alloc::{AllocError, Global};
 use std::marker::Model;
 
@@ -203,14 +202,14 @@ impl<L: Log> Shard<L> {
 
     /// The head of each group and the slots that are live in one of its spans, by ascending head. The
     /// error means that memory ran out for the list.
-    pub fn groups(&self) -> Result<Vec<(SpanId, Bits256)>, AllocError>
+    pub fn groups(&self) -> Result<Vec<Entry>, AllocError>
         ensures items { IfOk result (λ groups. groups.items ≡ map summary self.now.groups) }
         ensures ascending { IsStrictlyIncreasing (map
             (λ group. rank group.head.id) self.now.groups) }
     {
         self.groups
             .iter()
-            .map(|group| (group.head_id(), group.occupied()))
+            .map(|group| group.entry())
             .collect(self.alloc)
     }
 

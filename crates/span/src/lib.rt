@@ -43,6 +43,7 @@
 #![tactic(auto)]
 
 mod change;
+mod entry;
 mod generations;
 mod history;
 mod id;
@@ -54,6 +55,7 @@ mod span;
 mod span_log;
 
 pub use change::Change;
+pub use entry::Entry;
 pub use id::SpanId;
 pub use key::Key;
 pub use limits::{ALL_IDS, MOST_PAGES, MOST_RING_KEYS, MOST_SHARDS, MOST_SPANS};

@@ -118,8 +118,8 @@ fn listed(pool: &Pool, index: usize) -> Option<(SpanId, u32)> {
         Ok(groups) => groups,
         Err(_) => pool.groups().ok()?,
     };
-    let (head, slots) = groups.get(index)?;
-    Some((*head, slots.count()))
+    let group = groups.get(index)?;
+    Some((group.id, group.occupied.count()))
 }
 
 #[test]

@@ -1,5 +1,5 @@
 use Rattle.std.proofs.Common.{◌∙◌, ap, map, sym}
-use Rattle.mesh_graph.specs.declared.entry.Entry.{Entry}
+use Rattle.span.specs.declared.entry.Entry.{Entry}
 use Rattle.certificate.proofs.PartnersFilter.{filter-members, partners_of-filter}
 use Rattle.certificate.proofs.partner.partners.Goals as goal
 

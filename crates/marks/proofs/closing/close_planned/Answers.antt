@@ -1,9 +1,17 @@
-use Rattle.std.proofs.Common.{arith}
+use Rattle.std.proofs.Common.{◌∙◌, ◌++◌, ◌∷◌, [], List, ap, map, sym, take}
+use Rattle.std.proofs.lemmas.List.{take_more}
+use Rattle.span.specs.declared.id.SpanId.{SpanId}
 use Rattle.marks.specs.Closings.{closing}
-use Rattle.marks.proofs.Closings.{lent-written-more}
+use Rattle.marks.proofs.OneShard.{IsOnce-distinct, closing-start}
 use Rattle.marks.proofs.closing.close_planned.Goals as goal
 
-pub loop-shard-preserved : goal.loop-shard-preserved
-loop-shard-preserved g c =
-    lent-written-more g.H.LendsShard.lent (closing c.args.pairs.now) c.args.shards.now c.loop-shard.shards c.loop-shard.shard-index c.shard-item.result c.close_in.new.shard c.loop-shard.invariant
-    (omega (arith, c.loop-shard-test.true, c.loop-shard.auto.shards)) c.close_in.ensures
+pub loop-pair-init : goal.loop-pair-init
+loop-pair-init g c = closing-start (map g.H.LendsShard.lent c.args.shards.now)
+
+pub loop-pair-preserved : goal.loop-pair-preserved
+loop-pair-preserved g c =
+    let first = map g.H.LendsShard.lent c.args.shards.now in
+    let done = take c.loop-pair.pair-index c.args.pairs.now in
+    c.close_one.ensures first done (IsOnce-distinct first c.pair-item.result.1 c.requires) c.loop-pair.invariant
+    ∙ ap (λ (pairs : List (SpanId × SpanId)). map (closing pairs) first)
+    (ap (λ pair. done ++ pair ∷ []) c.pair-item.is ∙ sym (take_more c.args.pairs.now c.loop-pair.pair-index c.pair-item.result c.loop-pair-test.true))

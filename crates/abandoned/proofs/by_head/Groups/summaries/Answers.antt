@@ -16,7 +16,7 @@ loop-rank-preserved g c =
     let few = few_parts c.self.inside.places.items c.self.inside.paged.items c.self.invariant.sized in
     let there = read_there c.self.inside.places.items c.in-Some.rank c.index.result.now c.in-Some-index.group (omega (arith, low, c.self.invariant.sized.parts_fit)) c.index.ensures c.in-Some-index.is in
     let more = passing-next c.self.inside.places.items c.self.invariant.at_rank c.self.inside.paged.items c.self.invariant.paged_known c.loop-rank.from c.in-Some.rank c.in-Some-index.group next there in (
-      c.in_ok-push.ensures.items ∙ rw (c.head_id.ensures, c.occupied.ensures) (ap (λ xs. xs ++ summary c.in-Some-index.group ∷ []) c.loop-rank.invariant.0)
+      c.in_ok-push.ensures.items ∙ rw c.entry.ensures (ap (λ xs. xs ++ summary c.in-Some-index.group ∷ []) c.loop-rank.invariant.0)
           ∙ sym (ap (map summary) more ∙ map-append summary (passing c.self.inside.places.items c.loop-rank.from) (c.in-Some-index.group ∷ [])),
       omega (arith, low, few),
     )

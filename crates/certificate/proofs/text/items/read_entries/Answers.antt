@@ -1,6 +1,6 @@
 use Rattle.std.proofs.Common.{option_map, ◌≡◌, ◌+◌, ◌∙◌, refl, Err, Global, Vec, ap, arith, map}
 use Rattle.std.proofs.lemmas.Result.{err_from_is_err_and}
-use Rattle.mesh_graph.specs.declared.entry.Entry.{Entry}
+use Rattle.span.specs.declared.entry.Entry.{Entry}
 use Rattle.certificate.specs.declared.text.cause.ReadError.TheVariants.{BadCertificate}
 use Rattle.certificate.specs.Grammar.{id_parts, item_in, line_in, entry_in, entry_parts}
 use Rattle.certificate.specs.Words.{lines_of}

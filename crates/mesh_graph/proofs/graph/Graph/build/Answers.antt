@@ -6,6 +6,6 @@ use Rattle.mesh_graph.proofs.graph.Graph.build.Goals as goal
 pub invariant_of-result : goal.invariant_of-result
 invariant_of-result c =
     let s : Groups = c.args.snapshot.now in
-    rw c.in_ok-snapshot.ensures (AreRows-from_each s c.in_ok-rows.rows.items (rw (← c.abandoned.ensures.entries) (omega arith)) (rw (← c.owned.ensures.entries) (omega arith))
+    AreRows-from_each s c.in_ok-rows.rows.items (rw (← c.abandoned.ensures.entries) (omega arith)) (rw (← c.owned.ensures.entries) (omega arith))
     (rw c.abandoned-2.ensures.entries at c.in_ok-rows.ensures.height)
-    (rw (c.abandoned-2.ensures.entries, c.owned-2.ensures.entries) at c.in_ok-rows.ensures.rows))
+    (rw (c.abandoned-2.ensures.entries, c.owned-2.ensures.entries) at c.in_ok-rows.ensures.rows)

@@ -6,7 +6,7 @@ use Rattle.mesh_graph.proofs.graph.Graph.row.Goals as goal
 width : (c : goal.After-deref) → length c.deref.result.now ≡ (length c.args.self.now.owned + 63) / 64
 width c =
     ap length c.deref.ensures.value
-    ∙ row-words c.self.inside.snapshot c.self.inside.rows.items c.args.i c.index.result.now c.self.invariant (subst (λ (s : Groups). c.args.i < length s.abandoned) (sym c.self.view_is) c.requires) c.index.ensures
+    ∙ row-words c.self.inside.snapshot.now c.self.inside.rows.items c.args.i c.index.result.now c.self.invariant (subst (λ (s : Groups). c.args.i < length s.abandoned) (sym c.self.view_is) c.requires) c.index.ensures
     ∙ ap (λ (s : Groups). (length s.owned + 63) / 64) c.self.view_is
 
 pub returns-clause-words : goal.returns-clause-words

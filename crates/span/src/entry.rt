@@ -1,8 +1,8 @@
 // A group as a plan sees it.
 ghost use Rattle.std.specs.Prelude.{◌≡◌};
 
+use crate::id::SpanId;
 use bitmap::Bits256;
-use span::SpanId;
 
 /// A group of a snapshot.
 #[derive(Clone, Copy, PartialEq, Eq, Debug)]
@@ -14,7 +14,7 @@ pub struct Entry {
 }
 
 impl Entry {
-    ghost use Rattle.mesh_graph.specs.Groups.{are_compatible};
+    ghost use Rattle.span.specs.Entries.{are_compatible};
 
     /// Whether no slot is occupied in both groups, so that one page can hold the words of both.
     pub fn is_compatible(&self, other: &Entry) -> bool
