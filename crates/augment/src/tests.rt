@@ -98,20 +98,18 @@ fn snapshot(alloc: Global, made: Made, last: u8) -> Option<Snapshot> {
     Snapshot::new(abandoned, owned).ok()
 }
 
-fn build_again(alloc: Global, snapshot: &Snapshot) -> Result<Graph, BuildError> {
+fn build_again(alloc: Global, snapshot: &Snapshot) -> Result<Graph<'_>, BuildError> {
     match Graph::build(alloc, snapshot, 1) {
         Err(_) => Graph::build(alloc, snapshot, 1),
         graph => graph,
     }
 }
 
-fn graph_again(alloc: Global, made: Made, last: u8) -> Option<(Snapshot, Graph)> {
-    let snapshot = match snapshot(alloc, made, last) {
-        None => snapshot(alloc, made, last)?,
-        Some(snapshot) => snapshot,
-    };
-    let graph = build_again(alloc, &snapshot).ok()?;
-    Some((snapshot, graph))
+fn snapshot_again(alloc: Global, made: Made, last: u8) -> Option<Snapshot> {
+    match snapshot(alloc, made, last) {
+        None => snapshot(alloc, made, last),
+        snapshot => snapshot,
+    }
 }
 
 // Plans. Where memory was refused, the same call plans the second time.
@@ -131,7 +129,8 @@ fn plan_counted_again(alloc: Global, graph: &Graph) -> Result<(Plan, Short, usiz
 
 // How many pairs and members of the short set a plan has and how many phases found it, where the checker accepts it.
 fn counted(alloc: Global, made: Made, last: u8) -> Option<(usize, usize, usize)> {
-    let (snapshot, graph) = graph_again(alloc, made, last)?;
+    let snapshot = snapshot_again(alloc, made, last)?;
+    let graph = build_again(alloc, &snapshot).ok()?;
     let (plan, short, phases) = plan_counted_again(alloc, &graph).ok()?;
     if check(&snapshot, &plan, &short) {
         Some((plan.pairs().len(), short.ids().len(), phases))
@@ -154,7 +153,8 @@ fn each_phase_turns_the_shortest_walks_round(rt: HostRuntime) {
 }
 
 fn sizes(alloc: Global) -> Option<(usize, usize)> {
-    let (_, graph) = graph_again(alloc, Made::Crossing, 8)?;
+    let snapshot = snapshot_again(alloc, Made::Crossing, 8)?;
+    let graph = build_again(alloc, &snapshot).ok()?;
     let (plan, short) = plan_again(alloc, &graph).ok()?;
     Some((plan.pairs().len(), short.ids().len()))
 }
