@@ -17,10 +17,10 @@
 //!
 //! ```text
 //! let mut spans = Spans::of(alloc, head);         // a span, and no guest yet
-//! let key = spans.put(3, 7)?;                     // at slot 3 of the head, generation 1; the word itself goes into the page
-//! spans.lowest_usable();                          // Some(0)
+//! let key = spans.put(7)?;                        // Some(key): slot 0 of the head, generation 1; the word itself goes into the page
 //! spans.push(guest)?;                             // a span whose live slots differ
-//! spans.free(0, 3, 1);                            // true: the key was live in the span at place 0, the head
+//! spans.free(0, 0, 1);                            // true: the key was live in the span at place 0, the head
+//! spans.entry();                                  // the head's id, and the slots that are live in one of the spans
 //!
 //! let mut directory = Directory::new(alloc);
 //! directory.reserve(1)?;

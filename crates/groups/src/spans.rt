@@ -147,8 +147,34 @@ impl<L: Log> Spans<L> {
         }
     }
 
-    /// The lowest slot that the head may be put at: it is live in no span, and not worn in the head.
-    pub fn lowest_usable(&self) -> Option<u8>
+    /// Puts the value at the lowest slot that is live in no span, and not worn in the head, which gives out the key.
+    /// `None` where there is no such slot. The spans are then as they were.
+    ///
+    /// # Errors
+    ///
+    /// `AllocError` where there is such a slot, and the head's log could not grow. The spans are then as they were.
+    pub fn put(&mut self, value: u128) -> Result<Option<Key>, AllocError>
+        ensures slot { IfOk result (λ made. MatchOption made (HasAllBelow (taken self.old) SLOTS)
+            (λ key. (key.slot < SLOTS) × IsLowestOutside (taken self.old) key.slot)) }
+        ensures key { IfOk result (λ made. IfSome made (λ key. (key.span ≡ self.old.head.id)
+            × (key.generation ≡ puts_of key.slot self.old.head.log + 1))) }
+        ensures ok { IfOk result (λ made. MatchOption made (self.new ≡ self.old)
+            (λ key. self.new ≡ record self.old {
+              head = with_put self.old.head key.slot
+                  value;
+            })) }
+        ensures room { OnErr result (HasAllBelow (taken self.old) SLOTS → ⊥) }
+        ensures err { OnErr result (self.new ≡ self.old) }
+    {
+        let Some(slot) = self.lowest_usable() else {
+            return Ok(None);
+        };
+        let key = self.put_at(slot, value)?;
+        Ok(Some(key))
+    }
+
+    // The lowest slot that the head may be put at: it is live in no span, and not worn in the head.
+    fn lowest_usable(&self) -> Option<u8>
         ensures lowest { MatchOption result (HasAllBelow (taken self.now) SLOTS)
             (λ slot. (slot < SLOTS) × IsLowestOutside (taken self.now) slot) }
         ensures in_range { IfSome result (λ slot. slot < SLOTS) }
@@ -156,12 +182,8 @@ impl<L: Log> Spans<L> {
         self.occupied.union(&self.head.worn()).lowest_outside()
     }
 
-    /// Puts the value at a slot that is live in no span, and not worn in the head, which gives out the key.
-    ///
-    /// # Errors
-    ///
-    /// `AllocError` where the head's log could not grow. The spans are then as they were.
-    pub fn put(&mut self, slot: u8, value: u128) -> Result<Key, AllocError>
+    // Puts the value at a slot that is live in no span, and not worn in the head.
+    fn put_at(&mut self, slot: u8, value: u128) -> Result<Key, AllocError>
         requires { set.contains (taken self.old) slot ≡ false }
         ensures key { IfOk result (λ key. (key.span ≡ self.old.head.id) × (key.slot ≡ slot)
             × (key.generation ≡ puts_of slot self.old.head.log + 1)) }

@@ -5,13 +5,13 @@ ghost use Rattle.span.specs.Ids.{rank};
 ghost use Rattle.span.specs.Order.{HasNoneFrom, IsFirstFrom};
 ghost use Rattle.span.specs.State.{SpanState};
 ghost use Rattle.span.specs.PlainMap as plain;
-ghost use Rattle.shard.specs.Group.{GroupState, IsLowestUsable};
+ghost use Rattle.shard.specs.Group.{GroupState};
 ghost use Rattle.groups.specs.Group.{Ascend, HasNoHead, IsElsewhere, IsHeadOf, IsHere, live_in, summary};
-ghost use Rattle.shard.specs.Rooms.{HasRooms, IsFirstRoom};
+ghost use Rattle.shard.specs.Rooms.{HasRooms};
 ghost use Rattle.shard.specs.Shown.{shown};
 ghost use Rattle.shard.specs.Sound.{IsSound};
 ghost use Rattle.groups.specs.Tables.{no_pages};
-ghost use Rattle.shard.specs.Calls.{Frees, Gets, IsFull, IsLowestRoom, IsSpent, Puts, PutsHere, PutsInNew, value_found, was_freed};
+ghost use Rattle.shard.specs.Calls.{Frees, Gets, IsFull, IsSpent, Puts, PutsFirst, PutsHere, PutsInNew, value_found, was_freed};
 ghost use Rattle.bitmap.specs.declared.bits.TheConstants.{SLOTS};
 ghost use Rattle.span.specs.declared.limits.TheConstants.{MOST_PAGES, MOST_SHARDS, MOST_SPANS};
 
@@ -288,8 +288,8 @@ impl<L: Log> Shard<L> {
         if self.ended {
             return Err(PutError::Ended);
         }
-        if let Some((index, slot)) = first_room(self.groups.as_slice(), &mut self.rooms) {
-            return self.put_in(index, slot, value);
+        if let Some(made) = self.put_here(value)? {
+            return Ok(made);
         }
         if self.groups.len() >= self.page_limit || self.opened >= MOST_SPANS {
             return Err(PutError::PagesSpent);
@@ -297,19 +297,21 @@ impl<L: Log> Shard<L> {
         self.put_in_new(value)
     }
 
-    // Puts the value at the lowest usable slot of the lowest group that has one. Its log grows first.
-    fn put_in(&mut self, index: usize, slot: u8, value: u128) -> Result<(Key, usize), PutError>
-        requires room { (group : GroupState) × IsLowestRoom self.old.groups index group slot }
-        requires running { self.old.ended ≡ false }
-        ensures ok { IfOk result (λ made. PutsHere self.old value made.0 made.1 self.new) }
+    // Puts the value at the lowest usable slot of the lowest group that has one, if one has. Its log grows first.
+    fn put_here(&mut self, value: u128) -> Result<Option<(Key, usize)>, PutError>
+        ensures ok { IfOk result (λ found. MatchOption found
+            (IsFull self.old.groups × (self.new ≡ self.old))
+            (λ made. PutsHere self.old value made.0 made.1 self.new)) }
         ensures only { IsOkUnless result PutError.OutOfMemory }
+        ensures room { OnErr result (IsFull self.old.groups → ⊥) }
         ensures err { OnErr result (self.new ≡ self.old) }
     {
-        let group = &mut self.groups[index];
-        let at = group.span_at(0).changes();
-        let key = group.put(slot, value)?;
-        self.table.set_at(group.page(), slot, value);
-        Ok((key, at))
+        let Some((index, key, at)) = put_first(&mut self.groups, &mut self.rooms, value)? else {
+            return Ok(None);
+        };
+        self.table
+            .set_at(self.groups[index].page(), key.slot, value);
+        Ok(Some((key, at)))
     }
 
     // Opens a span on a new page, with the value at its first slot. The new head, the list of groups and the
@@ -441,20 +443,31 @@ fn lower_heads<L: Log>(groups: &[Group<L>], id: SpanId) -> usize
     low
 }
 
-// The first open group that has a usable slot, and the lowest such slot. Groups that have none leave the set.
-fn first_room<L: Log>(groups: &[Group<L>], rooms: &mut Rooms) -> Option<(usize, u8)>
-    requires rooms { HasRooms groups.now rooms.old }
-    requires many { length groups.now ≤ MOST_PAGES }
-    ensures room { MatchOption result (IsFull groups.now)
-        (λ at. (group : GroupState) × IsFirstRoom groups.now at.0 group at.1) }
-    ensures in_range { IfSome result (λ at. at.1 < SLOTS) }
-    ensures rooms { HasRooms groups.now rooms.new }
+// Puts the value at the lowest usable slot of the first open group that has one, and answers that group's index, the
+// key, and how many changes its head's log had before. Groups that have none leave the set.
+fn put_first<L: Log>(
+    groups: &mut Vec<Group<L>>,
+    rooms: &mut Rooms,
+    value: u128,
+) -> Result<Option<(usize, Key, usize)>, AllocError>
+    requires rooms { HasRooms groups.old.items rooms.old }
+    requires many { length groups.old.items ≤ MOST_PAGES }
+    ensures ok { IfOk result (λ found. MatchOption found
+        (IsFull groups.old.items × (groups.new.items ≡ groups.old.items))
+        (λ made. (group : GroupState) × PutsFirst groups.old.items value group made.0 made.1 made.2
+        groups.new.items)) }
+    ensures room { OnErr result (IsFull groups.old.items → ⊥) }
+    ensures err { OnErr result (groups.new.items ≡ groups.old.items) }
+    ensures rooms { HasRooms groups.new.items rooms.new }
+    ensures capacity { vec_capacity groups.new ≡ vec_capacity groups.old }
 {
     while let Some(index) = rooms.lowest() {
-        if let Some(slot) = groups[index].lowest_usable() {
-            return Some((index, slot));
+        let group = &mut groups[index];
+        let at = group.span_at(0).changes();
+        if let Some(key) = group.put(value)? {
+            return Ok(Some((index, key, at)));
         }
         rooms.remove(index);
     }
-    None
+    Ok(None)
 }

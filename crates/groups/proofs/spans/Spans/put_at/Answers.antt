@@ -6,7 +6,7 @@ use Rattle.span.specs.State.{SpanState}
 use Rattle.span.proofs.Slots.{live_slots-put}
 use Rattle.groups.specs.Spans.{SpansState, taken, union_of}
 use Rattle.groups.proofs.Unions.{outside_left, outside_right, union-insert, AreDisjoint-insert}
-use Rattle.groups.proofs.spans.Spans.put.Goals as goal
+use Rattle.groups.proofs.spans.Spans.put_at.Goals as goal
 
 pub put_at-requires-clause-not_live : goal.put_at-requires-clause-not_live
 put_at-requires-clause-not_live g c =
