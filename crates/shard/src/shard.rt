@@ -11,6 +11,7 @@ ghost use Rattle.shard.specs.Rooms.{HasRooms};
 ghost use Rattle.shard.specs.Shown.{shown};
 ghost use Rattle.shard.specs.Sound.{IsSound};
 ghost use Rattle.groups.specs.Tables.{no_pages};
+ghost use Rattle.page_table.specs.State.{HasPage};
 ghost use Rattle.shard.specs.Calls.{Frees, Gets, IsFull, IsSpent, Puts, PutsFirst, PutsHere, PutsInNew, value_found, was_freed};
 ghost use Rattle.bitmap.specs.declared.bits.TheConstants.{SLOTS};
 ghost use Rattle.span.specs.declared.limits.TheConstants.{MOST_PAGES, MOST_SHARDS, MOST_SPANS};
@@ -306,12 +307,8 @@ impl<L: Log> Shard<L> {
         ensures room { OnErr result (IsFull self.old.groups → ⊥) }
         ensures err { OnErr result (self.new ≡ self.old) }
     {
-        let Some((index, key, at)) = put_first(&mut self.groups, &mut self.rooms, value)? else {
-            return Ok(None);
-        };
-        self.table
-            .set_at(self.groups[index].page(), key.slot, value);
-        Ok(Some((key, at)))
+        let made = put_first(&mut self.groups, &mut self.rooms, &mut self.table, value)?;
+        Ok(made)
     }
 
     // Opens a span on a new page, with the value at its first slot. The new head, the list of groups and the
@@ -443,21 +440,24 @@ fn lower_heads<L: Log>(groups: &[Group<L>], id: SpanId) -> usize
     low
 }
 
-// Puts the value at the lowest usable slot of the first open group that has one, and answers that group's index, the
-// key, and how many changes its head's log had before. Groups that have none leave the set.
+// Puts the value at the lowest usable slot of the first open group that has one, and into its page. It gives the key, and
+// how many changes the head's log had before. Groups that have no usable slot leave the set.
 fn put_first<L: Log>(
     groups: &mut Vec<Group<L>>,
     rooms: &mut Rooms,
+    table: &mut Table,
     value: u128,
-) -> Result<Option<(usize, Key, usize)>, AllocError>
+) -> Result<Option<(Key, usize)>, AllocError>
     requires rooms { HasRooms groups.old.items rooms.old }
     requires many { length groups.old.items ≤ MOST_PAGES }
+    requires pages { (index : ℕ) (group : GroupState)
+        → slice_get groups.old.items index ≡ Some group → HasPage table.old group.page }
     ensures ok { IfOk result (λ found. MatchOption found
-        (IsFull groups.old.items × (groups.new.items ≡ groups.old.items))
-        (λ made. (group : GroupState) × PutsFirst groups.old.items value group made.0 made.1 made.2
-        groups.new.items)) }
+        (IsFull groups.old.items × (groups.new.items ≡ groups.old.items) × (table.new ≡ table.old))
+        (λ made. PutsFirst groups.old.items table.old value made.0 made.1 groups.new.items
+        table.new)) }
     ensures room { OnErr result (IsFull groups.old.items → ⊥) }
-    ensures err { OnErr result (groups.new.items ≡ groups.old.items) }
+    ensures err { OnErr result ((groups.new.items ≡ groups.old.items) × (table.new ≡ table.old)) }
     ensures rooms { HasRooms groups.new.items rooms.new }
     ensures capacity { vec_capacity groups.new ≡ vec_capacity groups.old }
 {
@@ -465,7 +465,8 @@ fn put_first<L: Log>(
         let group = &mut groups[index];
         let at = group.span_at(0).changes();
         if let Some(key) = group.put(value)? {
-            return Ok(Some((index, key, at)));
+            table.set_at(group.page(), key.slot, value);
+            return Ok(Some((key, at)));
         }
         rooms.remove(index);
     }

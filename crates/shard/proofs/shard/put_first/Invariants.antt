@@ -8,6 +8,7 @@ abbrev pub invariant-loop-index : goal.invariant-loop-index
 invariant-loop-index g l = record {
   same : l.groups.items ≡ l.fn.groups.items;
   rooms : HasRooms l.groups.items l.rooms;
+  table : l.table ≡ l.fn.table;
   capacity : vec_capacity l.groups ≡ vec_capacity l.fn.groups;
 }
 

@@ -1,4 +1,4 @@
-use Rattle.std.proofs.Common.{◌≡◌, ◌∙◌, ◌<◌, ap, arith, false, inl, length, subst, sym}
+use Rattle.std.proofs.Common.{◌≡◌, ◌∙◌, ◌<◌, ap, arith, inl, length, subst, sym}
 use Rattle.std.specs.Prelude.{IfOk, OnErr}
 use Rattle.shard.specs.Calls.{IsFull, Puts, PutsInNew}
 use Rattle.shard.specs.Kept.{state_of}
