@@ -1,11 +1,11 @@
 -- Where a head stands, or would stand, among groups whose heads ascend.
-use Rattle.std.proofs.Common.{◌≡◌, ℕ, ◌+◌, ◌<◌, ◌≤◌, List, length, Some, slice_get, ◌∙◌, ap, sym, inl, inr, arith}
+use Rattle.std.proofs.Common.{◌≡◌, ℕ, ◌<◌, ◌≤◌, List, length, Some, slice_get, ◌∙◌, ap, sym, inl, inr, arith}
 use Rattle.std.proofs.lemmas.Bool.{cases_eq, cases_lt}
 use Rattle.std.proofs.lemmas.Option.{slice_get_within}
 use Rattle.span.specs.Ids.{rank}
 use Rattle.span.specs.declared.id.SpanId.{SpanId}
 use Rattle.groups.proofs.Heads.{AreAscending}
-use Rattle.groups.proofs.Lists.{same_some, there_at}
+use Rattle.groups.proofs.Lists.{there_at}
 use Rattle.groups.proofs.Ranks.{id_from_rank}
 
 -- `id_of` gives the id of a group's head
@@ -44,41 +44,3 @@ module _ {G : Type 0} (id_of : G → SpanId) where
             let lower : rank (id_of at.0) < rank (id_of group) = ascend index other at.0 group less at.1 there in
             let least : rank id ≤ rank (id_of at.0) = is.others index at.0 (omega arith) at.1 in
             omega arith
-
-  -- the heads below one place are lower than the number, and those from another on are not
-  pub record IsSearched (groups : List G) (number low high : ℕ) : Type 0 where
-    pub ordered : low ≤ high
-    pub within : high ≤ length groups
-    pub lower : (other : ℕ) (group : G) → other < low → slice_get groups other ≡ Some group → rank (id_of group) < number
-    pub others : (other : ℕ) (group : G) → high ≤ other → slice_get groups other ≡ Some group → number ≤ rank (id_of group)
-
-  pub IsSearched-first : (groups : List G) (number count : ℕ) → count ≡ length groups → IsSearched groups number 0 count
-  IsSearched-first groups number count all = record {
-    ordered = omega arith;
-    within = omega arith;
-    lower = λ other group less there. absurd (omega arith);
-    others = λ other group above there. absurd (let less : other < length groups = slice_get_within groups other group there in omega arith);
-  }
-
-  module _ (groups : List G) (number low high : ℕ) (is : IsSearched groups number low high) (ascend : AreAscending id_of groups) (middle : ℕ) (at : G) (here : slice_get groups middle ≡ Some at) where
-    pub IsSearched-above : middle < high → rank (id_of at) < number → IsSearched groups number (middle + 1) high
-    IsSearched-above below less = record {
-      ordered = omega arith;
-      within = is.within;
-      lower = λ other group under there. elim (cases_eq other middle) [
-        | inl same ↦ rw (ap (λ (g : G). rank (id_of g)) (same_some (sym there ∙ ap (slice_get groups) same ∙ here))) less
-        | inr apart ↦ (let first : rank (id_of group) < rank (id_of at) = ascend other middle group at (omega arith) there here in omega arith)
-      ];
-      others = is.others;
-    }
-
-    pub IsSearched-below : low ≤ middle → number ≤ rank (id_of at) → IsSearched groups number low middle
-    IsSearched-below above least = record {
-      ordered = above;
-      within = let less : middle < length groups = slice_get_within groups middle at here in omega arith;
-      lower = is.lower;
-      others = λ other group over there. elim (cases_eq other middle) [
-        | inl same ↦ rw (ap (λ (g : G). rank (id_of g)) (same_some (sym there ∙ ap (slice_get groups) same ∙ here))) least
-        | inr apart ↦ (let later : rank (id_of at) < rank (id_of group) = ascend middle other at group (omega arith) here there in omega arith)
-      ];
-    }

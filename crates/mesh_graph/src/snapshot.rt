@@ -2,7 +2,7 @@
 ghost use Rattle.std.specs.Prelude.{◌≡◌, ◌<◌, false, true, length, IfErr, IfNone, IfOk, IfSome, slice_index_or};
 ghost use Rattle.std.specs.List.{IsDistinct, list_any};
 ghost use Rattle.std.specs.List.Sorted.{IsPermutation};
-ghost use Rattle.span.specs.Ids.{same_span};
+ghost use Rattle.span.specs.Ids.{rank, same_span};
 ghost use Rattle.mesh_graph.specs.Groups.{IsAscending, any_compatible, has_id, ids};
 
 use span::{Entry, SpanId};
@@ -116,7 +116,7 @@ fn sorted(mut entries: Vec<Entry>) -> Result<Vec<Entry>, Doubled>
     Ok(entries)
 }
 
-// The place of the group that has the id, by halving.
+// The place of the group that has the id.
 fn place_of(entries: &[Entry], id: SpanId) -> Option<usize>
     requires { IsAscending (ids entries.now) }
     ensures within { IfSome result (λ k. k < length entries.now) }
@@ -124,20 +124,12 @@ fn place_of(entries: &[Entry], id: SpanId) -> Option<usize>
         → same_span (slice_index_or entries.now k d).id id ≡ true) }
     ensures none { IfNone result (has_id entries.now id ≡ false) }
 {
-    let rank = id.rank();
-    let mut low = 0;
-    let mut high = entries.len();
-    'search: while low < high {
-        let middle = low + (high - low) / 2;
-        let here = entries[middle].id.rank();
-        if here == rank {
-            return Some(middle);
-        }
-        if here < rank {
-            low = middle + 1;
-        } else {
-            high = middle;
-        }
-    }
-    None
+    entries
+        .binary_search_by_key(
+            &id.rank(),
+            |entry: &Entry| -> u32
+                ensures { result ≡ rank entry.now.id }
+            { entry.id.rank() },
+        )
+        .ok()
 }

@@ -1,5 +1,5 @@
 // A shard and its calls on keys.
-ghost use Rattle.std.specs.Prelude.{◌*◌, ◌+◌, ◌≡◌, ◌<◌, ◌≤◌, ℕ, [], insert, vec_len, vec_capacity, map, length, IsTrue, IsOk, IfOk, IfSome, IsOkUnless, ◌↔◌, OnErr, MatchOption, Some, None, true, false, slice_get, if◌then◌else◌, is_some};
+ghost use Rattle.std.specs.Prelude.{◌*◌, ◌+◌, ◌≡◌, ◌<◌, ◌≤◌, ℕ, [], insert, vec_len, vec_capacity, map, length, IsTrue, IsOk, IfOk, IfSome, IsOkUnless, ◌↔◌, OnErr, MatchOption, Some, None, nat_lt, true, false, slice_get, if◌then◌else◌, is_some};
 ghost use Rattle.std.specs.List.Sorted.{IsStrictlyIncreasing};
 ghost use Rattle.span.specs.Ids.{rank};
 ghost use Rattle.span.specs.Order.{HasNoneFrom, IsFirstFrom};
@@ -418,7 +418,7 @@ fn insert_reserved<L: Log>(groups: &mut Vec<Group<L>>, index: usize, group: Grou
     }
 }
 
-// How many heads are lower than the id, by halving.
+// How many heads are lower than the id.
 fn lower_heads<L: Log>(groups: &[Group<L>], id: SpanId) -> usize
     requires { Ascend groups.now }
     ensures within { result ≤ length groups.now }
@@ -427,17 +427,11 @@ fn lower_heads<L: Log>(groups: &[Group<L>], id: SpanId) -> usize
     ensures others { (other : ℕ) (group : GroupState) → result ≤ other
         → slice_get groups.now other ≡ Some group → rank id ≤ rank group.head.id }
 {
-    let mut low = 0;
-    let mut high = groups.len();
-    while low < high {
-        let middle = low + (high - low) / 2;
-        if groups[middle].head_id().rank() < id.rank() {
-            low = middle + 1;
-        } else {
-            high = middle;
-        }
-    }
-    low
+    groups.partition_point(
+        |group: &Group<L>| -> bool
+            ensures { result ≡ nat_lt (rank group.now.head.id) (rank id) }
+        { group.head_id().rank() < id.rank() },
+    )
 }
 
 // Puts the value at the lowest usable slot of the first open group that has one, and into its page. It gives the key, and
