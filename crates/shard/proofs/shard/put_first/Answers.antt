@@ -1,12 +1,12 @@
 use Rattle.std.proofs.Common.{◌≡◌, ◌∙◌, List, Some, ap, length, refl, set, slice_get, subst, sym}
 use Rattle.std.proofs.lemmas.Option.{slice_get_read}
+use Rattle.page_table.proofs.Maps.{at_err}
 use Rattle.page_table.specs.State.{HasPage, TableState, with_word}
 use Rattle.span.specs.State.{SpanState}
 use Rattle.groups.proofs.Lists.{same_some, set-same}
 use Rattle.shard.specs.Calls.{IsFull}
 use Rattle.shard.specs.Group.{GroupState, HasNoRoom}
 use Rattle.shard.specs.Rooms.{IsFirstRoom}
-use Rattle.shard.proofs.PutResult.{on_error}
 use Rattle.shard.proofs.RoomBits.{HasRooms-remove, HasRooms-set, IsFirstRoom-lowest, IsFull-empty, len-remove_lt}
 use Rattle.shard.proofs.shard.put_first.Goals as goal
 
@@ -80,7 +80,7 @@ returns-in_err-key-clause-err g c =
     let at = c.in-Some.index in
     let group = c.index_mut-group.result.now in
     let here : slice_get now at ≡ Some group = slice_get_read now _ at group refl (c.loop-index.invariant.rooms.within at c.in-Some.ensures.lowest.inside) c.index_mut-group.ensures.value in
-    on_error c.from_residual.result _ (
+    at_err c.from_residual.result (
       ap (set now at) (c.in_err-key.ensures {u = tt}).err ∙ set-same now at group here ∙ c.loop-index.invariant.same,
       c.loop-index.invariant.table,
     )

@@ -1,5 +1,6 @@
 use Rattle.std.proofs.Common.{◌≡◌, ◌∙◌, ap, arith, inl, inr, length, length-set, refl, subst, sym}
 use Rattle.std.specs.Prelude.{vec_capacity}
+use Rattle.page_table.proofs.Maps.{at_err}
 use Rattle.page_table.specs.State.{TableState}
 use Rattle.shard.specs.Calls.{IsFull}
 use Rattle.shard.specs.Kept.{state_of}
@@ -7,7 +8,6 @@ use Rattle.shard.specs.State.{ShardState}
 use Rattle.shard.proofs.GuestRoom.{HasGuestRoom-set}
 use Rattle.shard.proofs.PutFirst.{PutsHere-first, cases_found}
 use Rattle.shard.proofs.PutHere.{IsSound-put_here}
-use Rattle.shard.proofs.PutResult.{on_error}
 use Rattle.shard.proofs.RoomBits.{IsLowestRoom-first}
 use Rattle.groups.proofs.KnownGuests.{KnowsGuests-set}
 use Rattle.shard.proofs.shard.Shard.put_here.Goals as goal
@@ -74,4 +74,4 @@ invariant_of-self g c =
 
 pub returns-in_err-made-clause-room : goal.returns-in_err-made-clause-room
 returns-in_err-made-clause-room g c =
-    on_error c.from_residual.result _ (λ full. (c.in_err-made.ensures {u = tt}).room (subst (λ (s : ShardState). IsFull s.groups) (sym c.self.view_is) full))
+    at_err c.from_residual.result (λ full. (c.in_err-made.ensures {u = tt}).room (subst (λ (s : ShardState). IsFull s.groups) (sym c.self.view_is) full))
