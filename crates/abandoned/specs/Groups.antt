@@ -1,4 +1,4 @@
--- The groups of the pool, each at the place of its head.
+-- The groups of the pool, each at the place of its head. No public clause cites this module.
 use Rattle.std.specs.Prelude.{◌≡◌, ◌⊎◌, ◌*◌, ℕ, Bool, false, List, Option, None, Some, filter_map, is_some, length, remove, slice_get, slice_set}
 use Rattle.bitmap.specs.Slots.{SlotSet}
 use Rattle.span.specs.declared.id.SpanId.{SpanId}

@@ -1,4 +1,4 @@
--- What the pool's groups keep of their places.
+-- What the pool's groups keep of their places. No public clause cites this module.
 use Rattle.std.specs.Prelude.{◌≡◌, ℕ, ◌<◌, Some, length, slice_get}
 use Rattle.span.specs.Ids.{rank}
 use Rattle.shard.specs.Rooms.{has_index}

@@ -1,4 +1,4 @@
--- What a shard's groups need on their way to the pool, and what they leave behind.
+-- What a shard's groups need on their way to the pool, and what they leave behind. No public clause cites this module.
 use Rattle.std.specs.Prelude.{◌≡◌, ◌+◌, ◌≤◌, [], length, count_by}
 use Rattle.span.specs.Ids.{same_span}
 use Rattle.span.specs.declared.id.SpanId.{SpanId}

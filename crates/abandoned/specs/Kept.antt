@@ -1,4 +1,4 @@
--- What a pool keeps.
+-- What a pool keeps. No public clause cites this module.
 use Rattle.std.specs.Prelude.{◌≤◌}
 use Rattle.groups.specs.Directory.{KnowsGuests}
 use Rattle.abandoned.specs.Sound.{IsSound}

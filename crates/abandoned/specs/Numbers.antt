@@ -1,4 +1,4 @@
--- Sets of numbers, 256 a part.
+-- Sets of numbers, 256 a part. No public clause cites this module.
 use Rattle.std.specs.Prelude.{◌≡◌, ◌≢◌, ◌/◌, ℕ, ◌<◌, ◌≤◌, List, true, false}
 use Rattle.std.specs.FinSet.{contains}
 use Rattle.bitmap.specs.Slots.{SlotSet}

@@ -45,7 +45,3 @@ all_settled items row a b section counts lists0 lists after x greatest same list
     subst (λ k. IsSettled a s k (row (get_or counts s c)) (items (get_or lists0 s d)) (items (get_or after s e))) sections
     (subst (λ l. IsSettled a s section (row (get_or counts s c)) l (items (get_or after s e))) old
     (settled_from a b s section x (row (get_or counts s c)) (items (get_or lists s d)) (items (get_or after s e)) inside (counted s c below) (freed s x d e inside)))
-
-pub on_err : {A E : Type 0} (P : Type 0) (r : Result A E) → P → OnErr r P
-on_err P (Ok x) holds = tt
-on_err P (Err e) holds = holds

@@ -1,4 +1,4 @@
--- How many spans are behind the locks of an arena.
+-- How many spans are behind the locks of an arena. No public clause cites this module.
 use Rattle.std.specs.Prelude.{ℕ, List, length, sum_by}
 use Rattle.shard.specs.State.{ShardState}
 use Rattle.groups.specs.Group.{spans_in}

@@ -1,4 +1,4 @@
--- What a change does to its slot, as the walk over a log keeps it.
+-- What a change does to its slot, as the walk over a log keeps it. No public clause cites this module.
 use Rattle.std.specs.Prelude.{◌≡◌, ℕ, ◌<◌, Option, Some, None, List, slice_index_or}
 use Rattle.std.specs.Option.{option_map}
 use Rattle.std.specs.FinMap as map

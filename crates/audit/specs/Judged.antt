@@ -1,4 +1,4 @@
--- What comes of the calls of each worker, and of all.
+-- What comes of the calls of each worker, and of all. No public clause cites this module.
 use Rattle.std.specs.Prelude.{◌≡◌, ℕ, ◌<◌, Option, None, Some, List, [], length, slice_get, slice_index_or}
 use Rattle.span.specs.declared.receipt.Receipt.{Receipt}
 use Rattle.span.specs.declared.span_log.SpanLog.{SpanLog}

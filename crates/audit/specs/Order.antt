@@ -1,4 +1,4 @@
--- What the walk over a worker's calls keeps.
+-- What the walk over a worker's calls keeps. No public clause cites this module.
 use Rattle.std.specs.Prelude.{◌≡◌, ℕ, ◌+◌, ◌<◌, ◌≤◌, ◌⊎◌, Some, List, slice_get, slice_index_or}
 use Rattle.span.specs.declared.receipt.Receipt.{Receipt}
 use Rattle.span.specs.Ids.{rank}

@@ -1,4 +1,4 @@
--- A log's changes by slot, among which the last one of a slot is found by halving.
+-- A log's changes by slot, among which the last one of a slot is found by halving. No public clause cites this module.
 use Rattle.std.specs.Prelude.{◌≡◌, ℕ, ◌+◌, ◌*◌, ◌<◌, ◌≤◌, Some, List, length, slice_get}
 use Rattle.std.specs.List.Sorted.{IsNonDecreasingBy, IsPermutation}
 use Rattle.span.specs.declared.change.Change.{Change}

@@ -1,4 +1,4 @@
--- The tables of an audit: where each span's log stands, and which section made each change.
+-- The tables of an audit: where each span's log stands, and which section made each change. No public clause cites this module.
 use Rattle.std.specs.Prelude.{◌≡◌, ℕ, ◌-◌, ◌<◌, ◌≤◌, Bool, true, false, Option, Some, None, List, [], length, slice_get, slice_index_or}
 use Rattle.span.specs.declared.change.Change.{Change}
 use Rattle.span.specs.declared.id.SpanId.{SpanId}

@@ -1,4 +1,4 @@
--- Plans by places, and what a search along alternating walks has reached
+-- Plans by places, and what a search along alternating walks has reached. No public clause cites this module.
 use Rattle.std.specs.Prelude.{ℕ, ◌≡◌, ◌≢◌, ◌<◌, Bool, true, false, List, length, Option, Some, None, is_some, not, slice_index_or, count_by}
 use Rattle.augment.specs.declared.walks.Reached.{Reached}
 use Rattle.augment.specs.Mates.{mate}

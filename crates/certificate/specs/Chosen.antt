@@ -1,4 +1,4 @@
--- Groups whose ids are in a set of words.
+-- Groups whose ids are in a set of words. No public clause cites this module.
 use Rattle.std.specs.Prelude.{ℕ, ◌&&◌, Bool, List}
 use Rattle.std.specs.List.{list_any}
 use Rattle.bitmap.specs.Slots.{has_bit}

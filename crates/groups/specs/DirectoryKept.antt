@@ -1,4 +1,4 @@
--- How a directory's fields show, and what they keep.
+-- How a directory's fields show, and what they keep. No public clause cites this module.
 use Rattle.std.specs.Prelude.{ℕ, ◌≤◌}
 use Rattle.std.specs.FinMap as map
 use Rattle.std.specs.HashMap.{HashMap, spare}

@@ -1,4 +1,4 @@
--- What spans on one page keep beside themselves.
+-- What spans on one page keep beside themselves. No public clause cites this module.
 use Rattle.std.specs.Prelude.{◌≡◌, List}
 use Rattle.bitmap.specs.Slots.{SlotSet}
 use Rattle.span.specs.State.{SpanState}

@@ -15,7 +15,8 @@ use Rattle.shard.specs.Group.{GroupState}
 use Rattle.shard.specs.Sound.{IsSound as IsSoundShard}
 use Rattle.shard.specs.State.{ShardState}
 use Rattle.mesh_graph.specs.Groups.{ids}
-use Rattle.marks.specs.Closings.{ClosesAt, HasHead, IsOnce, closed_by, closing}
+use Rattle.marks.specs.Closings.{closed_by, closing}
+use Rattle.marks.specs.OneShard.{ClosesAt, HasHead, IsOnce}
 use Rattle.marks.specs.Seen.{owned_entries}
 use Rattle.marks.proofs.Closings.{closed-others, closing-more, closing-none, lent-set}
 use Rattle.marks.proofs.Entries.{entries_in}

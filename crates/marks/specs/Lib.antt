@@ -1,4 +1,5 @@
 pub mod Closings
 pub mod Numbers
+pub mod OneShard
 pub mod Plans
 pub mod Seen

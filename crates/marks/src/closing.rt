@@ -5,7 +5,8 @@ ghost use Rattle.span.specs.Ids.{same_span};
 ghost use Rattle.span.specs.declared.id.SpanId.{SpanId};
 ghost use Rattle.mesh_graph.specs.Groups.{ids};
 ghost use Rattle.shard.specs.State.{ShardState};
-ghost use Rattle.marks.specs.Closings.{ClosesAt, IsOnce, closing, reopened};
+ghost use Rattle.marks.specs.Closings.{closing, reopened};
+ghost use Rattle.marks.specs.OneShard.{ClosesAt, IsOnce};
 ghost use Rattle.marks.specs.Seen.{owned_entries};
 
 use crate::lends_shard::LendsShard;

@@ -1,4 +1,4 @@
--- The rows of bits of a graph.
+-- The rows of bits of a graph. No public clause cites this module.
 use Rattle.std.specs.Prelude.{ℕ, ◌≡◌, ◌<◌, ◌≤◌, ◌+◌, ◌/◌, List, [], length, slice_index_or}
 use Rattle.std.specs.List.{slice_get}
 use Rattle.bitmap.specs.Slots.{has_bit}

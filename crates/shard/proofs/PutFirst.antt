@@ -3,8 +3,9 @@ use Rattle.std.proofs.Common.{◌≡◌, ℕ, ◌⊎◌, List, None, Option, Som
 use Rattle.std.specs.Prelude.{MatchOption}
 use Rattle.span.specs.declared.key.Key.{Key}
 use Rattle.page_table.specs.State.{TableState}
-use Rattle.shard.specs.Calls.{IsFull, IsLowestRoom, PutsFirst, PutsHere}
+use Rattle.shard.specs.Calls.{IsFull, IsLowestRoom, PutsHere}
 use Rattle.shard.specs.Group.{GroupState}
+use Rattle.shard.specs.Rooms.{PutsFirst}
 use Rattle.shard.specs.Sound.{IsSound}
 use Rattle.shard.specs.State.{ShardState}
 use Rattle.shard.proofs.RoomBits.{IsLowestRoom-first}

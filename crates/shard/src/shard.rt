@@ -7,12 +7,12 @@ ghost use Rattle.span.specs.State.{SpanState};
 ghost use Rattle.span.specs.PlainMap as plain;
 ghost use Rattle.shard.specs.Group.{GroupState};
 ghost use Rattle.groups.specs.Group.{Ascend, HasNoHead, IsElsewhere, IsHeadOf, IsHere, live_in, summary};
-ghost use Rattle.shard.specs.Rooms.{HasRooms};
+ghost use Rattle.shard.specs.Rooms.{HasRooms, PutsFirst};
 ghost use Rattle.shard.specs.Shown.{shown};
 ghost use Rattle.shard.specs.Sound.{IsSound};
 ghost use Rattle.groups.specs.Tables.{no_pages};
 ghost use Rattle.page_table.specs.State.{HasPage};
-ghost use Rattle.shard.specs.Calls.{Frees, Gets, IsFull, IsSpent, Puts, PutsFirst, PutsHere, PutsInNew, value_found, was_freed};
+ghost use Rattle.shard.specs.Calls.{Frees, Gets, IsFull, IsSpent, Puts, PutsHere, PutsInNew, value_found, was_freed};
 ghost use Rattle.bitmap.specs.declared.bits.TheConstants.{SLOTS};
 ghost use Rattle.span.specs.declared.limits.TheConstants.{MOST_PAGES, MOST_SHARDS, MOST_SPANS};
 

@@ -1,4 +1,4 @@
--- What a span keeps beside its log, and the log's room.
+-- What a span keeps beside its log, and the log's room. No public clause cites this module.
 use Rattle.std.specs.Prelude.{◌≡◌, ℕ, ◌+◌, ◌*◌, ◌^◌, ◌<◌, ◌≤◌, List, Vec, length, slice_index, vec_len}
 use Rattle.std.specs.FinSet as set
 use Rattle.std.specs.declared.alloc.Global.{Global}

@@ -1,4 +1,4 @@
--- The room of a list.
+-- The room of a list. No public clause cites this module.
 use Rattle.std.specs.Prelude.{ℕ, ◌-◌, Vec, vec_len, vec_capacity}
 use Rattle.std.specs.declared.alloc.Global.{Global}
 use Rattle.span.specs.declared.change.Change.{Change}

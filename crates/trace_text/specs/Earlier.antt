@@ -1,4 +1,4 @@
--- What is kept of the lines before a line.
+-- What is kept of the lines before a line. No public clause cites this module.
 use Rattle.std.specs.Prelude.{◌≡◌, ◌≤◌, ◌||◌, ℕ, Bool, List, Option, Some, nat_eq, if◌then◌else◌}
 use Rattle.std.specs.HashMap as hash
 use Rattle.std.specs.HashSet as bag

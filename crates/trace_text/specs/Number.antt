@@ -1,4 +1,4 @@
--- What is kept of a number.
+-- What is kept of a number. No public clause cites this module.
 use Rattle.std.specs.Prelude.{◌≡◌, ◌≤◌, ◌^◌, ℕ, Option, Some, None, option_map}
 use Rattle.std.specs.Int.{IsInRange}
 use Rattle.certificate.specs.Number.{clip}

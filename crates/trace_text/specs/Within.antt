@@ -1,4 +1,4 @@
--- Lines as the parser keeps them: a number that does not fit is clipped, and a value that does not is refused before anything else is asked.
+-- Lines as the parser keeps them: a number that does not fit is clipped, and a value that does not is refused before anything else is asked. No public clause cites this module.
 use Rattle.std.specs.Prelude.{ℕ, Bool, false, nat_le, ◌^◌, List, Option, Some, None, Result, Ok, Err, if◌then◌else◌}
 use Rattle.certificate.specs.Number.{clip}
 use Rattle.trace_text.specs.Reference.{clip_reference}

@@ -1,13 +1,14 @@
 use Rattle.std.proofs.Common.{[], vec_items}
-use Rattle.arena.proofs.Ended.{all_settled, on_err}
+use Rattle.page_table.proofs.Maps.{at_err}
+use Rattle.arena.proofs.Ended.{all_settled}
 use Rattle.arena.proofs.Linking.{AreLinked-same, still_in_order}
 use Rattle.arena.proofs.ending.settled.Goals as goal
 
 pub returns-in_err-counts-clause-linked : goal.returns-in_err-counts-clause-linked
-returns-in_err-counts-clause-linked g c = on_err _ _ (AreLinked-same c.args.seats.now c.make_room.new.seats c.make_room.ensures.same c.requires.linked)
+returns-in_err-counts-clause-linked g c = at_err _ (AreLinked-same c.args.seats.now c.make_room.new.seats c.make_room.ensures.same c.requires.linked)
 
 pub returns-in_err-unlocked-clause-linked : goal.returns-in_err-unlocked-clause-linked
-returns-in_err-unlocked-clause-linked g c = on_err _ _ (AreLinked-same c.args.seats.now c.make_room.new.seats c.make_room.ensures.same c.requires.linked)
+returns-in_err-unlocked-clause-linked g c = at_err _ (AreLinked-same c.args.seats.now c.make_room.new.seats c.make_room.ensures.same c.requires.linked)
 
 pub settle_seats-requires-clause-in_order : goal.settle_seats-requires-clause-in_order
 settle_seats-requires-clause-in_order g c = still_in_order c.args.seats.now c.make_room.new.seats c.requires.linked c.make_room.ensures.same
