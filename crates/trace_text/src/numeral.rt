@@ -1,6 +1,6 @@
 //! Numbers in decimal digits.
 
-ghost use Rattle.std.specs.Prelude.{◌≡◌};
+ghost use Rattle.std.specs.Prelude.{◌≡◌, IfSome};
 ghost use Rattle.std.specs.Char.{is_ascii_digit};
 ghost use Rattle.std.specs.List.{list_all};
 ghost use Rattle.std.specs.Str.Parse.{AllDigits, digits_value};
@@ -39,8 +39,21 @@ pub fn parse_number(word: &[u8]) -> Option<Number>
     }
 }
 
-/// The value of digits.
-fn value_of(digits: &[u8]) -> Number
+/// The value of digits, where it is below 2^64. Most are, and a register holds them.
+fn short_value(digits: &[u8]) -> Option<u64>
+    requires { AllDigits 10 digits.now }
+    ensures { IfSome result (λ value. value ≡ digits_value 10 digits.now) }
+{
+    let mut value: u64 = 0;
+    for digit in digits {
+        let tens = value.checked_mul(10)?;
+        value = tens.checked_add(u64::from(*digit - b'0'))?;
+    }
+    Some(value)
+}
+
+/// The value of digits, however large.
+fn long_value(digits: &[u8]) -> Number
     requires { AllDigits 10 digits.now }
     ensures { HasValue result (digits_value 10 digits.now) }
 {
@@ -55,6 +68,17 @@ fn value_of(digits: &[u8]) -> Number
         value = more;
     }
     Number::Fits(value)
+}
+
+/// The value of digits.
+fn value_of(digits: &[u8]) -> Number
+    requires { AllDigits 10 digits.now }
+    ensures { HasValue result (digits_value 10 digits.now) }
+{
+    match short_value(digits) {
+        Some(value) => Number::Fits(u128::from(value)),
+        None => long_value(digits),
+    }
 }
 
 /// The number that a word says. One that does not fit is kept as the greatest that does.

@@ -2,7 +2,7 @@ use Rattle.std.proofs.Common.{arith, ◌<◌, ◌^◌, length}
 use Rattle.std.proofs.lemmas.Str.Parse.{digit_at}
 use Rattle.certificate.proofs.Digits.{value_more}
 use Rattle.trace_text.proofs.Digits.{large_front}
-use Rattle.trace_text.proofs.numeral.value_of.Goals as goal
+use Rattle.trace_text.proofs.numeral.long_value.Goals as goal
 
 pub returns-in_default : goal.returns-in_default
 returns-in_default c = let there : c.loop-digit.digit-index < length c.args.digits.now = omega arith in

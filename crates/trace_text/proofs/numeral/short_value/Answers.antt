@@ -1,0 +1,12 @@
+use Rattle.std.proofs.Common.{arith, ◌<◌, length}
+use Rattle.std.proofs.lemmas.Str.Parse.{digit_at}
+use Rattle.certificate.proofs.Digits.{value_more}
+use Rattle.trace_text.proofs.numeral.short_value.Goals as goal
+
+pub overflow_sub-digit : goal.overflow_sub-digit
+overflow_sub-digit c = let there : c.loop-digit.digit-index < length c.args.digits.now = omega arith in
+    (digit_at c.args.digits.now c.loop-digit.digit-index c.requires there).0
+
+pub loop-digit-preserved : goal.loop-digit-preserved
+loop-digit-preserved c = let there : c.loop-digit.digit-index < length c.args.digits.now = omega arith in
+    omega (arith, c.loop-digit.invariant, value_more c.args.digits.now c.loop-digit.digit-index c.requires there)
