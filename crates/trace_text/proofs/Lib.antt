@@ -5,6 +5,7 @@ pub mod Forms
 pub mod Lines
 pub mod Clips
 pub mod Bindings
+mod BoundAgain
 pub mod Knowing
 pub mod Placing
 pub mod Texts

@@ -1,15 +1,15 @@
 -- Lines as the parser keeps them: a number that does not fit is clipped, and a value that does not is refused before anything else is asked. No public clause cites this module.
-use Rattle.std.specs.Prelude.{ℕ, Bool, false, nat_le, ◌^◌, List, Option, Some, None, Result, Ok, Err, if◌then◌else◌}
+use Rattle.std.specs.Prelude.{◌≡◌, ℕ, Bool, true, false, nat_le, ◌^◌, List, [], ◌∷◌, Option, Some, None, find, Result, Ok, Err, if◌then◌else◌}
 use Rattle.certificate.specs.Number.{clip}
 use Rattle.trace_text.specs.Reference.{clip_reference}
-use Rattle.trace_text.specs.Causes.{binds_again, has_ended, is_call, reads_early, reads_unknown}
+use Rattle.trace_text.specs.Causes.{HasCause, IsNextLine, binds_again, has_ended, holds, is_call, reads_early, reads_unknown}
 use Rattle.trace_text.specs.declared.header.Header.{Header}
 use Rattle.trace_text.specs.declared.line.Call.{Call}
 use Rattle.trace_text.specs.declared.line.Call.TheVariants.{Put, Fill, Get, Free, Sweep, Later}
 use Rattle.trace_text.specs.declared.line.Line.{Line}
 use Rattle.trace_text.specs.declared.line.Line.TheVariants as line
 use Rattle.trace_text.specs.declared.cause.Cause.{Cause}
-use Rattle.trace_text.specs.declared.cause.Cause.TheVariants.{Form, Limit, Thread, Ended, Bound, Unknown, Early}
+use Rattle.trace_text.specs.declared.cause.Cause.TheVariants.{Form, Limit, Thread, Ended, Adopt, Bound, Unknown, Early}
 
 -- an index or a count that does not fit is kept as the greatest that does
 abbrev pub clip_call : Call → Call
@@ -48,9 +48,18 @@ thread_cause h before thread =
     if nat_le h.shards thread then Some Thread
     else (if has_ended before thread then Some Ended else None)
 
--- what is wrong with the names of a thread's call
-abbrev pub name_cause : List Line → ℕ → Call → Option Cause
-name_cause before thread call =
-    if binds_again before call then Some Bound
-    else (if reads_unknown before call then Some Unknown
-    else (if reads_early before thread call then Some Early else None))
+-- what is wrong with the name that a thread's call reads
+abbrev pub read_cause : List Line → ℕ → Call → Option Cause
+read_cause before thread call =
+    if reads_unknown before call then Some Unknown
+    else (if reads_early before thread call then Some Early else None)
+
+-- the first cause that holds of a line that has a form, where none is that it binds a name again
+abbrev pub cause_but_bound : Header → List Line → Line → Option Cause
+cause_but_bound h before line = find (holds h before line) (Limit ∷ Thread ∷ Ended ∷ Adopt ∷ Unknown ∷ Early ∷ [])
+
+-- after those lines the bytes are this line, unless it binds a name again, and are then at fault by that
+abbrev pub IsNextUnlessBound : Header → List Line → List ℕ → Line → Type 0
+IsNextUnlessBound h before bytes line =
+    (is_call (binds_again before) line ≡ false → IsNextLine h before bytes line)
+    × (is_call (binds_again before) line ≡ true → HasCause h before bytes Bound)

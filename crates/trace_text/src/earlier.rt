@@ -1,9 +1,9 @@
 //! What is kept of the lines before a line.
 
-ghost use Rattle.std.specs.Prelude.{◌≡◌, ◌+◌, ◌-◌, ◌<◌, ◌^◌, List, IfOk, OnOk, nat_le};
-ghost use Rattle.trace_text.specs.Causes.{call_ends, first_cause, is_call_over, keys_at, marks_at};
+ghost use Rattle.std.specs.Prelude.{◌≡◌, ◌+◌, ◌-◌, ◌<◌, ◌^◌, List, IfOk, OnOk, is_some, nat_le};
+ghost use Rattle.trace_text.specs.Causes.{binds_again, call_ends, is_call, is_call_over, keys_at, marks_at};
 ghost use Rattle.trace_text.specs.Places.{place_at, place_by, unless};
-ghost use Rattle.trace_text.specs.Within.{name_cause, thread_cause};
+ghost use Rattle.trace_text.specs.Within.{cause_but_bound, read_cause, thread_cause};
 ghost use Rattle.trace_text.specs.declared.line.Line.{Line};
 ghost use Rattle.trace_text.specs.declared.line.Line.TheVariants as line;
 
@@ -102,18 +102,11 @@ impl Earlier {
         }
     }
 
-    /// The place of the first key that a thread's call reads, 0 where it reads none; or what is wrong with its names.
-    fn name_place(&self, thread: u32, call: &Call) -> Result<usize, Cause>
+    /// The place of the first key that a thread's call reads, 0 where it reads none; or what is wrong with what it reads.
+    fn read_place(&self, thread: u32, call: &Call) -> Result<usize, Cause>
         ensures { (before : List Line) → Knows before self.now
-            → result ≡ unless (name_cause before thread call.now) (place_by before call.now) }
+            → result ≡ unless (read_cause before thread call.now) (place_by before call.now) }
     {
-        if let Some(name) = call.bound_name() {
-            return if self.binding(name).is_some() {
-                Err(Cause::Bound)
-            } else {
-                Ok(0)
-            };
-        }
         let Some(name) = call.read_name() else {
             return Ok(0);
         };
@@ -130,10 +123,10 @@ impl Earlier {
     }
 
     /// The place of the first key that a thread's call after those lines reads, 0 where it reads none; or what is wrong
-    /// with it.
+    /// with it, but for a name that it binds again.
     fn call_place(&self, header: &Header, thread: u32, call: &Call) -> Result<usize, Cause>
         ensures { (before : List Line) → Knows before self.now
-            → result ≡ unless (first_cause header.now before (line.Call thread call.now))
+            → result ≡ unless (cause_but_bound header.now before (line.Call thread call.now))
             (place_by before call.now) }
     {
         if self.is_over(call) {
@@ -145,14 +138,15 @@ impl Earlier {
         if self.awaits_mark {
             return Err(Cause::Adopt);
         }
-        self.name_place(thread, call)
+        self.read_place(thread, call)
     }
 
     /// The place of the first key that a line after those reads, 0 where it reads none; or what is wrong with the line,
-    /// where it has a form.
+    /// where it has a form. That it binds a name again is told by `note`, so that the table is asked for the name once.
     pub fn place_of(&self, header: &Header, line: &Line) -> Result<usize, Cause>
         ensures { (before : List Line) → Knows before self.now
-            → result ≡ unless (first_cause header.now before line.now) (place_at before line.now) }
+            → result ≡ unless (cause_but_bound header.now before line.now)
+            (place_at before line.now) }
     {
         match line {
             Line::Silent | Line::Mark => Ok(0),
@@ -164,8 +158,9 @@ impl Earlier {
         }
     }
 
-    /// Keeps what a name is bound to, and counts its keys.
-    fn bind(&mut self, name: &Name, binding: Binding, count: usize) -> Result<(), AllocError>
+    /// Keeps what a name is bound to, and counts its keys. It answers whether the name was bound before.
+    fn bind(&mut self, name: &Name, binding: Binding, count: usize) -> Result<bool, AllocError>
+        ensures again { IfOk result (λ again. again ≡ is_some (bound_in self.old name.now)) }
         ensures names { OnOk result ((other : List ℕ)
             → bound_in self.new other ≡ option_or
             (if bytes_eq name.now other then Some binding else None) (bound_in self.old other)) }
@@ -176,13 +171,15 @@ impl Earlier {
     {
         // More keys than a number counts find no memory.
         let keys = self.keys.checked_add(count).ok_or(AllocError)?;
-        self.names.insert(name.clone()?, binding)?;
+        let before = self.names.insert(name.clone()?, binding)?;
         self.keys = keys;
-        Ok(())
+        Ok(before.is_some())
     }
 
-    /// Keeps what a thread's call binds or ends.
-    fn note_call(&mut self, place: usize, thread: u32, call: &Call) -> Result<(), AllocError>
+    /// Keeps what a thread's call binds or ends. It answers whether the call binds a name again.
+    fn note_call(&mut self, place: usize, thread: u32, call: &Call) -> Result<bool, AllocError>
+        ensures again { (before : List Line) → Knows before self.old
+            → IfOk result (λ again. again ≡ binds_again before call.now) }
         ensures names { OnOk result (NotesNames self.old self.new place
             (line.Call thread call.now)) }
         ensures keys { OnOk result (self.new.keys ≡ self.old.keys + keys_at
@@ -201,21 +198,23 @@ impl Earlier {
             first,
         };
         match call {
-            Call::Put { name, .. } => self.bind(name, binding(Keys::One), 1)?,
+            Call::Put { name, .. } => self.bind(name, binding(Keys::One), 1),
             Call::Fill { name, count, .. } => {
-                self.bind(name, binding(Keys::Many(*count)), *count as usize)?
+                self.bind(name, binding(Keys::Many(*count)), *count as usize)
             }
             Call::End => {
                 self.ended.insert(thread)?;
+                Ok(false)
             }
-            _ => {}
+            _ => Ok(false),
         }
-        Ok(())
     }
 
-    /// Keeps what a line says that follows those, at its place among them.
-    pub fn note(&mut self, place: usize, line: &Line) -> Result<(), AllocError>
+    /// Keeps what a line says that follows those, at its place among them. It answers whether the line binds a name again.
+    pub fn note(&mut self, place: usize, line: &Line) -> Result<bool, AllocError>
         requires { self.old.section < 2 ^ 64 - 1 }
+        ensures again { (before : List Line) → Knows before self.old
+            → IfOk result (λ again. again ≡ is_call (binds_again before) line.now) }
         ensures names { OnOk result (NotesNames self.old self.new place line.now) }
         ensures ended { OnOk result (NotesEnd self.old self.new line.now) }
         ensures section { OnOk result (self.new.section ≡ self.old.section + marks_at line.now) }
@@ -231,10 +230,11 @@ impl Earlier {
                 self.section += 1;
             }
             Line::Call { thread, call } => {
+                let again = self.note_call(place, *thread, call)?;
                 self.awaits_mark = false;
-                self.note_call(place, *thread, call)?;
+                return Ok(again);
             }
         }
-        Ok(())
+        Ok(false)
     }
 }

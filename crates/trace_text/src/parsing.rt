@@ -3,7 +3,8 @@
 ghost use Rattle.std.specs.Prelude.{◌≡◌, [], List, IfOk, IfErr};
 ghost use Rattle.trace_text.specs.declared.header.Header.{Header};
 ghost use Rattle.trace_text.specs.declared.line.Line.{Line};
-ghost use Rattle.trace_text.specs.Causes.{HasCause, IsNextLine, AreReadAs};
+ghost use Rattle.trace_text.specs.Causes.{HasCause, AreReadAs};
+ghost use Rattle.trace_text.specs.Within.{IsNextUnlessBound};
 ghost use Rattle.trace_text.specs.Header.{IsWithinLimits};
 ghost use Rattle.trace_text.specs.Earlier.{Knows};
 ghost use Rattle.trace_text.specs.Places.{place_at, places_from};
@@ -22,11 +23,12 @@ use std::alloc::Global;
 /// How many lines the header has.
 const HEADER_LINES: usize = 5;
 
-/// Reads the line that follows those, with the place of the first key that it reads.
+/// Reads the line that follows those, with the place of the first key that it reads. That it binds a name again is told
+/// where it is noted.
 fn next_line(header: &Header, earlier: &Earlier, text: &[u8]) -> Result<(Line, usize), Cause>
     requires { IsWithinLimits header.now }
     ensures ok { (before : List Line) → Knows before earlier.now
-        → IfOk result (λ next. IsNextLine header.now before text.now next.0) }
+        → IfOk result (λ next. IsNextUnlessBound header.now before text.now next.0) }
     ensures place { (before : List Line) → Knows before earlier.now
         → IfOk result (λ next. next.1 ≡ place_at before next.0) }
     ensures err { (before : List Line) → Knows before earlier.now
@@ -68,7 +70,13 @@ fn read_body(alloc: Global, header: &Header, text: &[u8]) -> Result<Body, ParseE
                 cause,
             }),
         };
-        earlier.note(lines.len(), &line)?;
+        let again = earlier.note(lines.len(), &line)?;
+        if again {
+            return Err(ParseError::BadTrace {
+                line: lines.len() + HEADER_LINES + 1,
+                cause: Cause::Bound,
+            });
+        }
         lines.push(line)?;
         places.push(place)?;
         rest = below;

@@ -1,6 +1,7 @@
-use Rattle.std.proofs.Common.{arith, ◌≡◌, length}
+use Rattle.std.proofs.Common.{arith, ◌≡◌, ◌∙◌, length, sym}
 use Rattle.std.proofs.lemmas.Grind.{common_steps}
 use Rattle.trace_text.specs.Words.{lines_of}
+use Rattle.trace_text.specs.declared.cause.Cause.TheVariants.{Bound}
 use Rattle.trace_text.proofs.Texts.{SoFar-fault, SoFar-more}
 use Rattle.trace_text.proofs.Knowing.{Knows-push, marks-length}
 use Rattle.trace_text.proofs.Placing.{places-push}
@@ -10,15 +11,23 @@ pub returns-in-Err-clause-err : goal.returns-in-Err-clause-err
 returns-in-Err-clause-err c = SoFar-fault c.args.header.now (lines_of c.args.text.now) (lines_of c.loop-bytes.rest.now) (lines_of c.in-Some.below.now) c.loop-bytes.lines.items c.in-Some.bytes.now _ c.in-Err.cause
     c.loop-bytes.invariant.far c.in-Some.ensures.some (c.in-Err.ensures.err c.loop-bytes.lines.items c.loop-bytes.invariant.known) (grind (arith, common_steps))
 
+pub returns-then-again-clause-err : goal.returns-then-again-clause-err
+returns-then-again-clause-err c =
+    let lines = c.loop-bytes.lines.items in
+    let again = sym (c.in_ok-again.ensures.again lines c.loop-bytes.invariant.known) ∙ c.if-again.true in
+    SoFar-fault c.args.header.now (lines_of c.args.text.now) (lines_of c.loop-bytes.rest.now) (lines_of c.in-Some.below.now) lines c.in-Some.bytes.now _ Bound
+    c.loop-bytes.invariant.far c.in-Some.ensures.some ((c.in-Ok.ensures.ok lines c.loop-bytes.invariant.known).1 again) (grind (arith, common_steps))
+
 pub note-requires : goal.note-requires
 note-requires c = omega (arith, c.loop-bytes.invariant.known.section, marks-length c.loop-bytes.lines.items, c.loop-bytes.invariant.room)
 
 pub loop-bytes-preserved : goal.loop-bytes-preserved
 loop-bytes-preserved c =
-    let next = c.in-Ok.ensures.ok c.loop-bytes.lines.items c.loop-bytes.invariant.known in
+    let lines = c.loop-bytes.lines.items in
+    let next = (c.in-Ok.ensures.ok lines c.loop-bytes.invariant.known).0 (sym (c.in_ok-again.ensures.again lines c.loop-bytes.invariant.known) ∙ c.if-again.false) in
     let place : c.len-in-Some.result ≡ length c.loop-bytes.lines.items = grind (arith, common_steps) in
     record {
-      known = rw c.in_ok-push.ensures.items (Knows-push c.args.header.now c.loop-bytes.lines.items c.in-Ok.next.0 c.loop-bytes.earlier c.note.new.self c.loop-bytes.invariant.known next.1 (rw (← place) c.in_ok-note.ensures.names) c.in_ok-note.ensures.ended c.in_ok-note.ensures.section c.in_ok-note.ensures.keys c.in_ok-note.ensures.awaits);
+      known = rw c.in_ok-push.ensures.items (Knows-push c.args.header.now c.loop-bytes.lines.items c.in-Ok.next.0 c.loop-bytes.earlier c.note.new.self c.loop-bytes.invariant.known next.1 (rw (← place) c.in_ok-again.ensures.names) c.in_ok-again.ensures.ended c.in_ok-again.ensures.section c.in_ok-again.ensures.keys c.in_ok-again.ensures.awaits);
       far = rw c.in_ok-push.ensures.items (SoFar-more c.args.header.now (lines_of c.args.text.now) (lines_of c.loop-bytes.rest.now) (lines_of c.in-Some.below.now) c.loop-bytes.lines.items c.in-Some.bytes.now c.in-Ok.next.0 c.loop-bytes.invariant.far c.in-Some.ensures.some next);
       placed = rw (c.in_ok-push.ensures.items, c.in_ok-push-2.ensures.items) (places-push c.loop-bytes.places.items c.loop-bytes.lines.items c.in-Ok.next.0 c.in-Ok.next.1 c.loop-bytes.invariant.placed (c.in-Ok.ensures.place c.loop-bytes.lines.items c.loop-bytes.invariant.known));
       room = rw c.in_ok-push.ensures.items (grind (arith, common_steps, c.loop-bytes.invariant.room, c.in-Some.ensures.shorter));

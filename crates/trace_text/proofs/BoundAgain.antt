@@ -1,0 +1,95 @@
+-- The first cause of a line, where it is asked last whether the line binds a name again.
+use Rattle.std.proofs.Common.{◌≡◌, Bool, true, false, List, ℕ, Option, Some, None, Ok, refl}
+use Rattle.std.specs.Prelude.{if◌then◌else◌}
+use Rattle.trace_text.specs.Causes.{HasCause, binds_again, first_cause, is_call, is_call_of, reads_early, reads_unknown}
+use Rattle.trace_text.specs.Earlier.{Few}
+use Rattle.trace_text.specs.Form.{form_of}
+use Rattle.trace_text.specs.Header.{IsWithinLimits}
+use Rattle.trace_text.specs.Within.{IsNextUnlessBound, cause_but_bound, within}
+use Rattle.trace_text.specs.declared.cause.Cause.{Cause}
+use Rattle.trace_text.specs.declared.cause.Cause.TheVariants.{Limit, Thread, Ended, Adopt, Bound, Unknown, Early}
+use Rattle.trace_text.specs.declared.header.Header.{Header}
+use Rattle.trace_text.specs.declared.line.Call.TheVariants.{Put, Fill, Get, Free, Sweep, Later, Tend, End}
+use Rattle.trace_text.specs.declared.line.Line.{Line}
+use Rattle.trace_text.specs.declared.line.Line.TheVariants as line
+use Rattle.trace_text.proofs.Texts.{fine_line, refused_line}
+
+-- the first of all causes, by which of them hold
+abbrev all : Bool → Bool → Bool → Bool → Bool → Bool → Bool → Option Cause
+all limit thread ended adopt bound unknown early =
+    if limit then Some Limit else (if thread then Some Thread else (if ended then Some Ended else (if adopt then Some Adopt
+    else (if bound then Some Bound else (if unknown then Some Unknown else (if early then Some Early else None))))))
+
+-- the first of the others
+abbrev others : Bool → Bool → Bool → Bool → Bool → Bool → Option Cause
+others limit thread ended adopt unknown early =
+    if limit then Some Limit else (if thread then Some Thread else (if ended then Some Ended else (if adopt then Some Adopt
+    else (if unknown then Some Unknown else (if early then Some Early else None)))))
+
+all-none : (limit thread ended adopt bound unknown early : Bool) → others limit thread ended adopt unknown early ≡ None → bound ≡ false
+    → all limit thread ended adopt bound unknown early ≡ None
+all-none true thread ended adopt bound unknown early none fresh = cc
+all-none false true ended adopt bound unknown early none fresh = cc
+all-none false false true adopt bound unknown early none fresh = cc
+all-none false false false true bound unknown early none fresh = cc
+all-none false false false false true unknown early none fresh = cc
+all-none false false false false false unknown early none fresh = none
+
+all-bound : (limit thread ended adopt bound unknown early : Bool) → others limit thread ended adopt unknown early ≡ None → bound ≡ true
+    → all limit thread ended adopt bound unknown early ≡ Some Bound
+all-bound true thread ended adopt bound unknown early none again = cc
+all-bound false true ended adopt bound unknown early none again = cc
+all-bound false false true adopt bound unknown early none again = cc
+all-bound false false false true bound unknown early none again = cc
+all-bound false false false false true unknown early none again = refl
+all-bound false false false false false unknown early none again = cc
+
+all-other : (limit thread ended adopt bound unknown early : Bool) (c : Cause) → (bound ≡ true → unknown ≡ false) → (bound ≡ true → early ≡ false)
+    → others limit thread ended adopt unknown early ≡ Some c → all limit thread ended adopt bound unknown early ≡ Some c
+all-other true thread ended adopt bound unknown early c known late some = some
+all-other false true ended adopt bound unknown early c known late some = some
+all-other false false true adopt bound unknown early c known late some = some
+all-other false false false true bound unknown early c known late some = some
+all-other false false false false false unknown early c known late some = some
+all-other false false false false true true early c known late some = let clash : true ≡ false = known refl in cc
+all-other false false false false true false true c known late some = let clash : true ≡ false = late refl in cc
+all-other false false false false true false false c known late some = cc
+
+-- a line that binds a name reads none
+known : (before : List Line) (l : Line) → is_call (binds_again before) l ≡ true → is_call (reads_unknown before) l ≡ false
+known before line.Silent binds = refl
+known before line.Mark binds = refl
+known before (line.Adopt s) binds = refl
+known before (line.Call t (Put n v)) binds = refl
+known before (line.Call t (Fill n k v)) binds = refl
+known before (line.Call t (Get k)) binds = cc
+known before (line.Call t (Free k)) binds = cc
+known before (line.Call t (Sweep n a b)) binds = cc
+known before (line.Call t (Later k)) binds = cc
+known before (line.Call t Tend) binds = refl
+known before (line.Call t End) binds = refl
+
+late : (before : List Line) (l : Line) → is_call (binds_again before) l ≡ true → is_call_of (reads_early before) l ≡ false
+late before line.Silent binds = refl
+late before line.Mark binds = refl
+late before (line.Adopt s) binds = refl
+late before (line.Call t (Put n v)) binds = refl
+late before (line.Call t (Fill n k v)) binds = refl
+late before (line.Call t (Get k)) binds = cc
+late before (line.Call t (Free k)) binds = cc
+late before (line.Call t (Sweep n a b)) binds = cc
+late before (line.Call t (Later k)) binds = cc
+late before (line.Call t Tend) binds = refl
+late before (line.Call t End) binds = refl
+
+-- another cause is the first of all
+pub first_cause-other : (h : Header) (before : List Line) (l : Line) (c : Cause) → cause_but_bound h before l ≡ Some c → first_cause h before l ≡ Some c
+first_cause-other h before l c = all-other _ _ _ _ _ _ _ c (known before l) (late before l)
+
+-- a line that is read and has no other cause is the next one, unless it binds a name again
+pub next_unless_bound : (h : Header) (before : List Line) (bytes : List ℕ) (l : Line) → IsWithinLimits h → Few before → within (form_of h.version bytes) ≡ Ok l
+    → cause_but_bound h before l ≡ None → IsNextUnlessBound h before bytes l
+next_unless_bound h before bytes l limits few read none = (
+  (λ fresh. fine_line h before bytes l limits few read (all-none _ _ _ _ _ _ _ none fresh)),
+  (λ again. refused_line h before bytes l Bound limits few read (all-bound _ _ _ _ _ _ _ none again)),
+)
