@@ -39,7 +39,8 @@ fn push_answer(out: &mut Vec<u8>, answer: Answer) -> Result<(), AllocError>
     }
 }
 
-/// Adds the line of an answer to the text.
+/// Adds the line of an answer to the text. It stays out of line, so that a call whose answer isn't told doesn't pay for it.
+#[inline(never)]
 pub(crate) fn push_answer_line(out: &mut Vec<u8>, answer: &LineAnswer) -> Result<(), AllocError>
     ensures { OnOk result (out.new.items ≡ out.old.items ++ answer_line answer.now) }
 {
