@@ -19,12 +19,12 @@ use crate::numbers::{lowest, mark, next};
 use crate::pooled::Pooled;
 use bitmap::Bits256;
 use page_table::Table;
-use span::{Entry, Kept, Log, SpanId, SpanLog};
+use span::{ALL_IDS, Entry, Kept, Log, SpanId, SpanLog};
 use std::alloc::{AllocError, Global};
 use std::marker::Model;
 
 // How many ids there are.
-const HEADS: usize = 65_536;
+const HEADS: usize = ALL_IDS as usize;
 
 /// Groups, each at a place of its own, which is the rank of its head: a look-up, an arrival and a departure cost the
 /// same however many there are, and no group moves up for another.

@@ -45,7 +45,13 @@ impl Model for Seat {
 
     ghost Value = { SeatState };
 
-    ghost view = { λ seat. record { worker = seat.worker; section = seat.section; limits = seat.limits; outboxes = seat.outboxes.items; inboxes = seat.inboxes.items } };
+    ghost view = { λ seat. record {
+      worker = seat.worker;
+      section = seat.section;
+      limits = seat.limits;
+      outboxes = seat.outboxes.items;
+      inboxes = seat.inboxes.items;
+    } };
 }
 
 impl Seat {
@@ -196,7 +202,9 @@ impl Seat {
     pub fn free_later(&mut self, key: Key) -> Result<(), Key>
         requires { key.span.shard < self.old.limits.shards }
         ensures sent { MatchResult result
-            (λ _. sent_lists self.new ≡ slice_set (sent_lists self.old) key.span.shard (slice_index_or (sent_lists self.old) key.span.shard [] ++ key ∷ []))
+            (λ _. sent_lists self.new
+            ≡ slice_set (sent_lists self.old) key.span.shard
+            (slice_index_or (sent_lists self.old) key.span.shard [] ++ key ∷ []))
             (λ back. (back ≡ key) × (sent_lists self.new ≡ sent_lists self.old)) }
         ensures succeeds { 0 < slice_index_or (map (λ outbox. outbox.free) self.old.outboxes)
             key.span.shard 0 → IsOk result }
@@ -373,8 +381,12 @@ fn send_on(outboxes: &mut Vec<Outbox>, key: Key) -> Result<(), Key>
     ensures rings { map (λ outbox. outbox.ring) outboxes.new.items
         ≡ map (λ outbox. outbox.ring) outboxes.old.items }
     ensures sent { MatchResult result
-        (λ _. map (λ outbox. outbox.sent) outboxes.new.items ≡ slice_set (map (λ outbox. outbox.sent) outboxes.old.items) key.span.shard (slice_index_or (map (λ outbox. outbox.sent) outboxes.old.items) key.span.shard [] ++ key ∷ []))
-        (λ back. (back ≡ key) × (map (λ outbox. outbox.sent) outboxes.new.items ≡ map (λ outbox. outbox.sent) outboxes.old.items)) }
+        (λ _. map (λ outbox. outbox.sent) outboxes.new.items
+        ≡ slice_set (map (λ outbox. outbox.sent) outboxes.old.items) key.span.shard
+        (slice_index_or (map (λ outbox. outbox.sent) outboxes.old.items) key.span.shard []
+        ++ key ∷ []))
+        (λ back. (back ≡ key) × (map (λ outbox. outbox.sent) outboxes.new.items
+        ≡ map (λ outbox. outbox.sent) outboxes.old.items)) }
     ensures succeeds { 0 < slice_index_or (map (λ outbox. outbox.free) outboxes.old.items)
         key.span.shard 0 → IsOk result }
 {

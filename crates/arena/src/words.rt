@@ -4,7 +4,7 @@ ghost use Rattle.arena.specs.Words.{IsPlace};
 ghost use Rattle.span.specs.declared.limits.TheConstants.{MOST_SHARDS};
 
 use shard::Shard;
-use span::{Log, SpanId};
+use span::{Log, MOST_SPANS, SpanId};
 use std::alloc::{AllocError, Global};
 use std::sync::atomic::Ordering::SeqCst;
 use std::sync::atomic::{AtomicIn, Rule};
@@ -43,7 +43,7 @@ impl Words {
     pub(crate) fn new(alloc: Global, shards: u32) -> Result<Words, AllocError>
         requires { shards ≤ MOST_SHARDS }
     {
-        let count = 1024 * shards as usize;
+        let count = (MOST_SPANS * shards) as usize;
         let mut words = Vec::with_capacity(alloc, count)?;
         for _ in 0..count {
             words.push_reserved(AtomicIn::new(0));

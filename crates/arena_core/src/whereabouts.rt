@@ -6,7 +6,7 @@ ghost use Rattle.arena_core.specs.Moved.{Notes, named};
 ghost use Rattle.span.specs.declared.limits.TheConstants.{MOST_SHARDS, MOST_SPANS};
 
 use shard::Shard;
-use span::{Log, SpanId};
+use span::{Log, MOST_SPANS, SpanId};
 use std::alloc::{AllocError, Global};
 use std::marker::Model;
 
@@ -35,7 +35,7 @@ impl Whereabouts {
         ensures { IfOk result (λ whereabouts. whereabouts ≡ replicate (MOST_SPANS * shards) None) }
     {
         Ok(Whereabouts {
-            shards: vec![in alloc; None; 1024 * shards as usize]?,
+            shards: vec![in alloc; None; (MOST_SPANS * shards) as usize]?,
         })
     }
 

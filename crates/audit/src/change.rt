@@ -17,7 +17,8 @@ fn log_with_change(logs: &[SpanLog], table: &[Option<usize>], receipt: &Receipt)
     requires makes { makes_change receipt.now ≡ true }
     ensures within { IfSome result (λ j. j < length logs.now) }
     ensures known { MatchOption result (IsKnown logs.now receipt.now → ⊥) (λ j.
-        IsLogAt logs.now receipt.now.key.span j × IsKnown logs.now receipt.now × (receipt.now.at < length (log_of logs.now receipt.now.key.span))) }
+        IsLogAt logs.now receipt.now.key.span j × IsKnown logs.now receipt.now
+        × (receipt.now.at < length (log_of logs.now receipt.now.key.span))) }
 {
     let j = index_of(logs, table, receipt.key.span)?;
     let changes = logs[j].changes.as_slice();
@@ -39,7 +40,8 @@ fn enter(
     requires table { IsTable logs.now table.now }
     requires len { vec_len rows.old ≡ length logs.now }
     ensures len { vec_len rows.new ≡ length logs.now }
-    ensures entered { (before : List Receipt) → AreEntered logs.now before (map vec_items rows.old.items)
+    ensures entered { (before : List Receipt)
+        → AreEntered logs.now before (map vec_items rows.old.items)
         → WereEntered logs.now (before ++ receipt.now ∷ []) (map vec_items rows.new.items) result }
 {
     if !makes_change(receipt) {
@@ -61,7 +63,8 @@ fn enter_list(
     requires table { IsTable logs.now table.now }
     requires len { vec_len rows.old ≡ length logs.now }
     ensures len { vec_len rows.new ≡ length logs.now }
-    ensures entered { (before : List Receipt) → AreEntered logs.now before (map vec_items rows.old.items)
+    ensures entered { (before : List Receipt)
+        → AreEntered logs.now before (map vec_items rows.old.items)
         → WereEntered logs.now (before ++ list.now) (map vec_items rows.new.items) result }
 {
     for receipt in list {
@@ -104,8 +107,10 @@ pub fn sections_of_changes(
 ) -> Result<Option<Vec<Vec<Option<u64>>>>, AllocError>
     requires { IsTable logs.now table.now }
     ensures len { IfOk result (λ rows. IfSome rows (λ rows. vec_len rows ≡ length logs.now)) }
-    ensures entered { IfOk result (λ rows. MatchOption rows (ChangesHaveReceipts logs.now (map vec_items lists.now) → ⊥) (λ rows.
-        ChangesHaveReceipts logs.now (map vec_items lists.now) × AreEntered logs.now (flat_map vec_items lists.now) (map vec_items rows.items)
+    ensures entered { IfOk result (λ rows. MatchOption rows
+        (ChangesHaveReceipts logs.now (map vec_items lists.now) → ⊥)
+        (λ rows. ChangesHaveReceipts logs.now (map vec_items lists.now)
+        × AreEntered logs.now (flat_map vec_items lists.now) (map vec_items rows.items)
         × AreFull (map vec_items rows.items))) }
 {
     let mut rows = empty_rows(alloc, logs)?;

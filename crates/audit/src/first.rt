@@ -1,5 +1,6 @@
 // Where the changes of each slot begin among a log's changes by slot.
 use crate::slot::SlotChange;
+use bitmap::SLOTS;
 use span::Key;
 use std::alloc::{AllocError, Global};
 
@@ -13,7 +14,7 @@ pub struct Firsts {
 
 // The place of a slot of a log. Where there is no such place, the last number there is.
 fn place_in(log: usize, slot: u8) -> usize {
-    log.saturating_mul(256).saturating_add(usize::from(slot))
+    log.saturating_mul(SLOTS).saturating_add(usize::from(slot))
 }
 
 // Enters where the changes of each slot begin, of the log with this index.

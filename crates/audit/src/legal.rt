@@ -9,27 +9,28 @@ ghost use Rattle.audit.specs.Tables.{IsTable};
 
 use crate::calls::{issued_by, left_by, slot_of};
 use crate::log::table_of;
+use bitmap::SLOTS;
 use span::{Change, SpanLog};
 use std::alloc::{AllocError, Global};
 
 // No slot holds anything.
-fn no_contents() -> [Option<(u32, u128)>; 256]
+fn no_contents() -> [Option<(u32, u128)>; SLOTS]
     ensures { AreAfter [] result }
 {
-    [None; 256]
+    [None; SLOTS]
 }
 
 // No slot was ever put.
-fn none_issued() -> [u32; 256]
+fn none_issued() -> [u32; SLOTS]
     ensures { AreIssued [] result }
 {
-    [0; 256]
+    [0; SLOTS]
 }
 
 // Whether the change may follow the changes before it.
 fn may_follow(
-    held: &[Option<(u32, u128)>; 256],
-    issued: &[u32; 256],
+    held: &[Option<(u32, u128)>; SLOTS],
+    issued: &[u32; SLOTS],
     gens: u32,
     change: &Change,
 ) -> bool
@@ -51,7 +52,7 @@ fn may_follow(
 }
 
 // Enters the change into what the slots hold and have issued.
-fn enter(held: &mut [Option<(u32, u128)>; 256], issued: &mut [u32; 256], change: &Change)
+fn enter(held: &mut [Option<(u32, u128)>; SLOTS], issued: &mut [u32; SLOTS], change: &Change)
     ensures held { (before : List Change) → AreAfter before held.old
         → AreAfter (before ++ change.now ∷ []) held.new }
     ensures issued { (before : List Change) (gens : ℕ) → AreIssued before issued.old

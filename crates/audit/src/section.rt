@@ -27,7 +27,8 @@ pub fn empty_rows(alloc: Global, logs: &[SpanLog]) -> Result<Vec<Vec<Option<u64>
 
 /// Enters the section at the place, where the row has it and none stands there. Whether it did.
 pub fn mark(row: &mut Vec<Option<u64>>, at: usize, section: u64) -> bool
-    ensures marked { IsTrue result → (at < length row.old.items) × (slice_index_or row.old.items at None ≡ None)
+    ensures marked { IsTrue result → (at < length row.old.items)
+        × (slice_index_or row.old.items at None ≡ None)
         × (row.new.items ≡ slice_set row.old.items at (Some section)) }
     ensures taken { result ≡ false → at < length row.old.items → (s : ℕ)
         × (slice_index_or row.old.items at None ≡ Some s) }

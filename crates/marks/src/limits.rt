@@ -2,6 +2,7 @@
 ghost use Rattle.std.specs.Prelude.{◌≡◌, ◌↔◌, IfSome, IsSome};
 ghost use Rattle.marks.specs.Numbers.{AreWithin, limits_of};
 
+use span::{MOST_PAGES, MOST_RING_KEYS, MOST_SHARDS};
 use std::marker::Model;
 
 /// The numbers of a core or an arena, each within its range. The seats and the steward of an arena bear them too, so that a call
@@ -19,12 +20,18 @@ impl Model for Limits {
 
     ghost Value = { Numbers };
 
-    ghost view = { λ limits. limits_of limits.shards limits.page_limit limits.ring_capacity limits.gens };
+    ghost view = { λ limits.
+        limits_of limits.shards limits.page_limit limits.ring_capacity limits.gens };
 
     ghost invariant = { λ limits. AreWithin
         (limits_of limits.shards limits.page_limit limits.ring_capacity limits.gens) };
 
-    ghost inverse = { λ numbers. record { shards = numbers.shards; page_limit = numbers.page_limit; ring_capacity = numbers.ring_capacity; gens = numbers.gens } };
+    ghost inverse = { λ numbers. record {
+      shards = numbers.shards;
+      page_limit = numbers.page_limit;
+      ring_capacity = numbers.ring_capacity;
+      gens = numbers.gens;
+    } };
 }
 
 impl Limits {
@@ -35,9 +42,9 @@ impl Limits {
         ensures parts { IfSome result
             (λ limits. limits ≡ limits_of shards page_limit ring_capacity gens) }
     {
-        if matches!(shards, 1..=64)
-            && matches!(page_limit, 1..=1024)
-            && matches!(ring_capacity, 1..=1024)
+        if matches!(shards, 1..=MOST_SHARDS)
+            && matches!(page_limit, 1..=MOST_PAGES)
+            && matches!(ring_capacity, 1..=MOST_RING_KEYS)
             && gens >= 1
         {
             Some(Limits {

@@ -143,7 +143,7 @@ pub(crate) fn list_owned<H: LendsShard>(
     ensures items { IfOk result (λ entries. entries.items ≡ owned_entries (map H.lent shards.now)) }
     ensures sound { OnOk result (AreSound (map H.lent shards.now)) }
 {
-    let mut entries = Vec::new(alloc);
+    let mut entries = Vec::with_capacity(alloc, owned_pages(shards))?;
     for shard in shards {
         push_groups(&mut entries, shard)?;
     }

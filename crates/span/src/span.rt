@@ -41,7 +41,8 @@ impl<L: Log> Model for Span<L> {
 
     ghost use Rattle.span.specs.Kept.{IsKept};
 
-    ghost invariant = { λ s. IsKept s.gens s.live s.worn s.generations (L.changes s.log) (L.room s.log) };
+    ghost invariant = { λ s.
+        IsKept s.gens s.live s.worn s.generations (L.changes s.log) (L.room s.log) };
 }
 
 impl<L: Log> Span<L> {

@@ -177,8 +177,15 @@ impl<'t> Run<'t> {
 
     /// Frees the keys of a name from one place up to, and without, another, where its first key has that place.
     fn sweep(&mut self, number: usize, first: usize, from: u32, to: u32) -> Result<(), AllocError>
-        ensures made { (done : List Did) (name : List ℕ) → ((place : ℕ) → from ≤ place → place < to → FindsOne self.old.trace.now.lines.items done self.old.replies.keys.items first name place)
-            → OnOk result (Makes number (map (λ place. on_key event.Free (key_at self.old.trace.now.lines.items done name place)) (range_with_len from (to - from))) self.old.core (kept_in self.old.replies) self.new.core (kept_in self.new.replies)) }
+        ensures made { (done : List Did) (name : List ℕ)
+            → ((place : ℕ) → from ≤ place → place < to
+            → FindsOne self.old.trace.now.lines.items done self.old.replies.keys.items
+            first name place)
+            → OnOk result (Makes number (map
+            (λ place. on_key event.Free (key_at self.old.trace.now.lines.items done name place))
+            (range_with_len from (to - from)))
+            self.old.core (kept_in self.old.replies)
+            self.new.core (kept_in self.new.replies)) }
         ensures shards { KeepsPlan self.old.core self.new.core }
         ensures plans { self.new.plans ≡ self.old.plans }
         ensures leaving { self.new.leaving ≡ self.old.leaving }
@@ -262,8 +269,12 @@ impl<'t> Run<'t> {
         requires enough { self.old.trace.now.header.shards ≤ self.old.core.limits.shards }
 
         // What it asks for is made.
-        ensures made { (done : List Did) → Finds self.old.trace.now.lines.items done self.old.replies.keys.items first call.now
-            → OnOk result (Makes number (asked_by_call self.old.trace.now.header.shards self.old.trace.now.lines.items done thread call.now) self.old.core (kept_in self.old.replies) self.new.core (kept_in self.new.replies)) }
+        ensures made { (done : List Did)
+            → Finds self.old.trace.now.lines.items done self.old.replies.keys.items first call.now
+            → OnOk result (Makes number (asked_by_call self.old.trace.now.header.shards
+            self.old.trace.now.lines.items done thread call.now)
+            self.old.core (kept_in self.old.replies)
+            self.new.core (kept_in self.new.replies)) }
 
         // All else stays.
         ensures shards { KeepsPlan self.old.core self.new.core }
@@ -397,8 +408,19 @@ impl<'t> Run<'t> {
         requires home { AreHome self.old.core.limits.shards self.old.replies.keys.items }
 
         // What it asks for is made.
-        ensures made { (done : List Did) → FindsAt self.old.trace.now.lines.items done self.old.replies.keys.items (place_at (take place self.old.trace.now.lines.items) line.now) line.now
-            → OnOk result (MakesLine (place + 6) (settling_with self.old.trace.now.header.shards (filter (has self.old.leaving) (range_with_len 0 self.old.trace.now.header.shards)) self.old.core line.now) (asked_by self.old.trace.now.header.shards self.old.trace.now.lines.items done line.now) line.now self.old.core (kept_in self.old.replies) (news_at (kept_in self.old.replies) self.old.plans) self.new.core (kept_in self.new.replies) (news_at (kept_in self.new.replies) self.new.plans)) }
+        ensures made { (done : List Did)
+            → FindsAt self.old.trace.now.lines.items done self.old.replies.keys.items
+            (place_at (take place self.old.trace.now.lines.items) line.now) line.now
+            → OnOk result (MakesLine (place + 6)
+            (settling_with self.old.trace.now.header.shards
+            (filter (has self.old.leaving) (range_with_len 0 self.old.trace.now.header.shards))
+            self.old.core line.now)
+            (asked_by self.old.trace.now.header.shards self.old.trace.now.lines.items done line.now)
+            line.now
+            self.old.core (kept_in self.old.replies)
+            (news_at (kept_in self.old.replies) self.old.plans)
+            self.new.core (kept_in self.new.replies)
+            (news_at (kept_in self.new.replies) self.new.plans)) }
 
         // The run is ready for the line after it.
         ensures knows { OnOk result (KnowsPlan self.new.plans self.new.core) }
@@ -436,8 +458,12 @@ impl<'t> Run<'t> {
         requires come { (replies : Bool) × (start : CoreState)
             × HasCome replies self.old.trace.now.header.shards self.old.trace.now.lines.items place
             start self.old.core (kept_in self.old.replies) (has self.old.leaving) self.old.plans }
-        ensures more { (replies : Bool) (start : CoreState) → HasCome replies self.old.trace.now.header.shards self.old.trace.now.lines.items place start self.old.core (kept_in self.old.replies) (has self.old.leaving) self.old.plans
-            → OnOk result (HasCome replies self.old.trace.now.header.shards self.old.trace.now.lines.items (place + 1) start self.new.core (kept_in self.new.replies) (has self.new.leaving) self.new.plans) }
+        ensures more { (replies : Bool) (start : CoreState)
+            → HasCome replies self.old.trace.now.header.shards self.old.trace.now.lines.items place
+            start self.old.core (kept_in self.old.replies) (has self.old.leaving) self.old.plans
+            → OnOk result (HasCome replies self.old.trace.now.header.shards
+            self.old.trace.now.lines.items (place + 1)
+            start self.new.core (kept_in self.new.replies) (has self.new.leaving) self.new.plans) }
         ensures trace { self.new.trace.now ≡ self.old.trace.now }
     {
         self.line(place, line)?;

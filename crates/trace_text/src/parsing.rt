@@ -55,7 +55,8 @@ fn read_body(alloc: Global, header: &Header, text: &[u8]) -> Result<Body, ParseE
     requires { IsWithinLimits header.now }
     ensures known { IfOk result (λ body. Knows body.lines.items body.earlier) }
     ensures placed { IfOk result (λ body. body.places.items ≡ places_from [] body.lines.items) }
-    ensures ok { IfOk result (λ body. AreReadAs header.now [] (lines_of text.now) body.lines.items) }
+    ensures ok { IfOk result
+        (λ body. AreReadAs header.now [] (lines_of text.now) body.lines.items) }
     ensures err { IfErr result (FailsAt header.now (lines_of text.now)) }
 {
     let mut lines = Vec::new(alloc);

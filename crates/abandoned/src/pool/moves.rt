@@ -126,8 +126,10 @@ fn house<L: Log>(table: &mut Table, spans: &Spans<L>, words: Option<PageWords>) 
     requires words { union_of (all_spans spans.now) ≢ set.empty → IsSome words }
     ensures emptied { union_of (all_spans spans.now) ≡ set.empty → (result ≡ None)
         × (table.new ≡ table.old) }
-    ensures live { union_of (all_spans spans.now) ≢ set.empty → (page : ℕ) × (content : Words) × (result ≡ Some page) × (words ≡ Some content)
-        × (map.get table.old.pages page ≡ None) × (table.new ≡ with_page table.old (all_spans spans.now) page content) }
+    ensures live { union_of (all_spans spans.now) ≢ set.empty → (page : ℕ) × (content : Words)
+        × (result ≡ Some page) × (words ≡ Some content)
+        × (map.get table.old.pages page ≡ None)
+        × (table.new ≡ with_page table.old (all_spans spans.now) page content) }
 {
     if spans.occupied().lowest().is_none() {
         return None;

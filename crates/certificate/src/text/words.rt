@@ -74,7 +74,8 @@ fn both(
     abandoned: Result<SpanId, Cause>,
     owned: Result<SpanId, Cause>,
 ) -> Result<(SpanId, SpanId), Cause>
-    ensures { result_map pair_parts result ≡ both_ids (result_map id_parts abandoned) (result_map id_parts owned) }
+    ensures { result_map pair_parts result
+        ≡ both_ids (result_map id_parts abandoned) (result_map id_parts owned) }
 {
     match (abandoned, owned) {
         (Ok(abandoned), Ok(owned)) => Ok((abandoned, owned)),
