@@ -30,7 +30,7 @@ use Rattle.abandoned.specs.Sound.{IsSound}
 use Rattle.abandoned.specs.State.{PoolState}
 use Rattle.abandoned.proofs.TakenIn.{empty_or_not, times-TakesIn}
 
--- of the groups those behind have come, and the others are left, with the words that they had
+-- of the groups the later ones have come, and the others are left, with the words that they had
 pub record IsMoving (pool₀ : PoolState) (shard₀ : ShardState) (pool : PoolState) (shard : ShardState) : Type 0 where
   pub gone : List GroupState
   pub groups : shard₀.groups ≡ shard.groups ++ gone

@@ -1,5 +1,5 @@
 -- What a group that gives its page up does to the pool.
-use Rattle.std.proofs.Common.{◌≡◌, ℕ, Bool, true, false, List, Option, Some, None, IfSome, MatchOption, is_some, set, slice_get, ap, sym, ◌∙◌, refl, inl, inr}
+use Rattle.std.proofs.Common.{◌≡◌, ℕ, Bool, true, false, List, Option, Some, None, IfSome, MatchOption, is_some, set, slice_get, ap, subst, sym, ◌∙◌, refl, inl, inr}
 use Rattle.std.specs.FinSet as set_of
 use Rattle.std.specs.Ordering.{nat_cmp}
 use Rattle.bitmap.specs.Slots.{IsLowest, SlotSet}
@@ -9,9 +9,10 @@ use Rattle.page_table.specs.State.{HasPage, TableState}
 use Rattle.groups.specs.Spans.{union_of}
 use Rattle.groups.proofs.Unions.{live_if_held, member_of_union}
 use Rattle.abandoned.specs.Calls.{GivesUp, Leaves, without_page_of}
+use Rattle.abandoned.specs.Groups.{FreesIn, GroupsState}
 use Rattle.abandoned.specs.Sound.{IsSound}
 use Rattle.abandoned.specs.State.{PoolState, PooledState}
-use Rattle.groups.specs.Group.{spans_of}
+use Rattle.groups.specs.Group.{spans_of, with_span}
 use Rattle.abandoned.proofs.Pages.{none_live, sound_paged}
 use Rattle.abandoned.proofs.TakenIn.{empty_or_not}
 
@@ -58,6 +59,14 @@ module _ (group now : PooledState) (table after : TableState) (gives : GivesUp g
         let e = gives.live live in
         λ i. record { groups = set groups index (e.0 i); table = record (e.1 i) { page_room = pages; span_room = spans }; has_plan = told };
   }
+
+-- what a free among the groups does to the pool, in the room that is reserved
+pub Leaves-FreesIn : (old new : GroupsState) (table after : TableState) (index place : ℕ) (group : PooledState) (span : SpanState) → FreesIn old index group place span table new after → (pages spans : ℕ) (told : Bool)
+    → (pool : PoolState) → record { groups = old.groups; table = record table { page_room = pages; span_room = spans }; has_plan = told } ≡ pool
+    → Leaves pool index (with_span group place span) (record { groups = new.groups; table = record after { page_room = pages; span_room = spans }; has_plan = told })
+Leaves-FreesIn old new table after index place group span (now, gives, is) pages spans told pool pool_is =
+    subst (λ (gs : List PooledState). Leaves pool index (with_span group place span) (record { groups = gs; table = record after { page_room = pages; span_room = spans }; has_plan = told })) (sym (ap (λ (s : GroupsState). s.groups) is))
+    (subst (λ (p : PoolState). Leaves p index (with_span group place span) (record { groups = set old.groups index now; table = record after { page_room = pages; span_room = spans }; has_plan = told })) pool_is (Leaves-GivesUp _ _ _ _ gives old.groups index pages spans told))
 
 -- a key that a span of the group holds has a page
 pub has_page_if_held : (pool : PoolState) → IsSound pool → (index place : ℕ) (group : PooledState) (span : SpanState) (slot generation : ℕ)

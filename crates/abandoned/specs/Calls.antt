@@ -72,7 +72,7 @@ Lifts old head (Some whole) new =
     (index : ℕ) × (group : PooledState) × IsHeadOf old.groups head index group × (whole ≡ whole_of old.table group)
     × (new ≡ record old { groups = remove old.groups index; table = without_page_of old.table group.page })
 
--- the pool with reserved room for one group of so many spans
+-- the pool with reserved room for one group of that many spans
 abbrev pub with_room : PoolState → ℕ → PoolState
 with_room pool spans = record pool { table = record pool.table { page_room = 1; span_room = spans } }
 
@@ -82,7 +82,7 @@ pub record MayTakeIn (pool : PoolState) (whole : WholeState) : Type 0 where
   pub page_room : 0 < pool.table.page_room
   pub span_room : length (spans_moved whole) ≤ pool.table.span_room
 
--- the table with one page and so many spans less of reserved room
+-- the table with one page and that many spans less of reserved room
 abbrev pub less_room : TableState → ℕ → TableState
 less_room table spans = record table { span_room = table.span_room - spans; page_room = table.page_room - 1 }
 

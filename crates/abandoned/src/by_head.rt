@@ -85,7 +85,7 @@ impl<L: Log> Groups<L> {
         self.places[rank].as_ref()
     }
 
-    /// Makes room for so many more groups, where less is reserved.
+    /// Makes room for that many more groups, where less is reserved.
     ///
     /// # Errors
     ///

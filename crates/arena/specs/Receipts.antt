@@ -15,15 +15,15 @@ use Rattle.shard.specs.declared.shard.Freed.TheVariants as freed
 use Rattle.abandoned.specs.Calls.{Frees as FreesPooled, Gets as GetsPooled}
 use Rattle.abandoned.specs.State.{PoolState}
 
--- the receipt of a put of the value, which gave the key out after so many changes
+-- the receipt of a put of the value, which gave the key out after that many changes
 abbrev pub put_receipt : ℕ → ℕ → Word → Key → ℕ → Receipt
 put_receipt worker section value key at = record { worker = worker; section = section; key = key; at = at; call = call.Put value }
 
--- the receipt of a look-up of the key that found this after so many changes
+-- the receipt of a look-up of the key that found this after that many changes
 abbrev pub get_receipt : ℕ → ℕ → Key → Option Word → ℕ → Receipt
 get_receipt worker section key value at = record { worker = worker; section = section; key = key; at = at; call = look_up value }
 
--- the receipt of a free of the key after so many changes, which was done or was not
+-- the receipt of a free of the key after that many changes, which was done or was not
 abbrev pub free_receipt : ℕ → ℕ → Key → Bool → ℕ → Receipt
 free_receipt worker section key done at = record { worker = worker; section = section; key = key; at = at; call = free done }
 

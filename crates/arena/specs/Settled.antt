@@ -32,7 +32,7 @@ taken_with_known inboxes = map (λ inbox. inbox.taken ++ inbox.known) inboxes
 abbrev pub greatest_section : List SeatState → ℕ
 greatest_section seats = fold (λ most seat. max most seat.section) 0 seats
 
--- every ring into the shard was settled: of each, the keys sent are those taken before, followed by those that were freed now, so many as its count
+-- every ring into the shard was settled: of each, the keys sent are those taken before, followed by those that were freed now, as many as its count
 pub record IsSettled (seats : List SeatState) (shard section : ℕ) (counts : List ℕ) (before after : List Receipt) : Type 0 where
   pub keys : List (List Key)
   pub each_ring : length keys ≡ length seats

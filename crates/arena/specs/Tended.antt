@@ -6,7 +6,7 @@ use Rattle.remote_queue.specs.Rings.{Taking}
 use Rattle.arena.specs.Receipts.{AddsFrees, joined}
 use Rattle.arena.specs.Seats.{SeatState, taken_lists}
 
--- so many keys were taken from a ring, and each was freed
+-- that many keys were taken from a ring, and each was freed
 pub record IsRingTended (worker section count : ℕ) (before after : Taking) (receipts_before receipts_after : List Receipt) : Type 0 where
   pub keys : List Key
   pub count_is : count ≡ length keys
@@ -14,7 +14,7 @@ pub record IsRingTended (worker section count : ℕ) (before after : Taking) (re
   pub taken : after.taken ≡ before.taken ++ keys
   pub freed : AddsFrees worker section keys receipts_before receipts_after
 
--- keys were taken from the first of some rings, ring after ring, at most so many from each, and each was freed: `total` in all
+-- keys were taken from the first of some rings, ring after ring, at most that many from each, and each was freed: `total` in all
 pub record AreRingsTended (most worker section rings : ℕ) (before after : List Taking) (receipts_before receipts_after : List Receipt) (total : ℕ) : Type 0 where
   pub keys : List (List Key)
   pub each_ring : length keys ≡ rings
@@ -24,7 +24,7 @@ pub record AreRingsTended (most worker section rings : ℕ) (before after : List
   pub freed : AddsFrees worker section (joined keys) receipts_before receipts_after
   pub total_is : total ≡ length (joined keys)
 
--- a seat took keys from its rings, ring after ring, at most so many from each, and freed each: `total` in all
+-- a seat took keys from its rings, ring after ring, at most that many from each, and freed each: `total` in all
 pub record IsTended (most : ℕ) (before after : SeatState) (receipts_before receipts_after : List Receipt) (total : ℕ) : Type 0 where
   pub keys : List (List Key)
   pub each_ring : length keys ≡ length before.inboxes

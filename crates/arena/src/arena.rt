@@ -51,7 +51,7 @@ impl<G: Gate, L: Log> Arena<G, L> {
     ///
     /// # Errors
     ///
-    /// As those of [`mark_in`] on what all locks lend: `PlanOpen`, `TooMany`, `Doubled`, and `OutOfMemory` where a growth was
+    /// As those of [`mark_in`] on what all locks lend: `PlanOpen`, `TooMany`, `Doubled`, and `OutOfMemory` where an allocation was
     /// refused. The plan of the steward is as it was.
     pub fn mark<R: Wait>(&self, rt: &R, steward: &mut Steward) -> Result<Certificate, MarkError>
         // The steward is of this arena.
@@ -92,7 +92,7 @@ impl<G: Gate, L: Log> Arena<G, L> {
     ///
     /// # Errors
     ///
-    /// `AllocError` where a growth was refused. The pair stays next.
+    /// `AllocError` where an allocation was refused. The pair stays next.
     pub fn step<R: Wait>(&self, rt: &R, steward: &mut Steward) -> Result<Stepped, AllocError>
         requires { steward.old.limits ≡ self.now.limits }
         ensures limits { steward.new.limits ≡ steward.old.limits }

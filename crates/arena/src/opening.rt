@@ -21,7 +21,7 @@ use std::mem::replace;
 use std::sync::Mutex;
 
 impl<G: Gate> Arena<G, Kept> {
-    /// An arena of so many new shards and an empty pool, with a seat for each worker, by number, and its steward. A shard may
+    /// An arena of `shards` new shards and an empty pool, with a seat for each worker, by number, and its steward. A shard may
     /// have `page_limit` pages of 256 slots, a ring holds `ring_capacity` keys, and a slot is given the generations from 1
     /// to `gens`.
     ///

@@ -153,7 +153,7 @@ fn receipt_of_free(freed: Freed, worker: u32, section: u64, key: &Key) -> Option
     }
 }
 
-// The receipt of a look-up of the key that found this after so many changes.
+// The receipt of a look-up of the key that found this after that many changes.
 fn get_at(at: usize, found: Option<u128>, worker: u32, section: u64, key: &Key) -> Receipt
     ensures { result ≡ get_receipt worker section key.now found at }
 {
@@ -166,7 +166,7 @@ fn get_at(at: usize, found: Option<u128>, worker: u32, section: u64, key: &Key) 
     }
 }
 
-// The receipt of a free of the key after so many changes, which was done or was not.
+// The receipt of a free of the key after that many changes, which was done or was not.
 fn free_at(at: usize, done: bool, worker: u32, section: u64, key: &Key) -> Receipt
     ensures { result ≡ free_receipt worker section key.now done at }
 {

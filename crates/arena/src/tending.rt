@@ -9,7 +9,7 @@ use remote_queue::Inbox;
 use span::{Log, Receipt};
 use std::sync::Wait;
 
-// Takes at most so many keys from each of the rings, one ring after the other, and frees each. It gives how many there were.
+// Takes at most that many keys from each of the rings, one ring after the other, and frees each. It gives how many there were.
 pub(crate) fn tend_rings<G: Gate, L: Log, R: Wait>(
     rt: &R,
     arena: &Arena<G, L>,
@@ -41,7 +41,7 @@ pub(crate) fn tend_rings<G: Gate, L: Log, R: Wait>(
     total
 }
 
-// Takes at most so many keys from a ring, and frees each. It gives how many there were.
+// Takes at most that many keys from a ring, and frees each. It gives how many there were.
 fn tend_ring<G: Gate, L: Log, R: Wait>(
     rt: &R,
     arena: &Arena<G, L>,

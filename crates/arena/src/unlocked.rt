@@ -72,7 +72,7 @@ pub(crate) fn unlock<G: Gate>(arena: &mut Arena<G>) -> Result<Unlocked, AllocErr
 }
 
 // Takes the shards, in whose place stand others with no span, and makes a list with room for the logs of their spans; with room
-// for so many more of either. Each shard is held while those after it are asked, and leaves when there is room for all: the last
+// for that many more of either. Each shard is held while those after it are asked, and leaves when there is room for all: the last
 // one first.
 fn unlocked_shards(
     alloc: Global,

@@ -39,7 +39,7 @@ pub(crate) struct Words {
 }
 
 impl Words {
-    /// The words of the spans of so many shards, of which none is opened.
+    /// The words of the spans of that many shards, of which none is opened.
     pub(crate) fn new(alloc: Global, shards: u32) -> Result<Words, AllocError>
         requires { shards ≤ MOST_SHARDS }
     {

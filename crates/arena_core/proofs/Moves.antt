@@ -143,7 +143,7 @@ may_take-nowhere core number past shard here = absurd (let none : None ≡ Some 
 pub past_last : (core : CoreState) (number : ℕ) → IsSound core → core.limits.shards ≤ number → length core.shards ≤ number
 past_last core number sound past = omega (arith, sound.groups.count)
 
--- no group has a page, where so many have one
+-- no group has a page, where that many have one
 
 nothing-unpaged : (groups : List PooledState) → length (filter (λ (group : PooledState). is_some group.page) groups) ≡ 0 → (index : ℕ) (group : PooledState) → slice_get groups index ≡ Some group → group.page ≡ None
 nothing-unpaged [] none index group here = absurd cc

@@ -28,7 +28,7 @@ named entries id = named_by (slice_get entries (rank id))
 abbrev pub KnowsMoved : List ShardState → List (Option ℕ) → Type 0
 KnowsMoved shards entries = (id : SpanId) (number : ℕ) → number ≢ id.shard → StandsIn shards id number → named entries id ≡ Some number
 
--- the entries name the number for each span of the head's group but the first so many, and else what they named before
+-- the entries name the number for each span of the head's group from the place on, and else what they named before
 pub record Notes (old new : List (Option ℕ)) (groups : List GroupState) (head : SpanId) (first number : ℕ) : Type 0 where
   pub same_length : length new ≡ length old
   pub noted : (place : ℕ) (id : SpanId) → first ≤ place → IsMemberAt groups head place id → rank id < length old → named new id ≡ Some number

@@ -13,7 +13,7 @@ pub record RingState : Type 0 where
 abbrev pub new_ring : ℕ → RingState
 new_ring capacity = record { capacity = capacity; keys = [] }
 
--- empty rings, one from each of so many workers to each of as many shards
+-- empty rings, one from each of that many workers to each of as many shards
 abbrev pub new_rings : ℕ → ℕ → List (List RingState)
 new_rings shards capacity = replicate shards (replicate shards (new_ring capacity))
 

@@ -106,6 +106,6 @@ live_keys core = sum_by shard_keys core.shards + live_in core.pool.groups
 abbrev pub AreLive : List Key → PlainMap → Type 0
 AreLive keys plain = (key : Key) → count_by (same_key key) keys ≡ (if is_some (plain.value_of key) then 1 else 0)
 
--- so many keys have a value in the map
+-- that many keys have a value in the map
 abbrev pub HasKeys : PlainMap → ℕ → Type 0
 HasKeys plain count = (keys : List Key) × AreLive keys plain × (count ≡ length keys)

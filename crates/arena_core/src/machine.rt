@@ -237,7 +237,7 @@ fn are_within(shards: u32, page_limit: usize, ring_capacity: usize, gens: u32) -
     Limits::new(shards, page_limit, ring_capacity, gens).is_some()
 }
 
-// So many new shards, by their numbers.
+// That many new shards, by their numbers.
 fn new_shards<L: Log>(
     alloc: Global,
     count: u32,

@@ -29,7 +29,7 @@ impl Model for Ring {
 }
 
 impl Ring {
-    // A ring in which no key waits, with the room for so many.
+    // A ring in which no key waits, with the room for that many.
     fn new(alloc: Global, capacity: usize) -> Result<Ring, AllocError>
         ensures { IfOk result (λ ring. ring ≡ new_ring capacity) }
     {
@@ -81,7 +81,7 @@ impl Model for Inbox {
 }
 
 impl Inbox {
-    // A ring for each of so many workers.
+    // A ring for each of that many workers.
     fn new(alloc: Global, workers: u32, capacity: usize) -> Result<Inbox, AllocError>
         ensures { IfOk result (λ inbox. inbox ≡ replicate workers (new_ring capacity)) }
     {
@@ -109,7 +109,7 @@ impl Model for Rings {
 }
 
 impl Rings {
-    /// Empty rings, one from each of so many workers to each of as many shards. All memory is taken here.
+    /// Empty rings, one from each of that many workers to each of as many shards. All memory is taken here.
     pub fn new(alloc: Global, shards: u32, capacity: usize) -> Result<Rings, AllocError>
         ensures { IfOk result (λ rings. rings ≡ new_rings shards capacity) }
     {

@@ -58,7 +58,7 @@ impl Whereabouts {
         }
     }
 
-    /// Notes that the spans of the head's group, but the first so many, are in the shard of this number.
+    /// Notes that the spans of the head's group, from the place `first` on, are in the shard of this number.
     pub fn note<L: Log>(&mut self, number: u8, shard: &Shard<L>, head: SpanId, first: usize)
         requires { IsSound shard.now }
         ensures { Notes self.old self.new shard.now.groups head first number }

@@ -10,7 +10,7 @@ use std::alloc::{AllocError, Global};
 use std::thread;
 use std::thread::Threads;
 
-// At most so many threads sort.
+// At most that many threads sort.
 const SORTERS: usize = 16;
 
 /// Where a change stands: its slot, and its place in the log.
@@ -132,7 +132,7 @@ fn ends_before(found: &[SlotChange], rank: u128, n: usize) -> bool
     true
 }
 
-// Whether the change behind the first `n`, if there is one, does not stand before the rank.
+// Whether the change after the first `n`, if there is one, does not stand before the rank.
 fn goes_on_from(found: &[SlotChange], rank: u128, n: usize) -> bool
     requires { n ≤ length found.now }
     ensures { IsTrue result → (x : SlotChange) → slice_get found.now n ≡ Some x

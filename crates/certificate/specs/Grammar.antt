@@ -120,13 +120,13 @@ order_of (Some last) id = if comes_before last id then Ok tt else Err Order
 abbrev pub item_in : {X : Type 0} → (List ℕ → Result X Cause) → (X → Id) → Option Id → List ℕ → Result X Cause
 item_in parse id_of last line = parse line >>= (λ x. order_of last (id_of x) >>= (λ fine. Ok x))
 
--- so many items from the place on, by ascending ids
+-- that many items from the place on, by ascending ids
 abbrev pub items_in : {X : Type 0} → (List ℕ → Result X Cause) → (X → Id) → List (List ℕ) → Option Id → ℕ → ℕ → Result (List X) ReadError
 items_in parse id_of parts last at zero = Ok []
 items_in parse id_of parts last at (suc n) =
     at_line at (line_in (item_in parse id_of last) parts at) >>= (λ x. items_in parse id_of parts (Some (id_of x)) (at + 1) n >>= (λ more. Ok (x ∷ more)))
 
--- a title with a count, and so many items
+-- a title with a count, and that many items
 unfoldable pub list_in : {X : Type 0} → List ℕ → (List ℕ → Result X Cause) → (X → Id) → List (List ℕ) → ℕ → Result (List X) ReadError
 list_in title parse id_of parts at = at_line at (line_in (count_in title) parts at) >>= items_in parse id_of parts None (at + 1)
 

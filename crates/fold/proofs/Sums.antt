@@ -20,7 +20,7 @@ use Rattle.groups.proofs.Removed.{count-remove}
 use Rattle.abandoned.proofs.Together.{spans_in-Lifts}
 use Rattle.fold.specs.Folds.{Folds}
 
--- after a graft the spans are the old ones with those that came behind the last guest of the group
+-- after a graft the spans are the old ones with those that came after the last guest of the group
 pub spans_in-Grafts : (old new : ShardState) (head : SpanId) (whole : WholeState) → Grafts old head whole new → AreBetween (spans_in new.groups) (spans_in old.groups) (spans_moved whole)
 spans_in-Grafts old new head whole grafts =
     let cut = split_at old.groups grafts.index grafts.group grafts.here.here in

@@ -43,7 +43,7 @@ pub record Folds (pool : PoolState) (shard : ShardState) (a b : SpanId) (pool_ne
   pub lifts : Lifts pool a (Some whole) pool_new
   pub grafts : Grafts (with_room shard (Some b) (length (spans_moved whole))) b whole shard_new
 
--- the group of this head has so many spans
+-- the group of this head has that many spans
 abbrev pub HasSpans : List PooledState → SpanId → ℕ → Type 0
 HasSpans groups head spans = (index : ℕ) × (group : PooledState) × IsHeadOf groups head index group × (spans ≡ length (spans_of group))
 

@@ -64,7 +64,7 @@ fn spans_to_fold<L: Log>(
     a: SpanId,
     b: SpanId,
 ) -> Result<usize, Step>
-    // The groups may be folded, and so many spans come; or nothing changes.
+    // The groups may be folded, and that many spans come; or nothing changes.
     ensures may { OnOk result (MayFold pool.now shard.now a b) }
     ensures spans { IfOk result (λ spans. HasSpans pool.now.groups a spans) }
     ensures step { IfErr result (λ step. Steps pool.now shard.now a b step pool.now shard.now) }
@@ -106,7 +106,7 @@ fn carry_out<L: Log>(
     b: SpanId,
     spans: usize,
 ) -> Result<(), AllocError>
-    // The fold may be, and moves so many spans.
+    // The fold may be, and moves that many spans.
     requires may { MayFold pool.old shard.old a b }
     requires spans { HasSpans pool.old.groups a spans }
     requires sound { IsSound pool.old }

@@ -47,7 +47,7 @@ module _ {G : Type 0} (spans_of : G → List SpanState) where
       let there = found_at (λ (s : SpanState). same_span s.id id) (all_in groups) span found in
       (stands_in groups there.0.0 span there.0.1, there.1)
 
-  -- the spans before and behind those of a group that came
+  -- the spans before and after those of a group that came
   pub record IsPutIn (groups : List G) (index : ℕ) (group : G) : Type 0 where
     pub left : List SpanState
     pub right : List SpanState
@@ -64,7 +64,7 @@ module _ {G : Type 0} (spans_of : G → List SpanState) where
         after = ap all_in (part.after_insert group) ∙ flat_map-append spans_of part.left (group ∷ part.right);
       }
 
-  -- the spans before and behind those of a group that went
+  -- the spans before and after those of a group that went
   pub record IsTakenOut (groups : List G) (index : ℕ) (group : G) : Type 0 where
     pub left : List SpanState
     pub right : List SpanState
@@ -81,7 +81,7 @@ module _ {G : Type 0} (spans_of : G → List SpanState) where
         after = ap all_in outer.after_remove ∙ flat_map-append spans_of outer.left outer.right;
       }
 
-  -- the spans before and behind one, whatever stands in its place
+  -- the spans before and after one, whatever stands in its place
   pub record IsRound (groups : List G) (index place : ℕ) (group : G) (span : SpanState) : Type 0 where
     pub left : List SpanState
     pub right : List SpanState

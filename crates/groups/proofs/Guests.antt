@@ -60,7 +60,7 @@ AreApart-push (span ∷ spans) guest apart new = (
       (contains-union nat_cmp_total (live_slots span.log) (union_of spans) q ∙ or_right (contains (live_slots span.log) q) (contains (union_of spans) q) other))),
 )
 
--- spans that come behind others
+-- spans that come after others
 
 union_of_none : (s : SlotSet) → union empty s ≡ s
 union_of_none s = same_slots _ _ (λ q. contains-union nat_cmp_total empty s q ∙ ap (λ b. b || contains s q) (contains-empty nat_cmp q))

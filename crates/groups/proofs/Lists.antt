@@ -144,7 +144,7 @@ split_at (y ∷ xs) (suc at) x here =
       after_remove = ap (λ zs. y ∷ zs) rest.after_remove;
     }
 
--- the lists before and behind a place
+-- the lists before and after a place
 pub record IsParted {X : Type 0} (xs : List X) (at : ℕ) : Type 0 where
   pub left : List X
   pub right : List X

@@ -13,7 +13,7 @@ pub record SpansState : Type 0 where
   pub head : SpanState
   pub guests : List SpanState
 
--- the head, and behind it the guests
+-- the head, and after it the guests
 abbrev pub all_spans : SpansState → List SpanState
 all_spans spans = spans.head ∷ spans.guests
 

@@ -65,7 +65,7 @@ impl Directory {
         self.places.get(&guest.rank()).copied()
     }
 
-    /// Makes room for so many more entries, where less is reserved.
+    /// Makes room for that many more entries, where less is reserved.
     ///
     /// # Errors
     ///
@@ -79,7 +79,7 @@ impl Directory {
         Ok(())
     }
 
-    /// Enters the guests of the head but the first so many, in reserved room.
+    /// Enters the guests of the head from the place `first` on, counted from 0, in reserved room.
     pub fn enter_from<L: Log>(&mut self, first: usize, guests: &[Span<L>], head: SpanId)
         requires within { first ≤ length guests.now }
         requires room { length guests.now ≤ self.old.room + first }

@@ -64,7 +64,7 @@ impl<L: Log> Spans<L> {
         1 + self.guests.len()
     }
 
-    /// The guests, behind the head.
+    /// The guests, after the head.
     pub fn guests(&self) -> &[Span<L>]
         ensures { result.now ≡ self.now.guests }
     {

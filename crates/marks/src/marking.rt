@@ -27,8 +27,8 @@ use std::alloc::{AllocError, Global};
 /// # Errors
 ///
 /// The first of these that holds: `PlanOpen` where a plan is open; `TooMany` where a side has more than 4,096 groups;
-/// `Doubled` where two groups of a side have the same head, which takes memory to tell. `OutOfMemory` where a growth was
-/// refused and neither of the first two holds. All growths stand before the first change.
+/// `Doubled` where two groups of a side have the same head, which takes memory to tell. `OutOfMemory` where an allocation was
+/// refused and neither of the first two holds. All allocations stand before the first change.
 pub fn mark_in<H: LendsShard>(
     alloc: Global,
     pool: &mut Pool<H::Log>,

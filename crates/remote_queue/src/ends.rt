@@ -48,7 +48,7 @@ impl Model for Inbox {
     ghost view = { λ inbox. taking inbox.consumer };
 }
 
-// A new ring with room for so many keys.
+// A new ring with room for that many keys.
 pub(crate) fn ring(alloc: Global, capacity: usize) -> Result<(Outbox, Inbox), AllocError>
     requires { capacity ≤ MOST_RING_KEYS }
     ensures { IfOk result (λ ends. (ends.0.ring ≡ ends.1.ring) × (ends.0.sent ≡ [])
@@ -106,7 +106,7 @@ impl Inbox {
     }
 }
 
-/// How many keys were sent by the one end of a ring and not yet taken by the other, at most 1,024. So many takes then answer
+/// How many keys were sent by the one end of a ring and not yet taken by the other, at most 1,024. That many takes then answer
 /// these keys, in the order in which they were sent, and the keys taken are then the keys sent. It waits for nobody and takes
 /// no memory.
 pub fn finish(outbox: &mut Outbox, inbox: &mut Inbox) -> usize

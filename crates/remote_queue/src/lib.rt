@@ -12,7 +12,7 @@
 //! ```
 //!
 //! While the ends are in different hands, each knows its own side: what was sent, or what was taken. Once both are in one
-//! hand, [`finish`] says how many keys are left: so many takes then answer, and the keys taken are the keys sent, in order.
+//! hand, [`finish`] says how many keys are left: that many takes then answer, and the keys taken are the keys sent, in order.
 //! (That frees by other threads are kept apart from the owner's and collected later is an idea of mimalloc.)
 //!
 //! # Examples

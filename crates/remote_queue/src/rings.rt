@@ -94,7 +94,7 @@ fn link_within(
     Ok(Links { outboxes, inboxes })
 }
 
-// So many columns with no end in them.
+// That many columns with no end in them.
 fn columns(alloc: Global, shards: usize) -> Result<Vec<Vec<Inbox>>, AllocError>
     ensures long { IfOk result (λ columns. AreLong 0 (inbox_rings columns.items)) }
     ensures len { IfOk result (λ columns. vec_len columns ≡ shards) }

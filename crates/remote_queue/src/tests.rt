@@ -77,7 +77,7 @@ fn a_ring_for_one_key(rt: HostRuntime) -> Result<(), Fail> {
     Ok(())
 }
 
-// Whether so many rings are linked, each where it belongs.
+// Whether that many rings are linked, each where it belongs.
 fn is_linked(
     alloc: Global,
     workers: usize,

@@ -16,7 +16,7 @@ use Rattle.groups.proofs.KnownGuests.{guests_in, head_in}
 use Rattle.groups.proofs.Standing.{head_id}
 use Rattle.shard.proofs.Opened.{alike}
 
--- the guests behind the first so many are those that came
+-- the guests from the place on are those that came
 pub entered-behind : (entries : Entries) (group : GroupState) (more : List SpanState) (head : SpanId) (first : ℕ) (guests : List SpanState) → guests ≡ group.guests ++ more → first ≡ length group.guests → group.head.id ≡ head
     → entered entries (drop first guests) head (first + 1) ≡ entered entries more group.head.id (suc (length group.guests))
 entered-behind entries group more head first guests all is head_is =

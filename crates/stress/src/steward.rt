@@ -78,7 +78,7 @@ impl<'a> Keeper<'a> {
         self.arena.close(rt, &mut self.steward);
     }
 
-    /// So many marks, each with its steps and its close, beside whoever runs.
+    /// That many marks, each with its steps and its close, beside whoever runs.
     pub fn mark_beside<R: Wait>(&mut self, rt: &R, count: usize) {
         for _ in 0..count {
             if self.arena.mark(rt, &mut self.steward).is_ok() {

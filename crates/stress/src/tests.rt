@@ -4,7 +4,7 @@ use crate::worker::Trouble;
 use audit::AuditError;
 use std::test::Fail;
 
-// What a run must come to: no call met what none may, the audit is passed, so many marks were made, none of them was refused or
+// What a run must come to: no call met what none may, the audit is passed, that many marks were made, none of them was refused or
 // told other groups than there were, and no step missed its groups.
 fn wanted(made: usize) -> (Option<Trouble>, Result<(), AuditError>, [usize; 4]) {
     (None, Ok(()), [made, 0, 0, 0])

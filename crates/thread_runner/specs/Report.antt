@@ -10,7 +10,7 @@ use Rattle.thread_runner.specs.declared.body.Note.{Note}
 abbrev pub count_above : ℕ → List LineAnswer → ℕ
 count_above line replies = length (take_while (λ a. nat_lt a.line line) replies)
 
--- the replies, each piece of news behind those of the lines above its own
+-- the replies, each piece of news after those of the lines above its own
 abbrev pub body_text : Bool → List LineAnswer → List Note → List ℕ
 body_text shown replies [] = answers_text shown replies
 body_text shown replies (note ∷ notes) =

@@ -44,7 +44,7 @@ abbrev pub first_of : List (Option ℕ) → Option ℕ
 first_of [] = None
 first_of (line ∷ lines) = line
 
--- the numbers behind the first
+-- the numbers after the first
 abbrev pub rest_of : List (Option ℕ) → List (Option ℕ)
 rest_of [] = []
 rest_of (line ∷ lines) = lines

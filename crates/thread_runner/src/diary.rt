@@ -25,7 +25,7 @@ pub enum Other {
     Sent,
     /// The ring for a key that was to be freed later had no room.
     RingFull,
-    /// So many keys that had come in were taken, and freed where they were live.
+    /// That many keys that had come in were taken, and freed where they were live.
     Settled(usize),
 }
 
@@ -66,7 +66,7 @@ impl Diary {
         }
     }
 
-    /// Makes room for the receipts of so many calls.
+    /// Makes room for the receipts of that many calls.
     pub(crate) fn reserve(&mut self, calls: usize) -> Result<(), AllocError> {
         if self.replies {
             self.lines.reserve(calls)?;
@@ -134,7 +134,7 @@ impl Diary {
         push_calls(replies, self.lines.as_slice(), self.receipts.as_slice())
     }
 
-    /// Adds all replies, as the report tells them: those of calls on keys, and behind them the others.
+    /// Adds all replies, as the report tells them: those of calls on keys, and after them the others.
     pub(crate) fn push_replies(&self, replies: &mut Vec<LineAnswer>) -> Result<(), AllocError>
         ensures { OnOk result (replies.new.items ≡ replies.old.items ++ diary_lines self.now) }
     {
@@ -210,7 +210,7 @@ fn push_calls(
     Ok(())
 }
 
-/// The first number and those behind it.
+/// The first number and those after it.
 fn first_line(lines: &[Option<usize>]) -> (Option<usize>, &[Option<usize>])
     ensures first { result.0 ≡ first_of lines.now }
     ensures rest { result.1.now ≡ rest_of lines.now }

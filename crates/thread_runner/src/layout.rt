@@ -64,13 +64,13 @@ impl Layout {
         Ok(())
     }
 
-    /// The place of the line of the thread that comes after so many of its lines, where that is above `end`.
+    /// The place of the line of the thread that comes after that many of its lines, where that is above `end`.
     pub(crate) fn line_after(&self, thread: u32, done: usize, end: usize) -> Option<usize> {
         let place = *self.places.get(thread as usize)?.get(done)?;
         if place < end { Some(place) } else { None }
     }
 
-    /// How many lines the thread has from the one after so many of its lines up to, and without, the place `end`.
+    /// How many lines the thread has from the one after that many of its lines up to, and without, the place `end`.
     pub(crate) fn lines_between(&self, thread: u32, done: usize, end: usize) -> usize {
         let Some(places) = self.places.get(thread as usize) else {
             return 0;

@@ -61,7 +61,7 @@ fn workers_of<'a, G: Gate>(
     Ok(workers)
 }
 
-// No key of so many threads.
+// No key of that many threads.
 fn no_keys(alloc: Global, threads: usize) -> Result<Keys, AllocError> {
     let mut keys = Vec::with_capacity(alloc, threads)?;
     for _ in 0..threads {
@@ -169,7 +169,7 @@ impl<'a, G: Gate + Sync> Crew<'a, G> {
         })
     }
 
-    // Keeps the keys of the section that was run, for the sections behind it.
+    // Keeps the keys of the section that was run, for the sections after it.
     fn hand_over(&mut self) -> Result<(), AllocError> {
         for worker in self.workers.iter_mut() {
             worker.hand_over(&mut self.keys)?;
@@ -309,7 +309,7 @@ impl<'a, G: Gate + Sync> Crew<'a, G> {
 ///
 /// # Errors
 ///
-/// `OutOfMemory` where a growth was refused, and `Doubled` where a shard or the pool was not as the run had left it.
+/// `OutOfMemory` where an allocation was refused, and `Doubled` where a shard or the pool was not as the run had left it.
 pub(crate) fn run_sections<'a, R: Threads + Wait + Sync, G: Gate + Sync>(
     rt: &R,
     alloc: Global,

@@ -280,7 +280,7 @@ impl<'a, G: Gate> Worker<'a, G> {
         }
     }
 
-    /// Moves the keys that its puts of this section were given behind those of the sections before.
+    /// Moves the keys that its puts of this section were given after those of the sections before.
     pub(crate) fn hand_over(&mut self, keys: &mut Keys) -> Result<(), AllocError> {
         if let Some(known) = keys.get_mut(self.seat.worker() as usize) {
             known.append(&mut self.fresh)?;

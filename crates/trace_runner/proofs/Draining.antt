@@ -51,7 +51,7 @@ KeepsPlan-unsettled worker shard old new step = KeepsPlan-same old new step.1
 
 -- ---- all keys of a ring
 
--- the keys so far, behind which a settling is asked for again
+-- the keys so far, after which a settling is asked for again
 pub record IsDraining (worker shard : ℕ) (old new : CoreState) (count : ℕ) : Type 0 where
   pub called : List CalledEvent
   pub more : (rest : List CalledEvent) → AreAsRequested (UntilNone (Settle worker shard) ∷ []) rest → AreAsRequested (UntilNone (Settle worker shard) ∷ []) (called ++ rest)

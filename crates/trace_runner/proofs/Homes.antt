@@ -44,7 +44,7 @@ home-Issued old new event key step sound = absurd step
 
 -- ---- all keys of what was done
 
--- where it gives a key out, one of so many shards opened the key's span
+-- where it gives a key out, one of that many shards opened the key's span
 abbrev IsGivenHome : ℕ → CalledEvent → Type 0
 IsGivenHome shards (Called event (Issued key) core) = key.span.shard < shards
 IsGivenHome shards called = Unit {0}

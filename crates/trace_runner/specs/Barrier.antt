@@ -11,7 +11,7 @@ is_barrier (line.Adopt shard) = true
 is_barrier line.Mark = true
 is_barrier _ = false
 
--- the lines behind the last line of a barrier
+-- the lines after the last line of a barrier
 abbrev pub open_lines : List Line → List Line
 open_lines lines = reverse (take_while (λ line. not (is_barrier line)) (reverse lines))
 

@@ -70,7 +70,7 @@ AreHome shards keys = AllByRecursion (IsHome shards) keys
 
 -- ---- how a key is found
 
--- at that place behind the first stands the key of the name
+-- at that place after the first stands the key of the name
 abbrev pub FindsOne : List Line → List Did → List (Option Key) → (first : ℕ) → List ℕ → ℕ → Type 0
 FindsOne lines done keys first name place = slice_get keys (first + place) ≡ Some (key_at lines done name place)
 

@@ -24,7 +24,7 @@ pub data Asked : Type 0 where
   Keyless : Asked
   -- no event yet: the thread ends, and its shard is abandoned at the barrier
   Leaves : Asked
-  -- the keys that wait on the rings from so many workers to a shard are freed, by worker
+  -- the keys that wait on the rings from that many workers to a shard are freed, by worker
   Tends : (workers shard : ℕ) → Asked
 
 -- the events that it takes, in order
@@ -71,7 +71,7 @@ pub record Did : Type 0 where
   pub settled : List Made
   -- what the line asks for, with a reply each
   pub calls : List Made
-  -- behind them: the step of the open plan that follows a thread's line, or the mark
+  -- after them: the step of the open plan that follows a thread's line, or the mark
   pub plans : List Made
 
 -- ---- the events of it all

@@ -68,7 +68,7 @@ with_answers number made n = record n { text = n.text ++ told_of n.replies numbe
 abbrev pub with_line : ℕ → News → Did → News
 with_line number n did = with_all_made (with_answers number did.calls (with_all_made n did.settled)) did.plans
 
--- so many lines more, of which the first has that number
+-- that many lines more, of which the first has that number
 abbrev pub news_from : ℕ → News → List Did → News
 news_from number n [] = n
 news_from number n (did ∷ done) = news_from (number + 1) (with_line number n did) done

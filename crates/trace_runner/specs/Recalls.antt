@@ -21,11 +21,11 @@ use Rattle.trace_text.specs.declared.line.Line.{Line}
 
 -- ---- what is done at a line
 
--- what the line of that number asks for was done, from one core to the other, and is kept behind what was
+-- what the line of that number asks for was done, from one core to the other, and is kept after what was
 abbrev pub Makes : ℕ → List Asked → CoreState → Kept → CoreState → Kept → Type 0
 Makes number asked old before new after = (made : List Made) × (map asked_of made ≡ asked) × IsAnswered old made new × (after ≡ keeping number before made)
 
--- these were asked and done, from one core to the other, and what they tell of plans stands behind the earlier news
+-- these were asked and done, from one core to the other, and what they tell of plans stands after the earlier news
 abbrev pub Carries : List Asked → CoreState → News → CoreState → News → Type 0
 Carries asked old before new after = (made : List Made) × (map asked_of made ≡ asked) × IsAnswered old made new × (after ≡ with_all_made before made)
 
@@ -45,7 +45,7 @@ abbrev pub SettlesNext : (worker shard : ℕ) → CoreState → Bool → CoreSta
 SettlesNext worker shard old true new = (key : Key) × AreSteps old (Called (Settle worker shard) (Settled (Some key)) new ∷ []) new
 SettlesNext worker shard old false new = AreSteps old (Called (Settle worker shard) (Settled None) new ∷ []) new
 
--- what was requested was called, as often as the replies decide, and so many keys were freed by it
+-- what was requested was called, as often as the replies decide, and that many keys were freed by it
 pub record Drains (requests : List Request) (old new : CoreState) (count : ℕ) : Type 0 where
   pub called : List CalledEvent
   pub asked : AreAsRequested requests called
@@ -141,7 +141,7 @@ pub record IsReady (shards : ℕ) (core : CoreState) (leaving : ℕ → Bool) (l
 
 -- ---- how far a run has come
 
--- so many lines of the trace were run to their end
+-- that many lines of the trace were run to their end
 pub record HasCome (replies : Bool) (shards : ℕ) (lines : List Line) (count : ℕ) (old core : CoreState) (kept : Kept) (leaving : ℕ → Bool) (plans : Plans) : Type 0 where
   pub done : List Did
   pub count_is : length done ≡ count
@@ -152,7 +152,7 @@ pub record HasCome (replies : Bool) (shards : ℕ) (lines : List Line) (count : 
   pub long : length kept.keys ≡ keys_in (take count lines)
   pub enough : shards ≤ core.limits.shards
   pub home : AreHome core.limits.shards kept.keys
-  -- the threads that leave are those that ended behind the last barrier, and the shards of those that ended above it have ended
+  -- the threads that leave are those that ended after the last barrier, and the shards of those that ended above it have ended
   pub leaving_are : (thread : ℕ) → leaving thread ≡ has_ended (open_lines (take count lines)) thread
   pub ended_are : (thread : ℕ) → thread < shards → ended_at core thread ≡ (has_ended (take count lines) thread && not (has_ended (open_lines (take count lines)) thread))
   -- the news is that of the lines, and the open plan is known
@@ -160,7 +160,7 @@ pub record HasCome (replies : Bool) (shards : ℕ) (lines : List Line) (count : 
   pub knows : KnowsPlan plans core
   pub marks : plans.marks ≤ count
 
--- the core has so many shards, none of them has ended, and no plan is open
+-- the core has that many shards, none of them has ended, and no plan is open
 pub record Serves (shards : ℕ) (core : CoreState) : Type 0 where
   pub unplanned : core.plan ≡ None
   pub enough : shards ≤ core.limits.shards

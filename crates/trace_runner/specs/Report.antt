@@ -60,7 +60,7 @@ step_line step = codes "step " ++ id_text step.abandoned ++ codes " onto " ++ id
 abbrev pub steps_text : Bool → List TakenStep → List ℕ
 steps_text replies steps = if replies then flat_map step_line steps else []
 
--- `closed M pages H`, behind the steps
+-- `closed M pages H`, after the steps
 abbrev pub close_text : Bool → CloseNews → List ℕ
 close_text replies c = steps_text replies c.steps ++ (codes "closed " ++ decimal c.mark) ++ (codes " pages " ++ decimal c.pages) ++ codes "\n"
 

@@ -93,7 +93,7 @@ rings_asked shards = map (λ shard. Tends shards shard) (range_with_len 0 shards
 abbrev pub settling : (shards : ℕ) → List Line → CoreState → List Asked
 settling shards above core = finishing core.plan ++ (ends_asked (leavers shards above) ++ rings_asked shards)
 
--- the same where a barrier begins at a line; behind its first line nothing is left of it
+-- the same where a barrier begins at a line; after its first line nothing is left of it
 abbrev pub settling_at : (shards : ℕ) → List Line → CoreState → Line → List Asked
 settling_at shards above core line = if is_barrier line then settling shards above core else []
 
@@ -101,7 +101,7 @@ settling_at shards above core line = if is_barrier line then settling shards abo
 abbrev pub stepping : Option OpenPlan → List Asked
 stepping plan = if nat_lt 0 (pairs_left plan) then Calls event.Step ∷ [] else []
 
--- what follows the calls of a line: a step behind a thread's, and the mark
+-- what follows the calls of a line: a step after a thread's, and the mark
 abbrev pub planning_at : CoreState → Line → List Asked
 planning_at core (line.Call thread call) = stepping core.plan
 planning_at core line.Mark = Calls event.Mark ∷ []
@@ -161,7 +161,7 @@ abbrev pub calls_in : List Line → List Did → ℕ
 calls_in (line ∷ lines) (did ∷ done) = calls_at line did + calls_in lines done
 calls_in _ _ = 0
 
--- the lines of a trace were run, from one core to the other, with so many replies to threads' lines, and this was told of it
+-- the lines of a trace were run, from one core to the other, with that many replies to threads' lines, and this was told of it
 pub record IsRun (shards : ℕ) (replies : Bool) (lines : List Line) (old new : CoreState) (calls : ℕ) (news : News) : Type 0 where
   pub done : List Did
   -- what is done at the end of the text

@@ -51,8 +51,8 @@ impl Replies {
         self.text
     }
 
-    /// The key that stands so far behind that place among the keys of all puts; none where the put was refused, or stands
-    /// no such.
+    /// The key that stands `place` places after the place `first` among the keys of all puts; none where the put was refused,
+    /// or no such key stands.
     pub(crate) fn key(&self, first: usize, place: u32) -> Option<Key>
         ensures found { (found : Option Key) → slice_get self.now.keys.items (first + place)
             ≡ Some found → result ≡ found }

@@ -35,7 +35,7 @@ pub enum Answer {
     Sent,
     /// The ring for a key that was to be freed later had no room.
     RingFull,
-    /// So many keys that had come in were taken, and freed where they were live.
+    /// That many keys that had come in were taken, and freed where they were live.
     Settled(usize),
 }
 

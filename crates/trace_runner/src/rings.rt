@@ -47,7 +47,7 @@ fn drain(core: &mut Core<Counted>, worker: u32, shard: u32) -> Result<usize, All
     Ok(count)
 }
 
-/// Frees the keys that wait on the rings from so many workers to the shard, by worker, and says how many there were.
+/// Frees the keys that wait on the rings from that many workers to the shard, by worker, and says how many there were.
 pub(crate) fn settle_shard(
     core: &mut Core<Counted>,
     workers: u32,

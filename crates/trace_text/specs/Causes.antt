@@ -86,18 +86,18 @@ abbrev pub keys_in : List Line → ℕ
 keys_in [] = 0
 keys_in (line ∷ lines) = keys_at line + keys_in lines
 
--- what a thread's call on the line at that place, in that section and after so many keys binds the name to
+-- what a thread's call on the line at that place, in that section and after that many keys binds the name to
 abbrev pub call_binding : (place section first : ℕ) → List ℕ → ℕ → Call → Option Binding
 call_binding place section first name thread (Put bound value) = if bytes_eq bound name then Some (record { keys = One; thread = thread; section = section; line = place; first = first }) else None
 call_binding place section first name thread (Fill bound count value) = if bytes_eq bound name then Some (record { keys = Many count; thread = thread; section = section; line = place; first = first }) else None
 call_binding place section first name thread _ = None
 
--- what the line at that place, in that section and after so many keys binds the name to
+-- what the line at that place, in that section and after that many keys binds the name to
 abbrev pub binding_at : (place section first : ℕ) → List ℕ → Line → Option Binding
 binding_at place section first name (line.Call thread call) = call_binding place section first name thread call
 binding_at place section first name _ = None
 
--- what the first line that binds the name binds it to, in lines of which the first stands at that place, in that section and after so many keys
+-- what the first line that binds the name binds it to, in lines of which the first stands at that place, in that section and after that many keys
 abbrev pub binding_from : (place section first : ℕ) → List ℕ → List Line → Option Binding
 binding_from place section first name [] = None
 binding_from place section first name (line ∷ lines) = option_or (binding_at place section first name line) (binding_from (place + 1) (section + marks_at line) (first + keys_at line) name lines)
@@ -155,7 +155,7 @@ binds_again before call = option_map_or (λ name. is_some (binding_of name befor
 abbrev pub reads_unknown : List Line → Call → Bool
 reads_unknown before call = option_map_or (λ name. not (option_map_or (λ b. has_keys call b.keys) (binding_of name before) false)) (read_name call) false
 
--- the binding is another thread's, with no mark behind it
+-- the binding is another thread's, with no mark after it
 abbrev pub is_early : (section thread : ℕ) → Binding → Bool
 is_early section thread b = b.section == section && not (b.thread == thread)
 

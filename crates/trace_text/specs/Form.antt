@@ -48,7 +48,7 @@ verb_of (Later key) = codes "later"
 verb_of Tend = codes "tend"
 verb_of End = codes "end"
 
--- the words of each call, behind its verb
+-- the words of each call, after its verb
 abbrev pub words_behind : Call → List Word
 words_behind (Put name value) = Named name ∷ Number value ∷ []
 words_behind (Fill name count value) = Named name ∷ Number count ∷ Number value ∷ []
@@ -59,7 +59,7 @@ words_behind (Later key) = Refers key ∷ []
 words_behind Tend = []
 words_behind End = []
 
--- the words of each call, behind its thread's number
+-- the words of each call, after its thread's number
 abbrev pub words_of_call : Call → List Word
 words_of_call call = Verb (verb_of call) ∷ words_behind call
 

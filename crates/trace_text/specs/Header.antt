@@ -83,7 +83,7 @@ pub record IsWithinLimits (h : Header) : Type 0 where
 
 -- ---- as the parser finds it
 
--- the number behind the word, where the line has these two words
+-- the number after the word, where the line has these two words
 abbrev pub field_in : List ℕ → List (List ℕ) → Option ℕ
 field_in word (first ∷ number ∷ []) = if bytes_eq first word then number_in number else None
 field_in word _ = None

@@ -17,7 +17,7 @@ use std::collections::{HashMap, HashSet};
 /// The greatest count of a fill: as many keys as a shard has room for at once.
 const MOST_KEYS: u32 = 262_144;
 
-/// Whether the last of so many values, of which the first is that one, is above every value.
+/// Whether the last of that many values, of which the first is that one, is above every value.
 fn ends_over(count: u32, value: u128) -> bool
     requires { 0 < count }
     ensures { result ≡ nat_le (2 ^ 128) (value + count - 1) }

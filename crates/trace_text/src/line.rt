@@ -41,7 +41,7 @@ pub enum Line {
 pub enum Keys {
     /// One, by a put. The name alone refers to it.
     One,
-    /// So many, by a fill. The name and an index below this number refer to one of them.
+    /// That many, by a fill. The name and an index below this number refer to one of them.
     Many(u32),
 }
 
@@ -56,7 +56,7 @@ pub struct Binding {
     pub section: usize,
     /// The place of the line that binds it among the lines below the header, from 0.
     pub line: usize,
-    /// The place of its first key among all keys that the lines bind, from 0; its other keys stand behind that.
+    /// The place of its first key among all keys that the lines bind, from 0; its other keys stand after that.
     pub first: usize,
 }
 

@@ -1,16 +1,14 @@
-use Rattle.std.proofs.Common.{◌≡◌, ◌∙◌, List, Some, ap, arith, refl, set, slice_get, subst, sym}
+use Rattle.std.proofs.Common.{◌≡◌, ◌∙◌, ap, arith, refl, set, sym}
 use Rattle.std.proofs.lemmas.Bool.{true≢false}
 use Rattle.groups.specs.Spans.{with_free}
 use Rattle.shard.specs.declared.shard.Freed.TheVariants.{No, NotHere, Yes}
-use Rattle.abandoned.specs.Calls.{Leaves}
 use Rattle.abandoned.specs.Groups.{GroupsState}
 use Rattle.abandoned.specs.Kept.{state_of}
-use Rattle.abandoned.specs.State.{PoolState, PooledState}
-use Rattle.groups.specs.Group.{IsHeadOf, with_span}
+use Rattle.abandoned.specs.State.{PoolState}
 use Rattle.abandoned.proofs.Freed.{IsSound-Frees, IsSound-Leaves}
-use Rattle.abandoned.proofs.Here.{IsHere-read, place_within}
+use Rattle.abandoned.proofs.Here.{IsHeadOf-here, IsHere-read, place_within}
 use Rattle.abandoned.proofs.KnownGuests.{KnowsGuests-free}
-use Rattle.abandoned.proofs.Released.{Leaves-GivesUp, page_there, rooms-GivesUp}
+use Rattle.abandoned.proofs.Released.{Leaves-FreesIn, page_there, rooms-GivesUp}
 use Rattle.abandoned.proofs.ShownLogs.{shown-Frees, was_freed-Frees}
 use Rattle.abandoned.proofs.pool.Pool.free.Goals as goal
 
@@ -27,8 +25,7 @@ pub free-requires-clause-here : goal.free-requires-clause-here
 free-requires-clause-here g c =
     let at = c.in-Some.ensures.place in
     let here = IsHere-read _ _ _ _ _ _ at.2 c.span_at.result.now c.span_at.ensures in
-    let inside : slice_get c.self.inside.groups.groups at.0 ≡ Some c.in-Some.group.now = ap (λ (p : PoolState). slice_get p.groups at.0) c.self.view_is ∙ at.2.group_is in
-    let head : IsHeadOf c.self.inside.groups.groups c.head_id-head.result at.0 c.in-Some.group.now = record { here = inside; head_is = sym c.head_id-head.ensures } in
+    let head = IsHeadOf-here _ _ _ _ _ _ at.2 c.self.inside.groups.groups c.head_id-head.result (ap (λ (p : PoolState). p.groups) c.self.view_is) c.head_id-head.ensures in
     (c.in-Some.group.now, (at.0, head), place_within _ _ _ _ _ _ at.2)
 
 pub free-requires-clause-pages : goal.free-requires-clause-pages
@@ -38,8 +35,7 @@ pub returns-then-not-free-clause-step : goal.returns-then-not-free-clause-step
 returns-then-not-free-clause-step g c =
     let at = c.in-Some.ensures.place in
     let here = IsHere-read _ _ _ _ _ _ at.2 c.span_at.result.now c.span_at.ensures in
-    let inside : slice_get c.self.inside.groups.groups at.0 ≡ Some c.in-Some.group.now = ap (λ (p : PoolState). slice_get p.groups at.0) c.self.view_is ∙ at.2.group_is in
-    let head : IsHeadOf c.self.inside.groups.groups c.head_id-head.result at.0 c.in-Some.group.now = record { here = inside; head_is = sym c.head_id-head.ensures } in
+    let head = IsHeadOf-here _ _ _ _ _ _ at.2 c.self.inside.groups.groups c.head_id-head.result (ap (λ (p : PoolState). p.groups) c.self.view_is) c.head_id-head.ensures in
     let facts = c.if-not-free.ensures {u = tt} in (
       at.0,
       c.in-Some.place,
@@ -63,21 +59,19 @@ pub invariant_of-self-2 : goal.invariant_of-self-2
 invariant_of-self-2 g c =
     let at = c.in-Some.ensures.place in
     let here = IsHere-read _ _ _ _ _ _ at.2 c.span_at.result.now c.span_at.ensures in
-    let inside : slice_get c.self.inside.groups.groups at.0 ≡ Some c.in-Some.group.now = ap (λ (p : PoolState). slice_get p.groups at.0) c.self.view_is ∙ at.2.group_is in
-    let head : IsHeadOf c.self.inside.groups.groups c.head_id-head.result at.0 c.in-Some.group.now = record { here = inside; head_is = sym c.head_id-head.ensures } in
+    let head = IsHeadOf-here _ _ _ _ _ _ at.2 c.self.inside.groups.groups c.head_id-head.result (ap (λ (p : PoolState). p.groups) c.self.view_is) c.head_id-head.ensures in
     let facts = c.if-not-free.ensures {u = tt} in
     let holds = (facts.found at.0 c.in-Some.group.now c.span_at.result.now head c.span_at.ensures).0 refl in
     let freed = facts.freed at.0 c.in-Some.group.now c.span_at.result.now head c.span_at.ensures in
     let groups_are : c.free.new.self.groups ≡ set c.self.inside.groups.groups at.0 freed.0 = ap (λ (s : GroupsState). s.groups) freed.2 in
-    let leaves = subst (λ (gs : List PooledState). Leaves (state_of c.self.inside) at.0 (with_span c.in-Some.group.now c.in-Some.place (with_free c.span_at.result.now c.args.key.now)) (record { groups = gs; table = record c.free.new.table { page_room = c.self.inside.page_room; span_room = c.self.inside.span_room }; has_plan = c.self.inside.has_plan })) (sym groups_are)
-    (Leaves-GivesUp _ _ _ _ freed.1 c.self.inside.groups.groups at.0 c.self.inside.page_room c.self.inside.span_room c.self.inside.has_plan) in
+    let leaves = Leaves-FreesIn c.self.inside.groups c.free.new.self c.self.inside.table c.free.new.table at.0 c.in-Some.place c.in-Some.group.now _ freed c.self.inside.page_room c.self.inside.span_room c.self.inside.has_plan (state_of c.self.inside) refl in
     let rooms = rooms-GivesUp _ _ _ _ freed.1 in
     record {
-      sound = IsSound-Leaves (state_of c.self.inside) c.self.invariant.sound at.0 c.in-Some.place c.in-Some.group.now c.span_at.result.now c.args.key.now (inside, here.span_is) holds _ leaves;
+      sound = IsSound-Leaves (state_of c.self.inside) c.self.invariant.sound at.0 c.in-Some.place c.in-Some.group.now c.span_at.result.now c.args.key.now (head.here, here.span_is) holds _ leaves;
       room_for_pages = rw rooms.0 c.self.invariant.room_for_pages;
       room_for_spans = rw rooms.1 c.self.invariant.room_for_spans;
       room_for_groups = omega (arith, c.self.invariant.room_for_groups, ap (λ (s : GroupsState). s.room) freed.2);
-      guests_known = rw groups_are (KnowsGuests-free c.self.inside.groups.groups c.self.inside.directory.entries c.self.invariant.guests_known at.0 c.in-Some.place c.in-Some.group.now c.span_at.result.now (with_free c.span_at.result.now c.args.key.now) inside here.span_is refl _ _ _ freed.1);
+      guests_known = rw groups_are (KnowsGuests-free c.self.inside.groups.groups c.self.inside.directory.entries c.self.invariant.guests_known at.0 c.in-Some.place c.in-Some.group.now c.span_at.result.now (with_free c.span_at.result.now c.args.key.now) head.here here.span_is refl _ _ _ freed.1);
       room_for_entries = c.self.invariant.room_for_entries;
     }
 
@@ -85,14 +79,10 @@ pub returns-clause-step : goal.returns-clause-step
 returns-clause-step g c =
     let at = c.in-Some.ensures.place in
     let here = IsHere-read _ _ _ _ _ _ at.2 c.span_at.result.now c.span_at.ensures in
-    let inside : slice_get c.self.inside.groups.groups at.0 ≡ Some c.in-Some.group.now = ap (λ (p : PoolState). slice_get p.groups at.0) c.self.view_is ∙ at.2.group_is in
-    let head : IsHeadOf c.self.inside.groups.groups c.head_id-head.result at.0 c.in-Some.group.now = record { here = inside; head_is = sym c.head_id-head.ensures } in
+    let head = IsHeadOf-here _ _ _ _ _ _ at.2 c.self.inside.groups.groups c.head_id-head.result (ap (λ (p : PoolState). p.groups) c.self.view_is) c.head_id-head.ensures in
     let facts = c.if-not-free.ensures {u = tt} in
     let holds = (facts.found at.0 c.in-Some.group.now c.span_at.result.now head c.span_at.ensures).0 refl in
-    let freed = facts.freed at.0 c.in-Some.group.now c.span_at.result.now head c.span_at.ensures in
-    let groups_are : c.free.new.self.groups ≡ set c.self.inside.groups.groups at.0 freed.0 = ap (λ (s : GroupsState). s.groups) freed.2 in
-    let leaves = subst (λ (gs : List PooledState). Leaves (state_of c.self.inside) at.0 (with_span c.in-Some.group.now c.in-Some.place (with_free c.span_at.result.now c.args.key.now)) (record { groups = gs; table = record c.free.new.table { page_room = c.self.inside.page_room; span_room = c.self.inside.span_room }; has_plan = c.self.inside.has_plan })) (sym groups_are)
-    (Leaves-GivesUp _ _ _ _ freed.1 c.self.inside.groups.groups at.0 c.self.inside.page_room c.self.inside.span_room c.self.inside.has_plan) in (
+    let freed = facts.freed at.0 c.in-Some.group.now c.span_at.result.now head c.span_at.ensures in (
       at.0,
       c.in-Some.place,
       c.in-Some.group.now,
@@ -100,7 +90,7 @@ returns-clause-step g c =
       here,
       holds,
       c.changes-at.ensures,
-      subst (λ (s : PoolState). Leaves s at.0 (with_span c.in-Some.group.now c.in-Some.place (with_free c.span_at.result.now c.args.key.now)) (record { groups = c.free.new.self.groups; table = record c.free.new.table { page_room = c.self.inside.page_room; span_room = c.self.inside.span_room }; has_plan = c.self.inside.has_plan })) c.self.view_is leaves,
+      Leaves-FreesIn c.self.inside.groups c.free.new.self c.self.inside.table c.free.new.table at.0 c.in-Some.place c.in-Some.group.now _ freed c.self.inside.page_room c.self.inside.span_room c.self.inside.has_plan _ c.self.view_is,
     )
 
 pub returns-clause-found : goal.returns-clause-found

@@ -5,7 +5,7 @@ use Rattle.trace_runner.specs.Kept.{Kept}
 use Rattle.trace_runner.specs.Recalls.{Carries, KeepsShards, KnowsPlan, news_at}
 use Rattle.trace_runner.proofs.plans.Plans.finish_steps.Given as goal
 
--- so many steps were taken
+-- that many steps were taken
 abbrev pub invariant-loop-taken : goal.invariant-loop-taken
 invariant-loop-taken l = record {
   made : (kept : Kept) → Carries (replicate l.taken (Calls event.Step)) l.fn.core (news_at kept l.fn.self) l.core (news_at kept l.self);
