@@ -31,7 +31,7 @@ pub record Kept : Type 0 where
   pub text : List ℕ
 
 abbrev pub kept_in : Replies → Kept
-kept_in r = record { keys = r.keys.items; count = r.count; asked = r.asked; text = r.text.items }
+kept_in r = record { keys = r.keys.items; count = length r.keys.items + r.others; asked = r.asked; text = r.text.items }
 
 abbrev pub kept_none : Bool → Kept
 kept_none asked = record { keys = []; count = 0; asked = asked; text = [] }

@@ -1,6 +1,6 @@
 //! What a run keeps of the replies to its lines, and the report as it is told.
 
-ghost use Rattle.std.specs.Prelude.{◌≡◌, ◌+◌, ◌++◌, ◌∷◌, [], ℕ, Option, OnOk, Some, length, slice_get, if◌then◌else◌};
+ghost use Rattle.std.specs.Prelude.{◌≡◌, ◌+◌, ◌++◌, ◌∷◌, [], ℕ, IfOk, Option, OnOk, Some, length, slice_get, if◌then◌else◌};
 ghost use Rattle.span.specs.declared.key.Key.{Key};
 ghost use Rattle.trace_runner.specs.Kept.{AreHome, IsHome, answer_key, kept_in, kept_none};
 ghost use Rattle.trace_runner.specs.Report.{answer_line, news_text};
@@ -16,8 +16,8 @@ use std::alloc::{AllocError, Global};
 pub(crate) struct Replies {
     /// Of each put, in order, the key that it gave out.
     keys: Vec<Option<Key>>,
-    /// How many answers there are.
-    count: usize,
+    /// How many answers there are to calls that are no puts: each put has its key.
+    others: usize,
     /// Whether the report tells the answers.
     asked: bool,
     /// The report so far: a line for each answer, where it tells them, and between them the news of plans.
@@ -31,17 +31,17 @@ impl Replies {
     {
         Replies {
             keys: Vec::new(alloc),
-            count: 0,
+            others: 0,
             asked,
             text: Vec::new(alloc),
         }
     }
 
-    /// How many answers there are.
-    pub(crate) fn count(&self) -> usize
-        ensures { result ≡ self.now.count }
+    /// How many answers there are. More than a number counts find no memory.
+    pub(crate) fn count(&self) -> Result<usize, AllocError>
+        ensures { IfOk result (λ count. count ≡ (kept_in self.now).count) }
     {
-        self.count
+        self.keys.len().checked_add(self.others).ok_or(AllocError)
     }
 
     /// The report so far.
@@ -64,7 +64,7 @@ impl Replies {
 
     /// Counts an answer to a call that is no put, and tells it where the report does.
     pub(crate) fn tell(&mut self, line: usize, answer: Answer) -> Result<(), AllocError>
-        ensures count { OnOk result (self.new.count ≡ self.old.count + 1) }
+        ensures count { OnOk result ((kept_in self.new).count ≡ (kept_in self.old).count + 1) }
         ensures text { OnOk result (self.new.text.items ≡ self.old.text.items
             ++ (if self.old.asked then answer_line (record {
               line = line;
@@ -73,18 +73,15 @@ impl Replies {
         ensures keys { self.new.keys ≡ self.old.keys }
         ensures asked { self.new.asked ≡ self.old.asked }
     {
-        // More answers than a number counts find no memory.
-        let count = self.count.checked_add(1).ok_or(AllocError)?;
-        if self.asked {
-            push_answer_line(&mut self.text, &LineAnswer { line, answer })?;
-        }
-        self.count = count;
+        let others = self.others.checked_add(1).ok_or(AllocError)?;
+        self.write(line, answer)?;
+        self.others = others;
         Ok(())
     }
 
-    /// The same for the answer to a put, of which the key is kept too.
+    /// The same for the answer to a put, which is counted by its key.
     pub(crate) fn tell_put(&mut self, line: usize, answer: Answer) -> Result<(), AllocError>
-        ensures count { OnOk result (self.new.count ≡ self.old.count + 1) }
+        ensures count { OnOk result ((kept_in self.new).count ≡ (kept_in self.old).count + 1) }
         ensures text { OnOk result (self.new.text.items ≡ self.old.text.items
             ++ (if self.old.asked then answer_line (record {
               line = line;
@@ -95,7 +92,23 @@ impl Replies {
         ensures asked { self.new.asked ≡ self.old.asked }
     {
         self.keys.push(answer.key())?;
-        self.tell(line, answer)?;
+        self.write(line, answer)
+    }
+
+    // Adds the answer's line to the report, where it tells the answers.
+    fn write(&mut self, line: usize, answer: Answer) -> Result<(), AllocError>
+        ensures text { OnOk result (self.new.text.items ≡ self.old.text.items
+            ++ (if self.old.asked then answer_line (record {
+              line = line;
+              answer = answer;
+            }) else [])) }
+        ensures keys { self.new.keys ≡ self.old.keys }
+        ensures others { self.new.others ≡ self.old.others }
+        ensures asked { self.new.asked ≡ self.old.asked }
+    {
+        if self.asked {
+            push_answer_line(&mut self.text, &LineAnswer { line, answer })?;
+        }
         Ok(())
     }
 

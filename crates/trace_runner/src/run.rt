@@ -14,6 +14,7 @@ ghost use Rattle.trace_runner.specs.Answers.{answer_told};
 ghost use Rattle.trace_runner.specs.News.{News};
 ghost use Rattle.trace_runner.specs.Runs.{IsRun, asked_by, asked_by_call, ends_asked, finishing, on_key, IsTold, key_at, key_of, rings_asked};
 ghost use Rattle.arena_core.specs.declared.event.Event.TheVariants as event;
+ghost use Rattle.arena_core.specs.declared.reply.Reply.TheVariants as reply;
 
 use crate::plans::Plans;
 use crate::replies::Replies;
@@ -155,9 +156,25 @@ impl<'t> Run<'t> {
         ensures trace { self.new.trace.now ≡ self.old.trace.now }
     {
         match key {
-            Some(key) => self.call(number, Event::Free { key }),
+            Some(key) => self.free_key(number, key),
             None => self.skip(number),
         }
+    }
+
+    // The same for a key that was given out. No event is taken apart on the way, and none is in that of a look-up.
+    fn free_key(&mut self, number: usize, key: Key) -> Result<(), AllocError>
+        ensures made { OnOk result (Makes number (Calls (event.Free key) ∷ []) self.old.core
+            (kept_in self.old.replies) self.new.core (kept_in self.new.replies)) }
+        ensures keys { self.new.replies.keys ≡ self.old.replies.keys }
+        ensures shards { KeepsPlan self.old.core self.new.core }
+        ensures plans { self.new.plans ≡ self.old.plans }
+        ensures leaving { self.new.leaving ≡ self.old.leaving }
+        ensures trace { self.new.trace.now ≡ self.old.trace.now }
+    {
+        let freed = self.core.free(&key);
+        let answer = answer_to_free(freed);
+        self.replies.tell(number, answer)?;
+        Ok(())
     }
 
     /// Looks the key up, where it was given out.
@@ -170,9 +187,24 @@ impl<'t> Run<'t> {
         ensures trace { self.new.trace.now ≡ self.old.trace.now }
     {
         match key {
-            Some(key) => self.call(number, Event::Get { key }),
+            Some(key) => self.get_key(number, key),
             None => self.skip(number),
         }
+    }
+
+    // The same for a key that was given out.
+    fn get_key(&mut self, number: usize, key: Key) -> Result<(), AllocError>
+        ensures made { OnOk result (Makes number (Calls (event.Get key) ∷ []) self.old.core
+            (kept_in self.old.replies) self.new.core (kept_in self.new.replies)) }
+        ensures shards { KeepsPlan self.old.core self.new.core }
+        ensures plans { self.new.plans ≡ self.old.plans }
+        ensures leaving { self.new.leaving ≡ self.old.leaving }
+        ensures trace { self.new.trace.now ≡ self.old.trace.now }
+    {
+        let found = self.core.get(&key);
+        let answer = answer_to_look_up(found);
+        self.replies.tell(number, answer)?;
+        Ok(())
     }
 
     /// Frees the keys of a name from one place up to, and without, another, where its first key has that place.
@@ -511,7 +543,8 @@ pub fn run_lines(
         leaving: _,
         plans,
     } = run;
-    let calls = replies.count() - adoptions(trace.lines.as_slice());
+    let count = replies.count()?;
+    let calls = count - adoptions(trace.lines.as_slice());
     Ok(Ran {
         core,
         report: replies.into_text(),
@@ -542,10 +575,8 @@ fn answer_to(reply: Reply) -> Result<Answer, AllocError>
 {
     match reply {
         Reply::Issued(key) => Ok(Answer::Key(key)),
-        Reply::Found(Some(value)) => Ok(Answer::Value(value)),
-        Reply::Found(None) => Ok(Answer::Absent),
-        Reply::Freed(true) => Ok(Answer::Freed),
-        Reply::Freed(false) => Ok(Answer::NotFreed),
+        Reply::Found(found) => Ok(answer_to_look_up(found)),
+        Reply::Freed(freed) => Ok(answer_to_free(freed)),
         Reply::Sent => Ok(Answer::Sent),
         Reply::ShardEnded => Ok(Answer::Ended),
         Reply::Adopted(head) => Ok(Answer::Adopted(head)),
@@ -559,5 +590,26 @@ fn answer_to(reply: Reply) -> Result<Answer, AllocError>
         // The others come of events that rings and plans are asked by.
         Reply::Settled(_) | Reply::Marked(_) | Reply::Stepped(..) => unreachable!(),
         Reply::NoPairLeft | Reply::Closed | Reply::NoPlan => unreachable!(),
+    }
+}
+
+/// What the report tells of a look-up.
+fn answer_to_look_up(found: Option<u128>) -> Answer
+    ensures { result ≡ answer_told (reply.Found found) }
+{
+    match found {
+        Some(value) => Answer::Value(value),
+        None => Answer::Absent,
+    }
+}
+
+/// What the report tells of a free.
+fn answer_to_free(freed: bool) -> Answer
+    ensures { result ≡ answer_told (reply.Freed freed) }
+{
+    if freed {
+        Answer::Freed
+    } else {
+        Answer::NotFreed
     }
 }

@@ -1,7 +1,7 @@
 use Rattle.trace_runner.proofs.run.Run.get.Goals as goal
 
 pub returns-in-Some-clause-made : goal.returns-in-Some-clause-made
-returns-in-Some-clause-made c = rw c.in-Some.is c.call.ensures.made
+returns-in-Some-clause-made c = rw c.in-Some.is c.get_key.ensures.made
 
 pub returns-in-None-clause-made : goal.returns-in-None-clause-made
 returns-in-None-clause-made c = rw c.in-None.is c.skip.ensures.made
