@@ -161,7 +161,7 @@ impl<'t> Run<'t> {
         }
     }
 
-    // The same for a key that was given out. No event is taken apart on the way, and none is in that of a look-up.
+    // The same for a key that was given out, by the core's own call: an event and its reply would go through memory.
     fn free_key(&mut self, number: usize, key: Key) -> Result<(), AllocError>
         ensures made { OnOk result (Makes number (Calls (event.Free key) ∷ []) self.old.core
             (kept_in self.old.replies) self.new.core (kept_in self.new.replies)) }
