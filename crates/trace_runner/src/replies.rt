@@ -1,6 +1,6 @@
 //! What a run keeps of the replies to its lines, and the report as it is told.
 
-ghost use Rattle.std.specs.Prelude.{◌≡◌, ◌+◌, ◌++◌, ◌∷◌, [], ℕ, IfOk, Option, OnOk, Some, length, slice_get, if◌then◌else◌};
+ghost use Rattle.std.specs.Prelude.{◌≡◌, ◌+◌, ◌++◌, ◌^◌, ◌≤◌, ◌∷◌, [], ℕ, IfOk, OnErr, Option, OnOk, Some, length, slice_get, if◌then◌else◌};
 ghost use Rattle.span.specs.declared.key.Key.{Key};
 ghost use Rattle.trace_runner.specs.Kept.{AreHome, IsHome, answer_key, kept_in, kept_none};
 ghost use Rattle.trace_runner.specs.Report.{answer_line, news_text};
@@ -37,9 +37,10 @@ impl Replies {
         }
     }
 
-    /// How many answers there are. More than a number counts find no memory.
+    /// How many answers there are. `AllocError` comes exactly where they are more than a number counts.
     pub(crate) fn count(&self) -> Result<usize, AllocError>
-        ensures { IfOk result (λ count. count ≡ (kept_in self.now).count) }
+        ensures count { IfOk result (λ count. count ≡ (kept_in self.now).count) }
+        ensures err { OnErr result (2 ^ 64 ≤ (kept_in self.now).count) }
     {
         self.keys.len().checked_add(self.others).ok_or(AllocError)
     }

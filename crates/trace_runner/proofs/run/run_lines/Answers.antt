@@ -29,7 +29,7 @@ overflow_sub-calls c =
     let all : c.loop-place.place ≡ length c.args.trace.now.lines.items = omega (arith, c.args.trace.now.lines.ok.0, c.len-place-end.ensures) in
     let count = HasCome-calls c.args.trace.now.header _ _ _ _ _ _ _ _ c.loop-place.invariant.come all in
     let adopts : c.adoptions.result ≡ length (filter is_adopt c.args.trace.now.lines.items) = rw c.as_slice.ensures.value at c.adoptions.ensures in
-    let long : c.in_ok-count.count ≡ (kept_in c.loop-place.run.replies).count = c.in_ok-count.ensures ∙ ap (λ (kept : Kept). kept.count) c.settle.ensures.rest in
+    let long : c.in_ok-count.count ≡ (kept_in c.loop-place.run.replies).count = c.in_ok-count.ensures.count ∙ ap (λ (kept : Kept). kept.count) c.settle.ensures.rest in
     omega (arith, count, adopts, long)
 
 pub returns : goal.returns
@@ -37,7 +37,7 @@ returns c =
     let all : c.loop-place.place ≡ length c.args.trace.now.lines.items = omega (arith, c.args.trace.now.lines.ok.0, c.len-place-end.ensures) in
     let count = HasCome-calls c.args.trace.now.header _ _ _ _ _ _ _ _ c.loop-place.invariant.come all in
     let adopts : c.adoptions.result ≡ length (filter is_adopt c.args.trace.now.lines.items) = rw c.as_slice.ensures.value at c.adoptions.ensures in
-    let long : c.in_ok-count.count ≡ (kept_in c.loop-place.run.replies).count = c.in_ok-count.ensures ∙ ap (λ (kept : Kept). kept.count) c.settle.ensures.rest in (
+    let long : c.in_ok-count.count ≡ (kept_in c.loop-place.run.replies).count = c.in_ok-count.ensures.count ∙ ap (λ (kept : Kept). kept.count) c.settle.ensures.rest in (
       news_at (kept_in c.settle.new.self.replies) c.settle.new.self.plans,
       HasCome-IsRun c.args.trace.now.header _ _ _ _ _ _ _ _ c.loop-place.invariant.come
           c.settle.new.self.core _ _ all (rw c.loop-place.invariant.trace at c.in_ok-settle.ensures.made) (omega (arith, count, adopts, long)),
