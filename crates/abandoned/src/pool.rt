@@ -27,8 +27,6 @@ use std::marker::Model;
 mod handover;
 mod logs;
 mod moves;
-#[cfg(test)]
-mod tests;
 
 /// The groups of shards that have ended, by ascending head, and the pages of those that have a live slot.
 ///

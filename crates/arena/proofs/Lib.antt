@@ -1,8 +1,8 @@
 mod CountedRings
-mod Ended
+pub mod Ended
 mod Frees
 mod KeptSpans
-mod Linking
+pub mod Linking
 mod Made
 mod Sending
 mod SettledRings

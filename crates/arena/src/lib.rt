@@ -60,8 +60,6 @@ pub mod sections;
 mod settling;
 mod steward;
 mod tending;
-#[cfg(test)]
-mod tests;
 mod unlocked;
 mod words;
 

@@ -178,6 +178,3 @@ fn free_at(at: usize, done: bool, worker: u32, section: u64, key: &Key) -> Recei
         call: Call::free(done),
     }
 }
-
-#[cfg(test)]
-mod tests;

@@ -51,8 +51,6 @@ mod event;
 mod machine;
 mod reply;
 mod rings;
-#[cfg(test)]
-mod tests;
 mod whereabouts;
 
 pub use error::CoreError;

@@ -48,8 +48,6 @@ mod records;
 mod reply;
 mod section;
 mod slot;
-#[cfg(test)]
-mod tests;
 mod verdict;
 
 pub use by_threads::audit_by_threads;

@@ -34,6 +34,3 @@ mod planning;
 mod walks;
 
 pub use planning::{plan, plan_counted};
-
-#[cfg(test)]
-mod tests;

@@ -46,6 +46,3 @@ pub use checking::check;
 pub use partner::partners;
 pub use plan::{Plan, Short};
 pub use text::{Cause, ReadError, read, write};
-
-#[cfg(test)]
-mod tests;

@@ -39,8 +39,6 @@
 
 mod folding;
 mod step;
-#[cfg(test)]
-mod tests;
 
 pub use folding::fold_one;
 pub use step::Step;

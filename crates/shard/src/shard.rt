@@ -28,8 +28,6 @@ use std::marker::Model;
 mod folds;
 mod logs;
 mod moves;
-#[cfg(test)]
-mod tests;
 
 /// What a look-up finds. A `usize` is the number of changes in the log of the key's span.
 #[derive(Clone, Copy, PartialEq, Eq, Debug)]

@@ -1,19 +1,29 @@
-//! Eight workers and a steward at one arena, and the audit of what they were told.
+//! Arenas under threads, and the audit of what their workers were told.
 //!
 //! A proof sees one call at a time, and no contract speaks of what a lock guards while nobody holds it. So what calls of many
-//! threads come to, one beside the other, is shown by runs: each call leaves its receipt, and when all is done the receipts
-//! are held against the logs of all spans. The tests run ten sections of 1,000 calls of each worker, with a mark after each, or
-//! with marks all the while. All of it is compiled for tests alone, and so proved once.
+//! threads come to, one beside the other, is shown by runs of eight workers and a steward: each call leaves its receipt, and
+//! when all is done the receipts are held against the logs of all spans. The tests run ten sections of 1,000 calls of each
+//! worker, with a mark after each, or with marks all the while. An audit that passed whatever it is shown would pass these runs
+//! too, so lists that differ from a log in one thing stand beside them, and so do calls in series, whose answers are known.
+//!
+//! All of it is compiled for tests alone, over the proved libraries, so that neither `arena` nor `audit` is proved once more for
+//! its tests.
 //!
 //! # Examples
 //!
 //! ```text
-//! rt test stress      runs eight workers beside a steward, twice as above, and has what they were told audited
+//! rt test stress      proves the tests of `arena` and `audit`, and runs them, eight workers beside a steward among them
 //! ```
 #![tactic(auto)]
 
 #[cfg(test)]
+mod arenas;
+#[cfg(test)]
+mod audits;
+#[cfg(test)]
 mod runs;
+#[cfg(test)]
+mod sections;
 #[cfg(test)]
 mod steward;
 #[cfg(test)]

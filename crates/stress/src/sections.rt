@@ -1,7 +1,20 @@
-// What no clause says: that the calls succeed, and that the numbers of a run of them are those of its log.
-use super::*;
-use std::alloc::Global;
+//! What is done under a lock, without one: that the calls succeed, and that the numbers of a run of them are those of its log.
+use abandoned::Pool;
+use arena::sections::{free_in, free_pool, get_in, get_pool, put_in};
+use shard::Shard;
+use span::{Call, Key, Receipt};
 use std::test::Fail;
+
+// The receipt of such a call of worker 3 in section 2.
+fn receipt(key: &Key, at: usize, call: Call) -> Receipt {
+    Receipt {
+        worker: 3,
+        section: 2,
+        key: *key,
+        at,
+        call,
+    }
+}
 
 // Puts, looks up and frees in the shard, which the pool then receives, and looks up and frees there.
 fn are_told(shard: &mut Shard, pool: &mut Pool) -> Result<bool, Fail> {
@@ -18,11 +31,11 @@ fn are_told(shard: &mut Shard, pool: &mut Pool) -> Result<bool, Fail> {
     Ok(
         (put.at, kept.at) == (0, 1)
             && elsewhere.is_none()
-            && here == Some(get_at(1, Some(5), 3, 2, &key))
-            && freed == Some(free_at(2, true, 3, 2, &key))
+            && here == Some(receipt(&key, 1, Call::look_up(Some(5))))
+            && freed == Some(receipt(&key, 2, Call::free(true)))
             && gone.is_none()
-            && again == Some(free_at(3, false, 3, 2, &key))
-            && stale == Some(get_at(3, None, 3, 2, &key)),
+            && again == Some(receipt(&key, 3, Call::free(false)))
+            && stale == Some(receipt(&key, 3, Call::look_up(None))),
     )
 }
 

@@ -1,7 +1,7 @@
 use Rattle.std.proofs.Common.{drop, length, rules, subst, sym}
 use Rattle.arena.specs.Seats.{AreLinked}
 use Rattle.arena.proofs.Ended.{written_back}
-use Rattle.arena.proofs.tests.settled_at_the_end.Goals as goal
+use Rattle.stress.proofs.arenas.settled_at_the_end.Goals as goal
 
 pub leaves_one-requires-clause-linked : goal.leaves_one-requires-clause-linked
 leaves_one-requires-clause-linked g c = rw c.as_mut_slice.ensures.value c.in-Ok.ensures.linked

@@ -3,7 +3,7 @@ use Rattle.std.specs.FinSet as set
 use Rattle.span.specs.Log.{live_slots, worn_slots}
 use Rattle.span.specs.State.{SpanState}
 use Rattle.groups.proofs.Logs.{contains-live_slots-empty, contains-worn_slots-empty}
-use Rattle.shard.proofs.shard.tests.span_with.Goals as goal
+use Rattle.store_tests.proofs.shards.span_with.Goals as goal
 
 pub put_at-requires-clause-not_live : goal.put_at-requires-clause-not_live
 put_at-requires-clause-not_live c = ap (λ (s : SpanState). set.contains (live_slots s.log) c.args.slot) c.new-span.ensures ∙ contains-live_slots-empty c.args.slot

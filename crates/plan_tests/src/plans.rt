@@ -1,5 +1,5 @@
 //! How many phases a plan takes. Where an allocation is refused, what was refused is asked again.
-use super::*;
+use augment::{plan, plan_counted};
 use bitmap::Bits256;
 use certificate::{Plan, Short, check};
 use mesh_graph::{BuildError, Entry, Graph, Snapshot};

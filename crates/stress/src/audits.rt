@@ -1,5 +1,5 @@
 //! Receipts that agree with a log, and lists that differ from them in one thing.
-use crate::{AuditCause, AuditError, audit, audit_by_threads};
+use audit::{AuditCause, AuditError, audit, audit_by_threads};
 use span::{Call, Change, Key, Receipt, SpanId, SpanLog};
 use std::alloc::Global;
 use std::test::Fail;

@@ -1,8 +1,5 @@
 //! Cores that answer tables of events. Where an allocation is refused, what was refused is asked again.
-use crate::error::CoreError;
-use crate::event::Event;
-use crate::machine::Core;
-use crate::reply::{Refusal, Reply};
+use arena_core::{Core, CoreError, Event, Refusal, Reply};
 use fold::Step;
 use marks::Totals;
 use span::{Counted, Key, Log, SpanId};

@@ -1,8 +1,6 @@
 // Marks, steps and closes of the core.
 use super::{Told, answer, are_answered, key, new_core, put, tell};
-use crate::event::Event;
-use crate::machine::Core;
-use crate::reply::Refusal;
+use arena_core::{Core, Event, Refusal};
 use fold::Step;
 use marks::Totals;
 use span::{Key, SpanId};

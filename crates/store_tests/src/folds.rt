@@ -1,6 +1,6 @@
 //! Folds from a pool onto a shard.
-use crate::{Step, fold_one};
 use abandoned::Pool;
+use fold::{Step, fold_one};
 use shard::{Found, PutError, Shard};
 use span::{Key, SpanId};
 use std::alloc::Global;

@@ -3,7 +3,7 @@
 ghost use Rattle.std.specs.Prelude.{IfOk};
 ghost use Rattle.certificate.specs.Text.{IsWritable};
 
-use super::*;
+use certificate::{Cause, Certificate, ReadError, Short, check, partners, read, write};
 use mesh_graph::Snapshot;
 use std::alloc::Global;
 

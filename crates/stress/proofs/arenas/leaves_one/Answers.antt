@@ -1,6 +1,6 @@
 use Rattle.std.proofs.Common.{slice_set}
 use Rattle.arena.proofs.Linking.{AreLinked-set, KeepsEnds-same}
-use Rattle.arena.proofs.tests.leaves_one.Goals as goal
+use Rattle.stress.proofs.arenas.leaves_one.Goals as goal
 
 pub returns-clause-linked : goal.returns-clause-linked
 returns-clause-linked g c =

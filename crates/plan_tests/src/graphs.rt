@@ -1,8 +1,8 @@
 //! A small graph, and graphs at their limits. Where an allocation is refused, what was refused is asked again.
 ghost use Rattle.std.specs.Prelude.{◌≤◌};
 
-use super::*;
 use bitmap::Bits256;
+use mesh_graph::{BuildError, Entry, Graph, Snapshot};
 use span::SpanId;
 use std::alloc::Global;
 

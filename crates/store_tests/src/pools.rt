@@ -5,9 +5,10 @@
 //! shard are as before.
 ghost use Rattle.std.specs.Prelude.{◌<◌};
 
-use super::*;
-use crate::error::{AdoptError, ReceiveError};
-use shard::{PutError, Shard};
+use abandoned::{AdoptError, Pool, ReceiveError};
+use shard::{Found, Freed, PutError, Shard};
+use span::{Key, SpanId};
+use std::alloc::Global;
 
 // The first span that a shard of this number opens.
 fn id(shard: u32) -> SpanId

@@ -6,13 +6,8 @@
 ghost use Rattle.std.specs.Prelude.{◌≡◌, length};
 ghost use Rattle.arena.specs.Seats.{AreLinked};
 
-use crate::arena::{Arena, Stepped};
-use crate::ending::{finish, finish_unsettled};
-use crate::error::OpenError;
-use crate::gate::{Gate, NoGate};
-use crate::seat::Seat;
-use crate::steward::Steward;
 use abandoned::AdoptError;
+use arena::{Arena, Gate, NoGate, OpenError, Seat, Stepped, Steward, finish, finish_unsettled};
 use fold::Step;
 use marks::{MarkError, Totals};
 use shard::PutError;
@@ -426,9 +421,9 @@ fn opens_within_limits(rt: HostRuntime) -> Result<(), Fail> {
     Ok(())
 }
 
-// A gate that holds a thread inside of shard 0 until a put in another shard has answered, for at most 1,000,000 turns.
+// What two threads tell each other: one that is held inside of shard 0, and one that puts in another shard meanwhile.
 #[derive(Drop)]
-struct Held {
+struct Signals {
     // 1 once the thread came to the gate.
     came: AtomicU64,
     // 1 once the other put has answered.
@@ -437,14 +432,20 @@ struct Held {
     missed: AtomicU64,
 }
 
-impl Gate for Held {
+// A gate that holds a thread inside of shard 0 until a put in another shard has answered, for at most 1,000,000 turns.
+#[derive(Drop)]
+struct Held<'a> {
+    signals: &'a Signals,
+}
+
+impl<'a> Gate for Held<'a> {
     fn inside(&self, shard: u32) {
         if shard != 0 {
             return;
         }
-        self.came.store(1, SeqCst);
-        if !is_set_in_time(&self.answered) {
-            self.missed.store(1, SeqCst);
+        self.signals.came.store(1, SeqCst);
+        if !is_set_in_time(&self.signals.answered) {
+            self.signals.missed.store(1, SeqCst);
         }
     }
 }
@@ -467,19 +468,20 @@ fn put_once<G: Gate, R: Wait>(rt: &R, arena: &Arena<G>, seat: &mut Seat) -> bool
 }
 
 // A put that begins once another thread is held in its shard, and whether it answered.
-fn put_beside<R: Wait>(rt: &R, arena: &Arena<Held>, seat: &mut Seat) -> bool
+fn put_beside<R: Wait>(rt: &R, arena: &Arena<Held<'_>>, signals: &Signals, seat: &mut Seat) -> bool
     requires { seat.old.limits ≡ arena.now.limits }
 {
-    let came = is_set_in_time(&arena.gate.came);
+    let came = is_set_in_time(&signals.came);
     let put = put_once(rt, arena, seat);
-    arena.gate.answered.store(1, SeqCst);
+    signals.answered.store(1, SeqCst);
     came && put
 }
 
 // Both put, each in a thread of its own, and whether the first was held until the second's put had answered.
 fn meet<R: Threads + Wait + Sync>(
     rt: &R,
-    arena: &Arena<Held>,
+    arena: &Arena<Held<'_>>,
+    signals: &Signals,
     first: &mut Seat,
     second: &mut Seat,
 ) -> bool
@@ -489,19 +491,20 @@ fn meet<R: Threads + Wait + Sync>(
     let (held, beside) = thread::join(
         rt,
         || put_once(rt, arena, first),
-        || put_beside(rt, arena, second),
+        || put_beside(rt, arena, signals, second),
     );
-    held && beside && arena.gate.missed.load(SeqCst) == 0
+    held && beside && signals.missed.load(SeqCst) == 0
 }
 
 #[test]
 fn puts_beside_a_thread_that_is_held(rt: HostRuntime) -> Result<(), Fail> {
-    let gate = Held {
+    let signals = Signals {
         came: AtomicU64::new(0),
         answered: AtomicU64::new(0),
         missed: AtomicU64::new(0),
     };
-    let Some(two) = make_two::<Held, Kept>(rt.alloc(), gate) else {
+    let gate = Held { signals: &signals };
+    let Some(two) = make_two::<Held<'_>, Kept>(rt.alloc(), gate) else {
         return Err("no arena".into());
     };
     let Two {
@@ -510,7 +513,7 @@ fn puts_beside_a_thread_that_is_held(rt: HostRuntime) -> Result<(), Fail> {
         mut second,
         ..
     } = two;
-    let met = meet(&rt, &arena, &mut first, &mut second);
+    let met = meet(&rt, &arena, &signals, &mut first, &mut second);
     assert!(rt; met);
     Ok(())
 }
