@@ -1,4 +1,4 @@
-//! IsMessage what went wrong.
+//! Tells what went wrong.
 
 ghost use Rattle.std.specs.Prelude.{◌≡◌, ◌<◌, ◌+◌, ◌-◌, ◌^◌, true, false, MatchBool, IfOk, OnOk, IsErrOf};
 ghost use Rattle.command_line.specs.declared.telling.TellError.TheVariants as tell_error;
@@ -85,7 +85,7 @@ fn message(alloc: Global, fault: &Fault) -> Result<Vec<u8>, AllocError>
     }
 }
 
-/// IsMessage the fault, and answers the status with which the program ends.
+/// Tells the fault, and answers the status with which the program ends.
 ///
 /// Help that was asked for goes to `out`, and all else to `err`; the other sink stays as it is.
 /// After `OutOfMemory` both sinks are as they were, and after `SinkFailed` the one that was written

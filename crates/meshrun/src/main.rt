@@ -3,7 +3,8 @@
 //! `meshrun run [TRACE] [--serial] [--replies] [--certificate FILE]` replays the trace of a file, or of its standard input
 //! where none is named, and `meshrun check FILE` checks a certificate. It ends with status 0 where the report was written,
 //! the certificate is accepted, or help was asked for; 1 where the text is no trace or no certificate, or the certificate
-//! is rejected; 2 where the words name no job, 3 where memory ran out, and 5 where a read or a write failed.
+//! is rejected; 2 where the words name no job, 3 where memory ran out, 4 where receipts and logs of a run by threads don't
+//! agree, and 5 where a read or a write failed.
 //!
 //! What its words mean, and what is said of a fault, stands in `command_line`, and all that it does is done by `trace_runner` and
 //! `thread_runner`; here files and words are read, which have no model, and the tests stand that go through all crates.
@@ -133,7 +134,7 @@ fn verdict_status(accepted: bool) -> u8
     if accepted { 0 } else { 1 }
 }
 
-/// DoesJob the job: writes to `out`, and to `store` where a file is named for the certificate, and answers the status with
+/// Does the job: writes to `out`, and to `store` where a file is named for the certificate, and answers the status with
 /// which the program ends: 1 where a certificate is rejected, and else 0.
 fn do_job<R: Threads + Wait + Sync + Files + Input + AllocGlobal, S: Sink, D: Store>(
     rt: &R,
@@ -174,7 +175,7 @@ fn do_job<R: Threads + Wait + Sync + Files + Input + AllocGlobal, S: Sink, D: St
     }
 }
 
-/// DoesJob the job that the program's words name.
+/// Does the job that the program's words name.
 fn do_named_job<R: Threads + Wait + Sync + Env + Files + Input + AllocGlobal, S: Sink, D: Store>(
     rt: &R,
     out: &mut S,
