@@ -1,8 +1,9 @@
 -- The partners of a short set, group by group.
-use Rattle.std.proofs.Common.{◌≡◌, ℕ, ◌+◌, ◌<◌, ◌&&◌, ◌||◌, Bool, true, false, cond, List, [], ◌∷◌, length, map, count_by, get_or, ap, refl, sym, ◌∙◌, zero, suc, inl, inr, arith}
+use Rattle.std.proofs.Common.{◌≡◌, ℕ, ◌+◌, ◌<◌, ◌&&◌, ◌||◌, Bool, true, false, cond, List, [], ◌∷◌, ◌++◌, length, map, take, count_by, get_or, ap, refl, sym, ◌∙◌, zero, suc, inl, inr, arith}
 use Rattle.std.specs.List.{filter, list_any}
 use Rattle.std.proofs.lemmas.Bool.{cases_Bool}
-use Rattle.std.proofs.lemmas.List.{length-map}
+use Rattle.std.proofs.lemmas.List.{append-nil, length-map, map-append}
+use Rattle.std.proofs.lemmas.List.Elements.{filter_more}
 use Rattle.std.proofs.lemmas.List.Sums.{sum_by-cons}
 use Rattle.span.specs.declared.id.SpanId.{SpanId}
 use Rattle.bitmap.specs.Slots.{has_bit}
@@ -11,6 +12,7 @@ use Rattle.certificate.specs.Chosen.{has_chosen}
 use Rattle.span.specs.declared.entry.Entry.{Entry}
 use Rattle.mesh_graph.specs.Groups.{Groups, IsAscending, any_compatible, ids}
 use Rattle.span.specs.Entries.{are_compatible}
+use Rattle.lane_kernels.specs.Disjoint.{are_disjoint}
 use Rattle.mesh_graph.proofs.Entries.{any_at}
 use Rattle.certificate.specs.Plans.{partners_of, sides_of}
 use Rattle.certificate.proofs.Verdicts.{tells_span}
@@ -75,14 +77,34 @@ any-filter p q (x ∷ xs) = elim (cases_Bool (p x)) [
   | inr e ↦ rw e (any-filter p q xs)
 ]
 
--- the groups that are compatible with some group whose id is in the set, where those are taken out first
+any-map : {X Y : Type 0} (test : Y → Bool) (f : X → Y) (xs : List X) → list_any test (map f xs) ≡ list_any (λ x. test (f x)) xs
+any-map test f [] = refl
+any-map test f (x ∷ xs) = ap (λ b. test (f x) || b) (any-map test f xs)
+
+-- the groups that are compatible with some group whose id is in the set, where the sets of those are taken out first
 pub filter-members : (words : List ℕ) (abandoned owned : List Entry)
-    → filter (λ y. list_any (λ x. are_compatible x y) (filter (λ x. has_bit words (rank x.id)) abandoned)) owned ≡ filter (λ y. has_chosen words abandoned y) owned
-filter-members words abandoned owned = (λ k. filter (λ y. any-filter (λ (x : Entry). has_bit words (rank x.id)) (λ x. are_compatible x y) abandoned k) owned)
+    → filter (λ y. list_any (λ x. are_disjoint x y.occupied) (map (λ (x : Entry). x.occupied) (filter (λ x. has_bit words (rank x.id)) abandoned))) owned ≡ filter (λ y. has_chosen words abandoned y) owned
+filter-members words abandoned owned =
+    (λ k. filter (λ y. any-map (λ x. are_disjoint x y.occupied) (λ (x : Entry). x.occupied) (filter (λ x. has_bit words (rank x.id)) abandoned) k) owned)
+    ∙ (λ k. filter (λ y. any-filter (λ (x : Entry). has_bit words (rank x.id)) (λ x. are_compatible x y) abandoned k) owned)
+
+-- the ids of the groups that pass a test, of one more group
+module _ (test : Entry → Bool) (owned : List Entry) (n : ℕ) (y : Entry) (found : List SpanId) (low : n < length owned) (read : y ≡ get_or owned n y) (is : found ≡ map (λ (y : Entry). y.id) (filter test (take n owned))) where
+  more : map (λ (y : Entry). y.id) (filter test (take (n + 1) owned)) ≡ found ++ map (λ (y : Entry). y.id) (cond (test y) (y ∷ []) [])
+  more =
+      ap (map (λ (y : Entry). y.id)) (filter_more test owned n y low ∙ ap (λ z. filter test (take n owned) ++ cond (test z) (z ∷ []) []) (sym read))
+      ∙ map-append (λ (y : Entry). y.id) (filter test (take n owned)) (cond (test y) (y ∷ []) [])
+      ∙ ap (λ l. l ++ map (λ (y : Entry). y.id) (cond (test y) (y ∷ []) [])) (sym is)
+
+  pub passing-more : test y ≡ true → found ++ y.id ∷ [] ≡ map (λ (y : Entry). y.id) (filter test (take (n + 1) owned))
+  passing-more passes = sym (more ∙ ap (λ b. found ++ map (λ (y : Entry). y.id) (cond b (y ∷ []) [])) passes)
+
+  pub passing-same : test y ≡ false → found ≡ map (λ (y : Entry). y.id) (filter test (take (n + 1) owned))
+  passing-same fails = sym (more ∙ ap (λ b. found ++ map (λ (y : Entry). y.id) (cond b (y ∷ []) [])) fails ∙ append-nil found)
 
 -- the partners, as a filter of the owned groups
 pub partners_of-filter : (s : Groups) (short : List SpanId) (words : List ℕ) → IsAscending (ids s.owned) → ((id : SpanId) → has_bit words (rank id) ≡ list_any (same_span id) short)
-    → partners_of s short ≡ map (λ y. y.id) (filter (λ y. has_chosen words s.abandoned y) s.owned)
+    → partners_of s short ≡ map (λ (y : Entry). y.id) (filter (λ y. has_chosen words s.abandoned y) s.owned)
 unfolding sides_of
 partners_of-filter s short words up has =
     filter-map (λ b. list_any (λ a. any_compatible s a b) short) (λ (y : Entry). y.id) (λ y. has_chosen words s.abandoned y) s.owned

@@ -4,7 +4,8 @@
 //! Beside it stands a [`Short`] set: abandoned groups that have so few partners between them that as
 //! many of them must be left out as the plan leaves out. [`check`] believes nothing: it tests the
 //! sets of a [`Snapshot`](mesh_graph::Snapshot) pair by pair. With whoever found the plan it shares
-//! the test of two sets, and no graph and no rows (as the certifying algorithms of LEDA do).
+//! the test of two sets, and no graph and no rows (as the certifying algorithms of LEDA do). Rows are
+//! for [`partners`] alone, which lists those of a short set for a report and is not asked by `check`.
 //!
 //! ```text
 //!   abandoned           owned                 plan: 0.0 onto 3.0
@@ -43,6 +44,6 @@ mod text;
 
 pub use certificate::Certificate;
 pub use checking::check;
-pub use partner::partners;
+pub use partner::{partner_count, partners};
 pub use plan::{Plan, Short};
 pub use text::{Cause, ReadError, read, write};

@@ -1,14 +1,15 @@
-// The partners of a short set, found by tests of two sets.
-ghost use Rattle.std.specs.Prelude.{◌≡◌, ◌<◌, ◌^◌, length, map, IfOk};
+// The partners of a short set: found by the rows of its members' slots, and counted by tests of two sets for the checker.
+ghost use Rattle.std.specs.Prelude.{◌≡◌, ◌<◌, ◌+◌, ◌/◌, ◌^◌, length, map, IfOk};
 ghost use Rattle.std.specs.List.{count_by, filter, list_any};
 ghost use Rattle.bitmap.specs.Slots.{has_bit};
 ghost use Rattle.span.specs.Ids.{rank};
-ghost use Rattle.span.specs.Entries.{are_compatible};
+ghost use Rattle.lane_kernels.specs.Disjoint.{are_disjoint};
 ghost use Rattle.certificate.specs.Chosen.{has_chosen};
 ghost use Rattle.certificate.specs.Plans.{partners_of};
 
 use crate::id_set::IdSet;
 use crate::plan::Short;
+use lane_kernels::{Planes, SlotRows};
 use mesh_graph::{Entry, Snapshot};
 use span::SpanId;
 use std::alloc::{AllocError, Global};
@@ -23,14 +24,15 @@ pub fn partners(
     ensures { IfOk result (λ found. found.items ≡ partners_of snapshot.now short.now) }
 {
     let chosen = IdSet::of(short.ids());
-    // Taken out once, so that each owned group is tested with these alone.
-    let members = members(alloc, snapshot.abandoned(), &chosen)?;
+    let planes = planes_of(alloc, snapshot.abandoned(), &chosen)?;
+    let members = SlotRows::of(alloc, planes)?;
     let found = partners_among(alloc, &members, snapshot.owned())?;
     Ok(found)
 }
 
-/// How many partners the short set has.
-pub(crate) fn partner_count(snapshot: &Snapshot, short: &[SpanId]) -> usize
+/// How many partners the abandoned groups with these ids have. It tests two sets at a time and takes no memory, and the checker
+/// counts by it, so that nobody who believes a verdict has to believe rows.
+pub fn partner_count(snapshot: &Snapshot, short: &[SpanId]) -> usize
     ensures count { result ≡ length (partners_of snapshot.now short.now) }
     ensures in_range { result < 2 ^ 63 }
 {
@@ -38,40 +40,47 @@ pub(crate) fn partner_count(snapshot: &Snapshot, short: &[SpanId]) -> usize
     count_among(snapshot.abandoned(), &chosen, snapshot.owned())
 }
 
-/// The groups whose ids are in the set.
-fn members(alloc: Global, abandoned: &[Entry], chosen: &IdSet) -> Result<Vec<Entry>, AllocError>
-    ensures { IfOk result (λ found. found.items
-        ≡ filter (λ x. has_bit chosen.now.words (rank x.id)) abandoned.now) }
+/// The sets of the groups whose ids are in the set.
+fn planes_of(alloc: Global, abandoned: &[Entry], chosen: &IdSet) -> Result<Planes, AllocError>
+    ensures { IfOk result (λ planes. planes
+        ≡ map (λ x. x.occupied) (filter (λ x. has_bit chosen.now.words (rank x.id)) abandoned.now)) }
 {
-    abandoned
-        .iter()
-        .filter(|entry| chosen.contains(entry.id))
-        .copied()
-        .collect(alloc)
+    let mut planes = Planes::new(alloc);
+    for entry in abandoned {
+        if chosen.contains(entry.id) {
+            planes.push(&entry.occupied)?;
+        }
+    }
+    Ok(planes)
 }
 
-/// The ids of the owned groups that are compatible with some member.
+/// The ids of the owned groups that share no slot with some member.
 fn partners_among(
     alloc: Global,
-    members: &[Entry],
+    members: &SlotRows,
     owned: &[Entry],
 ) -> Result<Vec<SpanId>, AllocError>
     ensures { IfOk result (λ found. found.items
-        ≡ map (λ y. y.id) (filter (λ y. list_any (λ x. are_compatible x y) members.now)
+        ≡ map (λ y. y.id) (filter (λ y. list_any (λ x. are_disjoint x y.occupied) members.now)
         owned.now)) }
 {
-    owned
-        .iter()
-        .filter(|entry| fits_some(members, entry))
-        .map(|entry| entry.id)
-        .collect(alloc)
+    let mut found = Vec::new(alloc);
+    let mut row = vec![in alloc; 0; members.row_words()]?;
+    for entry in owned {
+        if fits_some(members, entry, &mut row) {
+            found.push(entry.id)?;
+        }
+    }
+    Ok(found)
 }
 
-/// Whether the owned group is compatible with some member.
-fn fits_some(members: &[Entry], owned: &Entry) -> bool
-    ensures { result ≡ list_any (λ x. are_compatible x owned.now) members.now }
+/// Whether the owned group shares no slot with some member.
+fn fits_some(members: &SlotRows, owned: &Entry, row: &mut Vec<u64>) -> bool
+    requires { length row.old.items ≡ (length members.now + 63) / 64 }
+    ensures len { length row.new.items ≡ length row.old.items }
+    ensures some { result ≡ list_any (λ x. are_disjoint x owned.now.occupied) members.now }
 {
-    members.iter().any(|entry| entry.is_compatible(owned))
+    members.has_disjoint(&owned.occupied, row)
 }
 
 fn count_among(abandoned: &[Entry], chosen: &IdSet, owned: &[Entry]) -> usize

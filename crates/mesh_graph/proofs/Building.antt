@@ -1,18 +1,20 @@
--- Rows of bits, built bit by bit and row by row.
-use Rattle.std.proofs.Common.{ℕ, ◌+◌, ◌/◌, ◌%◌, ◌^◌, ◌*◌, ◌<◌, ◌≤◌, ◌≡◌, ◌||◌, true, false, List, [], ◌∷◌, ◌++◌, length, map, refl, sym, ◌∙◌, ap, arith, get_or, set, inl, inr, Option, Some, None, eqb, eq-eqb, bit_or, w64, IfSome}
+-- Rows of bits, one after another.
+use Rattle.std.proofs.Common.{ℕ, suc, ◌+◌, ◌/◌, ◌%◌, ◌^◌, ◌||◌, ◌*◌, ◌<◌, ◌≤◌, ◌≡◌, true, false, List, [], ◌∷◌, ◌++◌, length, map, drop, refl, sym, subst, ◌∙◌, ap, arith, get_or, inl, inr, Option, Some, None, eqb, eq-eqb, set, bit_or, w64, IfSome, length-append}
 use Rattle.std.specs.List.{slice_get}
-use Rattle.std.specs.declared.vec.Vec.{Vec}
-use Rattle.std.specs.declared.alloc.Global.{Global}
+use Rattle.std.proofs.Math.Nat.{mul-le-mul_left, mul-suc}
 use Rattle.std.proofs.lemmas.Bool.{both_ways, cases_eq, cases_lt, ne_eqb}
-use Rattle.std.proofs.lemmas.List.{get_or_append_left, get_or_push, get_or-map, length-map, get_or_default}
-use Rattle.std.proofs.lemmas.Option.{slice_get-get_or, slice_get_past}
 use Rattle.std.proofs.lemmas.Nat.Bits.{bit_at_set_same, bit_at_set_other}
 use Rattle.bitmap.proofs.Edits.{other_bit, same_bit}
-use Rattle.bitmap.specs.Slots.{has_bit}
+use Rattle.std.proofs.lemmas.List.{get_or_default, length-drop, length-map, length-take-le}
+use Rattle.std.specs.Prelude.{option_map}
+use Rattle.std.proofs.lemmas.Option.{slice_get-get_or, slice_get-map, slice_get_past}
+use Rattle.bitmap.specs.Slots.{SlotSet, has_bit}
+use Rattle.lane_kernels.specs.Disjoint.{fits}
+use Rattle.lane_kernels.specs.Rows.{row_at, width_of}
+use Rattle.lane_kernels.proofs.Rows.{row_at-earlier, row_at-last}
 use Rattle.span.specs.declared.entry.Entry.{Entry}
 use Rattle.mesh_graph.specs.Groups.{Groups, are_partners, compatible_at, has_partner}
-use Rattle.span.specs.Entries.{are_compatible}
-use Rattle.mesh_graph.specs.Rows.{AreRows, IsRow}
+use Rattle.mesh_graph.specs.Rows.{AreRows, HaveRows}
 
 module _ (words : List ℕ) (slot : ℕ) (within : slot / 64 < length words) where
   abbrev changed : ℕ → List ℕ
@@ -27,90 +29,82 @@ module _ (words : List ℕ) (slot : ℕ) (within : slot / 64 < length words) whe
         | inr other ↦ rw (ne_eqb q slot other) (other_bit words slot within word q other (λ i small apart. bit_at_set_other w64 (get_or words (slot / 64) 0) (slot % 64) (omega arith) i apart))
       ]
 
--- what rows keep while they are filled up to place j
-pub record IsFilled (x : Entry) (owned : List Entry) (words : List ℕ) (j : ℕ) : Type 0 where
-  pub width : length words ≡ (length owned + 63) / 64
-  pub below : (q : ℕ) → q < j → has_bit words q ≡ has_partner x (slice_get owned q)
-  pub above : (q : ℕ) → j ≤ q → has_bit words q ≡ false
-
-pub filled-set : (x y : Entry) (owned : List Entry) (words after : List ℕ) (j : ℕ) → IsFilled x owned words j → j < length owned → y ≡ get_or owned j y → are_compatible x y ≡ true → length after ≡ length words
-    → ((q : ℕ) → has_bit after q ≡ (eqb q j || has_bit words q)) → IsFilled x owned after (j + 1)
-filled-set x y owned words after j f l is e long bits = record {
-  width = long ∙ f.width;
-  below = λ q h. elim (cases_eq q j) [
-    | inl at ↦ bits q ∙ rw (at, eq-eqb j j refl, slice_get-get_or owned j y l, sym is) (sym e)
-    | inr n ↦ bits q ∙ rw (ne_eqb q j n) (f.below q (omega arith))
-  ];
-  above = λ q h. let n : q ≡ j → ⊥ = λ e. absurd (omega arith) in bits q ∙ rw (ne_eqb q j n) (f.above q (omega arith));
-}
-
-pub filled-skip : (x y : Entry) (owned : List Entry) (words : List ℕ) (j : ℕ) → IsFilled x owned words j → j < length owned → y ≡ get_or owned j y → are_compatible x y ≡ false → IsFilled x owned words (j + 1)
-filled-skip x y owned words j f l is e = record {
-  width = f.width;
-  below = λ q h. elim (cases_eq q j) [
-    | inl at ↦ f.above q (omega arith) ∙ rw (at, slice_get-get_or owned j y l, sym is) (sym e)
-    | inr n ↦ f.below q (omega arith)
-  ];
-  above = λ q h. f.above q (omega arith);
-}
-
-pub row-from_filled : (x : Entry) (owned : List Entry) (words : List ℕ) (j : ℕ) → length owned ≤ j → IsFilled x owned words j → IsRow x owned words
-row-from_filled x owned words j past f = record {
-  width = f.width;
-  bits = λ q. elim (cases_lt q j) [
-    | inl l ↦ f.below q l
-    | inr g ↦ f.above q g ∙ rw (slice_get_past owned q (omega arith)) refl
+-- one more row
+pub rows-more : (abandoned : List Entry) (sets : List SlotSet) (n : ℕ) (y : Entry) (words row : List ℕ) → HaveRows abandoned sets n words → n < length abandoned → y ≡ get_or abandoned n y
+    → length row ≡ width_of (length sets) → ((j : ℕ) → has_bit row j ≡ fits y.occupied (slice_get sets j)) → HaveRows abandoned sets (n + 1) (words ++ row)
+rows-more abandoned sets n y words row have low read long bits = record {
+  size = let more = mul-suc (width_of (length sets)) n in omega (arith, length-append words row, have.size, long, more);
+  bits = λ i j x below. elim (cases_eq i n) [
+    | inl at ↦
+        let here : get_or abandoned i x ≡ y = ap (λ k. get_or abandoned k x) at ∙ get_or_default abandoned n x y low ∙ sym read in
+        ap (λ k. has_bit (row_at (width_of (length sets)) (words ++ row) k) j) at
+        ∙ ap (λ l. has_bit l j) (row_at-last (width_of (length sets)) words row n have.size long)
+        ∙ bits j ∙ ap (λ (e : Entry). fits e.occupied (slice_get sets j)) (sym here)
+    | inr other ↦
+        let before : i < n = omega arith in
+        ap (λ l. has_bit l j) (row_at-earlier (width_of (length sets)) words row n have.size long i before) ∙ have.bits i j x before
   ];
 }
 
--- the words of each row
-abbrev pub words_of : List (Vec ℕ Global) → List (List ℕ)
-words_of rows = map (λ r. r.items) rows
+-- no row yet
+pub rows-none : (abandoned : List Entry) (sets : List SlotSet) (words : List ℕ) → words ≡ [] → HaveRows abandoned sets 0 words
+rows-none abandoned sets words none = record {
+  size = let at : width_of (length sets) * 0 ≡ 0 = omega arith in rw none (sym at);
+  bits = λ i j x below. absurd (omega arith);
+}
 
--- the row of the group at a place
-pub words_of-read : (rows : List (Vec ℕ Global)) (i : ℕ) (row : Vec ℕ Global) → i < length rows → row ≡ get_or rows i row → get_or (words_of rows) i [] ≡ row.items
-words_of-read rows i row l is = get_or-map (λ (r : Vec ℕ Global). r.items) rows i row [] l ∙ ap (λ (r : Vec ℕ Global). r.items) (sym is)
+partner_is : (x : Entry) (o : Option Entry) → fits x.occupied (option_map (λ (y : Entry). y.occupied) o) ≡ has_partner x o
+partner_is x None = refl
+partner_is x (Some y) = refl
 
--- what a row says of a group that stands at a place
-row-bit : (abandoned owned : List Entry) (rows : List (Vec ℕ Global)) → length rows ≡ length abandoned
-    → ((i : ℕ) (x : Entry) (d : Vec ℕ Global) → i < length abandoned → IsRow (get_or abandoned i x) owned (get_or rows i d).items)
-    → (i j : ℕ) → i < length abandoned → has_bit (get_or (words_of rows) i []) j ≡ are_partners (slice_get abandoned i) (slice_get owned j)
-row-bit [] owned rows high are i j l = absurd (omega arith)
-row-bit (x ∷ abandoned) owned [] high are i j l = absurd (omega arith)
-row-bit (x ∷ abandoned) owned (r ∷ rows) high are i j l =
-    let words : get_or (words_of (r ∷ rows)) i [] ≡ (get_or (r ∷ rows) i r).items = get_or-map (λ (v : Vec ℕ Global). v.items) (r ∷ rows) i r [] (omega arith) in
-    ap (λ ws. has_bit ws j) words ∙ (are i x r l).bits j ∙ ap (λ o. are_partners o (slice_get owned j)) (sym (slice_get-get_or (x ∷ abandoned) i x l))
-
-row-width : (abandoned owned : List Entry) (rows : List (Vec ℕ Global)) → length rows ≡ length abandoned
-    → ((i : ℕ) (x : Entry) (d : Vec ℕ Global) → i < length abandoned → IsRow (get_or abandoned i x) owned (get_or rows i d).items)
-    → (i : ℕ) → i < length abandoned → length (get_or (words_of rows) i []) ≡ (length owned + 63) / 64
-row-width [] owned rows high are i l = absurd (omega arith)
-row-width (x ∷ abandoned) owned [] high are i l = absurd (omega arith)
-row-width (x ∷ abandoned) owned (r ∷ rows) high are i l =
-    ap length (get_or-map (λ (v : Vec ℕ Global). v.items) (r ∷ rows) i r [] (omega arith)) ∙ (are i x r l).width
-
--- as many rows as abandoned groups, each with its bits, are the rows of the snapshot
-pub AreRows-from_each : (s : Groups) (rows : List (Vec ℕ Global)) → length s.abandoned ≤ 4096 → length s.owned ≤ 4096 → length rows ≡ length s.abandoned
-    → ((i : ℕ) (x : Entry) (d : Vec ℕ Global) → i < length s.abandoned → IsRow (get_or s.abandoned i x) s.owned (get_or rows i d).items) → AreRows s (words_of rows)
+-- the rows of all groups are those of the snapshot
+pub AreRows-from_rows : (s : Groups) (sets : List SlotSet) (words : List ℕ) → length s.abandoned ≤ 4096 → length s.owned ≤ 4096 → sets ≡ map (λ y. y.occupied) s.owned
+    → HaveRows s.abandoned sets (length s.abandoned) words → AreRows s words
 unfolding compatible_at
-AreRows-from_each s rows few_a few_o high are = record {
-  abandoned_at_most = few_a;
-  owned_at_most = few_o;
-  height = length-map rows (λ (r : Vec ℕ Global). r.items) ∙ high;
-  width = row-width s.abandoned s.owned rows high are;
-  bits = row-bit s.abandoned s.owned rows high are;
-}
+AreRows-from_rows s sets words few_a few_o are have =
+    let long : length sets ≡ length s.owned = ap length are ∙ length-map s.owned (λ (y : Entry). y.occupied) in
+    record {
+      abandoned_at_most = few_a;
+      owned_at_most = few_o;
+      size = have.size ∙ ap (λ n. width_of n * length s.abandoned) long;
+      bits = λ i j low.
+          ap (λ n. has_bit (row_at (width_of n) words i) j) (sym long)
+          ∙ bit s.abandoned i j low (λ x. have.bits i j x low);
+    }
+  where
+    bit : (abandoned : List Entry) (i j : ℕ) → i < length abandoned → ((x : Entry) → has_bit (row_at (width_of (length sets)) words i) j ≡ fits (get_or abandoned i x).occupied (slice_get sets j))
+        → has_bit (row_at (width_of (length sets)) words i) j ≡ are_partners (slice_get abandoned i) (slice_get s.owned j)
+    bit [] i j low is = absurd (omega arith)
+    bit (x ∷ abandoned) i j low is =
+        is x
+        ∙ ap (fits (get_or (x ∷ abandoned) i x).occupied) (ap (λ l. slice_get l j) are ∙ slice_get-map (λ (y : Entry). y.occupied) s.owned j)
+        ∙ partner_is (get_or (x ∷ abandoned) i x) (slice_get s.owned j)
+        ∙ ap (λ o. are_partners o (slice_get s.owned j)) (sym (slice_get-get_or (x ∷ abandoned) i x low))
 
--- the row that a graph lends
-pub row-bits : (s : Groups) (rows : List (Vec ℕ Global)) (i : ℕ) (row : Vec ℕ Global) → AreRows s (words_of rows) → i < length s.abandoned → row ≡ get_or rows i row → (j : ℕ) → has_bit row.items j ≡ compatible_at s i j
-row-bits s rows i row are l is j =
-    let high : length (words_of rows) ≡ length rows = length-map rows (λ (r : Vec ℕ Global). r.items) in
-    ap (λ words. has_bit words j) (sym (words_of-read rows i row (omega (arith, are.height)) is)) ∙ are.bits i j l
+module _ (s t : Groups) (words : List ℕ) (w i : ℕ) (is : s ≡ t) (are : AreRows s words) (low : i < length t.abandoned) (wide : w ≡ length t.owned) where
+  rows : AreRows t words
+  rows = subst (λ g. AreRows g words) is are
 
-pub row-words : (s : Groups) (rows : List (Vec ℕ Global)) (i : ℕ) (row : Vec ℕ Global) → AreRows s (words_of rows) → i < length s.abandoned → row ≡ get_or rows i row → length row.items ≡ (length s.owned + 63) / 64
-row-words s rows i row are l is =
-    let high : length (words_of rows) ≡ length rows = length-map rows (λ (r : Vec ℕ Global). r.items) in
-    ap length (sym (words_of-read rows i row (omega (arith, are.height)) is)) ∙ are.width i l
+  same_width : width_of w ≡ width_of (length t.owned)
+  same_width = ap width_of wide
+
+  -- a row ends within the words
+  pub lent-within : width_of w * i + width_of w ≤ length words
+  lent-within =
+      let ends : width_of (length t.owned) * suc i ≤ width_of (length t.owned) * length t.abandoned = mul-le-mul_left (width_of (length t.owned)) low in
+      let more = mul-suc (width_of (length t.owned)) i in
+      rw same_width (omega (arith, rows.size))
+
+  -- the row that a graph lends
+  module _ (row : List ℕ) (reads : row ≡ row_at (width_of w) words i) where
+    pub lent-bits : (j : ℕ) → has_bit row j ≡ compatible_at t i j
+    lent-bits j = ap (λ l. has_bit l j) (reads ∙ ap (λ k. row_at k words i) same_width) ∙ rows.bits i j low
+
+    pub lent-words : length row ≡ (length t.owned + 63) / 64
+    lent-words =
+        ap length reads
+        ∙ length-take-le (width_of w) (drop (width_of w * i) words) (omega (arith, length-drop (width_of w * i) words, lent-within))
+        ∙ same_width
 
 -- an owned group that is a partner stands at a place
 pub compatible_at-within : (s : Groups) (i j : ℕ) → compatible_at s i j ≡ true → j < length s.owned
@@ -128,17 +122,3 @@ compatible_at-within s i j h = elim (cases_lt j (length s.owned)) [
 pub within-from_bits : (s : Groups) (i : ℕ) (words : List ℕ) (found : Option ℕ) → ((j : ℕ) → has_bit words j ≡ compatible_at s i j) → IfSome found (λ j. has_bit words j ≡ true) → IfSome found (λ j. j < length s.owned)
 within-from_bits s i words None bits set = tt
 within-from_bits s i words (Some j) bits set = compatible_at-within s i j (sym (bits j) ∙ set)
-
--- one more row
-pub rows-push : (abandoned owned : List Entry) (rows : List (Vec ℕ Global)) (row : Vec ℕ Global) (n : ℕ) (y : Entry) → length rows ≡ n → n < length abandoned → y ≡ get_or abandoned n y
-    → ((i : ℕ) (x : Entry) (d : Vec ℕ Global) → i < n → IsRow (get_or abandoned i x) owned (get_or rows i d).items) → IsRow y owned row.items
-    → (i : ℕ) (x : Entry) (d : Vec ℕ Global) → i < n + 1 → IsRow (get_or abandoned i x) owned (get_or (rows ++ row ∷ []) i d).items
-rows-push abandoned owned rows row n y long within is before here i x d h = elim (cases_eq i n) [
-  | inl at ↦
-      let last : get_or (rows ++ row ∷ []) i d ≡ row = get_or_push rows row d i (omega arith) in
-      let read : get_or abandoned i x ≡ y = ap (λ k. get_or abandoned k x) at ∙ get_or_default abandoned n x y within ∙ sym is in
-      rw (last, read) here
-  | inr n' ↦
-      let kept : get_or (rows ++ row ∷ []) i d ≡ get_or rows i d = get_or_append_left rows (row ∷ []) d i (omega arith) in
-      rw kept (before i x d (omega arith))
-]

@@ -1,20 +1,21 @@
 -- The rows of bits of a graph. No public clause cites this module.
-use Rattle.std.specs.Prelude.{ℕ, ◌≡◌, ◌<◌, ◌≤◌, ◌+◌, ◌/◌, List, [], length, slice_index_or}
+use Rattle.std.specs.Prelude.{ℕ, ◌≡◌, ◌<◌, ◌≤◌, ◌*◌, List, length, slice_index_or}
 use Rattle.std.specs.List.{slice_get}
-use Rattle.bitmap.specs.Slots.{has_bit}
+use Rattle.bitmap.specs.Slots.{SlotSet, has_bit}
+use Rattle.lane_kernels.specs.Disjoint.{fits}
+use Rattle.lane_kernels.specs.Rows.{row_at, width_of}
 use Rattle.span.specs.declared.entry.Entry.{Entry}
-use Rattle.mesh_graph.specs.Groups.{Groups, compatible_at, has_partner}
+use Rattle.mesh_graph.specs.Groups.{Groups, compatible_at}
 use Rattle.mesh_graph.specs.declared.build.TheConstants.{MOST_GROUPS}
 
--- the words of a group's row: bit j is set exactly where the group is compatible with the one at place j
-pub record IsRow (x : Entry) (owned : List Entry) (words : List ℕ) : Type 0 where
-  pub width : length words ≡ (length owned + 63) / 64
-  pub bits : (j : ℕ) → has_bit words j ≡ has_partner x (slice_get owned j)
+-- the rows of the first n groups: bit j of a row is set exactly where the group's set shares no slot with set j
+pub record HaveRows (abandoned : List Entry) (sets : List SlotSet) (n : ℕ) (words : List ℕ) : Type 0 where
+  pub size : length words ≡ width_of (length sets) * n
+  pub bits : (i j : ℕ) (x : Entry) → i < n → has_bit (row_at (width_of (length sets)) words i) j ≡ fits (slice_index_or abandoned i x).occupied (slice_get sets j)
 
 -- a row for each abandoned group, of which there are at most 4,096 on a side: bit j of row i says whether groups i and j are compatible
-pub record AreRows (s : Groups) (rows : List (List ℕ)) : Type 0 where
+pub record AreRows (s : Groups) (words : List ℕ) : Type 0 where
   pub abandoned_at_most : length s.abandoned ≤ MOST_GROUPS
   pub owned_at_most : length s.owned ≤ MOST_GROUPS
-  pub height : length rows ≡ length s.abandoned
-  pub width : (i : ℕ) → i < length s.abandoned → length (slice_index_or rows i []) ≡ (length s.owned + 63) / 64
-  pub bits : (i j : ℕ) → i < length s.abandoned → has_bit (slice_index_or rows i []) j ≡ compatible_at s i j
+  pub size : length words ≡ width_of (length s.owned) * length s.abandoned
+  pub bits : (i j : ℕ) → i < length s.abandoned → has_bit (row_at (width_of (length s.owned)) words i) j ≡ compatible_at s i j

@@ -1,12 +1,12 @@
 // Builds the graph of a snapshot.
-ghost use Rattle.std.specs.Prelude.{◌≡◌, ◌↔◌, ◌<◌, ◌≤◌, ◌/◌, ◌⊎◌, ◌||◌, Err, ℕ, length, nat_eq, IfOk, slice_index_or};
-ghost use Rattle.bitmap.specs.Slots.{has_bit};
-ghost use Rattle.mesh_graph.specs.Rows.{IsRow};
+ghost use Rattle.std.specs.Prelude.{◌≡◌, ◌↔◌, ◌<◌, ◌≤◌, ◌⊎◌, Err, length, map, IfOk};
+ghost use Rattle.mesh_graph.specs.Rows.{HaveRows};
 ghost use Rattle.mesh_graph.specs.declared.build.BuildError.TheVariants.{OutOfMemory, TooMany};
 ghost use Rattle.mesh_graph.specs.declared.build.TheConstants.{MOST_GROUPS};
 
 use crate::graph::Graph;
 use crate::snapshot::Snapshot;
+use lane_kernels::{Planes, SlotRows};
 use span::Entry;
 use std::alloc::{AllocError, Global};
 
@@ -52,41 +52,37 @@ impl<'a> Graph<'a> {
         if snapshot.owned().len() > MOST_GROUPS {
             return Err(BuildError::TooMany);
         }
-        let rows = rows_of(alloc, snapshot.abandoned(), snapshot.owned())?;
+        let planes = planes_of(alloc, snapshot.owned())?;
+        let sets = SlotRows::of(alloc, planes)?;
+        let rows = rows_of(alloc, snapshot.abandoned(), &sets)?;
         Ok(Graph { snapshot, rows })
     }
 }
 
-// A row for each abandoned group.
-fn rows_of(alloc: Global, abandoned: &[Entry], owned: &[Entry]) -> Result<Vec<Vec<u64>>, AllocError>
-    ensures height { IfOk result (λ rows. length rows.items ≡ length abandoned.now) }
-    ensures rows { IfOk result (λ rows. (i : ℕ) (x : Entry) (d : _) → i < length abandoned.now
-        → IsRow (slice_index_or abandoned.now i x) owned.now
-        (slice_index_or rows.items i d).items) }
+// The sets of the groups, side by side.
+fn planes_of(alloc: Global, groups: &[Entry]) -> Result<Planes, AllocError>
+    ensures { IfOk result (λ planes. planes ≡ map (λ x. x.occupied) groups.now) }
 {
-    let mut rows = Vec::new(alloc);
+    let mut planes = Planes::new(alloc);
+    for entry in groups {
+        planes.push(&entry.occupied)?;
+    }
+    Ok(planes)
+}
+
+// The rows of the groups, one after another.
+fn rows_of(alloc: Global, abandoned: &[Entry], sets: &SlotRows) -> Result<Vec<u64>, AllocError>
+    requires abandoned { length abandoned.now ≤ MOST_GROUPS }
+    requires sets { length sets.now ≤ MOST_GROUPS }
+    ensures { IfOk result (λ rows. HaveRows abandoned.now sets.now (length abandoned.now)
+        rows.items) }
+{
+    let words = sets.row_words();
+    let mut rows = Vec::with_capacity(alloc, words * abandoned.len())?;
+    let mut row = vec![in alloc; 0; words]?;
     for entry in abandoned {
-        rows.push(row_of(alloc, entry, owned)?)?;
+        sets.disjoint_row(&entry.occupied, &mut row);
+        rows.extend_from_slice(&row)?;
     }
     Ok(rows)
-}
-
-// A bit for each owned group: whether it is compatible with this one.
-fn row_of(alloc: Global, entry: &Entry, owned: &[Entry]) -> Result<Vec<u64>, AllocError>
-    ensures { IfOk result (λ row. IsRow entry.now owned.now row.items) }
-{
-    let mut row = vec![in alloc; 0; (owned.len() + 63) / 64]?;
-    for (j, other) in owned.iter().enumerate() {
-        if entry.is_compatible(other) {
-            set_bit(&mut row, j);
-        }
-    }
-    Ok(row)
-}
-
-fn set_bit(row: &mut [u64], j: usize)
-    requires { j / 64 < length row.old }
-    ensures { (q : ℕ) → has_bit row.new q ≡ (nat_eq q j || has_bit row.old q) }
-{
-    row[j / 64] |= 1 << (j % 64);
 }

@@ -1,7 +1,8 @@
 // A graph of two sides, as rows of bits.
-ghost use Rattle.std.specs.Prelude.{◌≡◌, ◌+◌, ◌/◌, ◌<◌, ◌≤◌, ℕ, true, false, length, slice_get, IfNone, IfSome, Some, map};
+ghost use Rattle.std.specs.Prelude.{◌≡◌, ◌+◌, ◌*◌, ◌/◌, ◌<◌, ◌≤◌, ℕ, true, false, length, slice_get, IfNone, IfSome, Some};
 ghost use Rattle.bitmap.specs.Slots.{has_bit};
 ghost use Rattle.mesh_graph.specs.Groups.{IsAscending, compatible_at, ids};
+ghost use Rattle.lane_kernels.specs.Rows.{row_at};
 ghost use Rattle.mesh_graph.specs.declared.build.TheConstants.{MOST_GROUPS};
 
 use crate::snapshot::Snapshot;
@@ -9,16 +10,16 @@ use span::SpanId;
 use std::marker::Model;
 
 /// Which abandoned group of a snapshot is compatible with which owned one, by their places in the
-/// snapshot. It is lent the snapshot, and has a row of bits for each abandoned group.
+/// snapshot. It is lent the snapshot, and has a row of bits for each abandoned group,
+/// one after another.
 #[derive(Drop)]
 pub struct Graph<'a> {
     pub(crate) snapshot: &'a Snapshot,
-    pub(crate) rows: Vec<Vec<u64>>,
+    pub(crate) rows: Vec<u64>,
 }
 
 impl<'a> Model for Graph<'a> {
     ghost use Rattle.std.specs.Coded.{codes};
-    ghost use Rattle.std.specs.Prelude.{map};
     ghost use Rattle.mesh_graph.specs.Groups.{Groups};
     ghost use Rattle.mesh_graph.specs.Rows.{AreRows};
     ghost use Rattle.span.specs.contracts.entry.Entry as entry;
@@ -29,7 +30,7 @@ impl<'a> Model for Graph<'a> {
 
     ghost view = { λ g. g.snapshot.now };
 
-    ghost invariant = { λ g. AreRows g.snapshot.now (map (λ r. r.items) g.rows.items) };
+    ghost invariant = { λ g. AreRows g.snapshot.now g.rows.items };
 }
 
 impl<'a> Graph<'a> {
@@ -75,7 +76,7 @@ impl<'a> Graph<'a> {
         ensures words { length result.now ≡ (length self.now.owned + 63) / 64 }
         ensures at_most { length result.now ≤ 64 }
     {
-        &self.rows[i]
+        row_of(&self.rows, (self.owned() + 63) / 64, i)
     }
 
     /// Whether the abandoned group at the first place is compatible with the owned one at the second.
@@ -100,6 +101,15 @@ impl<'a> Graph<'a> {
     {
         next_bit(self.row(i), from)
     }
+}
+
+// Row i of rows that stand one after another.
+fn row_of(words: &[u64], width: usize, i: usize) -> &[u64]
+    requires { width * i + width ≤ length words.now }
+    ensures { result.now ≡ row_at width words.now i }
+{
+    let start = width * i;
+    &words[start..start + width]
 }
 
 // The least bit from `from` on that is set.

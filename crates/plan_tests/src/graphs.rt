@@ -83,21 +83,22 @@ fn empty_groups_again(alloc: Global, count: u32) -> Option<Vec<Entry>> {
     }
 }
 
-fn is_too_many(alloc: Global, abandoned: u32, owned: u32) -> Option<bool> {
+// How many groups of the pool a graph of so many on each side has, or why there is none.
+fn built(alloc: Global, abandoned: u32, owned: u32) -> Option<Result<usize, BuildError>> {
     let abandoned = empty_groups_again(alloc, abandoned)?;
     let owned = empty_groups_again(alloc, owned)?;
     let snapshot = Snapshot::new(abandoned, owned).ok()?;
-    let built = build_again(alloc, &snapshot, 1);
-    Some(matches!(built, Err(BuildError::TooMany)))
+    let rows = match build_again(alloc, &snapshot, 1) {
+        Ok(graph) => Ok(graph.abandoned()),
+        Err(error) => Err(error),
+    };
+    Some(rows)
 }
 
 #[test]
 fn a_side_has_at_most_4096_groups(rt: HostRuntime) {
     assert_eq!(rt;
-        (
-            is_too_many(rt.alloc(), 4096, 0),
-            is_too_many(rt.alloc(), 0, 4097)
-        ),
-        (Some(false), Some(true))
+        (built(rt.alloc(), 4096, 4096), built(rt.alloc(), 0, 4097)),
+        (Some(Ok(4096)), Some(Err(BuildError::TooMany)))
     );
 }

@@ -1,9 +1,7 @@
-use Rattle.std.proofs.Common.{ℕ, ◌<◌, ◌≡◌, length, get_or}
-use Rattle.mesh_graph.specs.Rows.{IsRow}
+use Rattle.std.proofs.Common.{◌≡◌, length}
+use Rattle.lane_kernels.specs.Rows.{width_of}
+use Rattle.mesh_graph.specs.Rows.{HaveRows}
 use Rattle.mesh_graph.proofs.build.rows_of.Given as goal
 
 abbrev pub invariant-loop-entry : goal.invariant-loop-entry
-invariant-loop-entry l = record {
-  height : length l.rows.items ≡ l.entry-index;
-  rows : (i : ℕ) (x : _) (d : _) → i < l.entry-index → IsRow (get_or l.abandoned i x) l.owned (get_or l.rows.items i d).items;
-}
+invariant-loop-entry l = (length l.row.items ≡ width_of (length l.sets)) × HaveRows l.abandoned l.sets l.entry-index l.rows.items

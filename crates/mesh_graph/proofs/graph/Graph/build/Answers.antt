@@ -1,11 +1,11 @@
-use Rattle.std.proofs.Common.{arith}
+use Rattle.std.proofs.Common.{◌∙◌, arith}
 use Rattle.mesh_graph.specs.Groups.{Groups}
-use Rattle.mesh_graph.proofs.Building.{AreRows-from_each}
+use Rattle.mesh_graph.proofs.Building.{AreRows-from_rows}
 use Rattle.mesh_graph.proofs.graph.Graph.build.Goals as goal
 
 pub invariant_of-result : goal.invariant_of-result
 invariant_of-result c =
     let s : Groups = c.args.snapshot.now in
-    AreRows-from_each s c.in_ok-rows.rows.items (rw (← c.abandoned.ensures.entries) (omega arith)) (rw (← c.owned.ensures.entries) (omega arith))
-    (rw c.abandoned-2.ensures.entries at c.in_ok-rows.ensures.height)
-    (rw (c.abandoned-2.ensures.entries, c.owned-2.ensures.entries) at c.in_ok-rows.ensures.rows)
+    AreRows-from_rows s c.in_ok-sets.sets c.in_ok-rows.rows.items (rw (← c.abandoned.ensures.entries) (omega arith)) (rw (← c.owned.ensures.entries) (omega arith))
+    (c.in_ok-sets.ensures ∙ (rw c.owned-2.ensures.entries at c.in_ok-planes.ensures))
+    (rw c.abandoned-2.ensures.entries at c.in_ok-rows.ensures)

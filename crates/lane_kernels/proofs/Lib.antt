@@ -1,0 +1,4 @@
+mod Counts
+mod Columns
+mod Words
+pub mod Rows

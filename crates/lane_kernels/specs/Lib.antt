@@ -1,0 +1,3 @@
+pub mod Disjoint
+pub mod Planes
+pub mod Rows

@@ -1,0 +1,34 @@
+-- Many sets as a row of bits for each slot. No public clause cites this module.
+use Rattle.std.specs.Prelude.{ℕ, ◌≡◌, ◌<◌, ◌≤◌, ◌*◌, ◌+◌, ◌/◌, Bool, true, false, not, List, length, take, drop, slice_index_or}
+use Rattle.std.specs.FinSet.{contains}
+use Rattle.std.specs.List.{list_all}
+use Rattle.bitmap.specs.Slots.{SlotSet, has_bit}
+use Rattle.lane_kernels.specs.Planes.{column}
+
+-- the words of a row with a bit for each of n sets
+abbrev pub width_of : ℕ → ℕ
+width_of n = (n + 63) / 64
+
+-- row i of rows that stand one after another, each of so many words
+abbrev pub row_at : ℕ → List ℕ → ℕ → List ℕ
+row_at width words i = take width (drop (width * i) words)
+
+-- a row for each slot: bit j of row s says whether set j has slot s
+pub record AreSlotRows (sets : List SlotSet) (rows : List ℕ) : Type 0 where
+  pub size : length rows ≡ width_of (length sets) * 256
+  pub bits : (s j : ℕ) (d : SlotSet) → s < 256 → j < length sets → has_bit (row_at (width_of (length sets)) rows s) j ≡ contains (slice_index_or sets j d) s
+
+-- the rows of the first n slots: bit j of row s says whether column j has slot s
+pub record AreBitRows (p q r s : List ℕ) (n : ℕ) (rows : List ℕ) : Type 0 where
+  pub size : length rows ≡ width_of (length p) * n
+  pub bits : (slot j : ℕ) → slot < n → j < length p → has_bit (row_at (width_of (length p)) rows slot) j ≡ has_bit (column p q r s j) slot
+
+-- a row with a bit for each of the sets, and no other
+pub record IsFull (sets : List SlotSet) (row : List ℕ) : Type 0 where
+  pub width : length row ≡ width_of (length sets)
+  pub bits : (j : ℕ) → j < length sets → has_bit row j ≡ true
+  pub rest : (j : ℕ) → length sets ≤ j → has_bit row j ≡ false
+
+-- whether bit j is in no row of these slots
+abbrev pub survives : ℕ → List ℕ → ℕ → List ℕ → Bool
+survives width rows j slots = list_all (λ slot. not (has_bit (row_at width rows slot) j)) slots

@@ -1,0 +1,134 @@
+// Sets as a row of bits for each slot.
+ghost use Rattle.std.specs.Prelude.{◌≡◌, ◌==◌, ℕ, ◌+◌, ◌/◌, ◌^◌, ◌<◌, not, IfOk, length, slice_get, slice_index};
+ghost use Rattle.std.specs.List.{list_any};
+ghost use Rattle.bitmap.specs.Slots.{has_bit};
+ghost use Rattle.lane_kernels.specs.Disjoint.{are_disjoint, fits};
+ghost use Rattle.lane_kernels.specs.Rows.{AreSlotRows, IsFull, width_of};
+
+use crate::by_slots::take_off_all;
+use crate::planes::Planes;
+use bitmap::Bits256;
+use std::alloc::{AllocError, Global};
+use std::marker::Model;
+
+/// Up to how many slots of a set their rows take fewer steps than the words of all sets side by side.
+pub const MOST_BY_SLOTS: u32 = 190;
+
+/// A list of sets as a row of bits for each of the 256 slots: bit j of the row of slot s says whether set j has s. A set is
+/// disjoint from those that are in none of its slots' rows, so what is told of it and all the others takes a step for each of its
+/// slots and each 64 sets, and not for each set.
+#[derive(Drop)]
+pub struct SlotRows {
+    planes: Planes,
+    // One after another.
+    rows: Vec<u64>,
+    // The row of a set that is disjoint from all.
+    full: Vec<u64>,
+}
+
+impl Model for SlotRows {
+    ghost use Rattle.std.specs.Prelude.{List};
+    ghost use Rattle.bitmap.specs.Slots.{SlotSet};
+    ghost use Rattle.lane_kernels.specs.Rows.{AreSlotRows, IsFull};
+    ghost use Rattle.std.specs.Coded.{coded_list, coded_ℕ};
+    ghost use Rattle.std.specs.FinSet as set;
+
+    ghost Value = { List SlotSet };
+
+    ghost coded = { coded_list (set.code coded_ℕ) };
+
+    ghost view = { λ r. r.planes };
+
+    ghost invariant = { λ r.
+        AreSlotRows r.planes r.rows.items × IsFull r.planes r.full.items };
+}
+
+impl SlotRows {
+    /// The rows of these sets: 32 bytes a set, and 8 bytes more for each slot and for each 64 sets. The error means that memory
+    /// ran out.
+    pub fn of(alloc: Global, planes: Planes) -> Result<SlotRows, AllocError>
+        ensures { IfOk result (λ rows. rows ≡ planes) }
+    {
+        let rows = planes.slot_rows(alloc)?;
+        let full = full_row(alloc, &planes)?;
+        Ok(SlotRows { planes, rows, full })
+    }
+
+    /// How many sets there are.
+    pub fn len(&self) -> usize
+        ensures { result ≡ length self.now }
+    {
+        self.planes.len()
+    }
+
+    /// How many words a row has.
+    pub fn row_words(&self) -> usize
+        ensures { result ≡ (length self.now + 63) / 64 }
+    {
+        self.planes.row_words()
+    }
+
+    /// Writes the row that [`Planes::disjoint_row`] writes. A set of more slots than [`MOST_BY_SLOTS`] goes by the sets' words.
+    pub fn disjoint_row(&self, set: &Bits256, row: &mut [u64])
+        requires { length row.old ≡ (length self.now + 63) / 64 }
+        ensures len { length row.new ≡ length row.old }
+        ensures bits { (j : ℕ) → has_bit row.new j ≡ fits set.now (slice_get self.now j) }
+    {
+        if set.count() > MOST_BY_SLOTS {
+            self.planes.disjoint_row(set, row);
+            return;
+        }
+        write_row(set, &self.planes, &self.rows, &self.full, row);
+    }
+
+    /// Whether some set is disjoint from the given one. What the row has is written over: it is lent so that no call takes memory.
+    pub fn has_disjoint(&self, set: &Bits256, row: &mut [u64]) -> bool
+        requires { length row.old ≡ (length self.now + 63) / 64 }
+        ensures len { length row.new ≡ length row.old }
+        ensures some { result ≡ list_any (λ other. are_disjoint other set.now) self.now }
+    {
+        self.disjoint_row(set, row);
+        has_any_bit(row)
+    }
+}
+
+// The row of a set that is disjoint from all.
+fn full_row(alloc: Global, planes: &Planes) -> Result<Vec<u64>, AllocError>
+    ensures { IfOk result (λ row. IsFull planes.now row.items) }
+{
+    let mut row = vec![in alloc; 0; planes.row_words()]?;
+    fill_full(planes, &mut row);
+    Ok(row)
+}
+
+fn fill_full(planes: &Planes, row: &mut [u64])
+    requires { length row.old ≡ width_of (length planes.now) }
+    ensures { IsFull planes.now row.new }
+{
+    planes.disjoint_row(&Bits256::empty(), row);
+}
+
+// Writes the full row without the rows of the set's slots.
+fn write_row(set: &Bits256, planes: &Planes, rows: &[u64], full: &[u64], row: &mut [u64])
+    requires rows { AreSlotRows planes.now rows.now }
+    requires full { IsFull planes.now full.now }
+    requires row { length row.old ≡ width_of (length planes.now) }
+    ensures len { length row.new ≡ length row.old }
+    ensures bits { (j : ℕ) → has_bit row.new j ≡ fits set.now (slice_get planes.now j) }
+{
+    row.copy_from_slice(full);
+    if set.is_disjoint(&planes.union_all()) {
+        return;
+    }
+    // Its clause says that there is no slot past those that have a row.
+    let _count = set.count();
+    take_off_all(set, rows, row);
+}
+
+// Whether a bit is set.
+fn has_any_bit(row: &[u64]) -> bool
+    ensures any { result ≡ list_any (λ word. not (word == 0)) row.now }
+    ensures words { (k : ℕ) → slice_index row.now k < 2 ^ 64 }
+{
+    row.iter().any(|word| *word != 0)
+}

@@ -1,0 +1,175 @@
+//! Rows of three sets, worked out by hand, and of up to 130, beside plain tests, by planes and by slots. Where an allocation is
+//! refused, what was refused is asked again.
+ghost use Rattle.std.specs.Prelude.{◌≡◌, length, IfSome};
+
+use bitmap::Bits256;
+use lane_kernels::{Planes, SlotRows};
+use std::alloc::Global;
+
+fn set_of(slots: &[u8]) -> Bits256 {
+    let mut set = Bits256::empty();
+    for slot in slots {
+        set.insert(*slot);
+    }
+    set
+}
+
+// Set j has slot j % 7 and slot 250 - j.
+fn spread(j: u8) -> Bits256 {
+    set_of(&[j % 7, 250u8.saturating_sub(j)])
+}
+
+fn push_again(planes: &mut Planes, set: &Bits256) -> Option<()> {
+    match planes.push(set) {
+        Err(_) => planes.push(set).ok(),
+        pushed => pushed.ok(),
+    }
+}
+
+// The sets {0}, {1} and {0, 255}.
+fn three(alloc: Global) -> Option<Planes> {
+    let mut planes = Planes::new(alloc);
+    push_again(&mut planes, &set_of(&[0]))?;
+    push_again(&mut planes, &set_of(&[1]))?;
+    push_again(&mut planes, &set_of(&[0, 255]))?;
+    Some(planes)
+}
+
+fn many(alloc: Global, count: u8) -> Option<Planes> {
+    let mut planes = Planes::new(alloc);
+    for j in 0..count {
+        push_again(&mut planes, &spread(j))?;
+    }
+    Some(planes)
+}
+
+fn three_by_slots(alloc: Global) -> Option<SlotRows> {
+    match SlotRows::of(alloc, three(alloc)?) {
+        Err(_) => SlotRows::of(alloc, three(alloc)?).ok(),
+        rows => rows.ok(),
+    }
+}
+
+fn many_by_slots(alloc: Global, count: u8) -> Option<SlotRows> {
+    match SlotRows::of(alloc, many(alloc, count)?) {
+        Err(_) => SlotRows::of(alloc, many(alloc, count)?).ok(),
+        rows => rows.ok(),
+    }
+}
+
+// Words in which bits are set, so that a row that is left as it was is seen.
+fn words(alloc: Global, count: usize) -> Option<Vec<u64>>
+    ensures { IfSome result (λ words. length words.items ≡ count) }
+{
+    match vec![in alloc; 0x5555_5555_5555_5555u64; count] {
+        Err(_) => vec![in alloc; 0x5555_5555_5555_5555u64; count].ok(),
+        words => words.ok(),
+    }
+}
+
+fn row_by_planes(alloc: Global, planes: &Planes, given: &Bits256) -> Option<Vec<u64>> {
+    let mut row = words(alloc, planes.row_words())?;
+    planes.disjoint_row(given, &mut row);
+    Some(row)
+}
+
+fn row_by_slots(alloc: Global, rows: &SlotRows, given: &Bits256) -> Option<Vec<u64>> {
+    let mut row = words(alloc, rows.row_words())?;
+    rows.disjoint_row(given, &mut row);
+    Some(row)
+}
+
+fn is_some_disjoint(alloc: Global, rows: &SlotRows, given: &Bits256) -> Option<bool> {
+    let mut row = words(alloc, rows.row_words())?;
+    Some(rows.has_disjoint(given, &mut row))
+}
+
+// The row of the three sets, by planes and by slots, and whether some of them is disjoint.
+fn told_of_three(alloc: Global, slots: &[u8]) -> Option<(u64, u64, bool)> {
+    let given = set_of(slots);
+    let by_planes = row_by_planes(alloc, &three(alloc)?, &given)?;
+    let rows = three_by_slots(alloc)?;
+    let by_slots = row_by_slots(alloc, &rows, &given)?;
+    Some((
+        *by_planes.first()?,
+        *by_slots.first()?,
+        is_some_disjoint(alloc, &rows, &given)?,
+    ))
+}
+
+#[test]
+fn three_sets_by_hand(rt: HostRuntime) {
+    let alloc = rt.alloc();
+    assert_eq!(rt;
+        (
+            told_of_three(alloc, &[0]),
+            told_of_three(alloc, &[]),
+            told_of_three(alloc, &[0, 1])
+        ),
+        (
+            Some((0b010, 0b010, true)),
+            Some((0b111, 0b111, true)),
+            Some((0, 0, false))
+        )
+    );
+}
+
+// How many slots each of the three has, and the slots that some has.
+fn counted(alloc: Global) -> Option<([u32; 3], Bits256)> {
+    let planes = three(alloc)?;
+    let mut counts = [9u32; 3];
+    if planes.len() != 3 {
+        return None;
+    }
+    planes.count_all(&mut counts);
+    Some((counts, planes.union_all()))
+}
+
+#[test]
+fn counts_and_the_union(rt: HostRuntime) {
+    assert_eq!(rt;
+        counted(rt.alloc()),
+        Some(([1, 1, 2], set_of(&[0, 1, 255])))
+    );
+}
+
+// The bits of 64 sets from the first on, of as many as there are, by plain tests.
+fn plain_word(first: u32, count: u8, given: &Bits256) -> u64 {
+    let mut word = 0;
+    for bit in 0..64u32 {
+        let j = first.saturating_add(bit);
+        if j < u32::from(count) && spread(j as u8).is_disjoint(given) {
+            word |= 1 << bit;
+        }
+    }
+    word
+}
+
+fn is_plain_row(row: &[u64], count: u8, given: &Bits256) -> bool {
+    let mut first = 0u32;
+    for word in row {
+        if *word != plain_word(first, count, given) {
+            return false;
+        }
+        first = first.saturating_add(64);
+    }
+    first >= u32::from(count)
+}
+
+// Whether the rows by planes and by slots of so many sets are the plain one.
+fn are_plain(alloc: Global, count: u8) -> Option<(bool, bool)> {
+    let given = set_of(&[3, 200]);
+    let by_planes = row_by_planes(alloc, &many(alloc, count)?, &given)?;
+    let by_slots = row_by_slots(alloc, &many_by_slots(alloc, count)?, &given)?;
+    Some((
+        is_plain_row(&by_planes, count, &given),
+        is_plain_row(&by_slots, count, &given),
+    ))
+}
+
+#[test]
+fn every_number_of_sets(rt: HostRuntime) {
+    for count in 0..=130 {
+        assert_eq!(rt; are_plain(rt.alloc(), count), Some((true, true)));
+    }
+}
