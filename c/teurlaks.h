@@ -1,5 +1,6 @@
-/* Words of 128 bits under keys: a key that was freed finds nothing for ever, a live one its own word, and half-empty pages are folded
- * onto one another while every key stays valid. The library is proved (crates/teurlaks_c); README.md beside this file has a page of use.
+/* Words of 128 bits under keys: a key that was freed finds nothing for ever, a live one its own word, and sparse pages of the
+ * pool are folded onto those of running shards while every key stays valid. The library is proved (crates/teurlaks_c); README.md
+ * beside this file has a page of use.
  *
  * What a caller owes, since nothing can check it:
  * - Each call but teurlaks_new: the handle has a core, from a teurlaks_new that answered TEURLAKS_OK, with no teurlaks_drop since.
@@ -29,7 +30,7 @@ enum {
     TEURLAKS_PLAN_OPEN = 5,        /* a plan is open: close it first */
     TEURLAKS_TOO_MANY = 6,         /* a side has more than 4,096 groups, too many for a plan */
     TEURLAKS_NOTHING_TO_ADOPT = 7, /* no group of the pool has a page */
-    TEURLAKS_CONFIG = 8,           /* a number is out of its range, or there is no such shard */
+    TEURLAKS_CONFIG = 8,           /* a number is out of its range; or there is no such shard, and no cause above holds */
     TEURLAKS_EMPTIED = 9,          /* the pair's abandoned group had no live key left */
     TEURLAKS_NO_PAIR_LEFT = 10,    /* the open plan is done with */
     TEURLAKS_NO_PLAN = 11,         /* no plan is open */
@@ -78,6 +79,12 @@ struct teurlaks_get_reply {
 struct teurlaks_next_reply {
     uint32_t status;
     struct teurlaks_key key;
+};
+
+/* How many groups went, where the status is TEURLAKS_OK; else 0. */
+struct teurlaks_retire_reply {
+    uint32_t status;
+    size_t count;
 };
 
 /* The head of the adopted group, where the status is TEURLAKS_OK. */
@@ -141,6 +148,11 @@ struct teurlaks_totals_reply teurlaks_totals(struct teurlaks_handle *handle);
 
 /* Ends the shard: its groups go to the pool, with their pages, and it takes no word again. */
 uint32_t teurlaks_end(struct teurlaks_handle *handle, uint32_t shard);
+
+/* Moves up to `most` groups of the shard to the pool, with their pages, and the shard goes on: those with the fewest live words, of those
+ * that have one. Fewer than `most` go only where no group with a live word is left. TEURLAKS_PLAN_OPEN where a group of the shard is in
+ * the plan that is open. */
+struct teurlaks_retire_reply teurlaks_retire(struct teurlaks_handle *handle, uint32_t shard, size_t most);
 
 /* Moves the pool's group of lowest head that has a page to the shard. */
 struct teurlaks_adopt_reply teurlaks_adopt(struct teurlaks_handle *handle, uint32_t shard);

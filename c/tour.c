@@ -105,6 +105,15 @@ static void tour(void) {
     WANT(teurlaks_close(&core) == TEURLAKS_NO_PLAN && teurlaks_step(&core).status == TEURLAKS_NO_PLAN);
     WANT(teurlaks_adopt(&core, 1).status == TEURLAKS_NOTHING_TO_ADOPT);
 
+    /* The one group that is left retires, and comes back. */
+    struct teurlaks_retire_reply retired;
+    AGAIN(retired, retired.status, teurlaks_retire(&core, 1, 9));
+    WANT(retired.status == TEURLAKS_OK && retired.count == 1 && teurlaks_totals(&core).pages == 1);
+    WANT(teurlaks_retire(&core, 0, 9).status == TEURLAKS_ENDED && teurlaks_retire(&core, 2, 9).status == TEURLAKS_CONFIG);
+    struct teurlaks_adopt_reply adopted;
+    AGAIN(adopted, adopted.status, teurlaks_adopt(&core, 1));
+    WANT(adopted.status == TEURLAKS_OK && adopted.head.shard == 1 && adopted.head.serial == 0);
+
     struct teurlaks_get_reply got = teurlaks_get(&core, put.key);
     WANT(got.status == TEURLAKS_OK && got.value.low == 11 && got.value.high == ~11ull);
     WANT(teurlaks_get(&core, first.key).status == TEURLAKS_NONE);

@@ -56,7 +56,7 @@ pub enum Stepped {
 
 /// Words of 128 bits under keys, in shards: the proved library as it is.
 ///
-/// A shard that ends leaves its groups to a pool. A mark plans as many folds of the pool's groups onto those of the shards as can be,
+/// A shard that ends leaves its groups to a pool, and one that goes on may leave its sparsest ones there. A mark plans as many folds of the pool's groups onto those of the shards as can be,
 /// and each step carries one out, which gives one page back. Every key stays valid.
 ///
 /// ```
@@ -194,6 +194,33 @@ impl Core {
     pub fn end(&mut self, shard: u32) -> Result<(), Refused> {
         // SAFETY: as in `insert`.
         done(unsafe { raw::teurlaks_end(self.handle.get(), shard) })
+    }
+
+    /// Moves up to `most` groups of a shard to the pool, with their pages, and says how many went: those with the fewest live keys, of
+    /// those that have one. The shard goes on, so a program of one shard folds too: the pool's pages are folded onto those that stay.
+    /// Fewer than `most` go only where no group with a live key is left. Groups with no live key stay: they are the shard's free pages.
+    ///
+    /// It is refused with [`Refused::Ended`] where the shard has ended, with [`Refused::PlanOpen`] where one of its groups is in the
+    /// open plan, with [`Refused::Config`] where there is no such shard, and with [`Refused::OutOfMemory`] only where none of these holds.
+    ///
+    /// ```
+    /// # use teurlaks::{Core, Limits};
+    /// let mut core = Core::new(Limits::default())?;
+    /// let keys: Vec<_> = (0..512).map(|word| core.insert(0, word)).collect::<Result<_, _>>()?;
+    /// for (place, key) in keys.iter().enumerate() {
+    ///     if place != 0 && place != 257 {
+    ///         core.free(*key); // one word is left on each of two pages
+    ///     }
+    /// }
+    /// assert_eq!(core.retire(0, 1)?, 1);
+    /// assert_eq!(core.mesh()?, 1);
+    /// assert_eq!((core.pages(), core.get(keys[0]), core.get(keys[257])), (1, Some(0), Some(257)));
+    /// # Ok::<(), teurlaks::Refused>(())
+    /// ```
+    pub fn retire(&mut self, shard: u32, most: usize) -> Result<usize, Refused> {
+        // SAFETY: as in `insert`.
+        let raw::RetireReply { status, count } = unsafe { raw::teurlaks_retire(self.handle.get(), shard, most) };
+        done(status).map(|()| count)
     }
 
     /// Moves the pool's group of lowest head that has a page to a shard, and gives its name.

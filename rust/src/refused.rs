@@ -14,7 +14,8 @@ pub enum Refused {
     PagesSpent,
     /// The shard has ended, and takes no value.
     Ended,
-    /// A plan is open: a mark and an adoption wait for its close, and so does the end of a shard that has a group of the plan.
+    /// A plan is open: a mark and an adoption wait for its close, and so do the end and the retirements of a shard that has a group
+    /// of the plan.
     PlanOpen,
     /// A mark would see more than 4,096 groups on a side.
     TooMany,

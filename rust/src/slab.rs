@@ -188,6 +188,11 @@ impl<T> Slab<T> {
         self.core.end(shard)
     }
 
+    /// Moves the sparsest groups of a shard to the pool, as [`Core::retire`], whose shard goes on.
+    pub fn retire(&mut self, shard: u32, most: usize) -> Result<usize, Refused> {
+        self.core.retire(shard, most)
+    }
+
     /// Moves a group of the pool to a shard, as [`Core::adopt`].
     pub fn adopt(&mut self, shard: u32) -> Result<Group, Refused> {
         self.core.adopt(shard)

@@ -204,8 +204,8 @@ fn exported() -> Declarations {
             &mut declarations,
         );
     }
-    assert_eq!(declarations.functions.len(), 13);
-    assert_eq!(declarations.structs.len(), 12);
+    assert_eq!(declarations.functions.len(), 14);
+    assert_eq!(declarations.structs.len(), 13);
     declarations
 }
 

@@ -79,7 +79,10 @@ module _ (old new : PoolState) (sound : IsSound old) (shard : ShardState) (sound
     paged = subst (λ (w : WholeState). IsSome w.words) (sym whole_is) (still_some (words_of old.table) group.page lowest.paged);
     elsewhere = λ at span there other g here place found.
         apart (index, group, lowest, (at, span, ap (λ xs. slice_get xs at) (sym spans_are) ∙ there, inr (λ away. away other g here place found)));
-    foreign = λ at span there same. apart (index, group, lowest, (at, span, ap (λ xs. slice_get xs at) (sym spans_are) ∙ there, inl same));
+    opened = λ at span there mine. elim (cases_lt span.id.serial shard.opened) [
+      | inl below ↦ below
+      | inr past ↦ absurd (apart (index, group, lowest, (at, span, ap (λ xs. slice_get xs at) (sym spans_are) ∙ there, inl (mine, past))))
+    ];
     pages = let most = sound_shard.limit in omega arith;
     running = running;
     page_room = omega arith;

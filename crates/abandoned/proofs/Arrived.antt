@@ -127,6 +127,18 @@ unpaged-sound : (pool : PoolState) → IsSound pool → (index : ℕ) (group : P
 unpaged-sound pool sound index group here none None is = refl
 unpaged-sound pool sound index group here none (Some page) is = absurd (sound.in_use index page group here is none)
 
+-- a group of a sound pool stands there whole
+pub IsPooled-here : (pool : PoolState) → IsSound pool → (index : ℕ) (group : PooledState) → slice_get pool.groups index ≡ Some group → IsPooled pool (whole_of pool.table group)
+IsPooled-here pool sound index group there = record {
+  index = index;
+  group = group;
+  here = there;
+  head = refl;
+  guests = refl;
+  words = λ live. refl;
+  unpaged = λ none. unpaged-sound pool sound index group there none group.page refl;
+}
+
 pub HasReceived-TakesAll : (old new : PoolState) (shard : ShardState) (pages spans : ℕ) → IsSound (with_rooms old pages spans) → IsSound old → AreSound (map (whole_of_shard shard.table) shard.groups)
     → ((id : _) → times id (spans_in old.groups) + times id (spans_in shard.groups) ≤ 1)
     → TakesAll (with_rooms old pages spans) (map (whole_of_shard shard.table) shard.groups) new → HasReceived old shard new

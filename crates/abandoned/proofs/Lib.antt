@@ -20,6 +20,7 @@ pub mod PlaceSpans
 pub mod Places
 pub mod Received
 pub mod Released
+pub mod Retiring
 pub mod Searches
 pub mod ShownLogs
 pub mod Started

@@ -90,7 +90,7 @@ rooms-TakesIn old new whole takes = elim (empty_or_not (union_of (spans_moved wh
   | inr live ↦ let is = (takes.live live).4 in (ap (λ (p : PoolState). p.table.page_room) is, ap (λ (p : PoolState). p.table.span_room) is)
 ]
 
-abbrev with_words : GroupState → Words → WholeState
+abbrev pub with_words : GroupState → Words → WholeState
 with_words g ws = record { head = g.head; guests = g.guests; words = Some ws }
 
 module _ (pool₀ pool next : PoolState) (shard₀ shard left : ShardState) (whole : WholeState) (is : IsMoving pool₀ shard₀ pool shard) (lifted : LiftsLast shard (Some whole) left) (sound_left : IsSoundShard left) where

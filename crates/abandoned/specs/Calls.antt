@@ -170,18 +170,22 @@ pub record Adopts (old : PoolState) (shard : ShardState) (head : SpanId) (new : 
   pub lifts : Lifts old head (Some whole) new
   pub takes_in : TakesInShard (with_room_in shard None (length (spans_moved whole))) whole adopter
 
--- the shard has a span of this id, or is the one that opens it
-abbrev pub IsTaken : ShardState → SpanId → Type 0
-IsTaken shard id = (id.shard ≡ shard.number) ⊎ (IsElsewhere shard.groups id → ⊥)
+-- the id is of the shard's number, and no span that it has opened has it
+abbrev pub MayOpen : ShardState → SpanId → Type 0
+MayOpen shard id = (id.shard ≡ shard.number) × (shard.opened ≤ id.serial)
 
--- one of the spans is in the shard already, or bears its number
+-- the shard has a span of this id, or may yet open one
+abbrev pub IsTaken : ShardState → SpanId → Type 0
+IsTaken shard id = MayOpen shard id ⊎ (IsElsewhere shard.groups id → ⊥)
+
+-- one of the spans is in the shard already, or one that it may yet open
 abbrev pub HasDoubled : ShardState → List SpanState → Type 0
 HasDoubled shard spans = (place : ℕ) × (span : SpanState) × (slice_get spans place ≡ Some span) × IsTaken shard span.id
 
--- a span of the pool's group of the head is in the shard already, or bears its number
+-- a span of the pool's group of the head is in the shard already, or one that it may yet open
 abbrev pub WouldDouble : PoolState → ShardState → SpanId → Type 0
 WouldDouble pool shard head = (index : ℕ) × (group : PooledState) × IsHeadOf pool.groups head index group × HasDoubled shard (spans_of group)
 
--- a span of the pool's lowest group that has a page is in the shard already, or bears its number
+-- a span of the pool's lowest group that has a page is in the shard already, or one that it may yet open
 abbrev pub IsDoubled : PoolState → ShardState → Type 0
 IsDoubled pool shard = (index : ℕ) × (group : PooledState) × IsLowestPaged pool index group × HasDoubled shard (spans_of group)

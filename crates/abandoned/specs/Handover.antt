@@ -1,10 +1,18 @@
 -- What a shard's groups need on their way to the pool, and what they leave behind. No public clause cites this module.
-use Rattle.std.specs.Prelude.{◌≡◌, ◌+◌, ◌≤◌, [], length, count_by}
+use Rattle.std.specs.Prelude.{◌≡◌, ℕ, ◌+◌, ◌≤◌, List, [], ◌++◌, length, count_by, sum_by}
 use Rattle.span.specs.Ids.{same_span}
 use Rattle.span.specs.declared.id.SpanId.{SpanId}
+use Rattle.shard.specs.Sparse.{AreSparsestFirst}
 use Rattle.shard.specs.State.{ShardState}
+use Rattle.shard.specs.declared.shard.retiring.LiveGroup.{LiveGroup}
 use Rattle.groups.specs.Group.{spans_in}
+use Rattle.shard.specs.Sound.{IsSound as IsSoundShard}
+use Rattle.abandoned.specs.Sound.{IsSound}
 use Rattle.abandoned.specs.State.{PoolState}
+
+-- how many spans the groups have together
+abbrev pub span_count : List LiveGroup → ℕ
+span_count going = sum_by (λ one. one.spans) going
 
 -- no span stands twice in pool and shard together
 abbrev pub AreApart : PoolState → ShardState → Type 0
@@ -25,3 +33,12 @@ pub record HasLetAllGo (old new : ShardState) : Type 0 where
   pub ended : new.ended ≡ old.ended
   pub page_room : new.table.page_room ≡ old.table.page_room
   pub span_room : new.table.span_room ≡ old.table.span_room
+
+-- both are sound, no span stands in both, and the pool has reserved room for the groups that are to go, which are the first of the shard's by sparseness
+pub record AreReady (pool : PoolState) (shard : ShardState) (going rest : List LiveGroup) : Type 0 where
+  pub sound : IsSound pool
+  pub sound_shard : IsSoundShard shard
+  pub apart : AreApart pool shard
+  pub pages : length going ≤ pool.table.page_room
+  pub spans : span_count going ≤ pool.table.span_room
+  pub order : AreSparsestFirst shard.groups (going ++ rest)

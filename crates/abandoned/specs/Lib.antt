@@ -4,6 +4,7 @@ pub mod GroupsKept
 pub mod Handover
 pub mod Kept
 pub mod Numbers
+pub mod Retires
 pub mod Shown
 pub mod Sound
 pub mod State

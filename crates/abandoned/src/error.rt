@@ -1,14 +1,14 @@
-// Why the end of a shard was refused, and why an adoption was.
+// Why the end of a shard or a retirement was refused, and why an adoption was.
 ghost use Rattle.std.specs.Prelude.{◌≡◌};
 ghost use Rattle.abandoned.specs.declared.error.AdoptError.TheVariants as adopt;
 ghost use Rattle.abandoned.specs.declared.error.ReceiveError.TheVariants as receive;
 
 use std::alloc::AllocError;
 
-/// Why the end of a shard was refused. Pool and shard are as they were before.
+/// Why the end of a shard or a retirement was refused. Pool and shard are as they were before.
 #[derive(Clone, Copy, PartialEq, Eq, Debug, thiserror::Error)]
 pub enum ReceiveError {
-    /// The list of groups or the table could not grow.
+    /// The pool's list of groups or its table could not grow, or the list of the groups that were to go.
     #[error("out of memory")]
     OutOfMemory,
     /// The shard has ended before.
@@ -42,8 +42,8 @@ pub enum AdoptError {
     /// The shard has ended.
     #[error("the shard has ended")]
     Ended,
-    /// A span of the group is in the shard already, or bears the shard's number.
-    #[error("a span of the group is in the shard already, or is one of its own")]
+    /// A span of the group is in the shard already, or one that the shard may yet open.
+    #[error("a span of the group is in the shard already, or one that it may yet open")]
     Doubled,
     /// A plan of folds is open.
     #[error("a plan of folds is open")]

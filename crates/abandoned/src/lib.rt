@@ -1,7 +1,8 @@
-//! The pool: the groups of shards that have ended, with the pages of those that still have a live slot.
+//! The pool: groups that shards have let go, with the pages of those that still have a live slot.
 //!
 //! A [`Pool`] keeps words under keys as a shard does, save that nothing is put there. A shard's end
-//! brings its groups here whole, and an adoption moves one of them, whole, to another shard.
+//! brings its groups here whole, a retirement brings those with the fewest live keys while the shard
+//! goes on, and an adoption moves one of them, whole, to a shard.
 //!
 //! ```text
 //!   groups    0.3     1.0     1.2     4.0        by ascending head
@@ -19,15 +20,16 @@
 //! That shards are left by their threads, and taken up by others, is mimalloc's abandonment of
 //! segments; that a group moves whole, with its guests and its page, is this library's own.
 //!
-//! While a plan of folds is open, nothing is adopted, and no shard with a closed group ends: the pool
-//! is told of the plan, and keeps that (`PlanOpen`).
+//! While a plan of folds is open, nothing is adopted, and no shard with a closed group ends or
+//! retires any: the pool is told of the plan, and keeps that (`PlanOpen`).
 //!
 //! No call walks the pool: each group stands at the rank of its head, and a bit for each head says which
 //! of them have a page.
 //!
 //! The public fact of the crate is that a pool is a plain map of keys: [`Pool::get`] and
 //! [`Pool::free`] answer and do what a map would (`shown` in `specs/Shown.antt`), and
-//! [`Pool::receive`] and [`Pool::adopt`] change nothing of what pool and shard show together.
+//! [`Pool::receive`], [`Pool::retire`] and [`Pool::adopt`] change nothing of what pool and shard show
+//! together.
 //!
 //! # Examples
 //!

@@ -27,8 +27,9 @@ use std::marker::Model;
 mod handover;
 mod logs;
 mod moves;
+mod retiring;
 
-/// The groups of shards that have ended, by ascending head, and the pages of those that have a live slot.
+/// The groups that shards have let go, at an end or before, by ascending head, and the pages of those that have a live slot.
 ///
 /// It keeps the reserved room as numbers of its own, since a group that comes without a page uses room
 /// for one up too.

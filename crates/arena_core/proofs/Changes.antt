@@ -14,7 +14,7 @@ use Rattle.arena_core.specs.State.{CoreState, all_spans, opened_by, opened_of, w
 use Rattle.arena_core.proofs.Groups.{IsCall, IsMove, IsPoolCall, own, strays, strays-each, strays-none}
 use Rattle.arena_core.proofs.Lists.{cond-le_one, each-set}
 use Rattle.marks.proofs.Lists.{slice_get-set_other, slice_get-set_same}
-use Rattle.arena_core.proofs.Spans.{named, sum_all, sum_all-with_pool, sum_all-with_shard, sum_in, times, times-parts, times_in, times_in-le}
+use Rattle.arena_core.proofs.Spans.{named, sum_all, sum_all-with_pool, sum_all-with_shard, sum_in, times}
 
 -- whether a serial is below a number, as a count
 abbrev pub indicator : ℕ → ℕ → ℕ
@@ -78,27 +78,6 @@ module _ (old : CoreState) (sound : HasSoundGroups old) (number : ℕ) (before a
       let same : sum_in (strays old.limits.gens) after ≡ sum_in (strays old.limits.gens) before = subst (λ g. sum_in (strays g) after ≡ sum_in (strays g) before) was.gens_is call.strays_are in
       omega (arith, no_strays old sound, sum_all-with_shard (strays old.limits.gens) old number before after here, same)
 
-  home-after : after.ended ≡ false → (id : SpanId) → id.shard ≡ number → id.serial < after.opened → times_in id after ≡ 1
-  home-after running id same below = by_order (cases_lt id.serial before.opened)
-    where
-      by_order : (id.serial < before.opened) ⊎ (before.opened ≤ id.serial) → times_in id after ≡ 1
-      by_order (inl old_one) =
-          omega (arith, was.home (sym call.ended_is ∙ running) id same old_one, call.spans id, (own-here id same).0, (own-here id same).1, below-indicator id.serial before.opened old_one, below-indicator id.serial after.opened below)
-      by_order (inr new_one) =
-          let opened_old : opened_by old.shards id.shard ≡ before.opened = ap (opened_by old.shards) same ∙ ap opened_of here in
-          let none : times id old ≡ 0 = sound.once id ∙ ap (indicator id.serial) opened_old ∙ past-indicator id.serial before.opened new_one in
-          omega (
-            arith,
-            none,
-            times-parts id old,
-            times_in-le id old.shards number before here,
-            call.spans id,
-            (own-here id same).0,
-            (own-here id same).1,
-            past-indicator id.serial before.opened new_one,
-            below-indicator id.serial after.opened below,
-          )
-
   pub HasSoundGroups-with_shard : IsSoundShard after → HasSoundGroups (with_shard old number after)
   HasSoundGroups-with_shard sound_after = record {
     within = sound.within;
@@ -109,7 +88,6 @@ module _ (old : CoreState) (sound : HasSoundGroups old) (number : ℕ) (before a
           page_limit_is = call.page_limit_is ∙ was.page_limit_is;
           gens_is = call.gens_is ∙ was.gens_is;
           sound = sound_after;
-          home = home-after;
         })
         sound.shards;
     pool = sound.pool;
@@ -154,11 +132,6 @@ module _ (old : CoreState) (sound : HasSoundGroups old) (number : ℕ) (before a
   once_still : (id : SpanId) → times id moved ≡ indicator id.serial (opened_by moved.shards id.shard)
   once_still id = sum_all-moved (named id) ∙ sound.once id ∙ ap (indicator id.serial) (sym (opened_still id (cases_eq id.shard number)))
 
-  home-moved : after.ended ≡ false → (id : SpanId) → id.shard ≡ number → id.serial < after.opened → times_in id after ≡ 1
-  home-moved running id same below =
-      let one : times_in id before ≡ 1 = was_there.home move.running id same (subst (λ n. id.serial < n) move.opened_is below) in
-      omega (arith, one, move.more running (named id), sum_all-moved (named id), at_most_once old sound id, times-parts id moved, times_in-le id moved.shards number after (slice_get-set_same old.shards number before after here))
-
   pub HasSoundGroups-moved : IsSoundShard after → IsSoundPool pool → HasSoundGroups (with_pool (with_shard old number after) pool)
   HasSoundGroups-moved sound_after sound_pool = record {
     within = sound.within;
@@ -169,7 +142,6 @@ module _ (old : CoreState) (sound : HasSoundGroups old) (number : ℕ) (before a
           page_limit_is = move.page_limit_is ∙ was_there.page_limit_is;
           gens_is = move.gens_is ∙ was_there.gens_is;
           sound = sound_after;
-          home = home-moved;
         })
         sound.shards;
     pool = sound_pool;

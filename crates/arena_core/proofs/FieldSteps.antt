@@ -23,7 +23,7 @@ use Rattle.abandoned.specs.declared.error.AdoptError.{AdoptError}
 use Rattle.abandoned.specs.declared.error.AdoptError.TheVariants as adopt_error
 use Rattle.abandoned.specs.declared.error.ReceiveError.{ReceiveError}
 use Rattle.abandoned.specs.declared.error.ReceiveError.TheVariants as receive_error
-use Rattle.arena_core.specs.declared.event.Event.TheVariants.{Put, Free, End, Adopt}
+use Rattle.arena_core.specs.declared.event.Event.TheVariants.{Put, Free, End, Retire, Adopt}
 use Rattle.arena_core.specs.declared.machine.Core.TheInside.{Inside}
 use Rattle.arena_core.specs.declared.reply.Refusal.{Refusal}
 use Rattle.arena_core.specs.declared.reply.Reply.TheVariants as reply
@@ -35,9 +35,10 @@ use Rattle.arena_core.specs.State.{CoreState, has_span}
 use Rattle.marks.specs.Numbers.{Limits}
 use Rattle.arena_core.specs.Step.{CoreStep, HasClosed}
 use Rattle.arena_core.proofs.Fields.{IsRead, shard-read, state_of-with_both_at, state_of-with_shard_at, with_both_at, with_shard_at}
-use Rattle.arena_core.proofs.Moves.{CoreStep-adopt_refused, CoreStep-end_refused}
+use Rattle.arena_core.proofs.Moves.{CoreStep-adopt_refused, CoreStep-end_refused, CoreStep-retire_refused}
+use Rattle.abandoned.specs.Retires.{HasRetired, Retires}
 use Rattle.arena_core.proofs.Moved.{has_span-Frees}
-use Rattle.arena_core.proofs.PlanSteps.{IsSoundStep, IsSoundStep-Adopts, IsSoundStep-Frees, IsSoundStep-Puts, IsSoundStep-Receives}
+use Rattle.arena_core.proofs.PlanSteps.{IsSoundStep, IsSoundStep-Adopts, IsSoundStep-Frees, IsSoundStep-Puts, IsSoundStep-Receives, IsSoundStep-Retires}
 use Rattle.arena_core.proofs.Steps.{CoreStep-refused, not_doubled, not_in_pool}
 
 -- a shard that is as it was leaves the fields as they were
@@ -98,6 +99,23 @@ pub CoreStep-end_refused_fields : {L : Type 0} (c : Inside L) (number : ℕ) (be
 CoreStep-end_refused_fields c number before after pool whereabouts error cause kept read gives ended plan_open same pool_is =
     subst (CoreStep (state_of c) (End number) (reply.Refused cause)) (sym (state_of-both_same c number before after pool whereabouts read same pool_is))
     (CoreStep-end_refused (state_of c) number before error cause (shard-read c number before read) gives (not_in_pool (state_of c) kept.groups number before (shard-read c number before read)) (kept.plan.closed number before (shard-read c number before read))
+    (λ e. ended.0 (ap Err e), λ p. let e = ended.1 p in cc) (λ e. plan_open.0 (ap Err e), λ p. let e = plan_open.1 p in cc))
+
+pub IsStep-retire_fields : {L : Type 0} (c : Inside L) (number most count : ℕ) (before after : ShardState) (pool : PoolState) (whereabouts : List (Option ℕ)) → IsSound (state_of c) → IsRead c number before → (HasClosed before.groups → ⊥) → Retires c.pool before most count pool after → HasRetired c.pool before count pool after → IsSoundShard after → IsSoundPool pool
+    → IsSoundStep (state_of c) (Retire number most) (reply.Retired count) (state_of (with_both_at c number after pool whereabouts))
+IsStep-retire_fields c number most count before after pool whereabouts kept read unclosed retires whole sound sound_pool =
+    subst (IsSoundStep (state_of c) (Retire number most) (reply.Retired count)) (sym (state_of-with_both_at c number after pool whereabouts))
+    (IsSoundStep-Retires (state_of c) number most count before after pool kept (shard-read c number before read) unclosed retires whole sound sound_pool)
+
+-- a retirement that the pool refuses leaves the fields as they were
+pub CoreStep-retire_refused_fields : {L : Type 0} (c : Inside L) (number most : ℕ) (before after : ShardState) (pool : PoolState) (whereabouts : List (Option ℕ)) (error : ReceiveError) (cause : Refusal) → IsSound (state_of c) → IsRead c number before → refusal_of_end error ≡ Some cause
+    → (◌≡◌ {A = Result ℕ ReceiveError} (Err error) (Err receive_error.Ended) ↔ (before.ended ≡ true))
+    → (◌≡◌ {A = Result ℕ ReceiveError} (Err error) (Err receive_error.PlanOpen) ↔ ((before.ended ≡ false) × (IsInPool c.pool before → ⊥) × HasClosed before.groups))
+    → after ≡ before → pool ≡ c.pool
+    → CoreStep (state_of c) (Retire number most) (reply.Refused cause) (state_of (with_both_at c number after pool whereabouts))
+CoreStep-retire_refused_fields c number most before after pool whereabouts error cause kept read gives ended plan_open same pool_is =
+    subst (CoreStep (state_of c) (Retire number most) (reply.Refused cause)) (sym (state_of-both_same c number before after pool whereabouts read same pool_is))
+    (CoreStep-retire_refused (state_of c) number most before error cause (shard-read c number before read) gives (not_in_pool (state_of c) kept.groups number before (shard-read c number before read)) (kept.plan.closed number before (shard-read c number before read))
     (λ e. ended.0 (ap Err e), λ p. let e = ended.1 p in cc) (λ e. plan_open.0 (ap Err e), λ p. let e = plan_open.1 p in cc))
 
 pub IsStep-adopt_fields : {L : Type 0} (c : Inside L) (number : ℕ) (head : SpanId) (before after : ShardState) (pool : PoolState) (whereabouts : List (Option ℕ)) → IsSound (state_of c) → c.plan ≡ None → IsRead c number before → before.ended ≡ false → Adopts c.pool before head pool after → IsSoundShard after → IsSoundPool pool

@@ -28,7 +28,9 @@ use Rattle.arena_core.proofs.Fields.{IsRead, shard-read, with_both_at, with_shar
 use Rattle.marks.proofs.Flagged.{with_flags}
 use Rattle.arena_core.proofs.Groups.{IsCall-Frees, IsCall-Puts}
 use Rattle.arena_core.proofs.MarkSteps.{with_step_at}
-use Rattle.arena_core.proofs.Noted.{Comes, KnowsMoved-map, KnowsMoved-noted, KnowsMoved-set, has_span-flagged, kept-IsCall, kept-emptied}
+use Rattle.arena_core.proofs.Noted.{Comes, KnowsMoved-map, KnowsMoved-noted, KnowsMoved-set, has_span-flagged, kept-IsCall, kept-emptied, kept-part}
+use Rattle.abandoned.specs.Retires.{Retires}
+use Rattle.arena_core.proofs.Retired.{HasGone-Retires}
 use Rattle.arena_core.proofs.Start.{slice_get-range}
 
 -- a shard that stands at this number was read there
@@ -59,6 +61,11 @@ module _ {L : Type 0} (c : Inside L) (kept : IsKept c) (number : ℕ) (before : 
 
   pub GetsNone-Receives : (pool_before pool_after : PoolState) (after : ShardState) → Receives pool_before before pool_after after → GetsNone number before after
   GetsNone-Receives pool_before pool_after after receives id foreign has = kept-emptied before after (ap (λ (s : ShardState). s.groups) receives.after) id has
+
+  -- the groups that are left were there
+  pub GetsNone-Retires : (pool_before pool_after : PoolState) (most count : ℕ) (after : ShardState) → IsSoundShard before → IsSoundShard after → Retires pool_before before most count pool_after after → GetsNone number before after
+  GetsNone-Retires pool_before pool_after most count after sound sound_after retires id foreign has =
+      kept-part before after sound sound_after (HasGone-Retires pool_before before most count pool_after after retires).part id has
 
   pub IsKept-with_both_at : (after : ShardState) (pool : PoolState) → GetsNone number before after → IsSound (state_of (with_both_at c number after pool c.whereabouts)) → IsKept (with_both_at c number after pool c.whereabouts)
   IsKept-with_both_at after pool none sound = record {

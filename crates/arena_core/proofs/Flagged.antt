@@ -43,7 +43,6 @@ module _ (closed : GroupState → Bool) where
             page_limit_is = fine.page_limit_is;
             gens_is = fine.gens_is;
             sound = IsSoundShard-flagged closed was fine.sound;
-            home = λ running id named_so below. ap (count_by (λ (s : SpanState). same_span s.id id)) (spans_in-flagged closed was.groups) ∙ fine.home running id named_so below;
           });
       pool = sound.pool;
       gens = λ place span at. sound.gens place span (subst (λ spans. slice_get spans place ≡ Some span) all_spans-flagged at);

@@ -202,8 +202,6 @@ pub record IsMove (before after : ShardState) (pool_before pool_after : PoolStat
   pub opened_is : after.opened ≡ before.opened
   pub running : before.ended ≡ false
   pub sums : (w : SpanState → ℕ) → sum_in w after + sum_pooled w pool_after ≡ sum_in w before + sum_pooled w pool_before
-  -- the shard has lost none, unless it has ended
-  pub more : after.ended ≡ false → (w : SpanState → ℕ) → sum_in w before ≤ sum_in w after
 
 pub IsMove-Receives : (before after : ShardState) (pool_before pool_after : PoolState) → Receives pool_before before pool_after after → IsMove before after pool_before pool_after
 IsMove-Receives before after pool_before pool_after receives = record {
@@ -215,7 +213,6 @@ IsMove-Receives before after pool_before pool_after receives = record {
   sums = λ w.
       let all = sum_pooled-TakesAll w (map (whole_of before.table) before.groups) (with_rooms pool_before receives.page_room receives.span_room) pool_after receives.moved in
       omega (arith, all, sum_by-whole_of w before.table before.groups, ap (λ (s : ShardState). sum_in w s) receives.after);
-  more = λ running w. absurd (let ended : false ≡ true = sym running ∙ ap (λ (s : ShardState). s.ended) receives.after in cc);
 }
 
 pub IsMove-Adopts : (before after : ShardState) (pool_before pool_after : PoolState) (head : SpanId) → before.ended ≡ false → Adopts pool_before before head pool_after after → IsMove before after pool_before pool_after
@@ -226,7 +223,6 @@ IsMove-Adopts before after pool_before pool_after head running adopts = record {
   opened_is = ap (λ (s : ShardState). s.opened) adopts.takes_in.after;
   running = running;
   sums = λ w. omega (arith, came w, sum_by-Lifts w pool_before pool_after head adopts.whole adopts.lifts);
-  more = λ still w. omega (arith, came w);
 }
   where
     came : (w : SpanState → ℕ) → sum_in w after ≡ sum_in w before + sum_moved w adopts.whole

@@ -20,6 +20,7 @@ pub mod PlanFolds
 pub mod PlanKept
 pub mod PlanMarks
 pub mod PlanSteps
+pub mod Retired
 pub mod RingEvents
 pub mod RingSteps
 pub mod RingsKept

@@ -3,9 +3,9 @@ use Rattle.std.proofs.Common.{◌≡◌, Bool, true, false, List, [], ◌∷◌,
 use Rattle.span.specs.declared.key.Key.{Key}
 use Rattle.fold.specs.declared.step.Step.TheVariants.{Absent, Emptied, Clash, Folded}
 use Rattle.arena_core.specs.declared.event.Event.{Event}
-use Rattle.arena_core.specs.declared.event.Event.TheVariants.{Put, Get, Free, Later, Settle, End, Adopt, Mark, Step, Close}
+use Rattle.arena_core.specs.declared.event.Event.TheVariants.{Put, Get, Free, Later, Settle, End, Retire, Adopt, Mark, Step, Close}
 use Rattle.arena_core.specs.declared.reply.Reply.{Reply}
-use Rattle.arena_core.specs.declared.reply.Reply.TheVariants.{Issued, Found, Freed, Sent, Settled, ShardEnded, Adopted, Marked, Stepped, NoPairLeft, Closed, NoPlan, Refused}
+use Rattle.arena_core.specs.declared.reply.Reply.TheVariants.{Issued, Found, Freed, Sent, Settled, ShardEnded, Retired, Adopted, Marked, Stepped, NoPairLeft, Closed, NoPlan, Refused}
 use Rattle.arena_core.specs.declared.reply.Refusal.TheVariants.{OutOfMemory, PagesSpent, Ended, PlanOpen, TooMany, NothingToAdopt, RingFull, Config}
 use Rattle.arena_core.specs.Rings.{with_keys, with_ring_at}
 use Rattle.arena_core.specs.State.{CoreState, with_rings}
@@ -39,6 +39,11 @@ limits-CoreStep old new (End shard) (Refused Ended) step = limits-same old new s
 limits-CoreStep old new (End shard) (Refused PlanOpen) (has, closed, same) = limits-same old new same
 limits-CoreStep old new (End shard) (Refused Config) step = limits-same old new step.1
 limits-CoreStep old new (End shard) (Refused OutOfMemory) step = limits-same old new step.1
+limits-CoreStep old new (Retire shard most) (Retired count) step = ap (λ (c : CoreState). c.limits) step.rest
+limits-CoreStep old new (Retire shard most) (Refused Ended) step = limits-same old new step.1
+limits-CoreStep old new (Retire shard most) (Refused PlanOpen) (has, closed, same) = limits-same old new same
+limits-CoreStep old new (Retire shard most) (Refused Config) step = limits-same old new step.1
+limits-CoreStep old new (Retire shard most) (Refused OutOfMemory) step = limits-same old new step.1
 limits-CoreStep old new (Adopt shard) (Adopted head) step = ap (λ (c : CoreState). c.limits) step.rest
 limits-CoreStep old new (Adopt shard) (Refused PagesSpent) step = limits-same old new step.1
 limits-CoreStep old new (Adopt shard) (Refused Ended) step = limits-same old new step.1

@@ -17,7 +17,8 @@ use Rattle.abandoned.specs.declared.error.AdoptError.{AdoptError}
 use Rattle.abandoned.specs.declared.error.AdoptError.TheVariants as adopt_error
 use Rattle.abandoned.specs.declared.error.ReceiveError.{ReceiveError}
 use Rattle.abandoned.specs.declared.error.ReceiveError.TheVariants as receive_error
-use Rattle.arena_core.specs.declared.event.Event.TheVariants.{End, Adopt}
+use Rattle.abandoned.specs.Retires.{HasRetired, Retires}
+use Rattle.arena_core.specs.declared.event.Event.TheVariants.{End, Retire, Adopt}
 use Rattle.arena_core.specs.declared.reply.Refusal.{Refusal}
 use Rattle.arena_core.specs.declared.reply.Refusal.TheVariants as refusal
 use Rattle.arena_core.specs.declared.reply.Reply.TheVariants as reply
@@ -29,6 +30,7 @@ use Rattle.arena_core.specs.Step.{CoreStep, HasClosed, MayTake}
 use Rattle.arena_core.proofs.Changes.{HasSoundGroups-moved, sum_all-moved}
 use Rattle.arena_core.proofs.Groups.{IsMove-Adopts, IsMove-Receives}
 use Rattle.arena_core.proofs.Logged.{shown-same}
+use Rattle.arena_core.proofs.Retired.{IsMove-Retires}
 use Rattle.arena_core.proofs.Steps.{IsStep}
 
 pub IsStep-Receives : (old : CoreState) (number : ℕ) (before after : ShardState) (pool : PoolState) → HasSoundGroups old → slice_get old.shards number ≡ Some before → (HasClosed before.groups → ⊥) → Receives old.pool before pool after → IsSoundShard after → IsSoundPool pool
@@ -39,6 +41,17 @@ IsStep-Receives old number before after pool sound here unclosed receives sound_
     record {
       kept = sound_new;
       exact = record { before = before; after = after; pool = pool; here = here; unclosed = unclosed; receives = receives; rest = refl };
+      plain = shown-same old (with_pool (with_shard old number after) pool) sound sound_new refl (sum_all-moved old sound number before after pool here move);
+    }
+
+pub IsStep-Retires : (old : CoreState) (number most count : ℕ) (before after : ShardState) (pool : PoolState) → HasSoundGroups old → slice_get old.shards number ≡ Some before → (HasClosed before.groups → ⊥) → Retires old.pool before most count pool after → HasRetired old.pool before count pool after → IsSoundShard after → IsSoundPool pool
+    → IsStep old (Retire number most) (reply.Retired count) (with_pool (with_shard old number after) pool)
+IsStep-Retires old number most count before after pool sound here unclosed retires whole sound_after sound_pool =
+    let move = IsMove-Retires before after old.pool pool most count retires in
+    let sound_new = HasSoundGroups-moved old sound number before after pool here move sound_after sound_pool in
+    record {
+      kept = sound_new;
+      exact = record { before = before; after = after; pool = pool; here = here; unclosed = unclosed; retires = retires; whole = whole; rest = refl };
       plain = shown-same old (with_pool (with_shard old number after) pool) sound sound_new refl (sum_all-moved old sound number before after pool here move);
     }
 
@@ -79,6 +92,22 @@ CoreStep-end_refused old number shard receive_error.Ended cause here gives singl
     let is : refusal.Ended ≡ cause = cc in
     subst (λ c. CoreStep old (End number) (reply.Refused c) old) is ((shard, here, ended.0 refl), refl)
 CoreStep-end_refused old number shard receive_error.Doubled cause here gives single closed ended plan_open = absurd cc
+
+-- a retirement that the pool refuses
+pub CoreStep-retire_refused : (old : CoreState) (number most : ℕ) (shard : ShardState) (error : ReceiveError) (cause : Refusal) → slice_get old.shards number ≡ Some shard → refusal_of_end error ≡ Some cause
+    → (IsInPool old.pool shard → ⊥) → AreClosedAsPlanned old.plan shard.groups → ((error ≡ receive_error.Ended) ↔ (shard.ended ≡ true)) → ((error ≡ receive_error.PlanOpen) ↔ ((shard.ended ≡ false) × (IsInPool old.pool shard → ⊥) × HasClosed shard.groups)) → CoreStep old (Retire number most) (reply.Refused cause) old
+CoreStep-retire_refused old number most shard receive_error.OutOfMemory cause here gives single closed ended plan_open =
+    let is : refusal.OutOfMemory ≡ cause = cc in
+    let running = false_from_ne_true shard.ended (λ e. let no = ended.1 e in cc) in
+    subst (λ c. CoreStep old (Retire number most) (reply.Refused c) old) is ((shard, record { here = here; running = running }, λ some. let no = plan_open.1 (running, single, some) in cc), refl)
+CoreStep-retire_refused old number most shard receive_error.PlanOpen cause here gives single closed ended plan_open =
+    let is : refusal.PlanOpen ≡ cause = cc in
+    let facts = plan_open.0 refl in
+    subst (λ c. CoreStep old (Retire number most) (reply.Refused c) old) is (planned_if_closed old.plan shard.groups closed facts.2, (shard, record { here = here; running = facts.0 }, facts.2), refl)
+CoreStep-retire_refused old number most shard receive_error.Ended cause here gives single closed ended plan_open =
+    let is : refusal.Ended ≡ cause = cc in
+    subst (λ c. CoreStep old (Retire number most) (reply.Refused c) old) is ((shard, here, ended.0 refl), refl)
+CoreStep-retire_refused old number most shard receive_error.Doubled cause here gives single closed ended plan_open = absurd cc
 
 -- when an adoption is refused, and why
 pub record IsRefused (pool : PoolState) (shard : ShardState) (error : AdoptError) : Type 0 where

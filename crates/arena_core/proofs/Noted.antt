@@ -34,7 +34,9 @@ use Rattle.arena_core.proofs.Lists.{find-counted}
 use Rattle.marks.proofs.Lists.{slice_get-set_other, slice_get-set_same}
 use Rattle.arena_core.proofs.Moved.{named-set, named-set_here}
 use Rattle.arena_core.proofs.Spans.{has_span-counted, is_named, named as count_named, shard_with-here, times-parts, times_in, times_in-found, times_in-le, times_owned}
-use Rattle.arena_core.proofs.Steps.{has_span-here}
+use Rattle.arena_core.proofs.Retired.{IsPartOf}
+use Rattle.shard.specs.Sound.{IsSound as IsSoundShard}
+use Rattle.arena_core.proofs.Steps.{has_span-elsewhere, has_span-here, has_span-not}
 
 -- the spans of a group, noted one after another
 
@@ -152,6 +154,14 @@ kept-IsCall before after number number_is call id foreign has =
     let none_before : own id before ≡ 0 = rw not_before refl in
     let none_after : own id after ≡ 0 = rw not_after refl in
     has_span-counted id before (omega (arith, times_in-found id after has, call.spans id, none_before, none_after))
+
+-- groups that go
+
+pub kept-part : (before after : ShardState) → IsSoundShard before → IsSoundShard after → IsPartOf after.groups before.groups → (id : SpanId) → has_span id after ≡ true → has_span id before ≡ true
+kept-part before after sound sound_after part id has =
+    has_span-elsewhere before id sound (λ away. let none : false ≡ true = sym (has_span-not after id sound_after (λ index group at place its.
+    let (was, there) = part index group at in
+    away was group there place its)) ∙ has in cc)
 
 -- an end
 

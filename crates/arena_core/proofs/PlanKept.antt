@@ -255,10 +255,10 @@ has_plan-Frees before after key at sound (index, place, group, span, here, holds
     by_case (inr live) = ap (λ (p : PoolState). p.has_plan) (leaves.live live)
 
 -- the groups of before are there still
-abbrev HasStill : List PooledState → List PooledState → Type 0
+abbrev pub HasStill : List PooledState → List PooledState → Type 0
 HasStill old new = (index : ℕ) (group : PooledState) → slice_get old index ≡ Some group → (place : ℕ) × (slice_get new place ≡ Some group)
 
-HasStill-TakesIn : (old new : PoolState) (whole : WholeState) → TakesIn old whole new → HasStill old.groups new.groups
+pub HasStill-TakesIn : (old new : PoolState) (whole : WholeState) → TakesIn old whole new → HasStill old.groups new.groups
 HasStill-TakesIn old new whole takes index group here = by_case (empty_or_not (union_of (whole.head ∷ whole.guests)))
   where
     inserted : (x : PooledState) → new.groups ≡ insert old.groups takes.index x → (place : ℕ) × (slice_get new.groups place ≡ Some group)
@@ -279,7 +279,7 @@ KeepsPooled-Receives old new before after receives index group here =
     let (place, there) = HasStill-TakesAll _ (with_rooms old receives.page_room receives.span_room) new receives.moved index group here in
     (place, group, there, refl, (λ slot e. e), λ none. none)
 
-has_plan-TakesIn : (old new : PoolState) (whole : WholeState) → TakesIn old whole new → new.has_plan ≡ old.has_plan
+pub has_plan-TakesIn : (old new : PoolState) (whole : WholeState) → TakesIn old whole new → new.has_plan ≡ old.has_plan
 has_plan-TakesIn old new whole takes = by_case (empty_or_not (union_of (whole.head ∷ whole.guests)))
   where
     by_case : (union_of (whole.head ∷ whole.guests) ≡ set_of.empty) ⊎ (union_of (whole.head ∷ whole.guests) ≢ set_of.empty) → new.has_plan ≡ old.has_plan

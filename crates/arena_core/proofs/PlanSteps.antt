@@ -30,13 +30,15 @@ use Rattle.arena_core.specs.Sound.{AreRings, IsSound}
 use Rattle.arena_core.specs.State.{CoreState, has_span, opened_by, opened_of, shown, with_pool, with_shard}
 use Rattle.arena_core.specs.Step.{CoreStep, HasClosed}
 use Rattle.arena_core.specs.declared.event.Event.{Event}
-use Rattle.arena_core.specs.declared.event.Event.TheVariants.{Put, Free, End, Adopt}
+use Rattle.arena_core.specs.declared.event.Event.TheVariants.{Put, Free, End, Retire, Adopt}
 use Rattle.arena_core.specs.declared.reply.Reply.{Reply}
 use Rattle.arena_core.specs.declared.reply.Reply.TheVariants as reply
 use Rattle.arena_core.proofs.Changes.{opened-somewhere}
 use Rattle.arena_core.proofs.Lists.{each-set}
 use Rattle.arena_core.proofs.PlanKept.{IsFewer-freed, IsUnderWay-kept, KeepsAllClosed, KeepsAllClosed-same, KeepsAllClosed-set, KeepsClosed-Frees, KeepsClosed-Puts, KeepsPooled, KeepsPooled-Frees, KeepsPooled-Receives, KeepsPooled-same, has_plan-Frees, has_plan-Receives, plans_onto-pair}
-use Rattle.arena_core.proofs.Moves.{IsStep-Adopts, IsStep-Receives, unclosed}
+use Rattle.arena_core.proofs.Moves.{IsStep-Adopts, IsStep-Receives, IsStep-Retires, unclosed}
+use Rattle.abandoned.specs.Retires.{HasRetired, Retires}
+use Rattle.arena_core.proofs.Retired.{HasGone-Retires}
 use Rattle.arena_core.proofs.Spans.{times-parts, times_in-found, times_in-le}
 use Rattle.arena_core.proofs.Steps.{IsStep, IsStep-Frees, IsStep-FreesPooled, IsStep-Puts, IsStep-dead, has_span-here, with_pool-same, with_shard-same}
 
@@ -161,6 +163,15 @@ HasSoundPlan-Receives old sound number before after pool here unclosed receives 
     (KeepsAllClosed-set old.shards number before after here (λ index group at closed. absurd (let both : true ≡ false = sym closed ∙ unclosed index group at in cc)))
     (AreAllClosedAsPlanned-set old.plan old.shards number after sound.plan.closed (λ index group at. absurd (none-some group (ap (λ (s : ShardState). slice_get s.groups index) (sym receives.after) ∙ at))))
 
+pub HasSoundPlan-Retires : (old : CoreState) → IsSound old → (number most count : ℕ) (before after : ShardState) (pool : PoolState) → slice_get old.shards number ≡ Some before → ((index : ℕ) (group : GroupState) → slice_get before.groups index ≡ Some group → group.closed ≡ false)
+    → Retires old.pool before most count pool after → HasSoundPlan (with_pool (with_shard old number after) pool)
+HasSoundPlan-Retires old sound number most count before after pool here unclosed retires =
+    let gone = HasGone-Retires old.pool before most count pool after retires in
+    HasSoundPlan-kept old (with_pool (with_shard old number after) pool) sound.plan refl gone.has_plan_is
+    (λ index group at. let (place, there) = gone.still index group at in (place, group, there, refl, (λ slot e. e), λ none. none))
+    (KeepsAllClosed-set old.shards number before after here (λ index group at closed. absurd (let both : true ≡ false = sym closed ∙ unclosed index group at in cc)))
+    (AreAllClosedAsPlanned-set old.plan old.shards number after sound.plan.closed (λ index group at. let (was, there) = gone.part index group at in sound.plan.closed number before here was group there))
+
 -- adoptions
 
 pub HasSoundPlan-Adopts : (old : CoreState) → IsSound old → old.plan ≡ None → (number : ℕ) (head : SpanId) (before after : ShardState) (pool : PoolState) → slice_get old.shards number ≡ Some before → Adopts old.pool before head pool after → HasSoundPlan (with_pool (with_shard old number after) pool)
@@ -226,6 +237,12 @@ pub IsSoundStep-Receives : (old : CoreState) (number : ℕ) (before after : Shar
     → IsSoundStep old (End number) reply.ShardEnded (with_pool (with_shard old number after) pool)
 IsSoundStep-Receives old number before after pool sound here none_closed receives sound_after sound_pool =
     with_plan_kept old (End number) reply.ShardEnded (with_pool (with_shard old number after) pool) (IsStep-Receives old number before after pool sound.groups here none_closed receives sound_after sound_pool) (HasSoundPlan-Receives old sound number before after pool here (unclosed before.groups none_closed) receives) sound.rings
+
+pub IsSoundStep-Retires : (old : CoreState) (number most count : ℕ) (before after : ShardState) (pool : PoolState) → IsSound old → slice_get old.shards number ≡ Some before → (HasClosed before.groups → ⊥)
+    → Retires old.pool before most count pool after → HasRetired old.pool before count pool after → IsSoundShard after → IsSoundPool pool
+    → IsSoundStep old (Retire number most) (reply.Retired count) (with_pool (with_shard old number after) pool)
+IsSoundStep-Retires old number most count before after pool sound here none_closed retires whole sound_after sound_pool =
+    with_plan_kept old (Retire number most) (reply.Retired count) (with_pool (with_shard old number after) pool) (IsStep-Retires old number most count before after pool sound.groups here none_closed retires whole sound_after sound_pool) (HasSoundPlan-Retires old sound number most count before after pool here (unclosed before.groups none_closed) retires) sound.rings
 
 pub IsSoundStep-Adopts : (old : CoreState) (number : ℕ) (head : SpanId) (before after : ShardState) (pool : PoolState) → IsSound old → old.plan ≡ None → slice_get old.shards number ≡ Some before → before.ended ≡ false → Adopts old.pool before head pool after → IsSoundShard after → IsSoundPool pool
     → IsSoundStep old (Adopt number) (reply.Adopted head) (with_pool (with_shard old number after) pool)

@@ -57,7 +57,7 @@ HasSoundGroups-new_core limits within each = record {
       let at : (number < limits.shards) × (new_shard limits.page_limit limits.gens (0 + number) ≡ shard) = slice_get-range limits 0 limits.shards number shard here in
       let same : 0 + number ≡ number = omega arith in
       subst (IsSoundAt limits number) (ap (new_shard limits.page_limit limits.gens) (sym same) ∙ at.1)
-      (record { number_is = refl; page_limit_is = refl; gens_is = refl; sound = each number at.0; home = λ running id named_so below. absurd (omega arith) });
+      (record { number_is = refl; page_limit_is = refl; gens_is = refl; sound = each number at.0 });
   pool = IsSound-new;
   gens = strays-each limits.gens (all_spans (new_core limits)) (sum_all-new (strays limits.gens) limits);
   once = λ id.

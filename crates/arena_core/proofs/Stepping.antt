@@ -18,7 +18,7 @@ use Rattle.abandoned.specs.State.{PoolState, PooledState}
 use Rattle.abandoned.proofs.Adopted.{one_head}
 use Rattle.fold.specs.Folds as fold
 use Rattle.fold.specs.Folds.{Folds, Steps}
-use Rattle.fold.proofs.Sums.{gens-Folds, number-Folds, opened-Folds, page_limit-Folds, sum_by-Folds, sum_by-Folds_shard}
+use Rattle.fold.proofs.Sums.{gens-Folds, number-Folds, opened-Folds, page_limit-Folds, sum_by-Folds}
 use Rattle.fold.specs.declared.step.Step.{Step as Outcome}
 use Rattle.fold.specs.declared.step.Step.TheVariants.{Absent, Emptied, Clash, Folded}
 use Rattle.arena_core.specs.Plan.{IsEmptyInPool, IsNext, IsUnderWay, IsWaiting}
@@ -45,7 +45,6 @@ IsMove-Folds pool_before pool_after before after a b running folds = record {
   opened_is = opened-Folds pool_before before a b pool_after after folds;
   running = running;
   sums = sum_by-Folds pool_before before a b pool_after after folds;
-  more = λ still w. omega (arith, sum_by-Folds_shard pool_before before a b pool_after after folds w);
 }
 
 IsFold-Folds : (old : CoreState) (pair : SpanId × SpanId) (number : ℕ) (before after : ShardState) (pool : PoolState) → slice_get old.shards number ≡ Some before → Folds old.pool before pair.0 pair.1 pool after → IsFold old pair number after pool

@@ -20,7 +20,7 @@ use Rattle.groups.proofs.GroupSpans.{elsewhere-times}
 use Rattle.groups.proofs.Lists.{set-same}
 use Rattle.shard.proofs.ShownLogs.{span_named-elsewhere, span_named-here}
 use Rattle.span.specs.State.{SpanState}
-use Rattle.abandoned.specs.Calls.{Frees as FreesPooled, HasDoubled, IsDoubled, IsInPool}
+use Rattle.abandoned.specs.Calls.{Frees as FreesPooled, HasDoubled, IsDoubled, IsInPool, MayOpen}
 use Rattle.abandoned.specs.Shown.{shown as shown_by_pool}
 use Rattle.abandoned.specs.Sound.{IsSound as IsSoundPool}
 use Rattle.abandoned.specs.State.{PoolState, PooledState}
@@ -95,20 +95,20 @@ module _ (core : CoreState) (sound : HasSoundGroups core) where
       let one = times_in-found span.id shard (has_span-here shard span.id index place group span (sound.shards number shard here).sound (record { group_is = at; span_is = there; id_is = refl })) in
       omega (arith, pooled-somewhere core.pool span.id some, times_in-le span.id core.shards number shard here, times-parts span.id core, at_most_once core sound span.id)
 
-  -- a span of a group of the pool is in no shard, and bears the number of none that runs
+  -- a span of a group of the pool is in no shard, and none may yet open it
   pub not_doubled_in : (number : ℕ) (shard : ShardState) → slice_get core.shards number ≡ Some shard → shard.ended ≡ false → (index : ℕ) (group : PooledState) → slice_get core.pool.groups index ≡ Some group → HasDoubled shard (spans_of group) → ⊥
   not_doubled_in number shard here running index group at (place, span, there, either) =
       let pooled : 1 ≤ times_pooled span.id core.pool = pooled-somewhere core.pool span.id (λ elsewhere. elsewhere index group at place (span, there, refl)) in
       let one : 1 ≤ times_in span.id shard = by_case pooled either in
       omega (arith, times_in-le span.id core.shards number shard here, times-parts span.id core, at_most_once core sound span.id)
     where
-      by_case : 1 ≤ times_pooled span.id core.pool → (span.id.shard ≡ shard.number) ⊎ (IsElsewhere shard.groups span.id → ⊥) → 1 ≤ times_in span.id shard
-      by_case pooled (inl same) =
+      by_case : 1 ≤ times_pooled span.id core.pool → MayOpen shard span.id ⊎ (IsElsewhere shard.groups span.id → ⊥) → 1 ≤ times_in span.id shard
+      by_case pooled (inl (same, past)) =
           let fine = sound.shards number shard here in
           let named_so : span.id.shard ≡ number = same ∙ fine.number_is in
           let opened : opened_by core.shards span.id.shard ≡ shard.opened = ap (opened_by core.shards) named_so ∙ ap opened_of here in
           let below = opened-somewhere core sound span.id (omega (arith, times-parts span.id core)) in
-          omega (arith, fine.home running span.id named_so (omega arith))
+          absurd (omega arith)
       by_case pooled (inr some) = times_in-found span.id shard (has_span-elsewhere shard span.id (sound.shards number shard here).sound some)
 
   pub not_doubled : (number : ℕ) (shard : ShardState) → slice_get core.shards number ≡ Some shard → shard.ended ≡ false → IsDoubled core.pool shard → ⊥

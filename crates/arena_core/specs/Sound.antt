@@ -1,11 +1,10 @@
 -- When a core is sound.
-use Rattle.std.specs.Prelude.{◌≡◌, ℕ, ◌<◌, ◌≤◌, nat_lt, false, if◌then◌else◌, List, length, slice_get, Some, count_by}
+use Rattle.std.specs.Prelude.{◌≡◌, ℕ, ◌≤◌, nat_lt, if◌then◌else◌, List, length, slice_get, Some, count_by}
 use Rattle.span.specs.declared.id.SpanId.{SpanId}
 use Rattle.span.specs.Ids.{same_span}
 use Rattle.span.specs.State.{SpanState}
 use Rattle.shard.specs.Sound.{IsSound as IsSoundShard}
 use Rattle.shard.specs.State.{ShardState}
-use Rattle.groups.specs.Group.{spans_in}
 use Rattle.abandoned.specs.Sound.{IsSound as IsSoundPool}
 use Rattle.arena_core.specs.Plan.{HasSoundPlan}
 use Rattle.arena_core.specs.Rings.{RingState, ring_at}
@@ -18,8 +17,6 @@ pub record IsSoundAt (limits : Limits) (number : ℕ) (shard : ShardState) : Typ
   pub page_limit_is : shard.page_limit ≡ limits.page_limit
   pub gens_is : shard.gens ≡ limits.gens
   pub sound : IsSoundShard shard
-  -- until it ends, each span that it opened stands in it once
-  pub home : shard.ended ≡ false → (id : SpanId) → id.shard ≡ number → id.serial < shard.opened → count_by (λ span. same_span span.id id) (spans_in shard.groups) ≡ 1
 
 -- the numbers are within their ranges, the shards are those of the numbers, and each of them and the pool are sound
 pub record HasSoundGroups (core : CoreState) : Type 0 where

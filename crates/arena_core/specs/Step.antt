@@ -9,15 +9,16 @@ use Rattle.shard.specs.Group.{GroupState}
 use Rattle.shard.specs.State.{ShardState}
 use Rattle.shard.specs.declared.shard.Freed.TheVariants.{Yes}
 use Rattle.abandoned.specs.Calls.{Adopts, Frees as FreesPooled, HasNothingToAdopt, Receives}
+use Rattle.abandoned.specs.Retires.{HasRetired, Retires}
 use Rattle.abandoned.specs.State.{PoolState}
 use Rattle.certificate.specs.declared.certificate.Certificate.{Certificate}
 use Rattle.fold.specs.Folds.{Folds}
 use Rattle.fold.specs.declared.step.Step.{Step as Outcome}
 use Rattle.fold.specs.declared.step.Step.TheVariants.{Absent, Emptied, Clash, Folded}
 use Rattle.arena_core.specs.declared.event.Event.{Event}
-use Rattle.arena_core.specs.declared.event.Event.TheVariants.{Put, Get, Free, Later, Settle, End, Adopt, Mark, Step, Close}
+use Rattle.arena_core.specs.declared.event.Event.TheVariants.{Put, Get, Free, Later, Settle, End, Retire, Adopt, Mark, Step, Close}
 use Rattle.arena_core.specs.declared.reply.Reply.{Reply}
-use Rattle.arena_core.specs.declared.reply.Reply.TheVariants.{Issued, Found, Freed, Sent, Settled, ShardEnded, Adopted, Marked, Stepped, NoPairLeft, Closed, NoPlan, Refused}
+use Rattle.arena_core.specs.declared.reply.Reply.TheVariants.{Issued, Found, Freed, Sent, Settled, ShardEnded, Retired, Adopted, Marked, Stepped, NoPairLeft, Closed, NoPlan, Refused}
 use Rattle.arena_core.specs.declared.reply.Refusal.TheVariants.{OutOfMemory, PagesSpent, Ended, PlanOpen, TooMany, NothingToAdopt, RingFull, Config}
 use Rattle.arena_core.specs.Sound.{IsSound}
 use Rattle.marks.specs.Closings.{closed_onto, reopened}
@@ -146,6 +147,18 @@ pub record Ends (old : CoreState) (number : ℕ) (new : CoreState) : Type 0 wher
   pub receives : Receives old.pool before pool after
   pub rest : new ≡ with_pool (with_shard old number after) pool
 
+-- so many groups of the shard of this number, which has no closed group and has not ended, go to the pool, and all other shards are as they were
+pub record RetiresFrom (old : CoreState) (number most count : ℕ) (new : CoreState) : Type 0 where
+  pub before : ShardState
+  pub after : ShardState
+  pub pool : PoolState
+  pub here : slice_get old.shards number ≡ Some before
+  pub unclosed : HasClosed before.groups → ⊥
+  pub retires : Retires old.pool before most count pool after
+  -- what of it a reader sees, without the moves
+  pub whole : HasRetired old.pool before count pool after
+  pub rest : new ≡ with_pool (with_shard old number after) pool
+
 -- while no plan is open, the pool's group of lowest head that has a page goes to the shard of this number, which has not ended, and all other shards are as they were
 pub record AdoptsInShard (old : CoreState) (number : ℕ) (head : SpanId) (new : CoreState) : Type 0 where
   pub before : ShardState
@@ -224,6 +237,11 @@ CoreStep old (End shard) (Refused Ended) new = HasEnded old shard × (new ≡ ol
 CoreStep old (End shard) (Refused PlanOpen) new = HasPlan old × HasClosedGroup old shard × (new ≡ old)
 CoreStep old (End shard) (Refused Config) new = (old.limits.shards ≤ shard) × (new ≡ old)
 CoreStep old (End shard) (Refused OutOfMemory) new = MayEnd old shard × (new ≡ old)
+CoreStep old (Retire shard most) (Retired count) new = RetiresFrom old shard most count new
+CoreStep old (Retire shard most) (Refused Ended) new = HasEnded old shard × (new ≡ old)
+CoreStep old (Retire shard most) (Refused PlanOpen) new = HasPlan old × HasClosedGroup old shard × (new ≡ old)
+CoreStep old (Retire shard most) (Refused Config) new = (old.limits.shards ≤ shard) × (new ≡ old)
+CoreStep old (Retire shard most) (Refused OutOfMemory) new = MayEnd old shard × (new ≡ old)
 CoreStep old (Adopt shard) (Adopted head) new = AdoptsInShard old shard head new
 CoreStep old (Adopt shard) (Refused PagesSpent) new = HasAllPages old shard × (new ≡ old)
 CoreStep old (Adopt shard) (Refused Ended) new = HasEnded old shard × (new ≡ old)

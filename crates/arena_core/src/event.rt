@@ -16,6 +16,9 @@ pub enum Event {
     Settle { worker: u32, shard: u32 },
     /// End the shard of this number: its groups go to the pool, and it takes no further put.
     End { shard: u32 },
+    /// Move up to `most` groups with a live key of the shard of this number to the pool, those with the fewest first, and let
+    /// the shard go on.
+    Retire { shard: u32, most: usize },
     /// Move the pool's group of lowest head that has a page to the shard of this number.
     Adopt { shard: u32 },
     /// Plan as many folds as possible of the pool's groups onto the shards' groups, and close those that are planned onto.

@@ -31,9 +31,9 @@ mod walk;
 /// All shards, the pool and the rings of deferred frees as one value, which takes events one after another and answers replies.
 ///
 /// A put costs what the shard's own put costs. A look-up and a free ask the shard that opened the span first, which has
-/// it until it ends: they then cost what that shard's own call costs. A span that it does not have is asked for in the
-/// shard that took it in last, and then in the pool: where neither has it, it stands nowhere. So none is asked twice, and
-/// a key of a span that was never opened costs three look-ups at most.
+/// it until it ends or retires it: they then cost what that shard's own call costs. A span that it does not have is asked
+/// for in the shard that took it in last, and then in the pool: where neither has it, it stands nowhere. So none is asked
+/// twice, and a key of a span that was never opened costs three look-ups at most.
 #[derive(Drop)]
 pub struct Core<L: Log = Kept> {
     alloc: Global,
@@ -130,19 +130,19 @@ impl<L: Log> Core<L> {
     }
 
     /// Takes the event and answers it. The replies to puts, look-ups, frees, deferred frees and settlings are those of a
-    /// plain map of keys; ends, adoptions, marks, steps and closes leave the map that the core shows as it is.
+    /// plain map of keys; ends, retirements, adoptions, marks, steps and closes leave the map that the core shows as it is.
     ///
     /// A refused event changes nothing. Of several causes that hold, the first of these is answered:
     ///
-    /// | Refusal | Put | End | Adopt | Mark | Step |
-    /// |---|---|---|---|---|---|
-    /// | [`Refusal::PagesSpent`] | the shard needs a page that it may not have | | the shard has all its pages | | |
-    /// | [`Refusal::Ended`] | the shard has ended | the shard has ended | the shard has ended | | |
-    /// | [`Refusal::PlanOpen`] | | the shard has a closed group | a plan is open | a plan is open | |
-    /// | [`Refusal::TooMany`] | | | | a side has more than 4,096 groups | |
-    /// | [`Refusal::NothingToAdopt`] | | | no group of the pool has a page | | |
-    /// | [`Refusal::Config`] | there is no such shard | there is no such shard | there is no such shard | | |
-    /// | [`Refusal::OutOfMemory`] | an allocation was refused | an allocation was refused | an allocation was refused | an allocation was refused | an allocation was refused; the pair stays next |
+    /// | Refusal | Put | End | Retire | Adopt | Mark | Step |
+    /// |---|---|---|---|---|---|---|
+    /// | [`Refusal::PagesSpent`] | the shard needs a page that it may not have | | | the shard has all its pages | | |
+    /// | [`Refusal::Ended`] | the shard has ended | the shard has ended | the shard has ended | the shard has ended | | |
+    /// | [`Refusal::PlanOpen`] | | the shard has a closed group | the shard has a closed group | a plan is open | a plan is open | |
+    /// | [`Refusal::TooMany`] | | | | | a side has more than 4,096 groups | |
+    /// | [`Refusal::NothingToAdopt`] | | | | no group of the pool has a page | | |
+    /// | [`Refusal::Config`] | there is no such shard | there is no such shard | there is no such shard | there is no such shard | | |
+    /// | [`Refusal::OutOfMemory`] | an allocation was refused | an allocation was refused | an allocation was refused | an allocation was refused | an allocation was refused | an allocation was refused; the pair stays next |
     ///
     /// A look-up, a free and a close are never refused, and take no memory. A deferred free and a settling take none
     /// either: [`Refusal::RingFull`] comes exactly where the ring of the deferred free holds as many keys as it may, and
@@ -175,6 +175,10 @@ impl<L: Log> Core<L> {
             },
             Event::End { shard } => match self.end(shard) {
                 Ok(()) => Reply::ShardEnded,
+                Err(refusal) => Reply::Refused(refusal),
+            },
+            Event::Retire { shard, most } => match self.retire(shard, most) {
+                Ok(count) => Reply::Retired(count),
                 Err(refusal) => Reply::Refused(refusal),
             },
             Event::Adopt { shard } => match self.adopt(shard) {

@@ -25,6 +25,8 @@ pub enum Reply {
     Settled(Option<Key>),
     /// The shard has ended, and its groups are the pool's.
     ShardEnded,
+    /// How many groups of the shard have gone to the pool: as many as were asked for, or all that have a live key.
+    Retired(usize),
     /// The head of the group that the shard has adopted.
     Adopted(SpanId),
     /// What the mark saw, a plan of it that has the most pairs, and the short set that shows it: all of it can be written.
@@ -55,7 +57,8 @@ pub enum Refusal {
     /// The shard has ended.
     #[error("the shard has ended: ask another shard")]
     Ended,
-    /// A plan is open: a mark and an adoption wait for its close, and so does the end of a shard that has a closed group.
+    /// A plan is open: a mark and an adoption wait for its close, and so do the end and the retirements of a shard that has a
+    /// closed group.
     #[error("a plan is open: close it first")]
     PlanOpen,
     /// A mark would see more than 4,096 groups on a side.
@@ -84,7 +87,7 @@ impl From<PutError> for Refusal {
     }
 }
 
-/// Why an end is refused, by why the pool does not receive the shard. No span stands twice in a core.
+/// Why an end or a retirement is refused, by why the pool does not receive what the shard has. No span stands twice in a core.
 pub fn end_refusal(error: ReceiveError) -> Refusal
     requires { error ≢ ReceiveError.Doubled }
     ensures { refusal_of_end error ≡ Some result }

@@ -3,6 +3,7 @@ use Rattle.std.proofs.Common.{◌≡◌, ℕ, ◌≤◌, ◌++◌, Option, None,
 use Rattle.std.specs.FinSet.{intersection}
 use Rattle.std.specs.Option.{IsSome}
 use Rattle.std.specs.Prelude.{option_map}
+use Rattle.std.proofs.lemmas.Bool.{cases_lt}
 use Rattle.bitmap.specs.Slots.{AreDisjoint}
 use Rattle.span.specs.declared.id.SpanId.{SpanId}
 use Rattle.page_table.specs.State.{words_of}
@@ -71,7 +72,10 @@ module _ (pool : PoolState) (sound : IsSound pool) (shard : ShardState) (a b : S
       paged = subst (λ (w : WholeState). IsSome w.words) (sym whole_is) (still_some (page_is index group from).0 group.page (page_is index group from).1);
       elsewhere = λ at span there other g here place found.
           may.present (inr (inr (index, group, from, (at, span, ap (λ xs. slice_get xs at) (sym spans_are) ∙ there, inr (λ away. away other g here place found)))));
-      foreign = λ at span there same. may.present (inr (inr (index, group, from, (at, span, ap (λ xs. slice_get xs at) (sym spans_are) ∙ there, inl same))));
+      opened = λ at span there mine. elim (cases_lt span.id.serial shard.opened) [
+        | inl below ↦ below
+        | inr past ↦ absurd (may.present (inr (inr (index, group, from, (at, span, ap (λ xs. slice_get xs at) (sym spans_are) ∙ there, inl (mine, past))))))
+      ];
       apart = (onto.0, onto.1, onto.2, subst (λ xs. AreDisjoint (occupied onto.1) (union_of xs)) (sym spans_are) (apart index group from));
       onto = refl;
       span_room = omega arith;

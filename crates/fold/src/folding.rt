@@ -18,7 +18,7 @@ use std::alloc::AllocError;
 /// of `b`, and the page of `a` goes. Each key keeps its value.
 ///
 /// The answer is the first of these that holds, exactly: [`Step::Absent`] where `a` heads no group of the pool, or `b`
-/// no group of the shard, or a span of `a`'s group is in the shard already or bears its number; [`Step::Emptied`]
+/// no group of the shard, or a span of `a`'s group is in the shard already, or one that it may yet open; [`Step::Emptied`]
 /// where `a`'s group has no page; [`Step::Clash`] where a slot is live in both groups; and else [`Step::Folded`], which
 /// alone changes anything.
 ///

@@ -3,7 +3,7 @@
 /// What came of a fold of one group onto another. Only [`Step::Folded`] has changed anything.
 #[derive(Clone, Copy, PartialEq, Eq, Debug)]
 pub enum Step {
-    /// One of the groups is not there, or a span of the first is in the shard already or bears its number.
+    /// One of the groups is not there, or a span of the first is in the shard already, or one that it may yet open.
     Absent,
     /// The first group has no page, since none of its slots is live.
     Emptied,

@@ -28,6 +28,9 @@ use std::marker::Model;
 mod folds;
 mod logs;
 mod moves;
+mod retiring;
+
+pub use retiring::LiveGroup;
 
 /// What a look-up finds. A `usize` is the number of changes in the log of the key's span.
 #[derive(Clone, Copy, PartialEq, Eq, Debug)]

@@ -6,6 +6,7 @@ use span::{Counted, Key, Log, SpanId};
 use std::alloc::Global;
 
 mod plans;
+mod retiring;
 
 fn key(shard: u32, serial: u32, slot: u8, generation: u32) -> Option<Key> {
     Key::new(SpanId::new(shard, serial)?, slot, generation)
@@ -32,6 +33,7 @@ enum Told {
     Sent,
     Settled(Option<Key>),
     ShardEnded,
+    Retired(usize),
     Adopted(SpanId),
     Marked(usize),
     Stepped(SpanId, SpanId, Step),
@@ -49,6 +51,7 @@ fn tell(reply: &Reply) -> Told {
         Reply::Sent => Told::Sent,
         Reply::Settled(key) => Told::Settled(*key),
         Reply::ShardEnded => Told::ShardEnded,
+        Reply::Retired(count) => Told::Retired(*count),
         Reply::Adopted(head) => Told::Adopted(*head),
         Reply::Marked(certificate) => Told::Marked(certificate.plan.pairs().len()),
         Reply::Stepped(abandoned, owned, step) => Told::Stepped(*abandoned, *owned, *step),

@@ -7,9 +7,9 @@ use Rattle.certificate.specs.declared.certificate.Certificate.{Certificate}
 use Rattle.certificate.specs.Text.{IsWritable, certificate_text}
 use Rattle.fold.specs.declared.step.Step.TheVariants.{Folded, Emptied}
 use Rattle.arena_core.specs.declared.event.Event.{Event}
-use Rattle.arena_core.specs.declared.event.Event.TheVariants.{Put, Free, End, Adopt, Mark, Step, Close}
+use Rattle.arena_core.specs.declared.event.Event.TheVariants.{Put, Free, End, Retire, Adopt, Mark, Step, Close}
 use Rattle.arena_core.specs.declared.reply.Reply.{Reply}
-use Rattle.arena_core.specs.declared.reply.Reply.TheVariants.{Issued, Freed, ShardEnded, Adopted, Marked, Stepped, NoPairLeft, Closed, NoPlan, Refused}
+use Rattle.arena_core.specs.declared.reply.Reply.TheVariants.{Issued, Freed, ShardEnded, Retired, Adopted, Marked, Stepped, NoPairLeft, Closed, NoPlan, Refused}
 use Rattle.arena_core.specs.Plain.{ErasedStep}
 use Rattle.arena_core.specs.Sound.{IsSound}
 use Rattle.arena_core.specs.State.{CoreState, HasKeys, new_core, pages, shown}
@@ -22,6 +22,7 @@ use Rattle.teurlaks_c.specs.declared.replies.RawWord.{RawWord}
 use Rattle.teurlaks_c.specs.declared.replies.PutReply.{PutReply}
 use Rattle.teurlaks_c.specs.declared.replies.GetReply.{GetReply}
 use Rattle.teurlaks_c.specs.declared.replies.NextReply.{NextReply}
+use Rattle.teurlaks_c.specs.declared.replies.RetireReply.{RetireReply}
 use Rattle.teurlaks_c.specs.declared.replies.AdoptReply.{AdoptReply}
 use Rattle.teurlaks_c.specs.declared.replies.MarkReply.{MarkReply}
 use Rattle.teurlaks_c.specs.declared.replies.StepReply.{StepReply}
@@ -112,6 +113,17 @@ SaysEnd says reply = Unit {0}
 -- the shard ends, or is refused its end
 abbrev pub Ends : Option Held → ℕ → ℕ → Option Held → Type 0
 Ends old shard says new = (reply : Reply) × Steps old (End shard) reply new × SaysEnd says reply
+
+-- what C reads of the reply to a retirement
+abbrev pub SaysRetired : RetireReply → Reply → Type 0
+SaysRetired says (Retired count) = (says.status ≡ done) × (says.count ≡ count)
+SaysRetired says (Refused refusal) = (says.status ≡ refusal_status refusal) × (says.count ≡ 0)
+-- no other reply comes
+SaysRetired says reply = Unit {0}
+
+-- groups of the shard go to the pool, or the retirement is refused
+abbrev pub Retires : Option Held → ℕ → ℕ → RetireReply → Option Held → Type 0
+Retires old shard most says new = (reply : Reply) × Steps old (Retire shard most) reply new × SaysRetired says reply
 
 -- what C reads of the reply to an adoption
 abbrev pub SaysAdopted : AdoptReply → Reply → Type 0

@@ -1,12 +1,12 @@
-// Shards that end, groups that are adopted, and plans of folds.
+// Shards that end or retire groups, groups that are adopted, and plans of folds.
 ghost use Rattle.std.specs.Prelude.{◌≡◌, IsSome};
-ghost use Rattle.teurlaks_c.specs.Calls.{Adopts, Closes, CountsOf, Ends, HasWritable, Keeps, Marks, SaysMarked, Steps, TakesStep, Tells, Writes};
+ghost use Rattle.teurlaks_c.specs.Calls.{Adopts, Closes, CountsOf, Ends, HasWritable, Keeps, Marks, Retires, SaysMarked, Steps, TakesStep, Tells, Writes};
 ghost use Rattle.teurlaks_c.specs.Keys.{IsSpanOf};
 
 use crate::handle::Handle;
 use crate::held::{Held, Witness};
 use crate::keys::raw_span;
-use crate::replies::{AdoptReply, CertificateReply, MarkReply, RawSpan, StepReply};
+use crate::replies::{AdoptReply, CertificateReply, MarkReply, RawSpan, RetireReply, StepReply};
 use crate::status::{
     EMPTIED, NO_PAIR_LEFT, NO_PLAN, NONE, OK, OUT_OF_MEMORY, TOO_SMALL, status_of,
 };
@@ -28,6 +28,33 @@ pub extern "C" fn teurlaks_end(alloc: Global, handle: &mut Handle, shard: u32) -
         Reply::ShardEnded => OK,
         Reply::Refused(refusal) => status_of(refusal),
         _ => NONE,
+    }
+}
+
+/// Moves up to `most` groups of the shard to the pool, with their pages, and lets the shard go on: those with the fewest live keys, of
+/// those that have one. The count is `most`, or less where that is all that have a live key. Refused with `ENDED`, `PLAN_OPEN`, `CONFIG` or
+/// `OUT_OF_MEMORY` as [`Core::retire`](arena_core::Core::retire) is; nothing has changed then.
+#[unsafe(no_mangle)]
+pub extern "C" fn teurlaks_retire(
+    alloc: Global,
+    handle: &mut Handle,
+    shard: u32,
+    most: usize,
+) -> RetireReply
+    requires live { IsSome handle.old.held }
+    ensures { Retires handle.old.held shard most result handle.new.held }
+{
+    match step(alloc, handle, Event::Retire { shard, most }) {
+        Reply::Retired(count) => RetireReply { status: OK, count },
+        Reply::Refused(refusal) => RetireReply {
+            status: status_of(refusal),
+            count: 0,
+        },
+        // No other reply comes.
+        _ => RetireReply {
+            status: NONE,
+            count: 0,
+        },
     }
 }
 

@@ -51,6 +51,14 @@ pub struct NextReply {
     pub key: RawKey,
 }
 
+/// What a retirement answers: how many groups went where the status is `OK`, else 0.
+#[repr(C)]
+#[derive(Clone, Copy)]
+pub struct RetireReply {
+    pub status: u32,
+    pub count: usize,
+}
+
 /// What an adoption answers: the head of the group where the status is `OK`.
 #[repr(C)]
 #[derive(Clone, Copy)]

@@ -9,7 +9,7 @@ ghost use Rattle.shard.specs.Moves.{whole_of};
 ghost use Rattle.shard.specs.Shown.{shown as shown_by_shard};
 ghost use Rattle.shard.specs.Sound.{IsSound as IsSoundShard};
 ghost use Rattle.groups.specs.Group.{IsHeadOf, spans_in, spans_of};
-ghost use Rattle.abandoned.specs.Calls.{Adopts, HasAny, HasDoubled, HasNothingToAdopt, HasReceived, IsDoubled, IsHeadOfLowest, IsInPool, Receives, TakesAll, WouldDouble};
+ghost use Rattle.abandoned.specs.Calls.{Adopts, HasAny, HasDoubled, HasNothingToAdopt, HasReceived, IsDoubled, IsHeadOfLowest, IsInPool, MayOpen, Receives, TakesAll, WouldDouble};
 ghost use Rattle.abandoned.specs.Handover.{AreApart, HasRoomFor, HasLetAllGo};
 ghost use Rattle.abandoned.specs.Shown.{shown, together};
 ghost use Rattle.abandoned.specs.Sound.{IsSound};
@@ -114,7 +114,7 @@ impl<L: Log> Pool<L> {
     }
 
     // Whether it has a span of the shard.
-    fn has_one_of(&self, shard: &Shard<L>) -> bool
+    pub(super) fn has_one_of(&self, shard: &Shard<L>) -> bool
         ensures has { IsTrue result ↔ IsInPool self.now shard.now }
         ensures sound { IsSound self.now }
     {
@@ -146,7 +146,7 @@ impl<L: Log> Pool<L> {
     ///
     /// The first of these that holds, exactly: `PagesSpent` where the shard has all the pages that it may have,
     /// whatever the pool holds; `Ended` where the shard has ended; `Doubled` where a span of the group is in the
-    /// shard already or bears its number; `PlanOpen` where a plan of folds is open; `NothingToAdopt` where no group
+    /// shard already, or one that it may yet open; `PlanOpen` where a plan of folds is open; `NothingToAdopt` where no group
     /// has a page. `OutOfMemory` where none
     /// holds and an allocation was refused; each allocation comes before the first change.
     pub fn adopt(&mut self, shard: &mut Shard<L>) -> Result<SpanId, AdoptError>
@@ -219,8 +219,8 @@ impl<L: Log> Pool<L> {
         Some(group.head_id())
     }
 
-    /// Whether a span of the group of the head is in the shard already, or bears its number, so that it would stand
-    /// twice there. It takes no memory.
+    /// Whether a span of the group of the head is in the shard already, or one that it may yet open, so that it would
+    /// stand twice there. It takes no memory.
     pub fn would_double(&self, shard: &Shard<L>, head: SpanId) -> bool
         ensures doubles { IsTrue result ↔ WouldDouble self.now shard.now head }
         ensures sound { IsSound self.now }
@@ -285,13 +285,20 @@ impl<L: Log> Pool<L> {
     }
 }
 
-// Whether one of the spans is in the shard already, or bears its number.
+// Whether the id is of the shard's number, and no span that it has opened has it.
+fn may_open<L: Log>(shard: &Shard<L>, id: SpanId) -> bool
+    ensures { IsTrue result ↔ MayOpen shard.now id }
+{
+    id.shard == shard.number() && id.serial >= shard.opened()
+}
+
+// Whether one of the spans is in the shard already, or one that it may yet open.
 fn is_doubled<L: Log>(shard: &Shard<L>, spans: &Spans<L>) -> bool
     ensures { IsTrue result ↔ HasDoubled shard.now (all_spans spans.now) }
 {
     for place in 0..spans.len() {
         let id = spans.span_at(place).id();
-        if id.shard == shard.number() {
+        if may_open(shard, id) {
             return true;
         }
         if shard.has(id) {

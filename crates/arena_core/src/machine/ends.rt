@@ -1,4 +1,4 @@
-// The end of a shard, and the adoption of a group.
+// The end of a shard, retirements, and the adoption of a group.
 ghost use Rattle.std.specs.Prelude.{◌≡◌, ◌≤◌, MatchResult};
 ghost use Rattle.arena_core.specs.Sound.{IsSound};
 ghost use Rattle.arena_core.specs.State.{shown};
@@ -27,6 +27,31 @@ impl<L: Log> Core<L> {
             Err(error) => return Err(end_refusal(error)),
         }
         Ok(())
+    }
+
+    /// Moves up to `most` groups of the shard of this number to the pool, with their pages, and lets the shard go on. It answers how many
+    /// went: `most`, or all that have a live key. Those with the fewest live keys go first; of several, the one of lowest head.
+    /// Groups with no live key stay with the shard, whose free pages they are.
+    ///
+    /// What [`Core::step`] does with [`Event::Retire`], without a reply to take apart. It is refused as that is: by
+    /// [`Refusal::Config`] where there is no such shard, by [`Refusal::Ended`] where it has ended, by [`Refusal::PlanOpen`] where
+    /// one of its groups is closed, and by [`Refusal::OutOfMemory`] only where none of these holds.
+    pub fn retire(&mut self, number: u32, most: usize) -> Result<usize, Refusal>
+        ensures exact { MatchResult result
+            (λ count. CoreStep self.old (event.Retire number most) (reply.Retired count) self.new)
+            (λ refusal. CoreStep self.old (event.Retire number most)
+            (reply.Refused refusal) self.new) }
+        ensures same { shown self.new ≡ shown self.old }
+        ensures sound { IsSound self.new }
+    {
+        let Some(shard) = self.shards.get_mut(number as usize) else {
+            return Err(Refusal::Config);
+        };
+        let count = match self.pool.retire(shard, most) {
+            Ok(count) => count,
+            Err(error) => return Err(end_refusal(error)),
+        };
+        Ok(count)
     }
 
     // Why no group is adopted by a shard that there is not.
