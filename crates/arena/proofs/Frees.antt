@@ -1,5 +1,5 @@
 -- Receipts that are added for keys.
-use Rattle.std.proofs.Common.{◌≡◌, ℕ, suc, ◌+◌, ◌<◌, List, [], ◌∷◌, ◌++◌, length, take, drop, get_or, ap, subst, sym, ◌∙◌, refl, arith, append_assoc, add-one, take-suc, drop-cons}
+use Rattle.std.proofs.Common.{◌≡◌, ℕ, suc, ◌+◌, ◌<◌, List, [], ◌∷◌, ◌++◌, length, take, drop, get_or, ap, subst, sym, ◌∙◌, refl, arith, append_assoc, add-one, take-add, take-suc, drop-cons}
 use Rattle.std.proofs.lemmas.List.{append-nil, map-append}
 use Rattle.std.proofs.lemmas.List.Elements.{All-append}
 use Rattle.std.proofs.lemmas.List.Concat.{flat_map-cons}
@@ -33,6 +33,19 @@ module _ {worker section : ℕ} where
     of_keys = map-append (λ r. r.key) a.added b.added ∙ rw (a.of_keys, b.of_keys) refl;
     are_frees = All-append (λ r. IsFreeBy worker section r.key r) a.added b.added a.are_frees b.are_frees;
   }
+
+  -- receipts for the first n of the keys, and then for the first of those that are left
+  pub freed_run : (keys left : List Key) (n h : ℕ) (before mid after : List Receipt) → left ≡ drop n keys → AddsFrees worker section (take n keys) before mid
+      → AddsFrees worker section (take h left) mid after → AddsFrees worker section (take (n + h) keys) before after
+  freed_run keys left n h before mid after is a b =
+      subst (λ ks. AddsFrees worker section ks before after) (ap (λ l. take n keys ++ take h l) is ∙ sym (take-add n h keys)) (AddsFrees-more (take n keys) (take h left) before mid after a b)
+
+  -- receipts for the first n of the keys, and then for the next one
+  pub freed_next : (keys : List Key) (n : ℕ) (d key : Key) (r : Receipt) (before mid after : List Receipt) → n < length keys → key ≡ get_or keys n d → AddsFrees worker section (take n keys) before mid
+      → after ≡ mid ++ r ∷ [] → IsFreeBy worker section key r → AddsFrees worker section (take (n + 1) keys) before after
+  freed_next keys n d key r before mid after below is a more free =
+      let one = subst (λ k. AddsFrees worker section (k ∷ []) mid after) is (AddsFrees-one mid after key r more free) in
+      rw add-one (subst (λ ks. AddsFrees worker section ks before after) (sym (take-suc keys n d below)) (AddsFrees-more (take n keys) (get_or keys n d ∷ []) before mid after a one))
 
 -- the next of the keys that are left
 pub next_left : {T : Type 0} (keys rest : List T) (i : ℕ) (key : T) → i < length keys → drop i keys ≡ key ∷ rest → (take (i + 1) keys ≡ take i keys ++ key ∷ []) × (drop (i + 1) keys ≡ rest)

@@ -1,10 +1,11 @@
 -- Ring after ring.
-use Rattle.std.proofs.Common.{◌≡◌, ℕ, ◌+◌, ◌<◌, ◌≤◌, List, [], ◌∷◌, ◌++◌, length, get_or, slice_set, ap, sym, subst, ◌∙◌, refl, inl, inr, arith, length-append}
+use Rattle.std.proofs.Common.{◌≡◌, ℕ, ◌+◌, ◌<◌, ◌≤◌, List, [], ◌∷◌, ◌++◌, length, get_or, slice_set, take, ap, sym, subst, ◌∙◌, refl, inl, inr, arith, length-append, length-take-le, append_assoc}
 use Rattle.std.proofs.Math.Seq.{map-set_same, get_or-append_seam}
 use Rattle.std.proofs.lemmas.Bool.{cases_eq, cases_lt}
 use Rattle.std.proofs.lemmas.Grind.{get_or-set_at}
 use Rattle.std.proofs.lemmas.List.{append-nil, get_or-map, get_or-set_other, get_or_append_left, get_or_past, length-map, map-set}
 use Rattle.std.proofs.lemmas.List.Elements.{All-push}
+use Rattle.span.specs.declared.key.Key.{Key}
 use Rattle.span.specs.declared.receipt.Receipt.{Receipt}
 use Rattle.remote_queue.specs.Rings.{Taking}
 use Rattle.arena.specs.Receipts.{AddsFrees, joined}
@@ -21,6 +22,22 @@ push_other rows row n w long other = elim (cases_lt w n) [
 
 push_here : {T : Type 0} (rows : List (List T)) (row : List T) (n w : ℕ) → length rows ≡ n → w ≡ n → get_or (rows ++ row ∷ []) w [] ≡ row
 push_here rows row n w long here = let at : w ≡ length rows = omega arith in rw at (get_or-append_seam rows row [] [])
+
+module _ {worker section : ℕ} where
+  -- before the first key of a ring
+  pub ring_none : (inbox : Taking) (receipts : List Receipt) → IsRingTended worker section 0 inbox inbox receipts receipts
+  ring_none inbox receipts = record { keys = []; count_is = refl; ring_is = refl; taken = sym (append-nil inbox.taken); freed = AddsFrees-none receipts }
+
+  -- a block of keys more
+  pub ring_more : (before mid after : Taking) (count n : ℕ) (block : List Key) (r0 r r' : List Receipt) → IsRingTended worker section count before mid r0 r → after.ring ≡ mid.ring
+      → after.taken ≡ mid.taken ++ take n block → n ≤ length block → AddsFrees worker section (take n block) r r' → IsRingTended worker section (count + n) before after r0 r'
+  ring_more before mid after count n block r0 r r' was ring took fits more = record {
+    keys = was.keys ++ take n block;
+    count_is = omega (arith, was.count_is, length-append was.keys (take n block), length-take-le n block fits);
+    ring_is = ring ∙ was.ring_is;
+    taken = took ∙ ap (λ l. l ++ take n block) was.taken ∙ append_assoc before.taken was.keys (take n block);
+    freed = AddsFrees-more was.keys (take n block) r0 r r' was.freed more;
+  }
 
 module _ {most worker section : ℕ} where
   -- before the first ring

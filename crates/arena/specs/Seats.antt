@@ -1,14 +1,16 @@
 -- What contracts see of a seat, and of seats whose ends of rings belong together.
-use Rattle.std.specs.Prelude.{◌≡◌, ℕ, ◌<◌, All, List, [], length, map, slice_index_or}
+use Rattle.std.specs.Prelude.{◌≡◌, ℕ, ◌<◌, All, List, [], Option, length, map, slice_index_or}
 use Rattle.span.specs.declared.key.Key.{Key}
 use Rattle.marks.specs.Numbers.{Limits}
 use Rattle.remote_queue.specs.Rings.{Ring, Sending, Taking, cell}
 
--- the worker's number, the section of the run that it is in, the numbers of its arena, and its ends of rings: to each shard, and from each worker into its own shard
+-- the worker's number, the section of the run that it is in, the numbers of its arena, and its ends of rings: to each shard, and from each worker into its own shard;
+-- and, where keys may wait for their block to be full, how many calls it made since the first of these was left
 pub record SeatState : Type 0 where
   pub worker : ℕ
   pub section : ℕ
   pub limits : Limits
+  pub delay : Option ℕ
   pub outboxes : List Sending
   pub inboxes : List Taking
 

@@ -72,8 +72,8 @@ pub fn finish<G: Gate>(
     }
 }
 
-/// As [`finish`], but settles no ring: what is still on one is let go with it, and there are no counts. It serves where each
-/// seat has tended its rings until nothing was left.
+/// As [`finish`], but settles no ring: what is still on one is let go with it, and there are no counts. It serves where all
+/// seats have handed over, and then each has tended its rings.
 ///
 /// # Errors
 ///

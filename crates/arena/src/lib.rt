@@ -11,13 +11,15 @@
 //!   locks, in the order   (none)         pool    <   shard 0  <  shard 1  <  ..
 //!   they are taken in
 //!                       put, get, free of one span     one lock
-//!                       end, adopt, step               the pool's and one shard's
+//!                       end, retire, adopt, step       the pool's and one shard's
 //!                       mark, close, totals            all of them
 //! ```
 //!
 //! A worker may leave a key to the thread of the shard that opened its span (`Seat::free_later`): it goes on a ring from
 //! that worker to that shard, without a lock or memory, and is freed when the shard's thread tends its rings (`Seat::tend`),
-//! or when all rings are settled, with all seats in one hand ([`Arena::settle`]).
+//! or when all rings are settled, with all seats in one hand ([`Arena::settle`]). Keys go in blocks, so that not each of them
+//! crosses to another processor by itself: a block that is not full is handed over by `Seat::hand_over`, by the worker's own
+//! `tend`, and with its 64th further call ([`MOST_DELAY`]).
 //!
 //! What is done under a lock is done by one call of a shard, of the pool, `fold_one` or `mark_in` on
 //! what the lock lends ([`sections`]), so the contracts of those calls hold of it, and each look-up,
@@ -40,7 +42,8 @@
 //! let (arena, mut seats, mut steward) = Arena::open(alloc, 2, 4, 4, 9, NoGate)?;
 //! let (key, receipt) = seats[0].put(rt, &arena, 7)?;       // in shard 0, under its lock
 //! let (found, receipt) = seats[1].get(rt, &arena, &key);   // Some(7), wherever the key's span is
-//! seats[1].free_later(key);                                // on the ring to shard 0, without a lock
+//! seats[1].free_later(key);                                // for the ring to shard 0, without a lock
+//! seats[1].hand_over();                                    // on that ring, with all others that wait
 //! seats[0].tend(rt, &arena, &mut receipts)?;               // 1: the key is freed
 //! let certificate = arena.mark(rt, &mut steward)?;         // beside the workers
 //! let finished = finish(arena, seats, &mut lists)?;        // the logs of all spans, for an audit
@@ -55,11 +58,14 @@ mod freeing;
 mod gate;
 mod locks;
 mod opening;
+mod outboxes;
+mod receipts;
 mod seat;
 pub mod sections;
 mod settling;
 mod steward;
 mod tending;
+mod unkept;
 mod unlocked;
 mod words;
 
@@ -68,5 +74,7 @@ pub use ending::{Finished, Unfinished, finish, finish_unsettled};
 pub use error::OpenError;
 pub use gate::{Gate, NoGate};
 pub use marks::{Limits, MarkError, Totals};
+pub use outboxes::MOST_DELAY;
+pub use receipts::{Dropped, Receipts};
 pub use seat::Seat;
 pub use steward::Steward;

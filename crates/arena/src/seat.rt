@@ -1,20 +1,25 @@
 // A worker's place at the arena.
-ghost use Rattle.std.specs.Prelude.{◌≡◌, ◌+◌, ◌-◌, ◌<◌, ◌≤◌, ◌^◌, ◌↔◌, ◌∷◌, ◌++◌, [], IfOk, IfSome, IsOk, IsTrue, MatchResult, OnErr, Some, length, map, slice_get, slice_index_or, slice_set, sum, vec_capacity, vec_len};
+ghost use Rattle.std.proofs.Props.{props};
+ghost use Rattle.std.specs.Prelude.{All, ◌≡◌, ◌+◌, ◌-◌, ◌<◌, ◌≤◌, ◌^◌, ◌↔◌, ◌∷◌, ◌++◌, [], IfOk, IfSome, IsOk, IsTrue, MatchResult, None, OnErr, OnOk, Some, length, map, slice_get, slice_index_or, slice_set, sum, vec_capacity, vec_len};
+ghost use Rattle.arena.specs.Delays.{CountsCall, HandsOver, HasNoneWaiting, NoneWaits, delay_begun};
 ghost use Rattle.arena.specs.Receipts.{AddsFrees, IsGetBy, done_by, found_by, free_receipt, get_receipt, joined, put_receipt};
 ghost use Rattle.arena.specs.Seats.{KeepsEnds, in_rings, known_lists, sending_side, sent_lists, taken_lists};
 ghost use Rattle.arena.specs.Settled.{taken_with_known};
 ghost use Rattle.arena.specs.Tended.{IsTended};
+ghost use Rattle.arena.specs.declared.outboxes.TheConstants.{MOST_DELAY};
 ghost use Rattle.span.specs.declared.limits.TheConstants.{MOST_RING_KEYS, MOST_SHARDS};
 
 use crate::arena::Arena;
 use crate::gate::Gate;
+use crate::outboxes::{MOST_DELAY, count_call_on, finish_on, hand_over_waiting, leave_on};
+use crate::receipts::Receipts;
 use crate::sections::{get_in, get_pool, put_in, unopened_get};
 use crate::settling::{Frees, settle_rings};
 use crate::tending::tend_rings;
 use crate::words::Place;
 use abandoned::{AdoptError, ReceiveError};
 use marks::Limits;
-use remote_queue::{Inbox, Outbox, finish};
+use remote_queue::{Inbox, Outbox};
 use shard::PutError;
 use span::{Call, Key, Log, Receipt, SpanId};
 use std::alloc::AllocError;
@@ -24,17 +29,25 @@ use std::sync::Wait;
 
 /// A worker's place: it puts into the shard of its number, and its receipts carry that number and the section of the run that
 /// it is in. It has an end of the worker's ring to each shard, and of each worker's ring to its own shard.
+///
+/// A key that it leaves to another thread goes in a block with others, and is on its ring, where that thread sees it, at the
+/// latest when the seat tends its own rings, hands over, ends its shard, goes on to the next section or is let go, or makes the
+/// [`MOST_DELAY`]th further call: each `put`, `get`, `free`, `free_later`, `retire` and `adopt` is one.
 #[derive(Drop)]
 pub struct Seat {
     worker: u32,
     section: u64,
     limits: Limits,
+    // How many calls were made since the first key was left that may still wait. Where this is none, no key waits.
+    delay: Option<u32>,
     // By shard.
     outboxes: Vec<Outbox>,
     // By worker.
     inboxes: Vec<Inbox>,
     ghost worker_has_shard: { worker < limits.shards },
     ghost worker_in_range: { worker < MOST_SHARDS },
+    ghost delay_in_range: { IfSome delay (λ calls. calls < MOST_DELAY) } by { Prim.hlevel props },
+    ghost none_waits: { delay ≡ None → NoneWaits outboxes.items },
     ghost outbox_each: { vec_len outboxes ≡ limits.shards },
     ghost inboxes_few: { vec_len inboxes ≤ MOST_SHARDS },
 }
@@ -49,6 +62,7 @@ impl Model for Seat {
       worker = seat.worker;
       section = seat.section;
       limits = seat.limits;
+      delay = seat.delay;
       outboxes = seat.outboxes.items;
       inboxes = seat.inboxes.items;
     } };
@@ -64,12 +78,14 @@ impl Seat {
     ) -> Seat
         requires has_shard { worker < limits.shards }
         requires in_range { worker < MOST_SHARDS }
+        requires none_waits { NoneWaits outboxes.items }
         requires outbox_each { vec_len outboxes ≡ limits.shards }
         requires inboxes_few { vec_len inboxes ≤ MOST_SHARDS }
         ensures { result ≡ record {
           worker = worker;
           section = 0;
           limits = limits;
+          delay = None;
           outboxes = outboxes.items;
           inboxes = inboxes.items;
         } }
@@ -78,6 +94,7 @@ impl Seat {
             worker,
             section: 0,
             limits,
+            delay: None,
             outboxes,
             inboxes,
         }
@@ -105,12 +122,23 @@ impl Seat {
         self.section
     }
 
-    /// From now on its receipts carry the next section. That all workers go on together, at a barrier, is the callers' own
-    /// affair. It waits for nobody and takes no memory.
+    /// How many calls it has made since it left the first key that may still wait for its block to be full, fewer than
+    /// [`MOST_DELAY`]. Where this is `None`, no key waits.
+    pub fn delay(&self) -> Option<u32>
+        ensures delay { result ≡ self.now.delay }
+        ensures few { IfSome result (λ calls. calls < MOST_DELAY) }
+        ensures none { result ≡ None → NoneWaits self.now.outboxes }
+    {
+        self.delay
+    }
+
+    /// From now on its receipts carry the next section, and the keys that wait are handed over. That all workers go on together,
+    /// at a barrier, is the callers' own affair. It waits for nobody and takes no memory.
     pub fn next_section(&mut self)
         requires { self.old.section < 2 ^ 64 - 1 }
-        ensures { self.new ≡ record self.old { section = self.old.section + 1 } }
+        ensures { HandsOver (record self.old { section = self.old.section + 1 }) self.new }
     {
+        self.hand_over();
         self.section += 1;
     }
 
@@ -128,8 +156,9 @@ impl Seat {
         requires { self.old.limits ≡ arena.now.limits }
         ensures receipt { IfOk result (λ put. put.1 ≡ put_receipt self.old.worker self.old.section
             value put.0 put.1.at) }
-        ensures seat { self.new ≡ self.old }
+        ensures seat { CountsCall self.old self.new }
     {
+        self.count_call();
         let mut shard = arena.shards[self.worker as usize].lock(rt);
         arena.gate.inside(self.worker);
         let receipt = put_in(&mut *shard, self.worker, self.section, value)?;
@@ -151,21 +180,11 @@ impl Seat {
         requires { self.old.limits ≡ arena.now.limits }
         ensures receipt { result.1 ≡ get_receipt self.old.worker self.old.section key.now result.0
             result.1.at }
-        ensures seat { self.new ≡ self.old }
+        ensures seat { CountsCall self.old self.new }
     {
-        for _ in rt.forever() {
-            match arena.words.place_of(key.span) {
-                Place::Unopened => {
-                    return (None, unopened_get(self.worker, self.section, key));
-                }
-                place => {
-                    if let Some(receipt) = self.get_at(rt, arena, place, key) {
-                        return (value_in(&receipt), receipt);
-                    }
-                }
-            }
-        }
-        unreachable!()
+        self.count_call();
+        let receipt = self.get_wherever(rt, arena, key);
+        (value_in(&receipt), receipt)
     }
 
     /// Frees the key, under the lock of whoever has its span, and gives whether it was live and the receipt. A span that
@@ -179,8 +198,9 @@ impl Seat {
         requires { self.old.limits ≡ arena.now.limits }
         ensures receipt { result.1 ≡ free_receipt self.old.worker self.old.section key.now result.0
             result.1.at }
-        ensures seat { self.new ≡ self.old }
+        ensures seat { CountsCall self.old self.new }
     {
+        self.count_call();
         let receipt = arena.free_wherever(rt, self.worker, self.section, key);
         (done_in(&receipt), receipt)
     }
@@ -193,12 +213,14 @@ impl Seat {
     }
 
     /// Leaves the key to the thread of the shard that opened its span, which frees it when it next tends its rings, or when
-    /// the arena ends, wherever the span then is. It takes no lock and no memory, waits for nobody, and succeeds where a place
-    /// of the ring is known to be free.
+    /// the arena ends, wherever the span then is. Keys go in blocks: until its block is full the key waits at the seat, for
+    /// fewer than [`MOST_DELAY`] further calls. It takes no lock and no memory, waits for nobody, and succeeds where a place of
+    /// the ring is known to be free.
     ///
     /// # Errors
     ///
-    /// The key, handed back, where the ring took none: each of its places was seen to hold a key.
+    /// The key, handed back, where the ring took none: each of its places was seen to hold a key, those of the block among
+    /// them. All keys that wait are then handed over.
     pub fn free_later(&mut self, key: Key) -> Result<(), Key>
         requires { key.span.shard < self.old.limits.shards }
         ensures sent { MatchResult result
@@ -208,35 +230,49 @@ impl Seat {
             (λ back. (back ≡ key) × (sent_lists self.new ≡ sent_lists self.old)) }
         ensures succeeds { 0 < slice_index_or (map (λ outbox. outbox.free) self.old.outboxes)
             key.span.shard 0 → IsOk result }
+        ensures waits { OnOk result (self.new.delay ≡ delay_begun self.old.delay) }
+        ensures none { self.new.delay ≡ None → NoneWaits self.new.outboxes }
+        ensures refused { OnErr result (HasNoneWaiting self.new) }
         ensures seat { KeepsEnds self.old self.new × (self.new.section ≡ self.old.section)
             × (self.new.inboxes ≡ self.old.inboxes) }
     {
-        send_on(&mut self.outboxes, key)
+        leave_on(&mut self.outboxes, &mut self.delay, key)
     }
 
-    /// Takes the keys that have come in for its shard, ring after ring by worker, at most a ring's capacity from each, and frees
-    /// each, as [`Seat::free`] does. Each leaves one receipt, in the order in which they were taken. It gives how many there
-    /// were.
+    /// Hands over the keys that were left to shards' threads and wait for their block to be full, so that these threads can
+    /// see all of them. It takes no lock and no memory, and waits for nobody.
+    pub fn hand_over(&mut self)
+        ensures { HandsOver self.old self.new }
+    {
+        hand_over_waiting(&mut self.outboxes, &mut self.delay);
+    }
+
+    /// Hands over what the seat has left to others, and takes the keys that have come in for its shard, ring after ring by
+    /// worker, at most a ring's capacity from each, and frees each, as [`Seat::free`] does. Each leaves one receipt, in the
+    /// order in which they were taken. It gives how many there were.
     ///
     /// # Errors
     ///
-    /// `AllocError` where room for a full ring's receipts of each ring was refused. No key was taken then.
-    pub fn tend<G: Gate, L: Log, R: Wait>(
+    /// `AllocError` where room for a full ring's receipts of each ring was refused. No key was taken then; what the seat has left
+    /// to others is handed over.
+    pub fn tend<G: Gate, L: Log, R: Wait, K: Receipts>(
         &mut self,
         rt: &R,
         arena: &Arena<G, L>,
-        receipts: &mut Vec<Receipt>,
+        receipts: &mut K,
     ) -> Result<usize, AllocError>
         requires { self.old.limits ≡ arena.now.limits }
         ensures tended { IfOk result (λ count. IsTended self.old.limits.ring_capacity self.old
-            self.new receipts.old.items receipts.new.items count) }
+            self.new (K.told receipts.old) (K.told receipts.new) count) }
+        ensures none { HasNoneWaiting self.new }
         ensures seat { KeepsEnds self.old self.new
             × (sending_side self.new ≡ sending_side self.old) }
-        ensures err { OnErr result ((self.new ≡ self.old)
-            × (receipts.new.items ≡ receipts.old.items)) }
+        ensures err { OnErr result (HandsOver self.old self.new
+            × (K.told receipts.new ≡ K.told receipts.old)) }
     {
+        self.hand_over();
         let most = self.limits.ring_capacity();
-        receipts.reserve(self.inboxes.len() * most)?;
+        receipts.make_room(self.inboxes.len() * most)?;
         Ok(tend_rings(
             rt,
             arena,
@@ -248,7 +284,8 @@ impl Seat {
         ))
     }
 
-    /// The end of the worker's shard, under the pool's lock and the shard's: all its groups go to the pool.
+    /// The end of the worker's shard, under the pool's lock and the shard's: all its groups go to the pool. The keys that wait at
+    /// the seat are handed over first.
     ///
     /// # Errors
     ///
@@ -260,8 +297,9 @@ impl Seat {
         arena: &Arena<G, L>,
     ) -> Result<(), ReceiveError>
         requires { self.old.limits ≡ arena.now.limits }
-        ensures seat { self.new ≡ self.old }
+        ensures seat { HandsOver self.old self.new }
     {
+        self.hand_over();
         let mut pool = arena.pool.lock(rt);
         let mut shard = arena.shards[self.worker as usize].lock(rt);
         arena.words.set_all(&*shard, Place::Pool);
@@ -269,6 +307,34 @@ impl Seat {
         // Where it was refused, the spans are still in the shard.
         arena.words.set_all(&*shard, Place::Shard(self.worker));
         received
+    }
+
+    /// Retires up to `most` groups of the worker's shard, under the pool's lock and the shard's: those with the fewest live keys,
+    /// of those that have one at least, go to the pool, and the shard goes on. It gives how many went, which is `most`, or all
+    /// that have a live key.
+    ///
+    /// # Errors
+    ///
+    /// As those of [`Pool::retire`](abandoned::Pool::retire) on pool and shard as they then are: `Ended`, `Doubled`, `PlanOpen`
+    /// where a group of the shard is closed, and `OutOfMemory`. Nothing has moved then.
+    pub fn retire<G: Gate, L: Log, R: Wait>(
+        &mut self,
+        rt: &R,
+        arena: &Arena<G, L>,
+        most: usize,
+    ) -> Result<usize, ReceiveError>
+        requires { self.old.limits ≡ arena.now.limits }
+        ensures at_most { IfOk result (λ count. count ≤ most) }
+        ensures seat { CountsCall self.old self.new }
+    {
+        self.count_call();
+        let mut pool = arena.pool.lock(rt);
+        let mut shard = arena.shards[self.worker as usize].lock(rt);
+        arena.words.set_all(&*shard, Place::Pool);
+        let retired = pool.retire(&mut *shard, most);
+        // What has stayed, or all of it where this was refused, is still in the shard.
+        arena.words.set_all(&*shard, Place::Shard(self.worker));
+        retired
     }
 
     /// The worker's shard adopts the pool's group of lowest head that has a page, under the pool's lock and the shard's,
@@ -284,8 +350,9 @@ impl Seat {
         arena: &Arena<G, L>,
     ) -> Result<SpanId, AdoptError>
         requires { self.old.limits ≡ arena.now.limits }
-        ensures seat { self.new ≡ self.old }
+        ensures seat { CountsCall self.old self.new }
     {
+        self.count_call();
         let mut pool = arena.pool.lock(rt);
         let mut shard = arena.shards[self.worker as usize].lock(rt);
         let head = pool.adopt(&mut *shard)?;
@@ -293,6 +360,13 @@ impl Seat {
             .words
             .set_group(&*shard, head, Place::Shard(self.worker));
         Ok(head)
+    }
+
+    // Counts a call, where keys wait, and hands them over where it is the last that they may wait.
+    fn count_call(&mut self)
+        ensures { CountsCall self.old self.new }
+    {
+        count_call_on(&mut self.outboxes, &mut self.delay);
     }
 
     // How many keys the worker sent to a shard that the shard's end has not taken. That end then knows them.
@@ -307,7 +381,7 @@ impl Seat {
             ++ inbox.new.known }
         ensures few { result ≤ MOST_RING_KEYS }
     {
-        count_on(&mut self.outboxes, shard, inbox)
+        finish_on(&mut self.outboxes, shard, inbox)
     }
 
     // Takes the known keys of each of its rings, and frees each. The receipts are of the section.
@@ -346,6 +420,30 @@ impl Seat {
         swap(&mut self.inboxes, inboxes);
     }
 
+    // Looks the key up, under the lock of whoever has its span. A span that was never opened takes no lock.
+    fn get_wherever<G: Gate, L: Log, R: Wait>(
+        &self,
+        rt: &R,
+        arena: &Arena<G, L>,
+        key: &Key,
+    ) -> Receipt
+        ensures { IsGetBy self.now.worker self.now.section key.now result }
+    {
+        for _ in rt.forever() {
+            match arena.words.place_of(key.span) {
+                Place::Unopened => {
+                    return unopened_get(self.worker, self.section, key);
+                }
+                place => {
+                    if let Some(receipt) = self.get_at(rt, arena, place, key) {
+                        return receipt;
+                    }
+                }
+            }
+        }
+        unreachable!()
+    }
+
     // Looks the key up in this place, if its span is there.
     fn get_at<G: Gate, L: Log, R: Wait>(
         &self,
@@ -372,43 +470,6 @@ impl Seat {
             }
         }
     }
-}
-
-// Sends the key to the shard that opened its span. The rings stay.
-fn send_on(outboxes: &mut Vec<Outbox>, key: Key) -> Result<(), Key>
-    requires { key.span.shard < vec_len outboxes.old }
-    ensures len { vec_len outboxes.new ≡ vec_len outboxes.old }
-    ensures rings { map (λ outbox. outbox.ring) outboxes.new.items
-        ≡ map (λ outbox. outbox.ring) outboxes.old.items }
-    ensures sent { MatchResult result
-        (λ _. map (λ outbox. outbox.sent) outboxes.new.items
-        ≡ slice_set (map (λ outbox. outbox.sent) outboxes.old.items) key.span.shard
-        (slice_index_or (map (λ outbox. outbox.sent) outboxes.old.items) key.span.shard []
-        ++ key ∷ []))
-        (λ back. (back ≡ key) × (map (λ outbox. outbox.sent) outboxes.new.items
-        ≡ map (λ outbox. outbox.sent) outboxes.old.items)) }
-    ensures succeeds { 0 < slice_index_or (map (λ outbox. outbox.free) outboxes.old.items)
-        key.span.shard 0 → IsOk result }
-{
-    outboxes[key.span.shard as usize].send(key)
-}
-
-// How many keys were sent to a shard that its end has not taken. That end then knows them. The rings and what was sent stay.
-fn count_on(outboxes: &mut Vec<Outbox>, shard: usize, inbox: &mut Inbox) -> usize
-    requires { slice_get (map (λ outbox. outbox.ring) outboxes.old.items) shard
-        ≡ Some inbox.old.ring }
-    ensures len { vec_len outboxes.new ≡ vec_len outboxes.old }
-    ensures outboxes { (map (λ outbox. outbox.ring) outboxes.new.items
-        ≡ map (λ outbox. outbox.ring) outboxes.old.items)
-        × (map (λ outbox. outbox.sent) outboxes.new.items
-        ≡ map (λ outbox. outbox.sent) outboxes.old.items) }
-    ensures inbox { (inbox.new.ring ≡ inbox.old.ring) × (inbox.new.taken ≡ inbox.old.taken) }
-    ensures left { result ≡ length inbox.new.known }
-    ensures whole { slice_index_or (map (λ outbox. outbox.sent) outboxes.old.items) shard []
-        ≡ inbox.new.taken ++ inbox.new.known }
-    ensures few { result ≤ MOST_RING_KEYS }
-{
-    finish(&mut outboxes[shard], inbox)
 }
 
 // What the look-up of a receipt found.

@@ -1,37 +1,43 @@
 // Taking keys from rings while others work, with a receipt for each.
-ghost use Rattle.std.specs.Prelude.{◌≡◌, ◌+◌, ◌*◌, ◌≤◌, vec_capacity, vec_len};
+ghost use Rattle.std.specs.Prelude.{◌≡◌, ◌+◌, ◌*◌, ◌≤◌, ◌++◌, length, take, vec_len};
 ghost use Rattle.arena.specs.Tended.{AreRingsTended, IsRingTended};
 ghost use Rattle.span.specs.declared.limits.TheConstants.{MOST_RING_KEYS, MOST_SHARDS};
 
 use crate::arena::Arena;
 use crate::gate::Gate;
+use crate::receipts::Receipts;
 use remote_queue::Inbox;
-use span::{Log, Receipt};
+use span::{Key, Log, SpanId};
 use std::sync::Wait;
 
+// How many keys are taken from a ring at once.
+const BLOCK: usize = 64;
+
 // Takes at most that many keys from each of the rings, one ring after the other, and frees each. It gives how many there were.
-pub(crate) fn tend_rings<G: Gate, L: Log, R: Wait>(
+pub(crate) fn tend_rings<G: Gate, L: Log, R: Wait, K: Receipts>(
     rt: &R,
     arena: &Arena<G, L>,
     inboxes: &mut Vec<Inbox>,
     most: usize,
     worker: u32,
     section: u64,
-    receipts: &mut Vec<Receipt>,
+    receipts: &mut K,
 ) -> usize
     requires few { (vec_len inboxes.old ≤ MOST_SHARDS) × (most ≤ MOST_RING_KEYS) }
-    requires room { vec_len receipts.old + vec_len inboxes.old * most ≤ vec_capacity receipts.old }
+    requires room { vec_len inboxes.old * most ≤ K.room receipts.old }
     ensures len { vec_len inboxes.new ≡ vec_len inboxes.old }
     ensures tended { AreRingsTended most worker section
-        (vec_len inboxes.old) inboxes.old.items inboxes.new.items receipts.old.items
-        receipts.new.items result }
+        (vec_len inboxes.old) inboxes.old.items inboxes.new.items (K.told receipts.old)
+        (K.told receipts.new) result }
 {
     let mut total = 0;
+    let mut block = places::<BLOCK>();
     for from in 0..inboxes.len() {
         total += tend_ring(
             rt,
             arena,
             &mut inboxes[from],
+            &mut block,
             most,
             worker,
             section,
@@ -41,28 +47,55 @@ pub(crate) fn tend_rings<G: Gate, L: Log, R: Wait>(
     total
 }
 
-// Takes at most that many keys from a ring, and frees each. It gives how many there were.
-fn tend_ring<G: Gate, L: Log, R: Wait>(
+// Takes at most that many keys from a ring, a block at a time, and frees each. It gives how many there were.
+fn tend_ring<G: Gate, L: Log, R: Wait, K: Receipts>(
     rt: &R,
     arena: &Arena<G, L>,
     inbox: &mut Inbox,
+    block: &mut [Key],
     most: usize,
     worker: u32,
     section: u64,
-    receipts: &mut Vec<Receipt>,
+    receipts: &mut K,
 ) -> usize
-    requires { vec_len receipts.old + most ≤ vec_capacity receipts.old }
+    requires { most ≤ K.room receipts.old }
     ensures few { result ≤ most }
-    ensures room { (vec_len receipts.new ≡ vec_len receipts.old + result)
-        × (vec_capacity receipts.new ≡ vec_capacity receipts.old) }
-    ensures tended { IsRingTended worker section result inbox.old inbox.new receipts.old.items
-        receipts.new.items }
+    ensures room { K.room receipts.old ≤ K.room receipts.new + result }
+    ensures tended { IsRingTended worker section result inbox.old inbox.new
+        (K.told receipts.old) (K.told receipts.new) }
 {
-    for count in 0..most {
-        let Some(key) = inbox.take() else {
+    let mut count = 0;
+    for _ in 0..most {
+        let taken = take_some(inbox, block, most - count);
+        let (keys, _) = block.split_at(taken);
+        arena.free_all(rt, worker, section, keys, receipts);
+        count += taken;
+        if taken < block.len() {
             return count;
-        };
-        receipts.push_reserved(arena.free_wherever(rt, worker, section, &key));
+        }
     }
-    most
+    count
+}
+
+// Takes keys from a ring into the first places of the block, at most that many, and gives how many there were.
+fn take_some(inbox: &mut Inbox, block: &mut [Key], most: usize) -> usize
+    ensures few { (result ≤ most) × (result ≤ length block.new) }
+    ensures ring { inbox.new.ring ≡ inbox.old.ring }
+    ensures taken { inbox.new.taken ≡ inbox.old.taken ++ take result block.new }
+{
+    let (front, _) = block.split_at_mut(most.min(block.len()));
+    inbox.take_block(front)
+}
+
+// Places for keys.
+fn places<const N: usize>() -> [Key; N] {
+    let any = Key {
+        span: SpanId {
+            shard: 0,
+            serial: 0,
+        },
+        slot: 0,
+        generation: 1,
+    };
+    [any; N]
 }

@@ -1,5 +1,6 @@
 -- What contracts see of the ends of a ring of `rtrb`.
 use Rattle.rtrb.specs.Ring.{sent, received, known_free, known_items}
+use Rattle.std.specs.Prelude.{◌-◌, ◌++◌, List, length}
 use Rattle.std.specs.declared.alloc.Global.{Global}
 use Rattle.rtrb.specs.declared.producer.Producer.{Producer}
 use Rattle.rtrb.specs.declared.consumer.Consumer.{Consumer}
@@ -7,12 +8,13 @@ use Rattle.span.specs.declared.key.Key.{Key}
 use Rattle.remote_queue.specs.declared.ends.KeysInRange.{KeysInRange}
 use Rattle.remote_queue.specs.Rings.{Sending, Taking}
 
--- the sender's end of a ring
-abbrev pub sending : Producer Key Global KeysInRange → Sending
-sending producer = record {
+-- the sender's end of a ring, with the keys that wait to be handed over
+abbrev pub sending : Producer Key Global KeysInRange → List Key → Sending
+sending producer waiting = record {
   ring = record { words = producer.end.words; slots = producer.end.slots; names = producer.end.names; heap = producer.end.heap };
-  sent = sent producer;
-  free = known_free producer;
+  sent = sent producer ++ waiting;
+  free = known_free producer - length waiting;
+  waiting = length waiting;
 }
 
 -- the taker's end of a ring

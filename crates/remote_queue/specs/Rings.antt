@@ -13,11 +13,12 @@ pub record Ring : Type 0 where
   pub names : Names
   pub heap : Global
 
--- a sender's end: its ring, every key that was sent, oldest first, and how many places are known to be free
+-- a sender's end: its ring, every key that was sent, oldest first, how many places are known to be free, and how many of the keys sent last wait to be handed over
 pub record Sending : Type 0 where
   pub ring : Ring
   pub sent : List Key
   pub free : ℕ
+  pub waiting : ℕ
 
 -- a taker's end: its ring, every key that was taken, oldest first, and the keys that the next takes are known to give
 pub record Taking : Type 0 where
@@ -62,9 +63,9 @@ abbrev pub AreLong : {T : Type 0} → ℕ → List (List T) → Type 0
 AreLong n [] = Unit {0}
 AreLong n (row ∷ rows) = (length row ≡ n) × AreLong n rows
 
--- senders' ends by which nothing was sent, with all places of their rings free
+-- senders' ends by which nothing was sent, so that no key waits, with all places of their rings free
 abbrev pub AreFreshOutboxes : ℕ → List Sending → Type 0
-AreFreshOutboxes capacity = All (λ outbox. (outbox.sent ≡ []) × (outbox.free ≡ capacity))
+AreFreshOutboxes capacity = All (λ outbox. (outbox.sent ≡ []) × (outbox.free ≡ capacity) × (outbox.waiting ≡ 0))
 
 -- takers' ends by which nothing was taken
 abbrev pub AreFreshInboxes : List Taking → Type 0

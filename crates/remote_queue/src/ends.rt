@@ -1,6 +1,7 @@
 // The two ends of a ring.
-ghost use Rattle.std.specs.Prelude.{◌≡◌, ◌<◌, ◌≤◌, [], ◌∷◌, ◌++◌, IfOk, IsOk, IsSome, MatchOption, MatchResult, length};
+ghost use Rattle.std.specs.Prelude.{◌≡◌, ◌+◌, ◌-◌, ◌<◌, ◌≤◌, ◌↔◌, [], ◌∷◌, ◌++◌, All, IfOk, IsOk, IsSome, IsTrue, MatchOption, MatchResult, OnErr, drop, length, take, vec_capacity, vec_len};
 ghost use mathlib.Core.List.{IsPrefix};
+ghost use Rattle.rtrb.specs.Ring.{ProducerLooked, SameProducer, known_free, sent};
 ghost use Rattle.remote_queue.specs.Rings.{IsInRange};
 ghost use Rattle.span.specs.declared.limits.TheConstants.{MOST_RING_KEYS};
 
@@ -17,10 +18,17 @@ impl Protocol<Key> for KeysInRange {
     ghost allows = { λ before key. IsInRange key };
 }
 
-/// A worker's end of its ring to one shard.
-#[derive(Drop)]
+/// How many keys are handed over at once, where the ring holds as many.
+const BLOCK: usize = 32;
+
+/// A worker's end of its ring to one shard. Keys are handed over in blocks, so that not each of them crosses to the other
+/// processor by itself.
 pub struct Outbox {
     producer: Producer<Key, Global, KeysInRange>,
+    // The keys sent last, which wait until a block is full, or until they are handed over. Each has its place in the ring.
+    waiting: Vec<Key>,
+    ghost below_a_block: { vec_len waiting < vec_capacity waiting },
+    ghost have_places: { vec_len waiting ≤ known_free producer },
 }
 
 impl Model for Outbox {
@@ -29,7 +37,18 @@ impl Model for Outbox {
 
     ghost Value = { Sending };
 
-    ghost view = { λ outbox. sending outbox.producer };
+    ghost view = { λ outbox. sending outbox.producer outbox.waiting.items };
+}
+
+impl Drop for Outbox {
+    // The keys that wait are on the ring then.
+    fn drop(self) {
+        let Outbox {
+            mut producer,
+            mut waiting,
+        } = self;
+        hand_over_by(&mut producer, &mut waiting);
+    }
 }
 
 /// A shard's end of its ring from one worker.
@@ -50,31 +69,98 @@ impl Model for Inbox {
 
 // A new ring with room for that many keys.
 pub(crate) fn ring(alloc: Global, capacity: usize) -> Result<(Outbox, Inbox), AllocError>
-    requires { capacity ≤ MOST_RING_KEYS }
+    requires { (1 ≤ capacity) × (capacity ≤ MOST_RING_KEYS) }
     ensures { IfOk result (λ ends. (ends.0.ring ≡ ends.1.ring) × (ends.0.sent ≡ [])
-        × (ends.0.free ≡ capacity) × (ends.1.taken ≡ [])) }
+        × (ends.0.free ≡ capacity) × (ends.0.waiting ≡ 0) × (ends.1.taken ≡ [])) }
 {
+    let waiting = Vec::with_capacity(alloc, capacity.min(BLOCK))?;
     let (producer, consumer) = RingBuffer::with_protocol::<Global, KeysInRange>(alloc, capacity)?;
-    Ok((Outbox { producer }, Inbox { consumer }))
+    Ok((Outbox { producer, waiting }, Inbox { consumer }))
+}
+
+// Hands the waiting keys over with one store. The ring has a place for each of them.
+fn hand_over_by(producer: &mut Producer<Key, Global, KeysInRange>, waiting: &mut Vec<Key>)
+    requires { vec_len waiting.old ≤ known_free producer.old }
+    ensures ring { SameProducer producer.old producer.new }
+    ensures sent { sent producer.new ≡ sent producer.old ++ waiting.old.items }
+    ensures free { known_free producer.old ≤ known_free producer.new + vec_len waiting.old }
+    ensures none { waiting.new.items ≡ [] }
+    ensures len { vec_len waiting.new ≡ 0 }
+    ensures room { vec_capacity waiting.new ≡ vec_capacity waiting.old }
+{
+    match producer.push_entire_slice(waiting.as_slice()) {
+        Ok(()) => waiting.clear(),
+        Err(_) => unreachable!(),
+    }
+}
+
+// Whether the ring has a place for one key more than that many, as far as its end knows or sees.
+fn has_place(producer: &mut Producer<Key, Global, KeysInRange>, waiting: usize) -> bool
+    ensures looked { ProducerLooked producer.old producer.new }
+    ensures value { IsTrue result ↔ (waiting < known_free producer.new) }
+{
+    waiting < producer.cached_slots() || waiting < producer.slots()
+}
+
+// Sends the key: it waits with others until they fill a block. Where it is refused, none waits any more.
+fn send_by(
+    producer: &mut Producer<Key, Global, KeysInRange>,
+    waiting: &mut Vec<Key>,
+    key: Key,
+) -> Result<(), Key>
+    requires places { vec_len waiting.old ≤ known_free producer.old }
+    requires room { vec_len waiting.old < vec_capacity waiting.old }
+    ensures places { vec_len waiting.new ≤ known_free producer.new }
+    ensures room { vec_len waiting.new < vec_capacity waiting.new }
+    ensures ring { SameProducer producer.old producer.new }
+    ensures sent { MatchResult result
+        (λ _. sent producer.new ++ waiting.new.items
+        ≡ (sent producer.old ++ waiting.old.items) ++ key ∷ [])
+        (λ back. (back ≡ key) × (sent producer.new ++ waiting.new.items
+        ≡ sent producer.old ++ waiting.old.items)) }
+    ensures none { OnErr result (vec_len waiting.new ≡ 0) }
+    ensures succeeds { vec_len waiting.old < known_free producer.old → IsOk result }
+{
+    if !has_place(producer, waiting.len()) {
+        hand_over_by(producer, waiting);
+        return Err(key);
+    }
+    waiting.push_reserved(key);
+    if waiting.len() == waiting.capacity() {
+        hand_over_by(producer, waiting);
+    }
+    Ok(())
 }
 
 impl Outbox {
-    /// Sends the key. It waits for nobody and takes no memory, and succeeds where a place of the ring is known to be free.
+    /// Sends the key, in a block with others: the taker's end sees it once the block is full, or is handed over by
+    /// [`Outbox::hand_over`] or [`finish`], or a key is refused. It waits for nobody and takes no memory, and succeeds where a
+    /// place of the ring is known to be free.
     ///
     /// # Errors
     ///
-    /// The key, handed back, where the ring took none: each of its places was seen to hold a key.
+    /// The key, handed back, where the ring took none: each of its places was seen to hold a key, those sent in this block
+    /// among them. All keys that were sent are then handed over.
     pub fn send(&mut self, key: Key) -> Result<(), Key>
         ensures ring { self.new.ring ≡ self.old.ring }
         ensures sent { MatchResult result
             (λ _. self.new.sent ≡ self.old.sent ++ key ∷ [])
             (λ back. (back ≡ key) × (self.new.sent ≡ self.old.sent)) }
         ensures succeeds { 0 < self.old.free → IsOk result }
+        ensures refused { OnErr result (self.new.waiting ≡ 0) }
     {
-        match self.producer.push(key) {
-            Ok(()) => Ok(()),
-            Err(PushError::Full(back)) => Err(back),
-        }
+        send_by(&mut self.producer, &mut self.waiting, key)
+    }
+
+    /// Hands over the keys that wait for their block to be full, so that the taker's end can see all that were sent. It waits
+    /// for nobody and takes no memory.
+    pub fn hand_over(&mut self)
+        ensures ring { self.new.ring ≡ self.old.ring }
+        ensures sent { self.new.sent ≡ self.old.sent }
+        ensures free { self.old.free ≤ self.new.free }
+        ensures none { self.new.waiting ≡ 0 }
+    {
+        hand_over_by(&mut self.producer, &mut self.waiting);
     }
 }
 
@@ -94,6 +180,20 @@ impl Inbox {
         self.consumer.pop().ok()
     }
 
+    /// Takes as many of the oldest keys as are seen, and as the slice has places, into its first places, and gives how many these are.
+    /// It waits for nobody and takes no memory, and answers all keys that are known.
+    pub fn take_block(&mut self, keys: &mut [Key]) -> usize
+        ensures few { result ≤ length keys.old }
+        ensures ring { self.new.ring ≡ self.old.ring }
+        ensures taken { self.new.taken ≡ self.old.taken ++ take result keys.new }
+        ensures rest { drop result keys.new ≡ drop result keys.old }
+        ensures known { IsPrefix self.old.known (take result keys.new ++ self.new.known) }
+        ensures all { result < length keys.old → self.new.known ≡ [] }
+        ensures in_range { All IsInRange (take result keys.new) }
+    {
+        self.consumer.pop_partial_slice(keys)
+    }
+
     /// Takes the next of the known keys, where there is one, as after a [`finish`] that counted it.
     pub fn take_known(&mut self) -> Key
         requires { 0 < length self.old.known }
@@ -107,16 +207,18 @@ impl Inbox {
 }
 
 /// How many keys were sent by the one end of a ring and not yet taken by the other, at most 1,024. That many takes then answer
-/// these keys, in the order in which they were sent, and the keys taken are then the keys sent. It waits for nobody and takes
-/// no memory.
+/// these keys, in the order in which they were sent, and the keys taken are then the keys sent. Those that waited for their block
+/// to be full are handed over. It waits for nobody and takes no memory.
 pub fn finish(outbox: &mut Outbox, inbox: &mut Inbox) -> usize
     requires { outbox.old.ring ≡ inbox.old.ring }
     ensures left { result ≡ length inbox.new.known }
     ensures settled { inbox.new.taken ++ inbox.new.known ≡ outbox.new.sent }
     ensures outbox { (outbox.new.ring ≡ outbox.old.ring) × (outbox.new.sent ≡ outbox.old.sent)
         × (outbox.old.free ≤ outbox.new.free) }
+    ensures none { outbox.new.waiting ≡ 0 }
     ensures inbox { (inbox.new.ring ≡ inbox.old.ring) × (inbox.new.taken ≡ inbox.old.taken) }
     ensures few { result ≤ MOST_RING_KEYS }
 {
+    outbox.hand_over();
     inbox.consumer.slots_beside(&mut outbox.producer)
 }

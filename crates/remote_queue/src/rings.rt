@@ -114,7 +114,7 @@ fn add_row(
     capacity: usize,
     columns: &mut Vec<Vec<Inbox>>,
 ) -> Result<Vec<Outbox>, AllocError>
-    requires capacity { capacity ≤ MOST_RING_KEYS }
+    requires capacity { (1 ≤ capacity) × (capacity ≤ MOST_RING_KEYS) }
     requires untaken { All (λ column. AreFreshInboxes column.items) columns.old.items }
     ensures wide { vec_len columns.new ≡ vec_len columns.old }
     ensures untaken { OnOk result (All (λ column. AreFreshInboxes column.items) columns.new.items) }

@@ -13,8 +13,8 @@ fn key(slot: u8) -> Option<Key> {
     Key::new(span, slot, 1)
 }
 
-// A ring from one worker to one shard, with room for one key; made again where memory was refused.
-fn links(alloc: Global) -> Result<Links, LinkError>
+// A ring from one worker to one shard, with room for that many keys; made again where memory was refused.
+fn links(alloc: Global, capacity: usize) -> Result<Links, LinkError>
     ensures one_row { IfOk result (λ links. (vec_len links.outboxes ≡ 1)
         × All (λ row. vec_len row ≡ 1) links.outboxes.items) }
     ensures one_column { IfOk result (λ links. (vec_len links.inboxes ≡ 1)
@@ -22,17 +22,17 @@ fn links(alloc: Global) -> Result<Links, LinkError>
     ensures rings { IfOk result (λ links. AreTransposed (outbox_rings links.outboxes.items)
         (inbox_rings links.inboxes.items)) }
 {
-    match link(alloc, 1, 1, 1) {
-        Err(LinkError::OutOfMemory) => link(alloc, 1, 1, 1),
+    match link(alloc, 1, 1, capacity) {
+        Err(LinkError::OutOfMemory) => link(alloc, 1, 1, capacity),
         linked => linked,
     }
 }
 
-// The two ends of a ring with room for one key.
-fn ends(alloc: Global) -> Option<(Outbox, Inbox)>
+// The two ends of a ring with room for that many keys.
+fn ends(alloc: Global, capacity: usize) -> Option<(Outbox, Inbox)>
     ensures { IfSome result (λ ends. ends.0.ring ≡ ends.1.ring) }
 {
-    let Ok(mut links) = links(alloc) else {
+    let Ok(mut links) = links(alloc, capacity) else {
         return None;
     };
     let outbox = links.outboxes.pop()?.pop()?;
@@ -69,11 +69,65 @@ fn holds_one(outbox: &mut Outbox, inbox: &mut Inbox) -> Option<bool>
 
 #[test]
 fn a_ring_for_one_key(rt: HostRuntime) -> Result<(), Fail> {
-    let Some((mut outbox, mut inbox)) = ends(rt.alloc()) else {
+    let Some((mut outbox, mut inbox)) = ends(rt.alloc(), 1) else {
         return Err("no ring".into());
     };
     let held = holds_one(&mut outbox, &mut inbox);
     assert_eq!(rt; held, Some(true));
+    Ok(())
+}
+
+// How many keys of the first slots are sent, up to that many, before one is handed back.
+fn send_up_to(outbox: &mut Outbox, keys: u8) -> usize {
+    let mut sent = 0usize;
+    for slot in 0..keys {
+        if let Some(key) = key(slot)
+            && outbox.send(key).is_err()
+        {
+            return sent;
+        }
+        sent = sent.saturating_add(1);
+    }
+    sent
+}
+
+// How many keys are taken, a block of four at a time, up to that many blocks.
+fn take_blocks(inbox: &mut Inbox, blocks: usize) -> Option<usize> {
+    let mut block = [key(255)?; 4];
+    let mut taken = 0usize;
+    for _ in 0..blocks {
+        taken = taken.saturating_add(inbox.take_block(&mut block));
+    }
+    Some(taken)
+}
+
+// Of 40 keys on a ring for 50, a full block of 32 is seen; the others once they are handed over. 50 more are then as many as it
+// takes, and a key that is refused hands over those before it. Where the end is let go, three that wait are seen too.
+fn goes_in_blocks(mut outbox: Outbox, inbox: &mut Inbox) -> Option<bool> {
+    let sent = send_up_to(&mut outbox, 40);
+    let seen = take_blocks(inbox, 20)?;
+    outbox.hand_over();
+    let rest = take_blocks(inbox, 20)?;
+    let more = send_up_to(&mut outbox, 60);
+    let all = take_blocks(inbox, 20)?;
+    let last = send_up_to(&mut outbox, 3);
+    let none = take_blocks(inbox, 20)?;
+    drop(outbox);
+    let left = take_blocks(inbox, 20)?;
+    Some(
+        (sent, seen, rest) == (40, 32, 8)
+            && (more, all) == (50, 50)
+            && (last, none, left) == (3, 0, 3),
+    )
+}
+
+#[test]
+fn keys_go_in_blocks(rt: HostRuntime) -> Result<(), Fail> {
+    let Some((outbox, mut inbox)) = ends(rt.alloc(), 50) else {
+        return Err("no ring".into());
+    };
+    let gone = goes_in_blocks(outbox, &mut inbox);
+    assert_eq!(rt; gone, Some(true));
     Ok(())
 }
 

@@ -1,4 +1,4 @@
-use Rattle.std.proofs.Common.{[], vec_items}
+use Rattle.std.proofs.Common.{[], None, vec_items}
 use Rattle.page_table.proofs.Maps.{at_err}
 use Rattle.arena.proofs.Ended.{all_settled}
 use Rattle.arena.proofs.Linking.{AreLinked-same, still_in_order}
@@ -16,4 +16,4 @@ settle_seats-requires-clause-in_order g c = still_in_order c.args.seats.now c.ma
 pub returns-clause-settled : goal.returns-clause-settled
 returns-clause-settled g c =
     all_settled vec_items vec_items c.args.seats.now c.make_room.new.seats c.greatest-section.result c.in_ok-counts.counts.items c.args.receipts.now c.make_room.new.receipts c.settle_seats.new.receipts
-    (record { worker = 0; section = 0; limits = c.args.arena.now.limits; outboxes = []; inboxes = [] }) c.greatest-section.ensures c.make_room.ensures.same c.make_room.ensures.items c.requires.lists c.in_ok-counts.ensures.counted c.settle_seats.ensures.freed
+    (record { worker = 0; section = 0; limits = c.args.arena.now.limits; delay = None; outboxes = []; inboxes = [] }) c.greatest-section.ensures c.make_room.ensures.same c.make_room.ensures.items c.requires.lists c.in_ok-counts.ensures.counted c.settle_seats.ensures.freed

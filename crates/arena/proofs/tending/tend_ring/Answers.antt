@@ -1,28 +1,17 @@
-use Rattle.std.proofs.Common.{◌∙◌, ◌++◌, ◌∷◌, [], ap, sym, rules, arith, refl, length-append, append_assoc}
-use Rattle.std.proofs.lemmas.List.{append-nil}
-use Rattle.arena.proofs.Frees.{AddsFrees-none, AddsFrees-one, AddsFrees-more}
+use Rattle.std.proofs.Common.{arith}
+use Rattle.arena.proofs.TendedRings.{ring_none, ring_more}
 use Rattle.arena.proofs.tending.tend_ring.Goals as goal
 
-pub loop-count-init : goal.loop-count-init
-loop-count-init g c = record {
-  len = search rules;
-  capacity = refl;
-  tended = record { keys = []; count_is = refl; ring_is = refl; taken = sym (append-nil c.args.inbox.now.taken); freed = AddsFrees-none c.args.receipts.now.items };
-}
+pub loop-init : goal.loop-init
+loop-init g c = record { few = omega arith; room = omega arith; tended = ring_none c.args.inbox.now (g.K.Receipts.told c.args.receipts.now) }
 
-pub loop-count-preserved : goal.loop-count-preserved
-loop-count-preserved g c =
-    let was = c.loop-count.invariant.tended in
-    let took = c.in-Some.ensures in
-    let one = AddsFrees-one _ _ _ _ c.push_reserved.ensures.items c.free_wherever.ensures in
+pub loop-preserved : goal.loop-preserved
+loop-preserved g c =
+    let was = c.loop.invariant in
+    let some = c.take_some-taken.ensures in
+    let freed = c.free_all.ensures in
     record {
-      len = search rules;
-      capacity = search rules;
-      tended = record {
-        keys = was.keys ++ c.in-Some.key ∷ [];
-        count_is = omega (arith, was.count_is, length-append was.keys (c.in-Some.key ∷ []));
-        ring_is = took.ring ∙ was.ring_is;
-        taken = took.taken.0 ∙ ap (λ l. l ++ c.in-Some.key ∷ []) was.taken ∙ append_assoc c.args.inbox.now.taken was.keys (c.in-Some.key ∷ []);
-        freed = AddsFrees-more _ _ _ _ _ was.freed one;
-      };
+      few = omega (arith, was.few, some.few);
+      room = omega (arith, was.room, freed.room, c.split_at.ensures.front_len);
+      tended = ring_more c.args.inbox.now c.loop.inbox c.take_some-taken.new.inbox c.loop.count c.take_some-taken.result c.take_some-taken.new.block _ _ _ was.tended some.ring some.taken some.few.1 (rw c.split_at.ensures.front at freed.freed);
     }

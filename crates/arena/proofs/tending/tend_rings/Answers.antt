@@ -7,8 +7,7 @@ loop-from-init g c = record {
   wide = refl;
   few = omega arith;
   room = omega arith;
-  capacity = refl;
-  tended = tended_none c.args.inboxes.now.items c.args.receipts.now.items;
+  tended = tended_none c.args.inboxes.now.items (g.K.Receipts.told c.args.receipts.now);
 }
 
 pub loop-from-preserved : goal.loop-from-preserved
@@ -18,7 +17,6 @@ loop-from-preserved g c =
     record {
       wide = search rules;
       few = omega (arith, inv.few, one.few);
-      room = search rules;
-      capacity = search rules;
+      room = omega (arith, inv.room, one.room);
       tended = tended_more c.args.inboxes.now.items c.loop-from.inboxes.items c.tend_ring-total.new.inbox _ c.loop-from.from c.loop-from.total c.tend_ring-total.result _ _ _ (search rules) inv.tended one.few (rw c.index_mut.ensures.value at one.tended);
     }

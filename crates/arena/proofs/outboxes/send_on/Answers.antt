@@ -1,7 +1,7 @@
 use Rattle.std.proofs.Common.{ap, ◌∙◌, arith}
 use Rattle.std.proofs.Math.Seq.{map-set_same}
 use Rattle.arena.proofs.Sending.{sent_step}
-use Rattle.arena.proofs.seat.send_on.Goals as goal
+use Rattle.arena.proofs.outboxes.send_on.Goals as goal
 
 pub returns-clause-rings : goal.returns-clause-rings
 returns-clause-rings c = map-set_same (λ outbox. outbox.ring) _ _ _ _ (c.send.ensures.ring ∙ ap (λ outbox. outbox.ring) c.index_mut.ensures.value)

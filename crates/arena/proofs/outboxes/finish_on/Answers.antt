@@ -2,7 +2,7 @@ use Rattle.std.proofs.Common.{ap, sym, ◌∙◌, ◌<◌, length, []}
 use Rattle.std.proofs.Math.Seq.{map-set_same}
 use Rattle.std.proofs.lemmas.List.{get_or-map}
 use Rattle.arena.proofs.Sending.{read_within}
-use Rattle.arena.proofs.seat.count_on.Goals as goal
+use Rattle.arena.proofs.outboxes.finish_on.Goals as goal
 
 pub returns-clause-outboxes : goal.returns-clause-outboxes
 returns-clause-outboxes c =

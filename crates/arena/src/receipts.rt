@@ -1,0 +1,81 @@
+// Where the receipts of the keys go that a seat takes from its rings.
+ghost use Rattle.std.specs.Prelude.{◌≡◌, ◌≤◌, ◌<◌, ◌+◌, ◌-◌, ◌^◌, ℕ, List, [], ◌∷◌, ◌++◌, OnOk, vec_capacity, vec_len};
+ghost use Rattle.span.specs.declared.receipt.Receipt.{Receipt};
+
+use crate::unkept::Unkept;
+use span::Receipt;
+use std::alloc::AllocError;
+
+/// Where receipts go: into a list, which keeps them for an audit, or nowhere, as [`Dropped`].
+///
+/// Contracts see all receipts in both, so no other clause speaks of the choice.
+pub trait Receipts: Drop {
+    /// The receipts, the oldest first.
+    ghost told: { Self → List Receipt };
+
+    /// How many more it takes with no memory.
+    ghost room: { Self → ℕ };
+
+    /// Makes room for that many more receipts.
+    ///
+    /// # Errors
+    ///
+    /// `AllocError` where memory runs out. The receipts are then as they were, and the room has not shrunk.
+    fn make_room(&mut self, more: usize) -> Result<(), AllocError>
+        ensures told { told self.new ≡ told self.old }
+        ensures room { room self.old ≤ room self.new }
+        ensures ok { OnOk result (more ≤ room self.new) };
+
+    /// Adds a receipt at the end, in reserved room, which needs no memory.
+    fn tell(&mut self, receipt: Receipt)
+        requires { 0 < room self.old }
+        ensures told { told self.new ≡ told self.old ++ receipt ∷ [] }
+        ensures room { room self.old ≤ room self.new + 1 };
+}
+
+/// A list keeps its receipts, 80 bytes each.
+impl Receipts for Vec<Receipt> {
+    ghost told = { λ v. v.items };
+
+    ghost room = { λ v. vec_capacity v - vec_len v };
+
+    fn make_room(&mut self, more: usize) -> Result<(), AllocError> {
+        self.reserve(more)
+    }
+
+    fn tell(&mut self, receipt: Receipt) {
+        self.push_reserved(receipt);
+    }
+}
+
+/// Keeps no receipt, and takes no memory: for a service whose run is not audited. Proofs alone carry the receipts along.
+#[derive(Drop)]
+pub struct Dropped {
+    unkept: Unkept,
+}
+
+impl Dropped {
+    /// No receipt yet.
+    pub fn new() -> Dropped
+        ensures { result.unkept.receipts ≡ [] }
+    {
+        Dropped {
+            unkept: Unkept::new(),
+        }
+    }
+}
+
+impl Receipts for Dropped {
+    ghost told = { λ d. d.unkept.receipts };
+
+    // There is always room.
+    ghost room = { λ d. 2 ^ 64 };
+
+    fn make_room(&mut self, _more: usize) -> Result<(), AllocError> {
+        Ok(())
+    }
+
+    fn tell(&mut self, receipt: Receipt) {
+        self.unkept = Unkept::with(&self.unkept, &receipt);
+    }
+}
