@@ -1,17 +1,39 @@
 -- What diaries say, and the report that follows.
-use Rattle.std.proofs.Common.{◌≡◌, ◌∙◌, ◌++◌, ℕ, Bool, List, [], ◌∷◌, ap, map, refl, subst, sym}
-use Rattle.std.specs.Prelude.{codes}
+use Rattle.std.proofs.Common.{◌≡◌, ◌∙◌, ◌++◌, ◌&&◌, ℕ, Bool, List, [], ◌∷◌, ap, arith, map, not, refl, subst, sym}
+use Rattle.std.specs.Prelude.{◌==◌, codes, filter}
 use Rattle.std.specs.List.{flat_map}
+use Rattle.std.specs.List.Sorted.{IsNonDecreasingBy, IsPermutation, IsStableByKey, ties}
+use Rattle.std.specs.Ordering.{is_lt, nat_cmp}
+use Rattle.std.proofs.lemmas.Bool.Decides.{nat_tests}
+use Rattle.trace_runner.specs.declared.report.Answer.TheVariants as answer
+use Rattle.trace_runner.specs.declared.report.LineAnswer.{LineAnswer}
 use Rattle.span.specs.declared.receipt.Receipt.{Receipt}
 use Rattle.span.specs.declared.span_log.SpanLog.{SpanLog}
 use Rattle.audit.specs.Agreement.{Agreement}
 use Rattle.audit.specs.History.{HaveHistories}
-use Rattle.thread_runner.specs.Threaded.{IsAuditStop, IsRunStop, IsThreadedReport, TellsAll}
+use Rattle.thread_runner.specs.Threaded.{AreByLine, IsAuditStop, IsRunStop, IsThreadedReport, TellsAll, is_on}
 use Rattle.thread_runner.specs.Told.{Voice, diary_lines, voice_lines, voice_of}
 use Rattle.thread_runner.specs.declared.diary.Diary.{Diary}
 use Rattle.thread_runner.specs.declared.diary.OtherLine.{OtherLine}
 use Rattle.thread_runner.specs.declared.error.ThreadsError.{ThreadsError}
 use Rattle.thread_runner.specs.declared.error.ThreadsError.TheVariants.{OutOfMemory, BadTrace, Doubled, AuditFault, SinkFailed}
+
+-- numbers of which neither is less are equal
+ties-same : (a b : ℕ) → (not (is_lt (nat_cmp a b)) && not (is_lt (nat_cmp b a))) ≡ (b == a)
+ties-same a b = search (arith, nat_tests)
+
+-- a stable sort by line keeps the order of each line's replies
+in_order-stable : (told replies : List LineAnswer) → IsStableByKey (λ (r : LineAnswer). r.line) nat_cmp told replies → (line : ℕ) → filter (is_on line) replies ≡ filter (is_on line) told
+in_order-stable told replies stable line =
+    let one : LineAnswer = record { line = line; answer = answer.Absent } in
+    let same : ties (λ (x y : LineAnswer). is_lt (nat_cmp x.line y.line)) one ≡ is_on line = λ i y. ties-same line y.line i in
+    ap (λ test. filter test replies) (sym same) ∙ stable one ∙ ap (λ test. filter test told) same
+
+-- replies that were sorted by line, with ties in their order, are by line
+pub AreByLine-sorted : (told unsorted replies : List LineAnswer) → told ≡ unsorted → IsPermutation unsorted replies
+    → IsNonDecreasingBy (λ (r : LineAnswer). r.line) replies → IsStableByKey (λ (r : LineAnswer). r.line) nat_cmp unsorted replies → AreByLine told replies
+AreByLine-sorted told unsorted replies same all by_line stable =
+    subst (λ (l : List LineAnswer). AreByLine l replies) (sym same) (record { all = all; by_line = by_line; in_order = in_order-stable unsorted replies stable })
 
 -- the replies of what diaries have are those of the diaries
 pub flat_map-voices : (diaries : List Diary) → flat_map voice_lines (map voice_of diaries) ≡ flat_map diary_lines diaries

@@ -1,7 +1,7 @@
 -- What a replay by threads writes.
-use Rattle.std.specs.Prelude.{◌≡◌, ◌+◌, ◌++◌, ℕ, Bool, true, List, Option, map}
+use Rattle.std.specs.Prelude.{◌≡◌, ◌==◌, ◌+◌, ◌++◌, ℕ, Bool, true, List, Option, filter, map}
 use Rattle.std.specs.List.{flat_map}
-use Rattle.std.specs.List.Sorted.{IsPermutation}
+use Rattle.std.specs.List.Sorted.{IsNonDecreasingBy, IsPermutation}
 use Rattle.std.specs.Io.KnownBytes.{Appends}
 use Rattle.span.specs.declared.receipt.Receipt.{Receipt}
 use Rattle.span.specs.declared.span_log.SpanLog.{SpanLog}
@@ -22,9 +22,23 @@ use Rattle.thread_runner.specs.declared.diary.OtherLine.{OtherLine}
 use Rattle.thread_runner.specs.declared.error.ThreadsError.{ThreadsError}
 use Rattle.thread_runner.specs.declared.error.ThreadsError.TheVariants.{OutOfMemory, BadTrace, Doubled, AuditFault, SinkFailed}
 
--- the replies are all that the threads were told, and those of the adoptions
+-- all that the threads were told, one thread after another, each in the order of its calls, and after that what the adoptions came to
+abbrev pub told_replies : List Voice → List OtherLine → List LineAnswer
+told_replies voices adoptions = flat_map voice_lines voices ++ map other_line adoptions
+
+-- the reply is on the line of that number
+abbrev pub is_on : ℕ → LineAnswer → Bool
+is_on line reply = reply.line == line
+
+-- the replies are these by line, and those of each line in the order in which they were told
+pub record AreByLine (told replies : List LineAnswer) : Type 0 where
+  pub all : IsPermutation told replies
+  pub by_line : IsNonDecreasingBy (λ reply. reply.line) replies
+  pub in_order : (line : ℕ) → filter (is_on line) replies ≡ filter (is_on line) told
+
+-- the replies are all that the threads were told, and those of the adoptions, by line, and within a line in the order of its calls: a thread's line is that thread's alone
 abbrev pub AreReplies : List Voice → List OtherLine → List LineAnswer → Type 0
-AreReplies voices adoptions replies = IsPermutation (flat_map voice_lines voices ++ map other_line adoptions) replies
+AreReplies voices adoptions replies = AreByLine (told_replies voices adoptions) replies
 
 -- the bytes are the report of a run whose receipts agree with the logs of its spans, so that its calls on each span have one history; where replies
 -- are shown, that of each call on a key is what its receipt says

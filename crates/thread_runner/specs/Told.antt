@@ -1,5 +1,6 @@
 -- What the threads of a run were told, as the report tells it.
-use Rattle.std.specs.Prelude.{ℕ, Bool, true, false, if◌then◌else◌, List, [], ◌∷◌, ◌++◌, map, Option, Some, None}
+use Rattle.std.specs.Prelude.{ℕ, Bool, true, false, if◌then◌else◌, List, [], ◌∷◌, ◌++◌, drop, map, take}
+use Rattle.std.specs.List.{flat_map}
 use Rattle.span.specs.declared.key.Key.{Key}
 use Rattle.span.specs.declared.receipt.Call.{Call}
 use Rattle.span.specs.declared.receipt.Call.TheVariants as call
@@ -8,6 +9,8 @@ use Rattle.trace_runner.specs.declared.report.Answer.{Answer}
 use Rattle.trace_runner.specs.declared.report.Answer.TheVariants as answer
 use Rattle.trace_runner.specs.declared.report.LineAnswer.{LineAnswer}
 use Rattle.thread_runner.specs.declared.diary.Diary.{Diary}
+use Rattle.thread_runner.specs.declared.diary.Entry.{Entry}
+use Rattle.thread_runner.specs.declared.diary.Entry.TheVariants as entry
 use Rattle.thread_runner.specs.declared.diary.Other.{Other}
 use Rattle.thread_runner.specs.declared.diary.Other.TheVariants as other
 use Rattle.thread_runner.specs.declared.diary.OtherLine.{OtherLine}
@@ -34,25 +37,9 @@ is_free call.Freed = true
 is_free call.NotFreed = true
 is_free call = false
 
--- the reply that a receipt tells on the line of its number; a free of a key that came in on a ring has no line, and tells nothing
-abbrev pub told_by : Option ℕ → Receipt → List LineAnswer
-told_by (Some line) receipt = call_line line receipt ∷ []
-told_by None receipt = if is_free receipt.call then [] else call_line 0 receipt ∷ []
-
--- the first number
-abbrev pub first_of : List (Option ℕ) → Option ℕ
-first_of [] = None
-first_of (line ∷ lines) = line
-
--- the numbers after the first
-abbrev pub rest_of : List (Option ℕ) → List (Option ℕ)
-rest_of [] = []
-rest_of (line ∷ lines) = lines
-
--- the replies that receipts tell, each on the line whose number stands at its place
-abbrev pub call_lines : List (Option ℕ) → List Receipt → List LineAnswer
-call_lines lines [] = []
-call_lines lines (receipt ∷ receipts) = told_by (first_of lines) receipt ++ call_lines (rest_of lines) receipts
+-- the reply of a receipt that no line asked for; a free of a key that came in on a ring tells nothing
+abbrev pub lineless : Receipt → List LineAnswer
+lineless receipt = if is_free receipt.call then [] else call_line 0 receipt ∷ []
 
 -- what is said of a line that came to something else than a call on a key
 abbrev pub answer_without : Other → Answer
@@ -69,19 +56,35 @@ answer_without (other.Settled count) = answer.Settled count
 abbrev pub other_line : OtherLine → LineAnswer
 other_line told = record { line = told.line; answer = answer_without told.other }
 
--- what a thread was told: its receipts with the numbers of their lines, where they have one, and the others
-pub record Voice : Type 0 where
-  pub lines : List (Option ℕ)
-  pub receipts : List Receipt
-  pub others : List OtherLine
+-- the replies that an entry tells, whose receipts are the first of these
+abbrev pub entry_lines : Entry → List Receipt → List LineAnswer
+entry_lines (entry.Called line) receipts = map (call_line line) (take 1 receipts)
+entry_lines (entry.Incoming count) receipts = flat_map lineless (take count receipts)
+entry_lines (entry.Said told) receipts = other_line told ∷ []
 
--- the replies that a thread was told
+-- the receipts after those of an entry
+abbrev pub receipts_after : Entry → List Receipt → List Receipt
+receipts_after (entry.Called line) receipts = drop 1 receipts
+receipts_after (entry.Incoming count) receipts = drop count receipts
+receipts_after (entry.Said told) receipts = receipts
+
+-- the replies that entries tell, in order, whose receipts these are; what is left of them no line asked for
+abbrev pub told_lines : List Entry → List Receipt → List LineAnswer
+told_lines [] receipts = flat_map lineless receipts
+told_lines (entry ∷ entries) receipts = entry_lines entry receipts ++ told_lines entries (receipts_after entry receipts)
+
+-- what a thread was told, in the order of its calls: its receipts, and where the report tells replies the entries that they belong to
+pub record Voice : Type 0 where
+  pub entries : List Entry
+  pub receipts : List Receipt
+
+-- the replies that a thread was told, in the order of its calls
 abbrev pub voice_lines : Voice → List LineAnswer
-voice_lines voice = call_lines voice.lines voice.receipts ++ map other_line voice.others
+voice_lines voice = told_lines voice.entries voice.receipts
 
 -- what a diary has
 abbrev pub voice_of : Diary → Voice
-voice_of diary = record { lines = diary.lines.items; receipts = diary.receipts.items; others = diary.others.items }
+voice_of diary = record { entries = diary.entries.items; receipts = diary.receipts.items }
 
 abbrev pub diary_lines : Diary → List LineAnswer
 diary_lines diary = voice_lines (voice_of diary)

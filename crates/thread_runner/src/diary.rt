@@ -1,6 +1,8 @@
 // What a thread was told.
-ghost use Rattle.std.specs.Prelude.{◌≡◌, ◌++◌, OnOk, map};
-ghost use Rattle.thread_runner.specs.Told.{answer_of, call_line, call_lines, diary_lines, first_of, is_free, other_line, rest_of, told_by};
+ghost use Rattle.std.specs.Prelude.{◌≡◌, ◌++◌, IfOk, OnOk, drop, map, take};
+ghost use Rattle.std.specs.List.{flat_map};
+ghost use Rattle.arena.specs.Delays.{HasNoneWaiting};
+ghost use Rattle.thread_runner.specs.Told.{answer_of, call_line, diary_lines, entry_lines, is_free, lineless, other_line, receipts_after, told_lines};
 
 use arena::{Arena, Gate, Seat};
 use span::{Call, Receipt, SpanId};
@@ -38,18 +40,26 @@ pub struct OtherLine {
     pub other: Other,
 }
 
-/// What a thread was told: the receipts of its calls on keys, and what its other lines came to.
+/// What a diary keeps of a call on a line, or of keys that came in, beside the receipts.
+#[derive(Clone, Copy, Debug, PartialEq, Eq)]
+pub enum Entry {
+    /// A call on a key, on the line of that number. Its receipt is the next.
+    Called(usize),
+    /// Frees of that many keys that came in on the rings. Their receipts are the next, and have no replies of their own.
+    Incoming(usize),
+    /// What a line came to other than by a call on a key.
+    Said(OtherLine),
+}
+
+/// What a thread was told, in the order of its calls.
 #[derive(Drop)]
 pub(crate) struct Diary {
     /// Whether the report has replies.
     replies: bool,
     /// The receipts of all calls on keys, in order.
     receipts: Vec<Receipt>,
-    /// Of each of them the number of its line, where the report has replies; none for a key that came in on a ring, whose
-    /// free has no reply of its own.
-    lines: Vec<Option<usize>>,
-    /// What the other lines came to, where the report has replies.
-    others: Vec<OtherLine>,
+    /// What it was told, in order, where the report has replies.
+    entries: Vec<Entry>,
     /// How many replies there are.
     calls: usize,
 }
@@ -60,25 +70,30 @@ impl Diary {
         Diary {
             replies,
             receipts: Vec::new(alloc),
-            lines: Vec::new(alloc),
-            others: Vec::new(alloc),
+            entries: Vec::new(alloc),
             calls: 0,
         }
     }
 
-    /// Makes room for the receipts of that many calls.
+    /// Makes room for what that many calls are told.
     pub(crate) fn reserve(&mut self, calls: usize) -> Result<(), AllocError> {
         if self.replies {
-            self.lines.reserve(calls)?;
+            self.entries.reserve(calls)?;
         }
         self.receipts.reserve(calls)
     }
 
+    // Keeps an entry, where the report has replies.
+    fn note(&mut self, entry: Entry) -> Result<(), AllocError> {
+        if self.replies {
+            self.entries.push(entry)?;
+        }
+        Ok(())
+    }
+
     /// Keeps the receipt of a call on the line of that number.
     pub(crate) fn keep(&mut self, line: usize, receipt: Receipt) -> Result<(), AllocError> {
-        if self.replies {
-            self.lines.push(Some(line))?;
-        }
+        self.note(Entry::Called(line))?;
         self.receipts.push(receipt)?;
         self.calls = self.calls.saturating_add(1);
         Ok(())
@@ -86,9 +101,7 @@ impl Diary {
 
     /// Keeps what the line of that number came to other than by a call on a key.
     pub(crate) fn keep_other(&mut self, line: usize, other: Other) -> Result<(), AllocError> {
-        if self.replies {
-            self.others.push(OtherLine { line, other })?;
-        }
+        self.note(Entry::Said(OtherLine { line, other }))?;
         self.calls = self.calls.saturating_add(1);
         Ok(())
     }
@@ -101,14 +114,11 @@ impl Diary {
         arena: &Arena<G>,
     ) -> Result<usize, AllocError>
         requires { seat.old.limits ≡ arena.now.limits }
-        ensures { seat.new.limits ≡ seat.old.limits }
+        ensures limits { seat.new.limits ≡ seat.old.limits }
+        ensures none { HasNoneWaiting seat.new }
     {
         let count = seat.tend(rt, arena, &mut self.receipts)?;
-        if self.replies {
-            for _ in 0..count {
-                self.lines.push(None)?;
-            }
-        }
+        self.note(Entry::Incoming(count))?;
         Ok(count)
     }
 
@@ -126,20 +136,11 @@ impl Diary {
         self.receipts
     }
 
-    /// Adds a reply for each call on a key.
-    fn push_calls(&self, replies: &mut Vec<LineAnswer>) -> Result<(), AllocError>
-        ensures { OnOk result (replies.new.items ≡ replies.old.items
-            ++ call_lines self.now.lines.items self.now.receipts.items) }
-    {
-        push_calls(replies, self.lines.as_slice(), self.receipts.as_slice())
-    }
-
-    /// Adds all replies, as the report tells them: those of calls on keys, and after them the others.
+    /// Adds all replies, in the order of the calls.
     pub(crate) fn push_replies(&self, replies: &mut Vec<LineAnswer>) -> Result<(), AllocError>
         ensures { OnOk result (replies.new.items ≡ replies.old.items ++ diary_lines self.now) }
     {
-        self.push_calls(replies)?;
-        push_others(replies, self.others.as_slice())
+        push_told(replies, self.entries.as_slice(), self.receipts.as_slice())
     }
 }
 
@@ -173,52 +174,92 @@ fn is_free(receipt: &Receipt) -> bool
     matches!(receipt.call, Call::Freed | Call::NotFreed)
 }
 
-/// Adds the reply of a receipt on the line of that number. A free with no line has none: its key came in on a ring.
+/// Adds the reply of the first of these receipts, if there is one, on the line of that number.
 fn push_call(
     replies: &mut Vec<LineAnswer>,
-    line: Option<usize>,
-    receipt: &Receipt,
-) -> Result<(), AllocError>
-    ensures { OnOk result (replies.new.items ≡ replies.old.items ++ told_by line receipt.now) }
-{
-    match line {
-        Some(line) => replies.push(call_line(line, receipt))?,
-        None => {
-            if !is_free(receipt) {
-                replies.push(call_line(0, receipt))?;
-            }
-        }
-    }
-    Ok(())
-}
-
-/// Adds the replies of receipts, each on the line whose number stands at its place.
-fn push_calls(
-    replies: &mut Vec<LineAnswer>,
-    lines: &[Option<usize>],
+    line: usize,
     receipts: &[Receipt],
 ) -> Result<(), AllocError>
     ensures { OnOk result (replies.new.items ≡ replies.old.items
-        ++ call_lines lines.now receipts.now) }
+        ++ map (call_line line) (take 1 receipts.now)) }
 {
-    let mut left = lines;
-    for receipt in receipts {
-        let (line, rest) = first_line(left);
-        push_call(replies, line, receipt)?;
-        left = rest;
+    if let Some(receipt) = receipts.first() {
+        replies.push(call_line(line, receipt))?;
     }
     Ok(())
 }
 
-/// The first number and those after it.
-fn first_line(lines: &[Option<usize>]) -> (Option<usize>, &[Option<usize>])
-    ensures first { result.0 ≡ first_of lines.now }
-    ensures rest { result.1.now ≡ rest_of lines.now }
+/// Adds the reply of a receipt that no line asked for. That of a free has none: its key came in on a ring.
+fn push_lineless(replies: &mut Vec<LineAnswer>, receipt: &Receipt) -> Result<(), AllocError>
+    ensures { OnOk result (replies.new.items ≡ replies.old.items ++ lineless receipt.now) }
 {
-    match lines {
-        [] => (None, lines),
-        [first, rest @ ..] => (*first, rest),
+    if !is_free(receipt) {
+        replies.push(call_line(0, receipt))?;
     }
+    Ok(())
+}
+
+/// Adds the replies of receipts that no line asked for.
+fn push_all_lineless(replies: &mut Vec<LineAnswer>, receipts: &[Receipt]) -> Result<(), AllocError>
+    ensures { OnOk result (replies.new.items ≡ replies.old.items
+        ++ flat_map lineless receipts.now) }
+{
+    for receipt in receipts {
+        push_lineless(replies, receipt)?;
+    }
+    Ok(())
+}
+
+/// The receipts after the first `count`, and those.
+fn split_receipts(receipts: &[Receipt], count: usize) -> (&[Receipt], &[Receipt])
+    ensures taken { result.0.now ≡ take count receipts.now }
+    ensures left { result.1.now ≡ drop count receipts.now }
+{
+    receipts.split_at(count.min(receipts.len()))
+}
+
+/// Adds the replies of an entry whose receipts are the first of these, and gives those that are left.
+fn push_entry<'a>(
+    replies: &mut Vec<LineAnswer>,
+    entry: &Entry,
+    receipts: &'a [Receipt],
+) -> Result<&'a [Receipt], AllocError>
+    ensures told { OnOk result (replies.new.items ≡ replies.old.items
+        ++ entry_lines entry.now receipts.now) }
+    ensures left { IfOk result (λ left. left.now ≡ receipts_after entry.now receipts.now) }
+{
+    match entry {
+        Entry::Called(line) => {
+            push_call(replies, *line, receipts)?;
+            let (_, left) = split_receipts(receipts, 1);
+            Ok(left)
+        }
+        Entry::Incoming(count) => {
+            let (incoming, left) = split_receipts(receipts, *count);
+            push_all_lineless(replies, incoming)?;
+            Ok(left)
+        }
+        Entry::Said(told) => {
+            replies.push(other_line(told))?;
+            Ok(receipts)
+        }
+    }
+}
+
+/// Adds the replies of entries, in order, whose receipts these are.
+fn push_told(
+    replies: &mut Vec<LineAnswer>,
+    entries: &[Entry],
+    receipts: &[Receipt],
+) -> Result<(), AllocError>
+    ensures { OnOk result (replies.new.items ≡ replies.old.items
+        ++ told_lines entries.now receipts.now) }
+{
+    let mut left = receipts;
+    for entry in entries {
+        left = push_entry(replies, entry, left)?;
+    }
+    push_all_lineless(replies, left)
 }
 
 /// The reply of what a line came to other than by a call on a key.

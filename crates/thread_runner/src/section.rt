@@ -3,12 +3,12 @@ use crate::body::Note;
 use crate::diary::{Diary, OtherLine};
 use crate::error::Halt;
 use crate::keeper::Keeper;
-use crate::worker::{Keys, Text, Worker};
+use crate::worker::{Keys, SentOff, Text, Worker};
 use arena::{Arena, Gate, Seat, Steward};
 use std::alloc::{AllocError, Global};
 use std::sync::Wait;
-use std::thread;
 use std::thread::Threads;
+use std::{mem, thread};
 use trace_runner::{Line, PlanNews};
 
 /// What all sections of a run leave.
@@ -123,6 +123,11 @@ fn text_lines<'a>(text: &'a Text<'a>) -> &'a [Line] {
     text.trace.lines.as_slice()
 }
 
+// How many threads the trace has.
+fn threads_of(text: &Text<'_>) -> u32 {
+    text.trace.header.shards
+}
+
 // The place of the first adoption from one place up to, and without, another, which is that of a mark; or the mark's.
 fn barrier_of(lines: &[Line], from: usize, end: usize) -> usize {
     for place in from..end {
@@ -131,6 +136,42 @@ fn barrier_of(lines: &[Line], from: usize, end: usize) -> usize {
         }
     }
     end
+}
+
+// All workers hand over what their lines left to the threads of shards.
+fn send_off_all<'a, G: Gate>(
+    alloc: Global,
+    workers: Vec<Worker<'a, G>>,
+) -> Result<Vec<SentOff<'a, G>>, AllocError> {
+    let mut sent = Vec::with_capacity(alloc, workers.len())?;
+    for worker in workers {
+        sent.push(worker.sent_off())?;
+    }
+    Ok(sent)
+}
+
+// Frees the keys that are on the rings to the shard of that thread.
+fn settle_thread<'a, G: Gate, R: Wait>(
+    rt: &R,
+    sent: &mut Vec<SentOff<'a, G>>,
+    thread: u32,
+) -> Result<(), AllocError> {
+    for one in sent.iter_mut() {
+        one.settle_as(rt, thread)?;
+    }
+    Ok(())
+}
+
+// The workers, to go on with their lines.
+fn workers_again<'a, G: Gate>(
+    alloc: Global,
+    sent: Vec<SentOff<'a, G>>,
+) -> Result<Vec<Worker<'a, G>>, AllocError> {
+    let mut workers = Vec::with_capacity(alloc, sent.len())?;
+    for one in sent {
+        workers.push(one.into_worker())?;
+    }
+    Ok(workers)
 }
 
 impl<'a, G: Gate + Sync> Crew<'a, G> {
@@ -205,15 +246,15 @@ impl<'a, G: Gate + Sync> Crew<'a, G> {
         Ok(())
     }
 
-    // Frees the keys that wait on all rings, by shard.
+    // Frees the keys that were left to the threads of shards, by shard. All workers hand over before the first tends, so that
+    // no key is left behind at a seat.
     fn settle_rings<R: Wait>(&mut self, rt: &R) -> Result<(), AllocError> {
-        for thread in 0..self.text.trace.header.shards {
-            for worker in self.workers.iter_mut() {
-                if worker.thread() == thread {
-                    worker.settle(rt)?;
-                }
-            }
+        let workers = mem::replace(&mut self.workers, Vec::new(self.alloc));
+        let mut sent = send_off_all(self.alloc, workers)?;
+        for thread in 0..threads_of(self.text) {
+            settle_thread(rt, &mut sent, thread)?;
         }
+        self.workers = workers_again(self.alloc, sent)?;
         Ok(())
     }
 

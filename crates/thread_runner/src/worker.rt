@@ -1,5 +1,6 @@
 // Who runs a thread's lines.
 ghost use Rattle.std.specs.Prelude.{◌≡◌};
+ghost use Rattle.arena.specs.Delays.{HasNoneWaiting};
 
 use crate::diary::{Diary, Other};
 use crate::error::Halt;
@@ -40,6 +41,29 @@ pub(crate) struct Worker<'a, G: Gate> {
     /// Whether it ended in this section, so that its shard is to be abandoned.
     leaves: bool,
     ghost fits: { seat.limits ≡ arena.now.limits },
+}
+
+/// A worker at a barrier that has handed over the keys that its lines left to the threads of shards: none waits at its seat.
+#[derive(Drop)]
+pub(crate) struct SentOff<'a, G: Gate> {
+    worker: Worker<'a, G>,
+    ghost none_waits: { HasNoneWaiting worker.seat },
+}
+
+impl<'a, G: Gate> SentOff<'a, G> {
+    /// Frees the keys that are on the rings to its shard, if its thread is that one: all that were left to it, where all
+    /// workers have sent off theirs.
+    pub(crate) fn settle_as<R: Wait>(&mut self, rt: &R, thread: u32) -> Result<(), AllocError> {
+        if self.worker.thread() != thread {
+            return Ok(());
+        }
+        self.worker.settle(rt)
+    }
+
+    /// The worker, to go on with its lines.
+    pub(crate) fn into_worker(self) -> Worker<'a, G> {
+        self.worker
+    }
 }
 
 impl<'a, G: Gate> Worker<'a, G> {
@@ -238,9 +262,24 @@ impl<'a, G: Gate> Worker<'a, G> {
         self.other(number, Other::Settled(count))
     }
 
-    /// Frees the keys that wait on the rings to its shard, where all workers have come in. No key is sent meanwhile, so one
-    /// look at each ring takes them all.
-    pub(crate) fn settle<R: Wait>(&mut self, rt: &R) -> Result<(), AllocError> {
+    /// Hands over the keys that its lines left to the threads of their shards.
+    pub(crate) fn sent_off(self) -> SentOff<'a, G> {
+        let mut worker = self;
+        worker.send_off();
+        SentOff { worker }
+    }
+
+    fn send_off(&mut self)
+        ensures { HasNoneWaiting self.new.seat }
+    {
+        self.seat.hand_over();
+    }
+
+    // Frees the keys that are on the rings to its shard. Where all workers have come in and sent off theirs, no key is sent
+    // meanwhile, so one look at each ring takes them all.
+    fn settle<R: Wait>(&mut self, rt: &R) -> Result<(), AllocError>
+        ensures { HasNoneWaiting self.new.seat }
+    {
         self.diary.tend(rt, &mut self.seat, self.arena)?;
         Ok(())
     }

@@ -11,7 +11,7 @@ use Rattle.arena_core.specs.State.{CoreState, with_shard}
 use Rattle.arena_core.specs.Step.{CoreStep}
 use Rattle.trace_runner.specs.Recalls.{EndsOne, IsOpen, IsServed, KeepsPlan, KeepsShards, MayCall, ended_at}
 use Rattle.arena_core.specs.declared.event.Event.{Event}
-use Rattle.arena_core.specs.declared.event.Event.TheVariants.{Put, Get, Free, Later, Settle, End, Adopt, Mark, Step, Close}
+use Rattle.arena_core.specs.declared.event.Event.TheVariants.{Put, Get, Free, Later, Settle, End, Retire, Adopt, Mark, Step, Close}
 use Rattle.arena_core.specs.declared.reply.Reply.{Reply}
 use Rattle.arena_core.specs.declared.reply.Reply.TheVariants.{Issued, Found, Freed, Sent, ShardEnded, Adopted, Refused}
 use Rattle.arena_core.specs.declared.reply.Refusal.TheVariants.{OutOfMemory, PagesSpent, Ended, PlanOpen, NothingToAdopt, RingFull, Config}
@@ -85,6 +85,7 @@ KeepsPlan-step old new (Later worker key) (Refused RingFull) may step = KeepsPla
 KeepsPlan-step old new (Later worker key) (Refused Config) may step = KeepsPlan-same old new step.1
 KeepsPlan-step old new (Settle worker shard) reply may step = absurd may
 KeepsPlan-step old new (End shard) reply may step = absurd may
+KeepsPlan-step old new (Retire shard most) reply may step = absurd may
 KeepsPlan-step old new (Adopt shard) (Adopted head) may step =
     let adopted = ap (λ (s : ShardState). s.ended) step.adopts.takes_in.after in
     let keeps = KeepsShards-with_shard old shard step.before step.after step.here adopted in
@@ -129,6 +130,7 @@ IsServed-step old new (Later worker key) (Refused RingFull) may step = tt
 IsServed-step old new (Later worker key) (Refused Config) may step = elim step.0 [ inl outside ↦ omega (arith, may.0, outside) | inr outside ↦ omega (arith, may.1, outside) ]
 IsServed-step old new (Settle worker shard) reply may step = absurd may
 IsServed-step old new (End shard) reply may step = absurd may
+IsServed-step old new (Retire shard most) reply may step = absurd may
 IsServed-step old new (Adopt shard) (Refused Config) may step = omega (arith, may.0.within, step.0)
 IsServed-step old new (Adopt shard) (Refused Ended) may step = has_ended-clash old shard step.0.0 may.0 step.0.1 step.0.2
 IsServed-step old new (Adopt shard) (Refused PlanOpen) may step = clash (sym step.1 ∙ ap is_some may.1)

@@ -13,9 +13,9 @@ use Rattle.trace_runner.specs.News.{News, news_of, with_all_made}
 use Rattle.trace_runner.specs.Runs.{AreSteps, DoLines, IsAnswered, ends_asked, finishing, pairs_left_of, planning_at, rings_asked}
 use Rattle.trace_runner.specs.declared.plans.Plans.{Plans}
 use Rattle.arena_core.specs.declared.event.Event.{Event}
-use Rattle.arena_core.specs.declared.event.Event.TheVariants.{Put, Later, Settle, End, Adopt, Mark, Step, Close}
+use Rattle.arena_core.specs.declared.event.Event.TheVariants.{Put, Later, Settle, End, Retire, Adopt, Mark, Step, Close}
 use Rattle.arena_core.specs.declared.reply.Reply.{Reply}
-use Rattle.arena_core.specs.declared.reply.Reply.TheVariants.{Settled, Marked, Stepped, NoPairLeft, Closed, NoPlan, Refused}
+use Rattle.arena_core.specs.declared.reply.Reply.TheVariants.{Settled, Retired, Marked, Stepped, NoPairLeft, Closed, NoPlan, Refused}
 use Rattle.arena_core.specs.declared.reply.Refusal.TheVariants.{Ended, PlanOpen, TooMany, Config}
 use Rattle.trace_text.specs.declared.line.Line.{Line}
 
@@ -87,13 +87,14 @@ pub record EndsBelow (old : CoreState) (bound : ℕ) (test : ℕ → Bool) (new 
   pub limits : new.limits ≡ old.limits
   pub ended : (number : ℕ) → ended_at new number ≡ ((nat_lt number bound && test number) || ended_at old number)
 
--- the event may be called for a line: its shard is open, or its worker and shard are there, and no plan is where it would be in the way; the barrier alone ends shards, steps and closes
+-- the event may be called for a line: its shard is open, or its worker and shard are there, and no plan is where it would be in the way; the barrier alone ends shards, steps and closes, and no line retires
 abbrev pub MayCall : CoreState → Event → Type 0
 MayCall core (Put shard value) = IsOpen core shard
 MayCall core (Adopt shard) = IsOpen core shard × (core.plan ≡ None)
 MayCall core (Later worker key) = (worker < core.limits.shards) × (key.span.shard < core.limits.shards)
 MayCall core (Settle worker shard) = ⊥
 MayCall core (End shard) = ⊥
+MayCall core (Retire shard most) = ⊥
 MayCall core Mark = ⊥
 MayCall core Step = ⊥
 MayCall core Close = ⊥
@@ -106,6 +107,7 @@ IsServed (Refused PlanOpen) = ⊥
 IsServed (Refused TooMany) = ⊥
 IsServed (Refused Config) = ⊥
 IsServed (Settled key) = ⊥
+IsServed (Retired count) = ⊥
 IsServed (Marked certificate) = ⊥
 IsServed (Stepped abandoned owned step) = ⊥
 IsServed NoPairLeft = ⊥

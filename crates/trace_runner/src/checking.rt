@@ -6,7 +6,7 @@ ghost use Rattle.trace_runner.specs.Verdict.{StopsCheck, WritesVerdict, verdict_
 use crate::fault::CheckError;
 use crate::sink::{Sink, give};
 use crate::writing::push_number;
-use certificate::{Certificate, check, partners, read};
+use certificate::{Certificate, check, partner_count, read};
 use std::alloc::{AllocError, Global};
 
 /// Reads a certificate, checks it, gives the line that says so to `out`, and answers whether it is accepted: whether its
@@ -43,13 +43,13 @@ fn verdict_line(
     if !accepted {
         return Vec::from_slice(alloc, b"rejected\n");
     }
-    let partners = partners(alloc, &certificate.snapshot, &certificate.short)?;
+    let partners = partner_count(&certificate.snapshot, certificate.short.ids());
     let mut line = Vec::from_slice(alloc, b"accepted folds ")?;
     push_number(&mut line, certificate.plan.pairs().len())?;
     line.extend_from_slice(b" short ")?;
     push_number(&mut line, certificate.short.ids().len())?;
     line.extend_from_slice(b" partners ")?;
-    push_number(&mut line, partners.len())?;
+    push_number(&mut line, partners)?;
     line.extend_from_slice(b"\n")?;
     Ok(line)
 }

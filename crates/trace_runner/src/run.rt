@@ -590,6 +590,8 @@ fn answer_to(reply: Reply) -> Result<Answer, AllocError>
         // The others come of events that rings and plans are asked by.
         Reply::Settled(_) | Reply::Marked(_) | Reply::Stepped(..) => unreachable!(),
         Reply::NoPairLeft | Reply::Closed | Reply::NoPlan => unreachable!(),
+        // No line of a trace retires.
+        Reply::Retired(_) => unreachable!(),
     }
 }
 

@@ -1,0 +1,7 @@
+use Rattle.std.proofs.Common.{◌≡◌, ◌++◌, drop}
+use Rattle.thread_runner.specs.Told.{told_lines}
+use Rattle.thread_runner.proofs.diary.push_told.Given as goal
+
+-- what is added and what is left make the whole
+abbrev pub invariant-loop-entry : goal.invariant-loop-entry
+invariant-loop-entry l = l.replies.items ++ told_lines (drop l.entry-index l.entries) l.left ≡ l.fn.replies.items ++ told_lines l.entries l.receipts
