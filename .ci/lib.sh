@@ -22,7 +22,7 @@ find_rt() {
 # A sum of what the program is built from, by name and content: a file that is copied, checked out or removed changes it,
 # whatever its date.
 sum_of_sources() {
-    (cd "$top" && find crates.txt crates \( -name out -o -name must-fail -o -name must-fail-more \) -prune -o -type f -print0 |
+    (cd "$top" && find crates.txt crates \( -name out -o -name 'must-fail*' \) -prune -o -type f -print0 |
         LC_ALL=C sort -z | xargs -0 sha256sum | sha256sum)
 }
 

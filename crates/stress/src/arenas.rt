@@ -6,7 +6,7 @@
 ghost use Rattle.std.specs.Prelude.{◌≡◌, length};
 ghost use Rattle.arena.specs.Seats.{AreLinked};
 
-use abandoned::AdoptError;
+use abandoned::{AdoptError, ReceiveError};
 use arena::{Arena, Gate, NoGate, OpenError, Seat, Stepped, Steward, finish, finish_unsettled};
 use fold::Step;
 use marks::{MarkError, Totals};
@@ -64,7 +64,7 @@ fn put<G: Gate, L: Log, R: Wait>(
     value: u128,
 ) -> Option<Key>
     requires { seat.old.limits ≡ arena.now.limits }
-    ensures { seat.new ≡ seat.old }
+    ensures { seat.new.limits ≡ seat.old.limits }
 {
     let put = match seat.put(rt, arena, value) {
         Err(PutError::OutOfMemory) => seat.put(rt, arena, value),
@@ -78,9 +78,24 @@ fn put<G: Gate, L: Log, R: Wait>(
 
 fn end<G: Gate, L: Log, R: Wait>(rt: &R, arena: &Arena<G, L>, seat: &mut Seat) -> bool
     requires { seat.old.limits ≡ arena.now.limits }
-    ensures { seat.new ≡ seat.old }
+    ensures { seat.new.limits ≡ seat.old.limits }
 {
     seat.end(rt, arena).is_ok() || seat.end(rt, arena).is_ok()
+}
+
+fn retire<G: Gate, L: Log, R: Wait>(
+    rt: &R,
+    arena: &Arena<G, L>,
+    seat: &mut Seat,
+    most: usize,
+) -> Result<usize, ReceiveError>
+    requires { seat.old.limits ≡ arena.now.limits }
+    ensures { seat.new.limits ≡ seat.old.limits }
+{
+    match seat.retire(rt, arena, most) {
+        Err(ReceiveError::OutOfMemory) => seat.retire(rt, arena, most),
+        retired => retired,
+    }
 }
 
 fn adopt<G: Gate, L: Log, R: Wait>(
@@ -89,7 +104,7 @@ fn adopt<G: Gate, L: Log, R: Wait>(
     seat: &mut Seat,
 ) -> Result<SpanId, AdoptError>
     requires { seat.old.limits ≡ arena.now.limits }
-    ensures { seat.new ≡ seat.old }
+    ensures { seat.new.limits ≡ seat.old.limits }
 {
     match seat.adopt(rt, arena) {
         Err(AdoptError::OutOfMemory) => seat.adopt(rt, arena),
@@ -138,7 +153,7 @@ fn get<G: Gate, L: Log, R: Wait>(
     key: &Key,
 ) -> (Option<u128>, usize)
     requires { seat.old.limits ≡ arena.now.limits }
-    ensures { seat.new ≡ seat.old }
+    ensures { seat.new.limits ≡ seat.old.limits }
 {
     let (value, receipt) = seat.get(rt, arena, key);
     (value, receipt.at)
@@ -151,7 +166,7 @@ fn free<G: Gate, L: Log, R: Wait>(
     key: &Key,
 ) -> (bool, usize)
     requires { seat.old.limits ≡ arena.now.limits }
-    ensures { seat.new ≡ seat.old }
+    ensures { seat.new.limits ≡ seat.old.limits }
 {
     let (done, receipt) = seat.free(rt, arena, key);
     (done, receipt.at)
@@ -215,6 +230,68 @@ fn folds_beside_locks(rt: HostRuntime) -> Result<(), Fail> {
     } = two;
     let folded = is_folded(&rt, &arena, &mut first, &mut second, &mut steward);
     assert_eq!(rt; folded, Some(true));
+    Ok(())
+}
+
+// The one group of a running shard is retired, and is folded onto the next that the shard opens: a page goes, and each key is
+// found where it then is.
+fn is_retired<G: Gate, L: Log, R: Wait>(
+    rt: &R,
+    arena: &Arena<G, L>,
+    first: &mut Seat,
+    second: &mut Seat,
+    steward: &mut Steward,
+) -> Option<bool>
+    requires first { first.old.limits ≡ arena.now.limits }
+    requires second { second.old.limits ≡ arena.now.limits }
+    requires steward { steward.old.limits ≡ arena.now.limits }
+{
+    let gone = put(rt, arena, first, 10)?;
+    let kept = put(rt, arena, first, 11)?;
+    let freed = free(rt, arena, first, &gone);
+    let retired = retire(rt, arena, first, 4);
+    let pooled = get(rt, arena, second, &kept);
+    let own = put(rt, arena, first, 7)?;
+    let before = arena.totals(rt);
+    let planned = mark(rt, arena, steward);
+    let refused = retire(rt, arena, first, 4);
+    let stepped = step(rt, arena, steward);
+    let closed = arena.close(rt, steward);
+    let after = arena.totals(rt);
+    let home = get(rt, arena, second, &kept);
+    let few = retire(rt, arena, first, 0);
+    let ended = end(rt, arena, first);
+    let late = retire(rt, arena, first, 4);
+    Some(
+        freed == (true, 2)
+            && retired == Ok(1)
+            && pooled == (Some(11), 3)
+            && before == (Totals { pages: 2, live: 2 })
+            && planned == Ok(1)
+            && refused == Err(ReceiveError::PlanOpen)
+            && stepped == Some(Stepped::Taken(kept.span, own.span, Step::Folded))
+            && closed
+            && after == (Totals { pages: 1, live: 2 })
+            && home == (Some(11), 3)
+            && few == Ok(0)
+            && ended
+            && late == Err(ReceiveError::Ended),
+    )
+}
+
+#[test]
+fn retires_and_folds(rt: HostRuntime) -> Result<(), Fail> {
+    let Some(two) = make_again::<Kept>(rt.alloc()) else {
+        return Err("no arena".into());
+    };
+    let Two {
+        arena,
+        mut first,
+        mut second,
+        mut steward,
+    } = two;
+    let retired = is_retired(&rt, &arena, &mut first, &mut second, &mut steward);
+    assert_eq!(rt; retired, Some(true));
     Ok(())
 }
 
@@ -288,6 +365,15 @@ fn later(seat: &mut Seat, key: Key) -> bool
     ensures { seat.new.limits ≡ seat.old.limits }
 {
     seat.has_shard_of(&key) && seat.free_later(key).is_ok()
+}
+
+// Leaves the key, as `later`, and hands it over.
+fn hand_over(seat: &mut Seat, key: Key) -> bool
+    ensures { seat.new.limits ≡ seat.old.limits }
+{
+    let sent = later(seat, key);
+    seat.hand_over();
+    sent
 }
 
 // How many keys were taken from the rings of the seat's shard.
@@ -370,10 +456,10 @@ fn is_freed_where_it_is<G: Gate, L: Log, R: Wait>(
     let pooled = put(rt, arena, first, 7)?;
     let adopted = put(rt, arena, first, 8)?;
     let ended = end(rt, arena, first);
-    let sent = later(second, pooled);
+    let sent = hand_over(second, pooled);
     let in_pool = tend(rt, arena, first, receipts);
     let head = adopt(rt, arena, second);
-    let sent_again = later(second, adopted);
+    let sent_again = hand_over(second, adopted);
     let not_there = tend(rt, arena, second, receipts);
     let in_shard = tend(rt, arena, first, receipts);
     let gone = get(rt, arena, second, &adopted);
@@ -405,6 +491,72 @@ fn frees_later(rt: HostRuntime) -> Result<(), Fail> {
     let once = is_freed_once(&rt, &arena, &mut first, &mut second, &mut receipts);
     let there = is_freed_where_it_is(&rt, &arena, &mut first, &mut second, &mut receipts);
     assert_eq!(rt; (once, there), (Some(true), Some(true)));
+    Ok(())
+}
+
+// So many look-ups of the key.
+fn look_up<G: Gate, L: Log, R: Wait>(
+    rt: &R,
+    arena: &Arena<G, L>,
+    seat: &mut Seat,
+    key: &Key,
+    times: u32,
+)
+    requires { seat.old.limits ≡ arena.now.limits }
+    ensures { seat.new.limits ≡ seat.old.limits }
+{
+    for _ in 0..times {
+        seat.get(rt, arena, key);
+    }
+}
+
+// A key that waits for its block to be full is seen after 64 further calls of its seat, and no earlier; or once the seat goes
+// on to the next section, ends its shard, or is let go.
+fn is_seen_in_time<G: Gate, L: Log, R: Wait>(
+    rt: &R,
+    arena: &Arena<G, L>,
+    first: &mut Seat,
+    second: Seat,
+    receipts: &mut Vec<Receipt>,
+) -> Option<[usize; 5]>
+    requires first { first.old.limits ≡ arena.now.limits }
+    requires second { second.limits ≡ arena.now.limits }
+{
+    let mut second = second;
+    let key = put(rt, arena, first, 5)?;
+    later(&mut second, key);
+    look_up(rt, arena, &mut second, &key, 63);
+    let early = tend(rt, arena, first, receipts)?;
+    look_up(rt, arena, &mut second, &key, 1);
+    let in_time = tend(rt, arena, first, receipts)?;
+    later(&mut second, key);
+    if second.section() == 0 {
+        second.next_section();
+    }
+    let next = tend(rt, arena, first, receipts)?;
+    later(&mut second, key);
+    end(rt, arena, &mut second);
+    let ended = tend(rt, arena, first, receipts)?;
+    later(&mut second, key);
+    drop(second);
+    let dropped = tend(rt, arena, first, receipts)?;
+    Some([early, in_time, next, ended, dropped])
+}
+
+#[test]
+fn sees_a_key_in_time(rt: HostRuntime) -> Result<(), Fail> {
+    let Some(two) = make_again::<Counted>(rt.alloc()) else {
+        return Err("no arena".into());
+    };
+    let Two {
+        arena,
+        mut first,
+        second,
+        ..
+    } = two;
+    let mut receipts = Vec::new(rt.alloc());
+    let seen = is_seen_in_time(&rt, &arena, &mut first, second, &mut receipts);
+    assert_eq!(rt; seen, Some([0, 1, 1, 1, 1]));
     Ok(())
 }
 

@@ -21,6 +21,14 @@ mod arenas;
 #[cfg(test)]
 mod audits;
 #[cfg(test)]
+mod gates;
+#[cfg(test)]
+mod held;
+#[cfg(test)]
+mod places;
+#[cfg(test)]
+mod rooms;
+#[cfg(test)]
 mod runs;
 #[cfg(test)]
 mod sections;

@@ -1,4 +1,7 @@
 // A whole run: the sections of all workers, the steward's marks, and the audit.
+ghost use Rattle.std.specs.Prelude.{All};
+ghost use Rattle.arena.specs.Delays.{HasNoneWaiting};
+
 use crate::steward::{Keeper, Marks};
 use crate::worker::{Trouble, Worker};
 use arena::{Arena, NoGate, Seat, finish_unsettled};
@@ -38,6 +41,8 @@ pub struct Told {
     pub ended: usize,
     /// How many groups were adopted.
     pub adopted: usize,
+    /// How many groups of running shards were retired.
+    pub retired: usize,
     /// How many keys were left to the threads of their shards.
     pub sent: usize,
     /// How many of them these took from their rings.
@@ -114,13 +119,30 @@ fn section<'a, R: Threads + Wait + Sync>(
     }
 }
 
-// Frees the keys that are left in the rings, when no worker runs any more.
-fn tend_all<R: Wait>(rt: &R, workers: &mut [Worker<'_>]) {
+// Hands over what the workers left to each other's threads.
+fn hand_over_all(workers: &mut [Worker<'_>])
+    ensures { All (λ worker. HasNoneWaiting worker.seat) workers.new }
+{
+    for index in 0..workers.len() {
+        workers[index].hand_over();
+    }
+}
+
+// Frees the keys that are on the rings: all that were sent, since none waits at a seat.
+fn tend_handed_over<R: Wait>(rt: &R, workers: &mut [Worker<'_>])
+    requires { All (λ worker. HasNoneWaiting worker.seat) workers.old }
+{
     for worker in workers.iter_mut() {
         if let Err(trouble) = worker.tend(rt) {
             worker.trouble = Some(trouble);
         }
     }
+}
+
+// Frees the keys that were left to the threads of shards, when no worker runs any more.
+fn tend_all<R: Wait>(rt: &R, workers: &mut [Worker<'_>]) {
+    hand_over_all(workers);
+    tend_handed_over(rt, workers);
 }
 
 // How many keys were left to the threads of their shards, and how many these took.
@@ -134,15 +156,17 @@ fn deferred_of(workers: &[Worker<'_>]) -> (usize, usize) {
     (sent, taken)
 }
 
-// How many shards were ended, and how many groups adopted.
-fn moves_of(workers: &[Worker<'_>]) -> (usize, usize) {
+// How many shards were ended, and how many groups adopted and retired.
+fn moves_of(workers: &[Worker<'_>]) -> (usize, usize, usize) {
     let mut ended = 0usize;
     let mut adopted = 0usize;
+    let mut retired = 0usize;
     for worker in workers {
         ended = ended.saturating_add(usize::from(worker.has_ended));
         adopted = adopted.saturating_add(worker.adopted);
+        retired = retired.saturating_add(worker.retired);
     }
-    (ended, adopted)
+    (ended, adopted, retired)
 }
 
 // The workers' seats, and their receipts, a list for each.
@@ -194,7 +218,7 @@ pub fn run<R: Threads + Wait + Sync>(
     tend_all(rt, workers.as_mut_slice());
     let marks = keeper.marks;
     let trouble = trouble_of(workers.as_slice());
-    let (ended, adopted) = moves_of(workers.as_slice());
+    let (ended, adopted, retired) = moves_of(workers.as_slice());
     let (sent, taken) = deferred_of(workers.as_slice());
     let (seats, lists) = taken_apart(alloc, workers)?;
     drop(keeper);
@@ -207,6 +231,7 @@ pub fn run<R: Threads + Wait + Sync>(
         marks,
         ended,
         adopted,
+        retired,
         sent,
         taken,
         verdict,

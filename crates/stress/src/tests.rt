@@ -29,8 +29,9 @@ fn summary(told: &Told) -> (Option<Trouble>, Result<(), AuditError>, [usize; 4])
 fn marks_between_sections(rt: HostRuntime) -> Result<(), Fail> {
     let told = run(&rt, rt.alloc(), Turn::Between)?;
     assert_eq!(rt; summary(&told), wanted(10));
-    // Nobody is in the way of an end, and the first plan always finds groups that fit.
-    let came = (told.ended, told.marks.folded > 0, all_taken(&told));
+    // Nobody is in the way of an end or a retirement, and the first plan always finds groups that fit.
+    let moved = told.retired > 0 && told.marks.folded > 0;
+    let came = (told.ended, moved, all_taken(&told));
     assert_eq!(rt; came, (4, true, true));
     Ok(())
 }

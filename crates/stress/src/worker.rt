@@ -1,5 +1,6 @@
 // A worker of a run.
 ghost use Rattle.std.specs.Prelude.{◌≡◌};
+ghost use Rattle.arena.specs.Delays.{HasNoneWaiting};
 
 use abandoned::{AdoptError, ReceiveError};
 use arena::{Arena, NoGate, Seat};
@@ -42,6 +43,8 @@ pub struct Worker<'a> {
     pub has_ended: bool,
     /// How many groups it adopted.
     pub adopted: usize,
+    /// How many groups of its shard it retired.
+    pub retired: usize,
     /// How many keys it left to the threads of their shards.
     pub sent: usize,
     /// How many keys it took from the rings of its shard.
@@ -66,6 +69,7 @@ impl<'a> Worker<'a> {
             receipts: Vec::new(alloc),
             has_ended: false,
             adopted: 0,
+            retired: 0,
             sent: 0,
             taken: 0,
             trouble: None,
@@ -90,13 +94,17 @@ impl<'a> Worker<'a> {
         }
     }
 
-    // One call: mostly puts at first, and then frees until few keys are left. Now and then it tends its rings. From the second section on, workers of even number
-    // adopt near its start; each other worker ends its shard late in the section of its number. So what the first mark finds is
-    // the same in each run: the groups of the shard that ended, in the pool.
+    // One call: mostly puts at first, and then frees until few keys are left. Now and then it tends its rings. From the second
+    // section on, workers of even number adopt near its start; each other worker ends its shard late in the section of its
+    // number. In the middle of every second section each retires two groups. So what the first mark finds is the same in each
+    // run: the groups of the shard that ended, in the pool.
     fn call<R: Wait>(&mut self, rt: &R, old: &[Key], turn: usize) -> Result<(), Trouble> {
         let is_even = self.seat.worker() % 2 == 0;
         if turn == 10 && is_even && self.seat.section() > 1 {
             return self.adopt(rt);
+        }
+        if turn == 500 && self.seat.section() % 2 == 0 {
+            return self.retire(rt);
         }
         if turn == 900 && !is_even && self.seat.section() == self.seat.worker() as u64 {
             return self.end(rt);
@@ -173,8 +181,17 @@ impl<'a> Worker<'a> {
         Ok(())
     }
 
+    /// Hands over the keys that it left to the threads of their shards.
+    pub fn hand_over(&mut self)
+        ensures { HasNoneWaiting self.new.seat }
+    {
+        self.seat.hand_over();
+    }
+
     /// Frees the keys that came in for its shard.
-    pub fn tend<R: Wait>(&mut self, rt: &R) -> Result<(), Trouble> {
+    pub fn tend<R: Wait>(&mut self, rt: &R) -> Result<(), Trouble>
+        ensures { HasNoneWaiting self.new.seat }
+    {
         let taken = self.seat.tend(rt, self.arena, &mut self.receipts)?;
         self.taken = self.taken.saturating_add(taken);
         Ok(())
@@ -187,6 +204,18 @@ impl<'a> Worker<'a> {
             Err(ReceiveError::Ended | ReceiveError::PlanOpen) => Ok(()),
             Ok(()) => {
                 self.has_ended = true;
+                Ok(())
+            }
+        }
+    }
+
+    fn retire<R: Wait>(&mut self, rt: &R) -> Result<(), Trouble> {
+        match self.seat.retire(rt, self.arena, 2) {
+            Err(ReceiveError::OutOfMemory) => Err(Trouble::OutOfMemory),
+            Err(ReceiveError::Doubled) => Err(Trouble::Doubled),
+            Err(ReceiveError::Ended | ReceiveError::PlanOpen) => Ok(()),
+            Ok(count) => {
+                self.retired = self.retired.saturating_add(count);
                 Ok(())
             }
         }
