@@ -1,4 +1,5 @@
 mod Counts
+mod Crowded
 mod Columns
 mod Words
 pub mod Rows

@@ -1,6 +1,6 @@
 -- Many sets as a row of bits for each slot. No public clause cites this module.
-use Rattle.std.specs.Prelude.{ℕ, ◌≡◌, ◌<◌, ◌≤◌, ◌*◌, ◌+◌, ◌/◌, Bool, true, false, not, List, length, take, drop, slice_index_or}
-use Rattle.std.specs.FinSet.{contains}
+use Rattle.std.specs.Prelude.{ℕ, ◌≡◌, ◌<◌, ◌≤◌, ◌*◌, ◌+◌, ◌/◌, Bool, true, false, not, List, length, take, drop, slice_index, slice_index_or}
+use Rattle.std.specs.FinSet.{contains, len}
 use Rattle.std.specs.List.{list_all}
 use Rattle.bitmap.specs.Slots.{SlotSet, has_bit}
 use Rattle.lane_kernels.specs.Planes.{column}
@@ -28,6 +28,11 @@ pub record IsFull (sets : List SlotSet) (row : List ℕ) : Type 0 where
   pub width : length row ≡ width_of (length sets)
   pub bits : (j : ℕ) → j < length sets → has_bit row j ≡ true
   pub rest : (j : ℕ) → length sets ≤ j → has_bit row j ≡ false
+
+-- a number for each 64 sets, of which each has so many slots at least
+pub record AreFewest (sets : List SlotSet) (fewest : List ℕ) : Type 0 where
+  pub width : length fewest ≡ width_of (length sets)
+  pub each : (j : ℕ) (d : SlotSet) → j < length sets → slice_index fewest (j / 64) ≤ len (slice_index_or sets j d)
 
 -- whether bit j is in no row of these slots
 abbrev pub survives : ℕ → List ℕ → ℕ → List ℕ → Bool

@@ -1,9 +1,12 @@
 // Rows of disjointness over four rows of words, 64 columns at a time.
 ghost use Rattle.std.specs.Prelude.{◌≡◌, ℕ, ◌+◌, ◌-◌, ◌*◌, ◌/◌, ◌%◌, ◌^◌, ◌<◌, ◌≤◌, if◌then◌else◌, length, min, slice_index};
 ghost use Rattle.std.specs.FinSet as set;
-ghost use Rattle.bitmap.specs.Slots.{slots_of_words};
+ghost use Rattle.std.specs.FinSet.{len};
+ghost use Rattle.bitmap.specs.Slots.{AreWords, slots_of_words};
+ghost use Rattle.bitmap.specs.declared.bits.TheConstants.{SLOTS};
 ghost use Rattle.lane_kernels.specs.Planes.{column, is_apart, ones_of, word_of};
 
+use bitmap::SLOTS;
 use std::simd::Simd;
 use std::simd::prelude::*;
 
@@ -85,6 +88,67 @@ fn next_word(set: &[u64; 4], p: &[u64], q: &[u64], r: &[u64], s: &[u64], at: usi
     } else {
         tail_at(set, p, q, r, s, at, left)
     }
+}
+
+// As [`fill_row`], where each of the 64 columns of a word has at least as many slots as `fewest` says of that word.
+pub(crate) fn fill_row_by_counts(
+    set: &[u64; 4],
+    count: usize,
+    p: &[u64],
+    q: &[u64],
+    r: &[u64],
+    s: &[u64],
+    fewest: &[usize],
+    row: &mut [u64],
+)
+    requires set { AreWords set.now }
+    requires count { count ≡ len (slots_of_words set.now) }
+    requires at_most { count ≤ SLOTS }
+    requires q { length q.now ≡ length p.now }
+    requires r { length r.now ≡ length p.now }
+    requires s { length s.now ≡ length p.now }
+    requires row { length row.old ≡ (length p.now + 63) / 64 }
+    requires wide { length fewest.now ≡ length row.old }
+    requires fewest { (j : ℕ) → j < length p.now → slice_index fewest.now (j / 64)
+        ≤ len (slots_of_words (column p.now q.now r.now s.now j)) }
+    ensures columns { (j : ℕ) → j < length p.now → slice_index row.new (j / 64) / 2 ^ (j % 64) % 2
+        ≡ (if is_apart set.now p.now q.now r.now s.now j then 1 else 0) }
+    ensures rest { (j : ℕ) → length p.now ≤ j → j < 64 * length row.new
+        → slice_index row.new (j / 64) / 2 ^ (j % 64) % 2 ≡ 0 }
+{
+    for w in 0..row.len() {
+        row[w] = next_word_by_counts(set, count, p, q, r, s, fewest[w], 64 * w);
+    }
+}
+
+// The bits of the next 64 columns, or of those that are left, where each of these has at least `fewest` slots. Where that is more than
+// the set leaves free, each of them shares a slot with the set.
+fn next_word_by_counts(
+    set: &[u64; 4],
+    count: usize,
+    p: &[u64],
+    q: &[u64],
+    r: &[u64],
+    s: &[u64],
+    fewest: usize,
+    at: usize,
+) -> u64
+    requires set { AreWords set.now }
+    requires count { count ≡ len (slots_of_words set.now) }
+    requires at_most { count ≤ SLOTS }
+    requires at { at ≤ length p.now }
+    requires q { length q.now ≡ length p.now }
+    requires r { length r.now ≡ length p.now }
+    requires s { length s.now ≡ length p.now }
+    requires fewest { (j : ℕ) → at ≤ j → j < at + 64 → j < length p.now
+        → fewest ≤ len (slots_of_words (column p.now q.now r.now s.now j)) }
+    ensures { result ≡ word_of (is_apart set.now p.now q.now r.now s.now) at
+        (min 64 (length p.now - at)) }
+{
+    if fewest > SLOTS - count {
+        return 0;
+    }
+    next_word(set, p, q, r, s, at)
 }
 
 // How many bits the words of each column have.

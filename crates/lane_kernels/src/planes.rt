@@ -4,10 +4,10 @@ ghost use Rattle.std.specs.FinSet as set;
 ghost use Rattle.bitmap.specs.Slots.{has_bit};
 ghost use Rattle.lane_kernels.specs.Disjoint.{fits};
 ghost use Rattle.lane_kernels.specs.Planes.{IsUnionOf, sets_of};
-ghost use Rattle.lane_kernels.specs.Rows.{AreSlotRows};
+ghost use Rattle.lane_kernels.specs.Rows.{AreFewest, AreSlotRows};
 
 use crate::by_slots::rows_of;
-use crate::kernel::{count_columns, fill_row};
+use crate::kernel::{count_columns, fill_row, fill_row_by_counts};
 use bitmap::Bits256;
 use std::alloc::{AllocError, Global};
 use std::marker::Model;
@@ -100,6 +100,25 @@ impl Planes {
             &self.second,
             &self.third,
             &self.fourth,
+            row,
+        );
+    }
+
+    // As [`Planes::disjoint_row`], where each of the 64 sets of a word has at least as many slots as `fewest` says of that word.
+    pub(crate) fn disjoint_row_by_counts(&self, set: &Bits256, fewest: &[usize], row: &mut [u64])
+        requires row { length row.old ≡ (length self.now + 63) / 64 }
+        requires fewest { AreFewest self.now fewest.now }
+        ensures len { length row.new ≡ length row.old }
+        ensures bits { (j : ℕ) → has_bit row.new j ≡ fits set.now (slice_get self.now j) }
+    {
+        fill_row_by_counts(
+            &set.words(),
+            set.count() as usize,
+            &self.first,
+            &self.second,
+            &self.third,
+            &self.fourth,
+            fewest,
             row,
         );
     }

@@ -3,11 +3,11 @@ ghost use Rattle.std.specs.Prelude.{◌≡◌, ◌==◌, ℕ, ◌+◌, ◌/◌, 
 ghost use Rattle.std.specs.List.{list_any};
 ghost use Rattle.bitmap.specs.Slots.{has_bit};
 ghost use Rattle.lane_kernels.specs.Disjoint.{are_disjoint, fits};
-ghost use Rattle.lane_kernels.specs.Rows.{AreSlotRows, IsFull, width_of};
+ghost use Rattle.lane_kernels.specs.Rows.{AreFewest, AreSlotRows, IsFull, width_of};
 
 use crate::by_slots::take_off_all;
 use crate::planes::Planes;
-use bitmap::Bits256;
+use bitmap::{Bits256, SLOTS};
 use std::alloc::{AllocError, Global};
 use std::marker::Model;
 
@@ -24,12 +24,14 @@ pub struct SlotRows {
     rows: Vec<u64>,
     // The row of a set that is disjoint from all.
     full: Vec<u64>,
+    // The least number of slots that one of the 64 sets of each word of a row has.
+    fewest: Vec<usize>,
 }
 
 impl Model for SlotRows {
     ghost use Rattle.std.specs.Prelude.{List};
     ghost use Rattle.bitmap.specs.Slots.{SlotSet};
-    ghost use Rattle.lane_kernels.specs.Rows.{AreSlotRows, IsFull};
+    ghost use Rattle.lane_kernels.specs.Rows.{AreFewest, AreSlotRows, IsFull};
     ghost use Rattle.std.specs.Coded.{coded_list, coded_ℕ};
     ghost use Rattle.std.specs.FinSet as set;
 
@@ -40,18 +42,25 @@ impl Model for SlotRows {
     ghost view = { λ r. r.planes };
 
     ghost invariant = { λ r.
-        AreSlotRows r.planes r.rows.items × IsFull r.planes r.full.items };
+        AreSlotRows r.planes r.rows.items × IsFull r.planes r.full.items
+        × AreFewest r.planes r.fewest.items };
 }
 
 impl SlotRows {
-    /// The rows of these sets: 32 bytes a set, and 8 bytes more for each slot and for each 64 sets. The error means that memory
+    /// The rows of these sets: 40 bytes a set, and 8 bytes more for each slot and for each 64 sets. The error means that memory
     /// ran out.
     pub fn of(alloc: Global, planes: Planes) -> Result<SlotRows, AllocError>
         ensures { IfOk result (λ rows. rows ≡ planes) }
     {
         let rows = planes.slot_rows(alloc)?;
         let full = full_row(alloc, &planes)?;
-        Ok(SlotRows { planes, rows, full })
+        let fewest = fewest_of(alloc, &planes)?;
+        Ok(SlotRows {
+            planes,
+            rows,
+            full,
+            fewest,
+        })
     }
 
     /// How many sets there are.
@@ -68,14 +77,15 @@ impl SlotRows {
         self.planes.row_words()
     }
 
-    /// Writes the row that [`Planes::disjoint_row`] writes. A set of more slots than [`MOST_BY_SLOTS`] goes by the sets' words.
+    /// Writes the row that [`Planes::disjoint_row`] writes. A set of more slots than [`MOST_BY_SLOTS`] goes by the sets' words, but
+    /// for those 64 sets of which each has so many that it must share one of the 256 slots.
     pub fn disjoint_row(&self, set: &Bits256, row: &mut [u64])
         requires { length row.old ≡ (length self.now + 63) / 64 }
         ensures len { length row.new ≡ length row.old }
         ensures bits { (j : ℕ) → has_bit row.new j ≡ fits set.now (slice_get self.now j) }
     {
         if set.count() > MOST_BY_SLOTS {
-            self.planes.disjoint_row(set, row);
+            self.planes.disjoint_row_by_counts(set, &self.fewest, row);
             return;
         }
         write_row(set, &self.planes, &self.rows, &self.full, row);
@@ -106,6 +116,19 @@ fn fill_full(planes: &Planes, row: &mut [u64])
     ensures { IsFull planes.now row.new }
 {
     planes.disjoint_row(&Bits256::empty(), row);
+}
+
+// The least number of slots of one of the 64 sets of each word of a row.
+fn fewest_of(alloc: Global, planes: &Planes) -> Result<Vec<usize>, AllocError>
+    ensures { IfOk result (λ fewest. AreFewest planes.now fewest.items) }
+{
+    let mut counts = vec![in alloc; 0; planes.len()]?;
+    planes.count_all(&mut counts);
+    let mut fewest = vec![in alloc; SLOTS; planes.row_words()]?;
+    for j in 0..counts.len() {
+        fewest[j / 64] = fewest[j / 64].min(counts[j] as usize);
+    }
+    Ok(fewest)
 }
 
 // Writes the full row without the rows of the set's slots.
