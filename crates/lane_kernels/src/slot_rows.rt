@@ -47,8 +47,8 @@ impl Model for SlotRows {
 }
 
 impl SlotRows {
-    /// The rows of these sets: 40 bytes a set, and 8 bytes more for each slot and for each 64 sets. The error means that memory
-    /// ran out.
+    /// The rows of these sets: 32 bytes a set, and for each 64 sets 8 bytes more for each slot; beside them 4 bytes a set while they
+    /// are made. The error means that memory ran out.
     pub fn of(alloc: Global, planes: Planes) -> Result<SlotRows, AllocError>
         ensures { IfOk result (λ rows. rows ≡ planes) }
     {
