@@ -11,3 +11,8 @@ pub use crate::core::{Core, Drain, Limits, Marked, Stepped};
 pub use names::{Group, Key};
 pub use refused::Refused;
 pub use slab::Slab;
+
+/// The front page's lines of Rust, so that they are tests.
+#[cfg(doctest)]
+#[doc = include_str!("../../README.md")]
+struct FrontPage;

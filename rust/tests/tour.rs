@@ -1,4 +1,4 @@
-//! The tours of the repository's README, from Rust.
+//! The tours of `docs/TOUR.md` and `docs/CALLING.md`, from Rust.
 
 use std::sync::Mutex;
 use std::thread;
