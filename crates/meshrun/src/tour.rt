@@ -1,4 +1,4 @@
-//! The library's lines of the README. What a test owns is let go at each exit, so the lines with most exits stand in functions
+//! The lines to begin with of `docs/CALLING.md`. What a test owns is let go at each exit, so the lines with most exits stand in functions
 //! that are lent it.
 use abandoned::Pool;
 use arena_core::{Core, Event, Reply};
