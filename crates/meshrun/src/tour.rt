@@ -1,5 +1,5 @@
-//! The lines to begin with of `docs/CALLING.md`. What a test owns is let go at each exit, so the lines with most exits stand in functions
-//! that are lent it.
+//! The lines to begin with of `docs/CALLING.md`. What a test owns is let go at each exit, so the
+//! lines with most exits stand in functions that are lent it.
 use abandoned::Pool;
 use arena_core::{Core, Event, Reply};
 use bitmap::Bits256;
