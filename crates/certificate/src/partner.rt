@@ -25,7 +25,7 @@ pub fn partners(
 {
     let chosen = IdSet::of(short.ids());
     let planes = planes_of(alloc, snapshot.abandoned(), &chosen)?;
-    let members = SlotRows::of(alloc, planes)?;
+    let members = SlotRows::of(alloc, planes, snapshot.owned().len())?;
     let found = partners_among(alloc, &members, snapshot.owned())?;
     Ok(found)
 }

@@ -30,7 +30,7 @@
 //! ```
 //! let mut planes = Planes::new(alloc);
 //! planes.push(&owned)?;
-//! let rows = SlotRows::of(alloc, planes)?;
+//! let rows = SlotRows::of(alloc, planes, 1)?;
 //! let mut row = vec![in alloc; 0; rows.row_words()]?;
 //! rows.disjoint_row(&abandoned, &mut row); // bit 0 of row[0]: no slot is in both
 //! ```
@@ -42,4 +42,4 @@ mod planes;
 mod slot_rows;
 
 pub use planes::Planes;
-pub use slot_rows::{MOST_BY_SLOTS, SlotRows};
+pub use slot_rows::{LEAST_BY_SLOTS, MOST_BY_SLOTS, SlotRows};

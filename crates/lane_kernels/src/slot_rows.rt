@@ -1,5 +1,5 @@
 // Sets as a row of bits for each slot.
-ghost use Rattle.std.specs.Prelude.{◌≡◌, ◌==◌, ℕ, ◌+◌, ◌/◌, ◌^◌, ◌<◌, not, IfOk, length, slice_get, slice_index};
+ghost use Rattle.std.specs.Prelude.{◌≡◌, ◌==◌, ℕ, ◌+◌, ◌/◌, ◌^◌, ◌<◌, not, IfOk, IfSome, length, slice_get, slice_index};
 ghost use Rattle.std.specs.List.{list_any};
 ghost use Rattle.bitmap.specs.Slots.{has_bit};
 ghost use Rattle.lane_kernels.specs.Disjoint.{are_disjoint, fits};
@@ -14,14 +14,17 @@ use std::marker::Model;
 /// Up to how many slots of a set their rows take fewer steps than the words of all sets side by side.
 pub const MOST_BY_SLOTS: u32 = 190;
 
+/// From how many rows on it is less to lay the sets out by slots than to go by their words for each.
+pub const LEAST_BY_SLOTS: usize = 200;
+
 /// A list of sets as a row of bits for each of the 256 slots: bit j of the row of slot s says whether set j has s. A set is
 /// disjoint from those that are in none of its slots' rows, so what is told of it and all the others takes a step for each of its
 /// slots and each 64 sets, and not for each set.
 #[derive(Drop)]
 pub struct SlotRows {
     planes: Planes,
-    // One after another.
-    rows: Vec<u64>,
+    // One after another; none where few rows are asked for.
+    rows: Option<Vec<u64>>,
     // The row of a set that is disjoint from all.
     full: Vec<u64>,
     // The least number of slots that one of the 64 sets of each word of a row has.
@@ -29,7 +32,7 @@ pub struct SlotRows {
 }
 
 impl Model for SlotRows {
-    ghost use Rattle.std.specs.Prelude.{List};
+    ghost use Rattle.std.specs.Prelude.{IfSome, List};
     ghost use Rattle.bitmap.specs.Slots.{SlotSet};
     ghost use Rattle.lane_kernels.specs.Rows.{AreFewest, AreSlotRows, IsFull};
     ghost use Rattle.std.specs.Coded.{coded_list, coded_ℕ};
@@ -42,17 +45,21 @@ impl Model for SlotRows {
     ghost view = { λ r. r.planes };
 
     ghost invariant = { λ r.
-        AreSlotRows r.planes r.rows.items × IsFull r.planes r.full.items
-        × AreFewest r.planes r.fewest.items };
+        IfSome r.rows (λ rows. AreSlotRows r.planes rows.items)
+        × IsFull r.planes r.full.items × AreFewest r.planes r.fewest.items };
 }
 
 impl SlotRows {
-    /// The rows of these sets: 32 bytes a set, and for each 64 sets 8 bytes more for each slot; beside them 4 bytes a set while they
-    /// are made. The error means that memory ran out.
-    pub fn of(alloc: Global, planes: Planes) -> Result<SlotRows, AllocError>
+    /// The rows of these sets, of which so many will be asked for: 32 bytes a set; from [`LEAST_BY_SLOTS`] on, for each 64 sets 8 bytes
+    /// more for each slot; beside them 4 bytes a set while they are made. The error means that memory ran out.
+    pub fn of(alloc: Global, planes: Planes, asked: usize) -> Result<SlotRows, AllocError>
         ensures { IfOk result (λ rows. rows ≡ planes) }
     {
-        let rows = planes.slot_rows(alloc)?;
+        let rows = if asked < LEAST_BY_SLOTS {
+            None
+        } else {
+            Some(planes.slot_rows(alloc)?)
+        };
         let full = full_row(alloc, &planes)?;
         let fewest = fewest_of(alloc, &planes)?;
         Ok(SlotRows {
@@ -84,11 +91,12 @@ impl SlotRows {
         ensures len { length row.new ≡ length row.old }
         ensures bits { (j : ℕ) → has_bit row.new j ≡ fits set.now (slice_get self.now j) }
     {
-        if set.count() > MOST_BY_SLOTS {
-            self.planes.disjoint_row_by_counts(set, &self.fewest, row);
-            return;
+        match &self.rows {
+            Some(rows) if set.count() <= MOST_BY_SLOTS => {
+                write_row(set, &self.planes, rows, &self.full, row);
+            }
+            _ => self.planes.disjoint_row_by_counts(set, &self.fewest, row),
         }
-        write_row(set, &self.planes, &self.rows, &self.full, row);
     }
 
     /// Whether some set is disjoint from the given one. What the row has is written over: it is lent so that no call takes memory.

@@ -53,7 +53,7 @@ impl<'a> Graph<'a> {
             return Err(BuildError::TooMany);
         }
         let planes = planes_of(alloc, snapshot.owned())?;
-        let sets = SlotRows::of(alloc, planes)?;
+        let sets = SlotRows::of(alloc, planes, snapshot.abandoned().len())?;
         let rows = rows_of(alloc, snapshot.abandoned(), &sets)?;
         Ok(Graph { snapshot, rows })
     }

@@ -3,7 +3,7 @@
 ghost use Rattle.std.specs.Prelude.{◌≡◌, length, IfSome};
 
 use bitmap::Bits256;
-use lane_kernels::{Planes, SlotRows};
+use lane_kernels::{LEAST_BY_SLOTS, Planes, SlotRows};
 use std::alloc::Global;
 
 fn set_of(slots: &[u8]) -> Bits256 {
@@ -44,15 +44,15 @@ fn many(alloc: Global, count: u8) -> Option<Planes> {
 }
 
 fn three_by_slots(alloc: Global) -> Option<SlotRows> {
-    match SlotRows::of(alloc, three(alloc)?) {
-        Err(_) => SlotRows::of(alloc, three(alloc)?).ok(),
+    match SlotRows::of(alloc, three(alloc)?, LEAST_BY_SLOTS) {
+        Err(_) => SlotRows::of(alloc, three(alloc)?, LEAST_BY_SLOTS).ok(),
         rows => rows.ok(),
     }
 }
 
-fn many_by_slots(alloc: Global, count: u8) -> Option<SlotRows> {
-    match SlotRows::of(alloc, many(alloc, count)?) {
-        Err(_) => SlotRows::of(alloc, many(alloc, count)?).ok(),
+fn many_by_slots(alloc: Global, count: u8, asked: usize) -> Option<SlotRows> {
+    match SlotRows::of(alloc, many(alloc, count)?, asked) {
+        Err(_) => SlotRows::of(alloc, many(alloc, count)?, asked).ok(),
         rows => rows.ok(),
     }
 }
@@ -156,20 +156,23 @@ fn is_plain_row(row: &[u64], count: u8, given: &Bits256) -> bool {
     first >= u32::from(count)
 }
 
-// Whether the rows by planes and by slots of so many sets are the plain one.
-fn are_plain(alloc: Global, count: u8) -> Option<(bool, bool)> {
+// Whether the rows of so many sets are the plain one: by planes, by slots, and where too few are asked for to lay out slots.
+fn are_plain(alloc: Global, count: u8) -> Option<(bool, bool, bool)> {
     let given = set_of(&[3, 200]);
     let by_planes = row_by_planes(alloc, &many(alloc, count)?, &given)?;
-    let by_slots = row_by_slots(alloc, &many_by_slots(alloc, count)?, &given)?;
+    let laid_out = many_by_slots(alloc, count, LEAST_BY_SLOTS)?;
+    let by_slots = row_by_slots(alloc, &laid_out, &given)?;
+    let of_few = row_by_slots(alloc, &many_by_slots(alloc, count, 1)?, &given)?;
     Some((
         is_plain_row(&by_planes, count, &given),
         is_plain_row(&by_slots, count, &given),
+        is_plain_row(&of_few, count, &given),
     ))
 }
 
 #[test]
 fn every_number_of_sets(rt: HostRuntime) {
     for count in 0..=130 {
-        assert_eq!(rt; are_plain(rt.alloc(), count), Some((true, true)));
+        assert_eq!(rt; are_plain(rt.alloc(), count), Some((true, true, true)));
     }
 }
