@@ -35,6 +35,7 @@ mod diary;
 mod error;
 mod keeper;
 mod layout;
+mod minutes;
 mod replay;
 mod section;
 mod worker;

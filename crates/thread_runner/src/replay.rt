@@ -5,6 +5,7 @@ ghost use Rattle.audit.specs.History.{HaveHistories};
 ghost use Rattle.trace_text.specs.Trace.{Spells};
 ghost use Rattle.trace_text.specs.declared.header.Header.{Header};
 ghost use Rattle.trace_text.specs.declared.line.Line.{Line};
+ghost use Rattle.thread_runner.specs.Marked.{AreNotesOf};
 ghost use Rattle.thread_runner.specs.Threaded.{IsAuditStop, IsNoFault, IsRunStop, IsThreadedReport, StopsThreads, TellsAll, WritesThreadedReport};
 ghost use Rattle.thread_runner.specs.Told.{voice_of};
 
@@ -59,8 +60,8 @@ fn report_of(
     shown: bool,
     ending: &Ending,
 ) -> Result<Vec<u8>, AllocError>
-    ensures { IfOk result (λ text. TellsAll shown
-        (map voice_of told.now.diaries.items) told.now.adoptions.items text.items) }
+    ensures { IfOk result (λ text. TellsAll shown (map voice_of told.now.diaries.items)
+        told.now.adoptions.items told.now.notes.items ending.now text.items) }
 {
     let replies = replies_of(
         alloc,
@@ -97,16 +98,19 @@ fn held_against<R: Threads + Sync>(
     }
 }
 
-// The whole report of what a run left, where its receipts agree with the logs.
+// The whole report of what a run of the trace left, where its receipts agree with the logs.
 fn audited<R: Threads + Sync>(
     rt: &R,
     alloc: Global,
+    trace: &Trace,
     told: Told,
     logs: &[SpanLog],
     shown: bool,
     ending: &Ending,
 ) -> Result<Replayed, ThreadsError>
-    ensures ok { IfOk result (λ replayed. IsThreadedReport shown replayed.report.items) }
+    requires notes { AreNotesOf trace.now.lines.items told.notes.items told.certificate.items }
+    ensures ok { IfOk result (λ replayed. IsThreadedReport trace.now shown
+        replayed.report.items replayed.certificate.items) }
     ensures err { IfErr result IsRunStop }
 {
     let mut report = report_of(alloc, &told, shown, ending)?;
@@ -127,7 +131,8 @@ fn replay<R: Threads + Wait + Sync, G: Gate + Sync>(
     trace: &Trace,
     shown: bool,
 ) -> Result<Replayed, ThreadsError>
-    ensures ok { IfOk result (λ replayed. IsThreadedReport shown replayed.report.items) }
+    ensures ok { IfOk result (λ replayed. IsThreadedReport trace.now shown
+        replayed.report.items replayed.certificate.items) }
     ensures err { IfErr result IsRunStop }
 {
     let header = &trace.header;
@@ -152,7 +157,15 @@ fn replay<R: Threads + Wait + Sync, G: Gate + Sync>(
     let Ok(finished) = finish_unsettled(arena, seats) else {
         return Err(ThreadsError::OutOfMemory);
     };
-    audited(rt, alloc, told, finished.logs.as_slice(), shown, &ending)
+    audited(
+        rt,
+        alloc,
+        trace,
+        told,
+        finished.logs.as_slice(),
+        shown,
+        &ending,
+    )
 }
 
 /// Replays a trace by threads: reads the text whole, runs each section's lines on a thread for each of its threads that has
@@ -179,7 +192,7 @@ pub fn replay_threads<R: Threads + Wait + Sync, S: Sink>(
 ) -> Result<(), ThreadsError>
     requires { S.failures out.old < 2 ^ 64 - 1 }
     ensures ok { OnOk result (WritesThreadedReport text.now replies (S.taken out.old)
-        (S.taken out.new)) }
+        (S.taken out.new) cert.new.items) }
     ensures accepted { (header : Header) (lines : List Line) → Spells text.now header lines
         → IfErr result IsNoFault }
     ensures succeeded { OnOk result (S.failures out.new ≡ S.failures out.old) }
@@ -203,7 +216,7 @@ pub fn replay_gated<R: Threads + Wait + Sync, G: Gate + Sync, S: Sink>(
 ) -> Result<(), ThreadsError>
     requires { S.failures out.old < 2 ^ 64 - 1 }
     ensures ok { OnOk result (WritesThreadedReport text.now replies (S.taken out.old)
-        (S.taken out.new)) }
+        (S.taken out.new) cert.new.items) }
     ensures accepted { (header : Header) (lines : List Line) → Spells text.now header lines
         → IfErr result IsNoFault }
     ensures succeeded { OnOk result (S.failures out.new ≡ S.failures out.old) }
