@@ -97,8 +97,8 @@ AreNotesTo-more lines place notes text plan are is carried =
       each_mark = map-append place_marked are.marks (made ∷ []) ∙ ap (λ ps. ps ++ place ∷ []) are.each_mark ∙ sym (marks_above-mark lines place is);
       carried_out = each-append IsMarkMade are.marks (made ∷ []) are.carried_out (carried, tt);
       notes_are =
-        ap (λ ns. ns ++ plan_notes lines place plan) are.notes_are ∙ ap (λ ns. flat_map (mark_notes lines) are.marks ++ ns) (sym (append-nil (plan_notes lines place plan)))
-        ∙ sym (flat_map-append (mark_notes lines) are.marks (made ∷ []));
+          ap (λ ns. ns ++ plan_notes lines place plan) are.notes_are ∙ ap (λ ns. flat_map (mark_notes lines) are.marks ++ ns) (sym (append-nil (plan_notes lines place plan)))
+          ∙ sym (flat_map-append (mark_notes lines) are.marks (made ∷ []));
       certificate_is = ap (λ t. text_after t plan) are.certificate_is ∙ sym (fold-append certificate_after [] are.marks (made ∷ []));
     }
 
@@ -150,9 +150,9 @@ pub HaveCome-refused : (lines : List Line) (place : ℕ) (old new : Minutes) →
 HaveCome-refused lines place old new come is marks notes certificate = record {
   counted = count-mark lines place old.marks new.marks is come.counted marks;
   noted =
-    subst (λ ns. AreNotesTo lines (place + 1) ns new.certificate.items) (sym (notes ∙ ap (λ n. old.notes.items ++ note_at place (TooMany (n + 1)) ∷ []) come.counted))
-    (subst (λ t. AreNotesTo lines (place + 1) (old.notes.items ++ plan_notes lines place None) t) (ap (λ v. v.items) (sym certificate))
-    (AreNotesTo-more lines place old.notes.items old.certificate.items None come.noted is tt));
+      subst (λ ns. AreNotesTo lines (place + 1) ns new.certificate.items) (sym (notes ∙ ap (λ n. old.notes.items ++ note_at place (TooMany (n + 1)) ∷ []) come.counted))
+      (subst (λ t. AreNotesTo lines (place + 1) (old.notes.items ++ plan_notes lines place None) t) (ap (λ v. v.items) (sym certificate))
+      (AreNotesTo-more lines place old.notes.items old.certificate.items None come.noted is tt));
 }
 
 -- the plan of the last mark is closed, after a step for each pair
@@ -164,20 +164,20 @@ HaveCome-closed lines above barrier pages pairs steps old new come taken begins 
     let plan : PlanMade = record { certificate = last.certificate; pages = last.pages; steps = steps; pages_left = pages } in
     let place = last.place in
     let number : old.marks ≡ mark_number lines place =
-      come.counted ∙ ap (λ p. length (marks_above lines p)) last.next_is ∙ ap length (marks_above-mark lines place last.is_mark) ∙ length-append (marks_above lines place) (place ∷ []) in
+    come.counted ∙ ap (λ p. length (marks_above lines p)) last.next_is ∙ ap length (marks_above-mark lines place last.is_mark) ∙ length-append (marks_above lines place) (place ∷ []) in
     let whole : new.notes.items ≡ last.notes_before ++ plan_notes lines place (Some plan) =
-      notes
-      ∙ ap (λ b. old.notes.items ++ note_at b (Closed (record { mark = old.marks; steps = steps; pages = pages })) ∷ []) (begins ∙ ap (barrier_from lines) last.next_is)
-      ∙ ap (λ n. old.notes.items ++ note_at (barrier_from lines (place + 1)) (Closed (record { mark = n; steps = steps; pages = pages })) ∷ []) number
-      ∙ ap (λ ns. ns ++ note_closed lines place steps pages ∷ []) last.notes_are
-      ∙ append_assoc last.notes_before (note_planned lines place last.certificate last.pages ∷ []) (note_closed lines place steps pages ∷ []) in
+    notes
+    ∙ ap (λ b. old.notes.items ++ note_at b (Closed (record { mark = old.marks; steps = steps; pages = pages })) ∷ []) (begins ∙ ap (barrier_from lines) last.next_is)
+    ∙ ap (λ n. old.notes.items ++ note_at (barrier_from lines (place + 1)) (Closed (record { mark = n; steps = steps; pages = pages })) ∷ []) number
+    ∙ ap (λ ns. ns ++ note_closed lines place steps pages ∷ []) last.notes_are
+    ∙ append_assoc last.notes_before (note_planned lines place last.certificate last.pages ∷ []) (note_closed lines place steps pages ∷ []) in
     record {
       counted = marks ∙ come.counted;
       noted =
-        subst (λ p. AreNotesTo lines p new.notes.items new.certificate.items) (sym last.next_is)
-        (subst (λ ns. AreNotesTo lines (place + 1) ns new.certificate.items) (sym whole)
-        (subst (λ t. AreNotesTo lines (place + 1) (last.notes_before ++ plan_notes lines place (Some plan)) t) (sym (ap (λ v. v.items) certificate ∙ last.text_is))
-        (AreNotesTo-more lines place last.notes_before last.text_before (Some plan) last.before last.is_mark (last.is_shown, taken ∙ last.pairs_are))));
+          subst (λ p. AreNotesTo lines p new.notes.items new.certificate.items) (sym last.next_is)
+          (subst (λ ns. AreNotesTo lines (place + 1) ns new.certificate.items) (sym whole)
+          (subst (λ t. AreNotesTo lines (place + 1) (last.notes_before ++ plan_notes lines place (Some plan)) t) (sym (ap (λ v. v.items) certificate ∙ last.text_is))
+          (AreNotesTo-more lines place last.notes_before last.text_before (Some plan) last.before last.is_mark (last.is_shown, taken ∙ last.pairs_are))));
     }
 
 -- a plan that is open is closed, after all its steps

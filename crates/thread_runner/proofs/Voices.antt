@@ -11,6 +11,8 @@ use Rattle.trace_runner.specs.declared.report.Ending.{Ending}
 use Rattle.trace_runner.specs.declared.report.LineAnswer.{LineAnswer}
 use Rattle.span.specs.declared.receipt.Receipt.{Receipt}
 use Rattle.span.specs.declared.span_log.SpanLog.{SpanLog}
+use Rattle.span.specs.SpanLogs.{span_of_log}
+use Rattle.groups.specs.Spans.{live_count}
 use Rattle.audit.specs.Agreement.{Agreement}
 use Rattle.audit.specs.History.{HaveHistories}
 use Rattle.thread_runner.specs.Marked.{AreNotesOf}
@@ -53,8 +55,8 @@ map-voices (diary ∷ diaries) = ap (λ lists. diary.receipts.items ∷ lists) (
 pub IsThreadedReport-told : (trace : Trace) (shown : Bool) (logs : List SpanLog) (diaries : List Diary) (adoptions : List OtherLine) (lists : List (List Receipt)) (notes : List Note) (ending : Ending)
     (certificate text bytes : List ℕ)
     → lists ≡ map (λ (diary : Diary). diary.receipts.items) diaries → TellsAll shown (map voice_of diaries) adoptions notes ending text → AreNotesOf trace.lines.items notes certificate
-    → Agreement logs lists → HaveHistories lists → bytes ≡ text ++ codes "audit ok\n" → IsThreadedReport trace shown bytes certificate
-IsThreadedReport-told trace shown logs diaries adoptions lists notes ending certificate text bytes of_diaries tells of_marks agreed histories ends =
+    → ending.live ≡ live_count (map span_of_log logs) → Agreement logs lists → HaveHistories lists → bytes ≡ text ++ codes "audit ok\n" → IsThreadedReport trace shown bytes certificate
+IsThreadedReport-told trace shown logs diaries adoptions lists notes ending certificate text bytes of_diaries tells of_marks live agreed histories ends =
     let same : lists ≡ map (λ (voice : Voice). voice.receipts) (map voice_of diaries) = of_diaries ∙ sym (map-voices diaries) in
     record {
       logs = logs;
@@ -64,6 +66,7 @@ IsThreadedReport-told trace shown logs diaries adoptions lists notes ending cert
       notes = notes;
       ending = ending;
       of_marks = of_marks;
+      live = live;
       agreed = subst (λ ls. Agreement logs ls) same agreed;
       histories = subst (λ ls. HaveHistories ls) same histories;
       told = tells.1;

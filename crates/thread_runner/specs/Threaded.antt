@@ -5,6 +5,8 @@ use Rattle.std.specs.List.Sorted.{IsNonDecreasingBy, IsPermutation}
 use Rattle.std.specs.Io.KnownBytes.{Appends}
 use Rattle.span.specs.declared.receipt.Receipt.{Receipt}
 use Rattle.span.specs.declared.span_log.SpanLog.{SpanLog}
+use Rattle.span.specs.SpanLogs.{span_of_log}
+use Rattle.groups.specs.Spans.{live_count}
 use Rattle.audit.specs.Agreement.{Agreement}
 use Rattle.audit.specs.Faults.{FailsFirst}
 use Rattle.audit.specs.History.{HaveHistories}
@@ -42,8 +44,8 @@ abbrev pub AreReplies : List Voice → List OtherLine → List LineAnswer → Ty
 AreReplies voices adoptions replies = AreByLine (told_replies voices adoptions) replies
 
 -- the bytes are the report of a run of the trace whose receipts agree with the logs of its spans, so that its calls on each span have one history;
--- where replies are shown, that of each call on a key is what its receipt says. It tells of each mark of the trace, and of all steps of its plan; and
--- the certificate is that of the last mark that planned, or nothing
+-- where replies are shown, that of each call on a key is what its receipt says. It tells of each mark of the trace, and of all steps of its plan; the
+-- certificate is that of the last mark that planned, or nothing; and the keys that it counts as live are those that the logs leave
 pub record IsThreadedReport (trace : Trace) (shown : Bool) (bytes certificate : List ℕ) : Type 0 where
   pub logs : List SpanLog
   pub voices : List Voice
@@ -52,6 +54,7 @@ pub record IsThreadedReport (trace : Trace) (shown : Bool) (bytes certificate : 
   pub notes : List Note
   pub ending : Ending
   pub of_marks : AreNotesOf trace.lines.items notes certificate
+  pub live : ending.live ≡ live_count (map span_of_log logs)
   pub agreed : Agreement logs (map (λ voice. voice.receipts) voices)
   pub histories : HaveHistories (map (λ voice. voice.receipts) voices)
   pub told : shown ≡ true → AreReplies voices adoptions replies

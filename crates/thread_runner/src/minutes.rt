@@ -145,7 +145,9 @@ impl Minutes {
         ensures certificate { result.1 ≡ self.certificate }
     {
         let Minutes {
-            notes, certificate, ..
+            notes,
+            certificate,
+            ..
         } = self;
         (notes, certificate)
     }

@@ -1,5 +1,7 @@
 // Replays a trace by threads, and holds what its calls were told against the logs.
 ghost use Rattle.std.specs.Prelude.{◌≡◌, ◌<◌, ◌-◌, ◌^◌, IfOk, IfErr, List, OnErr, OnOk, map, vec_items};
+ghost use Rattle.span.specs.SpanLogs.{span_of_log};
+ghost use Rattle.groups.specs.Spans.{live_count};
 ghost use Rattle.audit.specs.Agreement.{Agreement};
 ghost use Rattle.audit.specs.History.{HaveHistories};
 ghost use Rattle.trace_text.specs.Trace.{Spells};
@@ -13,6 +15,7 @@ use crate::body::{push_body, replies_of};
 use crate::diary::Diary;
 use crate::error::ThreadsError;
 use crate::layout::Layout;
+use crate::live::live_in;
 use crate::section::{Ran, Told, run_sections};
 use crate::worker::Text;
 use arena::{Arena, Gate, NoGate, finish_unsettled};
@@ -108,6 +111,7 @@ fn audited<R: Threads + Sync>(
     shown: bool,
     ending: &Ending,
 ) -> Result<Replayed, ThreadsError>
+    requires live { ending.now.live ≡ live_count (map span_of_log logs.now) }
     requires notes { AreNotesOf trace.now.lines.items told.notes.items told.certificate.items }
     ensures ok { IfOk result (λ replayed. IsThreadedReport trace.now shown
         replayed.report.items replayed.certificate.items) }
@@ -148,24 +152,17 @@ fn replay<R: Threads + Wait + Sync, G: Gate + Sync>(
         replies: shown,
     };
     let Ran { seats, told } = run_sections(rt, alloc, &text, &arena, seats, steward)?;
-    let totals = arena.totals(rt);
-    let ending = Ending {
-        pages: totals.pages,
-        live: totals.live,
-        calls: calls_of(told.diaries.as_slice()),
-    };
+    let pages = arena.totals(rt).pages;
     let Ok(finished) = finish_unsettled(arena, seats) else {
         return Err(ThreadsError::OutOfMemory);
     };
-    audited(
-        rt,
-        alloc,
-        trace,
-        told,
-        finished.logs.as_slice(),
-        shown,
-        &ending,
-    )
+    let logs = finished.logs.as_slice();
+    let ending = Ending {
+        pages,
+        live: live_in(logs)?,
+        calls: calls_of(told.diaries.as_slice()),
+    };
+    audited(rt, alloc, trace, told, logs, shown, &ending)
 }
 
 /// Replays a trace by threads: reads the text whole, runs each section's lines on a thread for each of its threads that has
