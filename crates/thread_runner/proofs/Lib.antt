@@ -1,1 +1,2 @@
 mod Voices
+mod Noting

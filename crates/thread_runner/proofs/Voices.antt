@@ -5,14 +5,20 @@ use Rattle.std.specs.List.{flat_map}
 use Rattle.std.specs.List.Sorted.{IsNonDecreasingBy, IsPermutation, IsStableByKey, ties}
 use Rattle.std.specs.Ordering.{is_lt, nat_cmp}
 use Rattle.std.proofs.lemmas.Bool.Decides.{nat_tests}
+use Rattle.trace_text.specs.declared.trace.Trace.{Trace}
 use Rattle.trace_runner.specs.declared.report.Answer.TheVariants as answer
+use Rattle.trace_runner.specs.declared.report.Ending.{Ending}
 use Rattle.trace_runner.specs.declared.report.LineAnswer.{LineAnswer}
 use Rattle.span.specs.declared.receipt.Receipt.{Receipt}
 use Rattle.span.specs.declared.span_log.SpanLog.{SpanLog}
+use Rattle.span.specs.SpanLogs.{span_of_log}
+use Rattle.groups.specs.Spans.{live_count}
 use Rattle.audit.specs.Agreement.{Agreement}
 use Rattle.audit.specs.History.{HaveHistories}
+use Rattle.thread_runner.specs.Marked.{AreNotesOf}
 use Rattle.thread_runner.specs.Threaded.{AreByLine, IsAuditStop, IsRunStop, IsThreadedReport, TellsAll, is_on}
 use Rattle.thread_runner.specs.Told.{Voice, diary_lines, voice_lines, voice_of}
+use Rattle.thread_runner.specs.declared.body.Note.{Note}
 use Rattle.thread_runner.specs.declared.diary.Diary.{Diary}
 use Rattle.thread_runner.specs.declared.diary.OtherLine.{OtherLine}
 use Rattle.thread_runner.specs.declared.error.ThreadsError.{ThreadsError}
@@ -46,22 +52,25 @@ map-voices [] = refl
 map-voices (diary ∷ diaries) = ap (λ lists. diary.receipts.items ∷ lists) (map-voices diaries)
 
 -- where the receipts of diaries agree with logs, what they tell is the report
-pub IsThreadedReport-told : (shown : Bool) (logs : List SpanLog) (diaries : List Diary) (adoptions : List OtherLine) (lists : List (List Receipt)) (text bytes : List ℕ)
-    → lists ≡ map (λ (diary : Diary). diary.receipts.items) diaries → TellsAll shown (map voice_of diaries) adoptions text
-    → Agreement logs lists → HaveHistories lists → bytes ≡ text ++ codes "audit ok\n" → IsThreadedReport shown bytes
-IsThreadedReport-told shown logs diaries adoptions lists text bytes of_diaries tells agreed histories ends =
+pub IsThreadedReport-told : (trace : Trace) (shown : Bool) (logs : List SpanLog) (diaries : List Diary) (adoptions : List OtherLine) (lists : List (List Receipt)) (notes : List Note) (ending : Ending)
+    (certificate text bytes : List ℕ)
+    → lists ≡ map (λ (diary : Diary). diary.receipts.items) diaries → TellsAll shown (map voice_of diaries) adoptions notes ending text → AreNotesOf trace.lines.items notes certificate
+    → ending.live ≡ live_count (map span_of_log logs) → Agreement logs lists → HaveHistories lists → bytes ≡ text ++ codes "audit ok\n" → IsThreadedReport trace shown bytes certificate
+IsThreadedReport-told trace shown logs diaries adoptions lists notes ending certificate text bytes of_diaries tells of_marks live agreed histories ends =
     let same : lists ≡ map (λ (voice : Voice). voice.receipts) (map voice_of diaries) = of_diaries ∙ sym (map-voices diaries) in
     record {
       logs = logs;
       voices = map voice_of diaries;
       adoptions = adoptions;
       replies = tells.0;
-      notes = tells.1;
-      ending = tells.2;
+      notes = notes;
+      ending = ending;
+      of_marks = of_marks;
+      live = live;
       agreed = subst (λ ls. Agreement logs ls) same agreed;
       histories = subst (λ ls. HaveHistories ls) same histories;
-      told = tells.3;
-      spelled = ends ∙ ap (λ t. t ++ codes "audit ok\n") tells.4;
+      told = tells.1;
+      spelled = ends ∙ ap (λ t. t ++ codes "audit ok\n") tells.2;
     }
 
 -- where the audit of the receipts of diaries stops, so does the run

@@ -1,4 +1,6 @@
 pub mod Errors
 pub mod Told
 pub mod Report
+pub mod Marked
+pub mod Noted
 pub mod Threaded

@@ -5,6 +5,8 @@ use Rattle.std.specs.List.Sorted.{IsNonDecreasingBy, IsPermutation}
 use Rattle.std.specs.Io.KnownBytes.{Appends}
 use Rattle.span.specs.declared.receipt.Receipt.{Receipt}
 use Rattle.span.specs.declared.span_log.SpanLog.{SpanLog}
+use Rattle.span.specs.SpanLogs.{span_of_log}
+use Rattle.groups.specs.Spans.{live_count}
 use Rattle.audit.specs.Agreement.{Agreement}
 use Rattle.audit.specs.Faults.{FailsFirst}
 use Rattle.audit.specs.History.{HaveHistories}
@@ -15,6 +17,7 @@ use Rattle.trace_runner.specs.declared.report.LineAnswer.{LineAnswer}
 use Rattle.trace_text.specs.Trace.{IsFaultAt, IsTrace}
 use Rattle.trace_text.specs.declared.trace.Trace.{Trace}
 use Rattle.trace_runner.specs.Report.{end_line}
+use Rattle.thread_runner.specs.Marked.{AreNotesOf}
 use Rattle.thread_runner.specs.Report.{body_text, threaded_text}
 use Rattle.thread_runner.specs.Told.{Voice, other_line, voice_lines}
 use Rattle.thread_runner.specs.declared.body.Note.{Note}
@@ -40,33 +43,37 @@ pub record AreByLine (told replies : List LineAnswer) : Type 0 where
 abbrev pub AreReplies : List Voice → List OtherLine → List LineAnswer → Type 0
 AreReplies voices adoptions replies = AreByLine (told_replies voices adoptions) replies
 
--- the bytes are the report of a run whose receipts agree with the logs of its spans, so that its calls on each span have one history; where replies
--- are shown, that of each call on a key is what its receipt says
-pub record IsThreadedReport (shown : Bool) (bytes : List ℕ) : Type 0 where
+-- the bytes are the report of a run of the trace whose receipts agree with the logs of its spans, so that its calls on each span have one history;
+-- where replies are shown, that of each call on a key is what its receipt says. It tells of each mark of the trace, and of all steps of its plan; the
+-- certificate is that of the last mark that planned, or nothing; and the keys that it counts as live are those that the logs leave
+pub record IsThreadedReport (trace : Trace) (shown : Bool) (bytes certificate : List ℕ) : Type 0 where
   pub logs : List SpanLog
   pub voices : List Voice
   pub adoptions : List OtherLine
   pub replies : List LineAnswer
   pub notes : List Note
   pub ending : Ending
+  pub of_marks : AreNotesOf trace.lines.items notes certificate
+  pub live : ending.live ≡ live_count (map span_of_log logs)
   pub agreed : Agreement logs (map (λ voice. voice.receipts) voices)
   pub histories : HaveHistories (map (λ voice. voice.receipts) voices)
   pub told : shown ≡ true → AreReplies voices adoptions replies
   pub spelled : bytes ≡ threaded_text shown replies notes ending
 
--- the text is a trace, and what was taken more than before is such a report, whole
-abbrev pub WritesThreadedReport : List ℕ → Bool → (old new : Option (List ℕ)) → Type 0
-WritesThreadedReport text shown old new = ((trace : Trace) × IsTrace text trace) × ((bytes : List ℕ) × IsThreadedReport shown bytes × Appends old new bytes)
+-- the text is a trace, and what was taken more than before is such a report, whole, with this certificate
+abbrev pub WritesThreadedReport : List ℕ → Bool → (old new : Option (List ℕ)) → (certificate : List ℕ) → Type 0
+WritesThreadedReport text shown old new certificate =
+    (trace : Trace) × (bytes : List ℕ) × IsTrace text trace × IsThreadedReport trace shown bytes certificate × Appends old new bytes
 
 -- a prefix of such a report was taken
 abbrev pub WritesThreadedFront : List ℕ → Bool → (old new : Option (List ℕ)) → Type 0
-WritesThreadedFront text shown old new = ((trace : Trace) × IsTrace text trace) × ((bytes : List ℕ) × IsThreadedReport shown bytes × AppendsFront old new bytes)
+WritesThreadedFront text shown old new =
+    (trace : Trace) × (bytes : List ℕ) × (certificate : List ℕ) × IsTrace text trace × IsThreadedReport trace shown bytes certificate × AppendsFront old new bytes
 
--- the text is a report of what the threads and the adoptions were told, up to its counts; where replies are shown, they are all there
-abbrev pub TellsAll : Bool → List Voice → List OtherLine → List ℕ → Type 0
-TellsAll shown voices adoptions text =
-    (replies : List LineAnswer) × (notes : List Note) × (ending : Ending)
-    × (shown ≡ true → AreReplies voices adoptions replies) × (text ≡ body_text shown replies notes ++ end_line ending)
+-- the text is a report of what the threads and the adoptions were told, with these notes, up to these counts; where replies are shown, they are all there
+abbrev pub TellsAll : Bool → List Voice → List OtherLine → List Note → Ending → List ℕ → Type 0
+TellsAll shown voices adoptions notes ending text =
+    (replies : List LineAnswer) × (shown ≡ true → AreReplies voices adoptions replies) × (text ≡ body_text shown replies notes ++ end_line ending)
 
 -- receipts of a run do not agree with its logs, first in this part
 abbrev pub FailsAudit : AuditCause → Type 0

@@ -35,6 +35,8 @@ mod diary;
 mod error;
 mod keeper;
 mod layout;
+mod live;
+mod minutes;
 mod replay;
 mod section;
 mod worker;

@@ -1,10 +1,13 @@
 // Replays a trace by threads, and holds what its calls were told against the logs.
 ghost use Rattle.std.specs.Prelude.{◌≡◌, ◌<◌, ◌-◌, ◌^◌, IfOk, IfErr, List, OnErr, OnOk, map, vec_items};
+ghost use Rattle.span.specs.SpanLogs.{span_of_log};
+ghost use Rattle.groups.specs.Spans.{live_count};
 ghost use Rattle.audit.specs.Agreement.{Agreement};
 ghost use Rattle.audit.specs.History.{HaveHistories};
 ghost use Rattle.trace_text.specs.Trace.{Spells};
 ghost use Rattle.trace_text.specs.declared.header.Header.{Header};
 ghost use Rattle.trace_text.specs.declared.line.Line.{Line};
+ghost use Rattle.thread_runner.specs.Marked.{AreNotesOf};
 ghost use Rattle.thread_runner.specs.Threaded.{IsAuditStop, IsNoFault, IsRunStop, IsThreadedReport, StopsThreads, TellsAll, WritesThreadedReport};
 ghost use Rattle.thread_runner.specs.Told.{voice_of};
 
@@ -12,6 +15,7 @@ use crate::body::{push_body, replies_of};
 use crate::diary::Diary;
 use crate::error::ThreadsError;
 use crate::layout::Layout;
+use crate::live::live_in;
 use crate::section::{Ran, Told, run_sections};
 use crate::worker::Text;
 use arena::{Arena, Gate, NoGate, finish_unsettled};
@@ -59,8 +63,8 @@ fn report_of(
     shown: bool,
     ending: &Ending,
 ) -> Result<Vec<u8>, AllocError>
-    ensures { IfOk result (λ text. TellsAll shown
-        (map voice_of told.now.diaries.items) told.now.adoptions.items text.items) }
+    ensures { IfOk result (λ text. TellsAll shown (map voice_of told.now.diaries.items)
+        told.now.adoptions.items told.now.notes.items ending.now text.items) }
 {
     let replies = replies_of(
         alloc,
@@ -97,16 +101,20 @@ fn held_against<R: Threads + Sync>(
     }
 }
 
-// The whole report of what a run left, where its receipts agree with the logs.
+// The whole report of what a run of the trace left, where its receipts agree with the logs.
 fn audited<R: Threads + Sync>(
     rt: &R,
     alloc: Global,
+    trace: &Trace,
     told: Told,
     logs: &[SpanLog],
     shown: bool,
     ending: &Ending,
 ) -> Result<Replayed, ThreadsError>
-    ensures ok { IfOk result (λ replayed. IsThreadedReport shown replayed.report.items) }
+    requires live { ending.now.live ≡ live_count (map span_of_log logs.now) }
+    requires notes { AreNotesOf trace.now.lines.items told.notes.items told.certificate.items }
+    ensures ok { IfOk result (λ replayed. IsThreadedReport trace.now shown
+        replayed.report.items replayed.certificate.items) }
     ensures err { IfErr result IsRunStop }
 {
     let mut report = report_of(alloc, &told, shown, ending)?;
@@ -127,7 +135,8 @@ fn replay<R: Threads + Wait + Sync, G: Gate + Sync>(
     trace: &Trace,
     shown: bool,
 ) -> Result<Replayed, ThreadsError>
-    ensures ok { IfOk result (λ replayed. IsThreadedReport shown replayed.report.items) }
+    ensures ok { IfOk result (λ replayed. IsThreadedReport trace.now shown
+        replayed.report.items replayed.certificate.items) }
     ensures err { IfErr result IsRunStop }
 {
     let header = &trace.header;
@@ -143,16 +152,17 @@ fn replay<R: Threads + Wait + Sync, G: Gate + Sync>(
         replies: shown,
     };
     let Ran { seats, told } = run_sections(rt, alloc, &text, &arena, seats, steward)?;
-    let totals = arena.totals(rt);
-    let ending = Ending {
-        pages: totals.pages,
-        live: totals.live,
-        calls: calls_of(told.diaries.as_slice()),
-    };
+    let pages = arena.totals(rt).pages;
     let Ok(finished) = finish_unsettled(arena, seats) else {
         return Err(ThreadsError::OutOfMemory);
     };
-    audited(rt, alloc, told, finished.logs.as_slice(), shown, &ending)
+    let logs = finished.logs.as_slice();
+    let ending = Ending {
+        pages,
+        live: live_in(logs)?,
+        calls: calls_of(told.diaries.as_slice()),
+    };
+    audited(rt, alloc, trace, told, logs, shown, &ending)
 }
 
 /// Replays a trace by threads: reads the text whole, runs each section's lines on a thread for each of its threads that has
@@ -179,7 +189,7 @@ pub fn replay_threads<R: Threads + Wait + Sync, S: Sink>(
 ) -> Result<(), ThreadsError>
     requires { S.failures out.old < 2 ^ 64 - 1 }
     ensures ok { OnOk result (WritesThreadedReport text.now replies (S.taken out.old)
-        (S.taken out.new)) }
+        (S.taken out.new) cert.new.items) }
     ensures accepted { (header : Header) (lines : List Line) → Spells text.now header lines
         → IfErr result IsNoFault }
     ensures succeeded { OnOk result (S.failures out.new ≡ S.failures out.old) }
@@ -203,7 +213,7 @@ pub fn replay_gated<R: Threads + Wait + Sync, G: Gate + Sync, S: Sink>(
 ) -> Result<(), ThreadsError>
     requires { S.failures out.old < 2 ^ 64 - 1 }
     ensures ok { OnOk result (WritesThreadedReport text.now replies (S.taken out.old)
-        (S.taken out.new)) }
+        (S.taken out.new) cert.new.items) }
     ensures accepted { (header : Header) (lines : List Line) → Spells text.now header lines
         → IfErr result IsNoFault }
     ensures succeeded { OnOk result (S.failures out.new ≡ S.failures out.old) }

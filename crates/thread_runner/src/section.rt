@@ -1,4 +1,10 @@
 // The sections of a run, and what stands between them.
+ghost use Rattle.std.specs.Prelude.{◌≡◌, ◌+◌, ◌<◌, ◌≤◌, ◌^◌, ℕ, IfOk, List, None, length, true};
+ghost use Rattle.trace_text.specs.declared.line.Line.{Line};
+ghost use Rattle.trace_runner.specs.Barrier.{is_barrier};
+ghost use Rattle.thread_runner.specs.Marked.{AreNotesOf, barrier_from, is_mark, is_mark_at, marks_above};
+ghost use Rattle.thread_runner.specs.Noted.{HaveCome, plan_pairs};
+
 use crate::body::Note;
 use crate::diary::{Diary, OtherLine};
 use crate::error::Halt;
@@ -9,7 +15,7 @@ use std::alloc::{AllocError, Global};
 use std::sync::Wait;
 use std::thread::Threads;
 use std::{mem, thread};
-use trace_runner::{Line, PlanNews};
+use trace_runner::Line;
 
 /// What all sections of a run leave.
 #[derive(Drop)]
@@ -39,10 +45,8 @@ struct Crew<'a, G: Gate> {
     alloc: Global,
     text: &'a Text<'a>,
     workers: Vec<Worker<'a, G>>,
-    keeper: Keeper<'a, G>,
     keys: Keys,
     adoptions: Vec<OtherLine>,
-    notes: Vec<Note>,
 }
 
 // A worker for each seat.
@@ -92,13 +96,6 @@ fn work<'a, R: Threads + Wait + Sync, G: Gate + Sync>(
     thread::map_vec(rt, workers, &|worker| work_one(rt, worker, keys, end))
 }
 
-// The steps of the open plan.
-fn keep<'a, R: Wait, G: Gate>(rt: &R, keeper: Keeper<'a, G>) -> Result<Keeper<'a, G>, AllocError> {
-    let mut keeper = keeper;
-    keeper.take_steps(rt)?;
-    Ok(keeper)
-}
-
 // A section's lines, with the steps of the open plan beside them.
 fn work_beside<'a, R: Threads + Wait + Sync, G: Gate + Sync>(
     rt: &R,
@@ -106,20 +103,26 @@ fn work_beside<'a, R: Threads + Wait + Sync, G: Gate + Sync>(
     keeper: Keeper<'a, G>,
     keys: &Keys,
     end: usize,
-) -> Result<(Vec<Result<Worker<'a, G>, Halt>>, Keeper<'a, G>), AllocError> {
+) -> Result<(Vec<Result<Worker<'a, G>, Halt>>, Keeper<'a, G>), AllocError>
+    ensures pairs { IfOk result (λ both. plan_pairs both.1.steward.plan
+        ≡ plan_pairs keeper.entry.steward.plan) }
+    ensures minutes { IfOk result (λ both. both.1.minutes ≡ keeper.entry.minutes) }
+{
     if !keeper.has_steps() {
         return Ok((work(rt, workers, keys, end)?, keeper));
     }
     let (workers, keeper) = thread::join(
         rt,
         move || work(rt, workers, keys, end),
-        move || keep(rt, keeper),
+        move || keeper.stepped(rt),
     );
     Ok((workers?, keeper?))
 }
 
 // The lines of the trace below its header.
-fn text_lines<'a>(text: &'a Text<'a>) -> &'a [Line] {
+fn text_lines<'a>(text: &'a Text<'a>) -> &'a [Line]
+    ensures { result.now ≡ text.now.trace.now.lines.items }
+{
     text.trace.lines.as_slice()
 }
 
@@ -128,14 +131,32 @@ fn threads_of(text: &Text<'_>) -> u32 {
     text.trace.header.shards
 }
 
-// The place of the first adoption from one place up to, and without, another, which is that of a mark; or the mark's.
-fn barrier_of(lines: &[Line], from: usize, end: usize) -> usize {
-    for place in from..end {
-        if let Some(Line::Adopt { .. }) = lines.get(place) {
+// Whether the line is one of a barrier.
+fn is_barrier(line: &Line) -> bool
+    ensures { result ≡ is_barrier line.now }
+{
+    matches!(line, Line::Adopt { .. } | Line::Mark)
+}
+
+// Whether the line is a mark.
+fn is_mark(line: &Line) -> bool
+    ensures { result ≡ is_mark line.now }
+{
+    matches!(line, Line::Mark)
+}
+
+// Where the next barrier begins: the place of the first adoption or mark from that one on, or that below the last line.
+fn barrier_of(lines: &[Line], from: usize) -> usize
+    requires { from ≤ length lines.now }
+    ensures barrier { result ≡ barrier_from lines.now from }
+    ensures within { result ≤ length lines.now }
+{
+    for place in from..lines.len() {
+        if is_barrier(&lines[place]) {
             return place;
         }
     }
-    end
+    lines.len()
 }
 
 // All workers hand over what their lines left to the threads of shards.
@@ -175,16 +196,23 @@ fn workers_again<'a, G: Gate>(
 }
 
 impl<'a, G: Gate + Sync> Crew<'a, G> {
-    // Runs the lines of the section that ends above that place.
-    fn run<R: Threads + Wait + Sync>(self, rt: &R, end: usize) -> Result<Self, Halt> {
+    // Runs the lines of the section that ends above that place, with the steps of the open plan beside them.
+    fn run<R: Threads + Wait + Sync>(
+        self,
+        rt: &R,
+        keeper: Keeper<'a, G>,
+        end: usize,
+    ) -> Result<(Self, Keeper<'a, G>), Halt>
+        ensures pairs { IfOk result (λ both. plan_pairs both.1.steward.plan
+            ≡ plan_pairs keeper.entry.steward.plan) }
+        ensures minutes { IfOk result (λ both. both.1.minutes ≡ keeper.entry.minutes) }
+    {
         let Crew {
             alloc,
             text,
             workers,
-            keeper,
             keys,
             adoptions,
-            notes,
         } = self;
         let mut busy = Vec::with_capacity(alloc, workers.len())?;
         let mut all = Vec::with_capacity(alloc, workers.len())?;
@@ -199,15 +227,14 @@ impl<'a, G: Gate + Sync> Crew<'a, G> {
         for worker in worked {
             all.push(worker?)?;
         }
-        Ok(Crew {
+        let crew = Crew {
             alloc,
             text,
             workers: all,
-            keeper,
             keys,
             adoptions,
-            notes,
-        })
+        };
+        Ok((crew, keeper))
     }
 
     // Keeps the keys of the section that was run, for the sections after it.
@@ -216,22 +243,6 @@ impl<'a, G: Gate + Sync> Crew<'a, G> {
             worker.hand_over(&mut self.keys)?;
         }
         Ok(())
-    }
-
-    // Keeps news that is told at the line of that place.
-    fn tell(&mut self, place: usize, news: PlanNews) -> Result<(), AllocError> {
-        let line = place.saturating_add(6);
-        self.notes.push(Note { line, news })?;
-        Ok(())
-    }
-
-    // Ends the open plan: takes the steps that are left, and closes it, which is told at the line of that place.
-    fn close<R: Wait>(&mut self, rt: &R, place: usize) -> Result<(), AllocError> {
-        self.keeper.take_steps(rt)?;
-        match self.keeper.close(rt) {
-            Some(news) => self.tell(place, news),
-            None => Ok(()),
-        }
     }
 
     // Abandons the shards of the threads that ended in the section, ascending.
@@ -258,11 +269,9 @@ impl<'a, G: Gate + Sync> Crew<'a, G> {
         Ok(())
     }
 
-    // Settles the section that was run: its plan is ended, which is told at the line of that place, shards are abandoned, and
-    // the rings are emptied.
-    fn settle<R: Wait>(&mut self, rt: &R, place: usize) -> Result<(), Halt> {
+    // Settles the section that was run, whose plan was ended: shards are abandoned, and the rings are emptied.
+    fn settle<R: Wait>(&mut self, rt: &R) -> Result<(), Halt> {
         self.hand_over()?;
-        self.close(rt, place)?;
         self.abandon(rt)?;
         self.settle_rings(rt)?;
         Ok(())
@@ -292,39 +301,78 @@ impl<'a, G: Gate + Sync> Crew<'a, G> {
         Ok(())
     }
 
-    // Makes the mark of the line at that place. All workers go on to the next section.
-    fn mark<R: Wait>(&mut self, rt: &R, place: usize) -> Result<(), Halt> {
-        let news = self.keeper.mark(rt)?;
-        self.tell(place, news)?;
+    // All workers go on to the next section.
+    fn go_on(&mut self) {
         for worker in self.workers.iter_mut() {
             worker.go_on();
         }
-        Ok(())
     }
 
-    // A section from one place up to, and without, its mark, and the barrier.
+    // A section up to, and without, the mark at that place, and the barrier, which begins at the other.
     fn section<R: Threads + Wait + Sync>(
         self,
         rt: &R,
-        from: usize,
+        keeper: Keeper<'a, G>,
+        barrier: usize,
         end: usize,
-    ) -> Result<Self, Halt> {
-        let mut crew = self.run(rt, end)?;
-        let barrier = barrier_of(text_lines(crew.text), from, end);
-        crew.settle(rt, barrier)?;
+    ) -> Result<(Self, Keeper<'a, G>), Halt>
+        requires { (barrier < 2 ^ 63) × (end < 2 ^ 63) }
+        ensures { (lines : List Line) (above : ℕ)
+            → HaveCome lines above (plan_pairs keeper.entry.steward.plan) keeper.entry.minutes
+            → barrier ≡ barrier_from lines above
+            → marks_above lines end ≡ marks_above lines above
+            → is_mark_at lines end ≡ true
+            → IfOk result (λ both. HaveCome lines (end + 1) (plan_pairs both.1.steward.plan)
+            both.1.minutes) }
+    {
+        let (mut crew, keeper) = self.run(rt, keeper, end)?;
+        let mut keeper = keeper.finished(rt, barrier)?;
+        crew.settle(rt)?;
         crew.adoptions(rt, barrier, end)?;
-        crew.mark(rt, end)?;
-        Ok(crew)
+        keeper.mark(rt, end)?;
+        crew.go_on();
+        Ok((crew, keeper))
+    }
+
+    // All sections, up to the end of the text.
+    fn sections<R: Threads + Wait + Sync>(
+        self,
+        rt: &R,
+        keeper: Keeper<'a, G>,
+        lines: &[Line],
+    ) -> Result<(Self, Keeper<'a, G>), Halt>
+        requires { HaveCome lines.now 0 (plan_pairs keeper.steward.plan) keeper.minutes }
+        ensures { IfOk result (λ both. AreNotesOf lines.now both.1.minutes.notes.items
+            both.1.minutes.certificate.items) }
+    {
+        let mut crew = self;
+        let mut keeper = keeper;
+        let mut from = 0;
+        for place in 0..lines.len() {
+            if is_mark(&lines[place]) {
+                let barrier = barrier_of(lines, from);
+                let both = crew.section(rt, keeper, barrier, place)?;
+                crew = both.0;
+                keeper = both.1;
+                from = place + 1;
+            }
+        }
+        let (mut crew, keeper) = crew.run(rt, keeper, lines.len())?;
+        let keeper = keeper.finished(rt, barrier_of(lines, from))?;
+        crew.settle(rt)?;
+        Ok((crew, keeper))
     }
 
     // What the run leaves.
-    fn taken_apart(self) -> Result<Ran, AllocError> {
+    fn taken_apart(self, keeper: Keeper<'a, G>) -> Result<Ran, AllocError>
+        ensures notes { IfOk result (λ ran. ran.told.notes ≡ keeper.entry.minutes.notes) }
+        ensures certificate { IfOk result (λ ran. ran.told.certificate
+            ≡ keeper.entry.minutes.certificate) }
+    {
         let Crew {
             alloc,
             workers,
-            keeper,
             adoptions,
-            notes,
             ..
         } = self;
         let mut seats = Vec::with_capacity(alloc, workers.len())?;
@@ -334,13 +382,14 @@ impl<'a, G: Gate + Sync> Crew<'a, G> {
             seats.push(seat)?;
             diaries.push(diary)?;
         }
+        let (notes, certificate) = keeper.into_notes();
         Ok(Ran {
             seats,
             told: Told {
                 diaries,
                 adoptions,
                 notes,
-                certificate: keeper.into_certificate(),
+                certificate,
             },
         })
     }
@@ -358,28 +407,21 @@ pub(crate) fn run_sections<'a, R: Threads + Wait + Sync, G: Gate + Sync>(
     arena: &'a Arena<G>,
     seats: Vec<Seat>,
     steward: Steward,
-) -> Result<Ran, Halt> {
+) -> Result<Ran, Halt>
+    requires { steward.plan ≡ None }
+    ensures { IfOk result (λ ran. AreNotesOf text.now.trace.now.lines.items ran.told.notes.items
+        ran.told.certificate.items) }
+{
     let Some(keeper) = Keeper::new(alloc, arena, steward) else {
         return Err(Halt::Doubled);
     };
-    let lines = text.trace.lines.as_slice();
-    let mut crew = Crew {
+    let crew = Crew {
         alloc,
         text,
         workers: workers_of(alloc, arena, text, seats)?,
-        keeper,
         keys: no_keys(alloc, text.trace.header.shards as usize)?,
         adoptions: Vec::new(alloc),
-        notes: Vec::new(alloc),
     };
-    let mut from = 0;
-    for place in 0..lines.len() {
-        if let Line::Mark = &lines[place] {
-            crew = crew.section(rt, from, place)?;
-            from = place;
-        }
-    }
-    let mut crew = crew.run(rt, lines.len())?;
-    crew.settle(rt, lines.len())?;
-    Ok(crew.taken_apart()?)
+    let (crew, keeper) = crew.sections(rt, keeper, text_lines(text))?;
+    Ok(crew.taken_apart(keeper)?)
 }

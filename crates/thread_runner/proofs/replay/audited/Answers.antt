@@ -13,6 +13,7 @@ returns-in_err-held_against-clause-err g c =
 
 pub returns-clause-ok : goal.returns-clause-ok
 returns-clause-ok g c =
-    IsThreadedReport-told c.args.shown c.args.logs.now c.args.told.diaries.items c.args.told.adoptions.items (map vec_items c.in_ok-receipts.receipts.items) c.in_ok-report.report.items
-    c.extend_from_slice.new.self.items c.in_ok-receipts.ensures c.in_ok-report.ensures
+    IsThreadedReport-told c.args.trace.now c.args.shown c.args.logs.now c.args.told.diaries.items c.args.told.adoptions.items (map vec_items c.in_ok-receipts.receipts.items) c.args.told.notes.items c.args.ending.now
+    c.args.told.certificate.items c.in_ok-report.report.items
+    c.extend_from_slice.new.self.items c.in_ok-receipts.ensures c.in_ok-report.ensures c.requires.notes c.requires.live
     (rw c.as_slice.ensures.value at c.in_ok-held_against.ensures.agreed) (rw c.as_slice.ensures.value at c.in_ok-held_against.ensures.histories) c.in_ok-extend_from_slice.ensures.items
