@@ -17,6 +17,7 @@ taking_side inboxes = record { rings = map (λ inbox. inbox.ring) inboxes; taken
 
 -- each seat has the same worker, section, numbers and rings, and the same keys were sent and taken
 pub record AreSameSeats (before after : List SeatState) : Type 0 where
+  pub tables : map (λ seat. seat.table) after ≡ map (λ seat. seat.table) before
   pub sending : map sending_side after ≡ map sending_side before
   pub taking : map (λ seat. taking_side seat.inboxes) after ≡ map (λ seat. taking_side seat.inboxes) before
 
@@ -42,6 +43,7 @@ pub record IsSettled (seats : List SeatState) (shard section : ℕ) (counts : Li
 
 -- each worker, section, number and ring is as before, and so are the keys sent; each of them was taken
 pub record AreEmptied (before after : List SeatState) : Type 0 where
+  pub tables : map (λ seat. seat.table) after ≡ map (λ seat. seat.table) before
   pub sending : map sending_side after ≡ map sending_side before
   pub rings : map in_rings after ≡ map in_rings before
   pub taken : (worker shard : ℕ) → worker < length before → shard < length before → taken_on after shard worker ≡ sent_on before worker shard

@@ -3,10 +3,12 @@ ghost use Rattle.std.specs.Prelude.{◌≡◌, ◌≤◌, Err, IfOk, IsSome, Non
 ghost use Rattle.certificate.specs.Plans.{IsBestPlanOf, IsCertificateOf, IsShortOf};
 ghost use Rattle.certificate.specs.Text.{IsWritable};
 ghost use Rattle.marks.specs.Plans.{next_pair};
+ghost use Rattle.arena.specs.Seats.{IsTableOf};
 ghost use Rattle.arena.specs.Stewards.{Steps, begun};
 
 use crate::gate::Gate;
 use crate::locks::{reopen_all, totals_of};
+use crate::ring_table::RingTable;
 use crate::steward::Steward;
 use crate::words::{Place, Words};
 use abandoned::Pool;
@@ -26,12 +28,15 @@ pub struct Arena<G: Gate, L: Log = Kept> {
     pub(crate) alloc: Global,
     /// The numbers of the arena, which its seats and its steward share.
     pub limits: Limits,
+    /// The rings that its seats send and take by, which only contracts see.
+    pub table: RingTable,
     pub(crate) pool: Mutex<Pool<L>>,
     pub(crate) shards: Vec<Mutex<Shard<L>>>,
     pub(crate) words: Words,
     pub(crate) gate: G,
     ghost shards_are: { vec_len shards ≡ limits.shards },
     ghost has_a_shard: { 1 ≤ vec_len shards },
+    ghost rings_are: { IsTableOf limits.shards table },
 }
 
 /// What came of a step.

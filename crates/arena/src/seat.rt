@@ -3,7 +3,7 @@ ghost use Rattle.std.proofs.Props.{props};
 ghost use Rattle.std.specs.Prelude.{All, ◌≡◌, ◌+◌, ◌-◌, ◌<◌, ◌≤◌, ◌^◌, ◌↔◌, ◌∷◌, ◌++◌, [], IfOk, IfSome, IsOk, IsTrue, MatchResult, None, OnErr, OnOk, Some, length, map, slice_get, slice_index_or, slice_set, sum, vec_capacity, vec_len};
 ghost use Rattle.arena.specs.Delays.{CountsCall, HandsOver, HasNoneWaiting, NoneWaits, delay_begun};
 ghost use Rattle.arena.specs.Receipts.{AddsFrees, IsGetBy, done_by, found_by, free_receipt, get_receipt, joined, put_receipt};
-ghost use Rattle.arena.specs.Seats.{KeepsEnds, in_rings, known_lists, sending_side, sent_lists, taken_lists};
+ghost use Rattle.arena.specs.Seats.{HasItsRings, KeepsEnds, in_rings, known_lists, sending_side, sent_lists, taken_lists};
 ghost use Rattle.arena.specs.Settled.{taken_with_known};
 ghost use Rattle.arena.specs.Tended.{IsTended};
 ghost use Rattle.arena.specs.declared.outboxes.TheConstants.{MOST_DELAY};
@@ -13,6 +13,7 @@ use crate::arena::Arena;
 use crate::gate::Gate;
 use crate::outboxes::{MOST_DELAY, count_call_on, finish_on, hand_over_waiting, leave_on};
 use crate::receipts::Receipts;
+use crate::ring_table::{RingLists, RingTable};
 use crate::sections::{get_in, get_pool, put_in, unopened_get};
 use crate::settling::{Frees, settle_rings};
 use crate::tending::tend_rings;
@@ -38,6 +39,7 @@ pub struct Seat {
     worker: u32,
     section: u64,
     limits: Limits,
+    table: RingTable,
     // How many calls were made since the first key was left that may still wait. Where this is none, no key waits.
     delay: Option<u32>,
     // By shard.
@@ -50,6 +52,10 @@ pub struct Seat {
     ghost none_waits: { delay ≡ None → NoneWaits outboxes.items },
     ghost outbox_each: { vec_len outboxes ≡ limits.shards },
     ghost inboxes_few: { vec_len inboxes ≤ MOST_SHARDS },
+    ghost sends_by_its_row: { map (λ outbox. outbox.ring) outboxes.items
+        ≡ slice_index_or table.rows worker [] },
+    ghost takes_by_its_column: { map (λ inbox. inbox.ring) inboxes.items
+        ≡ slice_index_or table.columns worker [] },
 }
 
 impl Model for Seat {
@@ -62,6 +68,7 @@ impl Model for Seat {
       worker = seat.worker;
       section = seat.section;
       limits = seat.limits;
+      table = seat.table;
       delay = seat.delay;
       outboxes = seat.outboxes.items;
       inboxes = seat.inboxes.items;
@@ -73,6 +80,7 @@ impl Seat {
     pub(crate) fn new(
         worker: u32,
         limits: Limits,
+        table: RingTable,
         outboxes: Vec<Outbox>,
         inboxes: Vec<Inbox>,
     ) -> Seat
@@ -81,10 +89,15 @@ impl Seat {
         requires none_waits { NoneWaits outboxes.items }
         requires outbox_each { vec_len outboxes ≡ limits.shards }
         requires inboxes_few { vec_len inboxes ≤ MOST_SHARDS }
+        requires row { map (λ outbox. outbox.ring) outboxes.items
+            ≡ slice_index_or table.rows worker [] }
+        requires column { map (λ inbox. inbox.ring) inboxes.items
+            ≡ slice_index_or table.columns worker [] }
         ensures { result ≡ record {
           worker = worker;
           section = 0;
           limits = limits;
+          table = table;
           delay = None;
           outboxes = outboxes.items;
           inboxes = inboxes.items;
@@ -94,6 +107,7 @@ impl Seat {
             worker,
             section: 0,
             limits,
+            table,
             delay: None,
             outboxes,
             inboxes,
@@ -375,6 +389,7 @@ impl Seat {
             ≡ Some inbox.old.ring }
         ensures seat { (sending_side self.new ≡ sending_side self.old)
             × (self.new.inboxes ≡ self.old.inboxes) }
+        ensures table { self.new.table ≡ self.old.table }
         ensures inbox { (inbox.new.ring ≡ inbox.old.ring) × (inbox.new.taken ≡ inbox.old.taken) }
         ensures left { result ≡ length inbox.new.known }
         ensures whole { slice_index_or (sent_lists self.old) shard [] ≡ inbox.new.taken
@@ -396,6 +411,7 @@ impl Seat {
         requires room { vec_len receipts.old + sum counts.now ≤ vec_capacity receipts.old }
         ensures seat { (sending_side self.new ≡ sending_side self.old)
             × (in_rings self.new ≡ in_rings self.old) }
+        ensures table { self.new.table ≡ self.old.table }
         ensures taken { taken_lists self.new.inboxes ≡ taken_with_known self.old.inboxes }
         ensures freed { AddsFrees self.old.worker section
             (joined (known_lists self.old.inboxes)) receipts.old.items receipts.new.items }
@@ -410,14 +426,30 @@ impl Seat {
         );
     }
 
-    // Gives its takers' ends for others.
-    pub(crate) fn swap_inboxes(&mut self, inboxes: &mut Vec<Inbox>)
-        requires { vec_len inboxes.old ≤ MOST_SHARDS }
-        ensures seat { self.new ≡ record self.old { inboxes = inboxes.old.items } }
+    // What its type keeps: its ends are of its row and its column of the rings.
+    pub(crate) fn knows_its_rings(&self)
+        ensures { HasItsRings self.now }
+    {
+        let _ = &self.worker;
+    }
+
+    // Gives its takers' ends for others, which are of its column of another table.
+    pub(crate) fn swap_inboxes(&mut self, inboxes: &mut Vec<Inbox>, columns: &mut RingLists)
+        requires few { vec_len inboxes.old ≤ MOST_SHARDS }
+        requires column { map (λ inbox. inbox.ring) inboxes.old.items
+            ≡ slice_index_or columns.old.lists self.old.worker [] }
+        ensures seat { self.new ≡ record self.old {
+          table = record { rows = self.old.table.rows; columns = columns.old.lists };
+          inboxes = inboxes.old.items;
+        } }
         ensures inboxes { inboxes.new.items ≡ self.old.inboxes }
+        ensures columns { columns.new.lists ≡ self.old.table.columns }
+        ensures column { map (λ inbox. inbox.ring) inboxes.new.items
+            ≡ slice_index_or columns.new.lists self.old.worker [] }
         ensures few { vec_len inboxes.new ≤ MOST_SHARDS }
     {
         swap(&mut self.inboxes, inboxes);
+        self.table.swap_columns(columns);
     }
 
     // Looks the key up, under the lock of whoever has its span. A span that was never opened takes no lock.

@@ -31,6 +31,7 @@ loop-from-preserved c =
       room = search rules;
       wide = search rules;
       sending = map-set_same sending_side seats w c.count_left.new.self d one.seat.0 ∙ inv.sending;
+      tables = map-set_same (λ s. s.table) seats w c.count_left.new.self d one.table ∙ inv.tables;
       idle = map-set_same (λ s. s.inboxes) seats w c.count_left.new.self d one.seat.1 ∙ inv.idle;
       taking = same_taking inboxes w after before c.index_mut.ensures.value one.inbox.0 one.inbox.1 ∙ inv.taking;
       counted = rw pushed (counted_more inboxes w after inside c.loop-from.counts.items c.count_left.result long one.left inv.counted);
