@@ -1,5 +1,5 @@
 -- What contracts see of a seat, and of seats whose ends of rings belong together.
-use Rattle.std.specs.Prelude.{◌≡◌, ℕ, ◌<◌, All, List, [], Option, length, map, slice_index_or}
+use Rattle.std.specs.Prelude.{◌≡◌, ℕ, ◌<◌, ◌≤◌, All, List, [], Option, length, map, slice_index_or}
 use Rattle.span.specs.declared.key.Key.{Key}
 use Rattle.marks.specs.Numbers.{Limits}
 use Rattle.remote_queue.specs.Rings.{AreTransposed, Ring, Sending, Taking, cell}
@@ -57,6 +57,14 @@ taken_lists inboxes = map (λ inbox. inbox.taken) inboxes
 -- the keys that the next takes are known to give, of each end
 abbrev pub known_lists : List Taking → List (List Key)
 known_lists inboxes = map (λ inbox. inbox.known) inboxes
+
+-- how many places of each ring are known to be free
+abbrev pub free_places : List Sending → List ℕ
+free_places outboxes = map (λ outbox. outbox.free) outboxes
+
+-- of each ring at least as many places are known to be free as before
+abbrev pub AreNoFewer : List ℕ → List ℕ → Type 0
+AreNoFewer before after = (shard : ℕ) → slice_index_or before shard 0 ≤ slice_index_or after shard 0
 
 -- what a worker sent to a shard
 abbrev pub sent_on : List SeatState → ℕ → ℕ → List Key

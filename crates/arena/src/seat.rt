@@ -1,11 +1,11 @@
 // A worker's place at the arena.
 ghost use Rattle.std.proofs.Props.{props};
-ghost use Rattle.std.specs.Prelude.{All, ◌≡◌, ◌+◌, ◌-◌, ◌<◌, ◌≤◌, ◌^◌, ◌↔◌, ◌∷◌, ◌++◌, [], IfOk, IfSome, IsOk, IsTrue, MatchResult, None, OnErr, OnOk, Some, length, map, slice_get, slice_index_or, slice_set, sum, vec_capacity, vec_len};
+ghost use Rattle.std.specs.Prelude.{All, ◌≡◌, ℕ, ◌+◌, ◌-◌, ◌<◌, ◌≤◌, ◌^◌, ◌↔◌, ◌∷◌, ◌++◌, [], IfOk, IfSome, IsOk, IsTrue, MatchResult, None, OnErr, OnOk, Some, length, map, slice_get, slice_index_or, slice_set, sum, vec_capacity, vec_len};
 ghost use Rattle.arena.specs.Delays.{CountsCall, HandsOver, HasNoneWaiting, NoneWaits, delay_begun};
 ghost use Rattle.arena.specs.Receipts.{AddsFrees, IsGetBy, done_by, found_by, free_receipt, get_receipt, joined, put_receipt};
-ghost use Rattle.arena.specs.Seats.{HasItsRings, KeepsEnds, in_rings, known_lists, sending_side, sent_lists, taken_lists};
+ghost use Rattle.arena.specs.Seats.{AreNoFewer, HasItsRings, KeepsEnds, free_places, in_rings, known_lists, sending_side, sent_lists, taken_lists};
 ghost use Rattle.arena.specs.Settled.{taken_with_known};
-ghost use Rattle.arena.specs.Tended.{IsTended};
+ghost use Rattle.arena.specs.Tended.{AreLookedAt, IsTended};
 ghost use Rattle.arena.specs.declared.outboxes.TheConstants.{MOST_DELAY};
 ghost use Rattle.span.specs.declared.limits.TheConstants.{MOST_RING_KEYS, MOST_SHARDS};
 
@@ -16,7 +16,7 @@ use crate::receipts::Receipts;
 use crate::ring_table::{RingLists, RingTable};
 use crate::sections::{get_in, get_pool, put_in, unopened_get};
 use crate::settling::{Frees, settle_rings};
-use crate::tending::tend_rings;
+use crate::tending::{look_at_rings, tend_rings};
 use crate::words::Place;
 use abandoned::{AdoptError, ReceiveError};
 use marks::Limits;
@@ -242,8 +242,14 @@ impl Seat {
             ≡ slice_set (sent_lists self.old) key.span.shard
             (slice_index_or (sent_lists self.old) key.span.shard [] ++ key ∷ []))
             (λ back. (back ≡ key) × (sent_lists self.new ≡ sent_lists self.old)) }
-        ensures succeeds { 0 < slice_index_or (map (λ outbox. outbox.free) self.old.outboxes)
-            key.span.shard 0 → IsOk result }
+        ensures succeeds { 0 < slice_index_or (free_places self.old.outboxes) key.span.shard 0
+            → IsOk result }
+        ensures place { OnOk result (slice_index_or (free_places self.old.outboxes)
+            key.span.shard 0
+            ≤ slice_index_or (free_places self.new.outboxes) key.span.shard 0 + 1) }
+        ensures places { (shard : ℕ) → (shard ≡ key.span.shard → ⊥)
+            → slice_index_or (free_places self.old.outboxes) shard 0
+            ≤ slice_index_or (free_places self.new.outboxes) shard 0 }
         ensures waits { OnOk result (self.new.delay ≡ delay_begun self.old.delay) }
         ensures none { self.new.delay ≡ None → NoneWaits self.new.outboxes }
         ensures refused { OnErr result (HasNoneWaiting self.new) }
@@ -261,14 +267,14 @@ impl Seat {
         hand_over_waiting(&mut self.outboxes, &mut self.delay);
     }
 
-    /// Hands over what the seat has left to others, and takes the keys that have come in for its shard, ring after ring by
-    /// worker, at most a ring's capacity from each, and frees each, as [`Seat::free`] does. Each leaves one receipt, in the
-    /// order in which they were taken. It gives how many there were.
+    /// Hands over what the seat has left to others, looks how many keys have come in for its shard, and takes these, ring after
+    /// ring by worker, at most a ring's capacity from each, and frees each, as [`Seat::free`] does. Each leaves one receipt, in
+    /// the order in which they were taken. It gives how many there were.
     ///
     /// # Errors
     ///
-    /// `AllocError` where room for a full ring's receipts of each ring was refused. No key was taken then; what the seat has left
-    /// to others is handed over.
+    /// `AllocError` where room for the receipts of the keys that were seen on the rings was refused. No key was taken then; what the
+    /// seat has left to others is handed over.
     pub fn tend<G: Gate, L: Log, R: Wait, K: Receipts>(
         &mut self,
         rt: &R,
@@ -281,12 +287,16 @@ impl Seat {
         ensures none { HasNoneWaiting self.new }
         ensures seat { KeepsEnds self.old self.new
             × (sending_side self.new ≡ sending_side self.old) }
-        ensures err { OnErr result (HandsOver self.old self.new
+        ensures places { AreNoFewer (free_places self.old.outboxes)
+            (free_places self.new.outboxes) }
+        ensures err { OnErr result (HandsOver self.old
+            (record self.new { inboxes = self.old.inboxes })
+            × AreLookedAt self.old.inboxes self.new.inboxes
             × (K.told receipts.new ≡ K.told receipts.old)) }
     {
         self.hand_over();
         let most = self.limits.ring_capacity();
-        receipts.make_room(self.inboxes.len() * most)?;
+        receipts.make_room(look_at_rings(&mut self.inboxes, most))?;
         Ok(tend_rings(
             rt,
             arena,

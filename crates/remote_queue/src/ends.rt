@@ -199,6 +199,25 @@ impl Inbox {
         self.consumer.pop_partial_slice(keys)
     }
 
+    /// How many keys it sees on the ring, which it then knows: that many takes answer. It waits for nobody and takes no memory.
+    pub fn look(&mut self) -> usize
+        ensures ring { self.new.ring ≡ self.old.ring }
+        ensures taken { self.new.taken ≡ self.old.taken }
+        ensures known { IsPrefix self.old.known self.new.known }
+        ensures count { result ≡ length self.new.known }
+        ensures few { result ≤ MOST_RING_KEYS }
+    {
+        self.consumer.slots()
+    }
+
+    /// How many keys it knows to be on the ring: that many takes answer.
+    pub fn known(&self) -> usize
+        ensures count { result ≡ length self.now.known }
+        ensures few { result ≤ MOST_RING_KEYS }
+    {
+        self.consumer.cached_slots()
+    }
+
     /// Takes the next of the known keys, where there is one, as after a [`finish`] that counted it.
     pub fn take_known(&mut self) -> Key
         requires { 0 < length self.old.known }
