@@ -99,10 +99,14 @@ pub record AreLinked (seats : List SeatState) : Type 0 where
   pub wide : All (λ seat. (length seat.outboxes ≡ length seats) × (length seat.inboxes ≡ length seats)) seats
   pub linked : (worker shard : ℕ) → cell (map out_rings seats) worker shard ≡ cell (map in_rings seats) shard worker
 
+-- each seat stands at its worker's number
+abbrev pub AreInOrder : List SeatState → Type 0
+AreInOrder seats = (worker : ℕ) (d : SeatState) → worker < length seats → (slice_index_or seats worker d).worker ≡ worker
+
 -- all seats of the arena with these numbers and rings: one a worker, in order
 pub record AreSeatsOf (limits : Limits) (table : Table) (seats : List SeatState) : Type 0 where
   pub each : length seats ≡ limits.shards
-  pub in_order : (worker : ℕ) (d : SeatState) → worker < length seats → (slice_index_or seats worker d).worker ≡ worker
+  pub in_order : AreInOrder seats
   pub of_table : All (λ seat. seat.table ≡ table) seats
 
 -- the rings of a seat are those of its row and its column

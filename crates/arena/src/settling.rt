@@ -1,7 +1,7 @@
 // Emptying the rings when all seats are in one hand.
-ghost use Rattle.std.specs.Prelude.{◌≡◌, ◌+◌, ◌<◌, ◌≤◌, ◌++◌, ℕ, [], All, IfOk, OnErr, OnOk, length, map, sum, slice_index_or, vec_capacity, vec_items, vec_len};
+ghost use Rattle.std.specs.Prelude.{◌≡◌, ◌+◌, ◌<◌, ◌≤◌, ◌↔◌, ◌++◌, ℕ, [], All, IfOk, IsTrue, OnErr, OnOk, length, map, sum, slice_index_or, vec_capacity, vec_items, vec_len};
 ghost use Rattle.arena.specs.Receipts.{AddsFrees, IsFreeBy, joined};
-ghost use Rattle.arena.specs.Seats.{AreLinked, AreSeatsOf, HasItsRings, in_rings, known_lists, sending_side, taken_lists};
+ghost use Rattle.arena.specs.Seats.{AreInOrder, AreLinked, AreSeatsOf, HasItsRings, in_rings, known_lists, sending_side, taken_lists};
 ghost use Rattle.arena.specs.Settled.{AreCounted, AreEmptied, AreSameSeats, IsSettled, greatest_section, taken_with_known};
 ghost use Rattle.span.specs.declared.limits.TheConstants.{MOST_RING_KEYS, MOST_SHARDS};
 
@@ -35,6 +35,14 @@ impl<'a, G: Gate, L: Log, R: Wait> Frees for UnderLocks<'a, G, L, R> {
 }
 
 impl<G: Gate, L: Log> Arena<G, L> {
+    /// Whether a seat of each worker is there, in order, as [`Arena::settle`] and [`finish`](crate::finish) ask of its seats.
+    pub fn has_all(&self, seats: &[Seat]) -> bool
+        ensures { IsTrue result
+            ↔ ((length seats.now ≡ self.now.limits.shards) × AreInOrder seats.now) }
+    {
+        seats.len() == self.limits.shards() as usize && are_in_order(seats)
+    }
+
     /// Settles every ring, by shard, then worker, when all seats are in one hand: takes each key that was sent and not yet
     /// taken, and frees it as [`Seat::free`] does. Each leaves one receipt, in the order in which it was sent, last in the list
     /// of the worker of the ring's shard, with the greatest section of the seats. It gives how many keys each ring had, by
@@ -76,6 +84,18 @@ impl<G: Gate, L: Log> Arena<G, L> {
         settle_seats(&mut locks, seats, counts.as_slice(), section, receipts);
         Ok(counts)
     }
+}
+
+// Whether each seat stands at its worker's number.
+fn are_in_order(seats: &[Seat]) -> bool
+    ensures { IsTrue result ↔ AreInOrder seats.now }
+{
+    for place in 0..seats.len() {
+        if seats[place].worker() as usize != place {
+            return false;
+        }
+    }
+    true
 }
 
 // What the type of a seat keeps, said of each: it has the ends of its row and its column of the rings.
