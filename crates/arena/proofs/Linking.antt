@@ -9,9 +9,10 @@ use Rattle.remote_queue.specs.Rings.{Ring, Taking, cell}
 use Rattle.span.specs.declared.receipt.Receipt.{Receipt}
 use Rattle.std.proofs.lemmas.Bool.{cases_eq}
 use Rattle.arena.specs.Receipts.{AddsFrees, joined}
-use Rattle.arena.specs.Seats.{AreLinked, KeepsEnds, SeatState, SendingSide, in_rings, known_lists, out_rings, sending_side, sent_lists, taken_lists, taken_on}
+use Rattle.arena.specs.Seats.{AreLinked, KeepPlaces, KeepsEnds, SeatState, SendingSide, in_rings, known_lists, out_rings, sending_side, sent_lists, taken_lists, taken_on}
 use Rattle.arena.specs.Settled.{AreCounted, AreSameSeats, IsSettled, TakingSide, known_by, taking_side}
 use Rattle.arena.proofs.CountedRings.{same_out_rings, same_sent}
+use Rattle.arena.proofs.Sending.{KeepPlaces-more, KeepPlaces-same}
 
 set_twice : {T : Type 0} (l : List T) (i : ℕ) (a b : T) → slice_set (slice_set l i a) i b ≡ slice_set l i b
 set_twice [] i a b = refl
@@ -56,7 +57,12 @@ pub AreLinked-same : (a b : List SeatState) → AreSameSeats a b → AreLinked a
 AreLinked-same a b same linked = AreLinked-from a b (same_workers a b same.sending) (same_out_rings a b same.sending) (same_in_rings a b same.taking) linked
 
 pub AreSameSeats-more : (a b c : List SeatState) → AreSameSeats a b → AreSameSeats b c → AreSameSeats a c
-AreSameSeats-more a b c one two = record { tables = two.tables ∙ one.tables; sending = two.sending ∙ one.sending; taking = two.taking ∙ one.taking }
+AreSameSeats-more a b c one two = record {
+  tables = two.tables ∙ one.tables;
+  sending = two.sending ∙ one.sending;
+  taking = two.taking ∙ one.taking;
+  places = KeepPlaces-more a b c one.places two.places;
+}
 
 -- the ends that a seat gave are of the rings that the workers send by
 pub ends_of : (seats : List SeatState) (shard : ℕ) (y d : SeatState) (inboxes : List Taking) → AreLinked seats → shard < length seats → sending_side y ≡ sending_side (get_or seats shard d) → inboxes ≡ (get_or seats shard d).inboxes
@@ -90,8 +96,12 @@ module _ (s0 s2 : List SeatState) (shard : ℕ) (y1 y3 d e : SeatState) (inboxes
       map-set (λ (s : SeatState). s.inboxes) s2 shard y3 ∙ ap (λ l. slice_set l shard y3.inboxes) (idle ∙ map-set (λ (s : SeatState). s.inboxes) s0 shard y1) ∙ set_twice (map (λ (s : SeatState). s.inboxes) s0) shard y1.inboxes y3.inboxes
       ∙ ap (slice_set (map (λ (s : SeatState). s.inboxes) s0) shard) back
 
-  pub seats_same : map (λ (s : SeatState). s.table) s2 ≡ map (λ (s : SeatState). s.table) (slice_set s0 shard y1) → y3.table ≡ (get_or s0 shard d).table → AreSameSeats s0 (slice_set s2 shard y3)
-  seats_same tabled home = record {
+  pub seats_same : map (λ (s : SeatState). s.table) s2 ≡ map (λ (s : SeatState). s.table) (slice_set s0 shard y1) → y3.table ≡ (get_or s0 shard d).table → y1.outboxes ≡ (get_or s0 shard d).outboxes → KeepPlaces (slice_set s0 shard y1) s2
+      → y3.outboxes ≡ (get_or s2 shard e).outboxes → AreSameSeats s0 (slice_set s2 shard y3)
+  seats_same tabled home lent kept again = record {
+    places =
+        KeepPlaces-more s0 (slice_set s0 shard y1) (slice_set s2 shard y3) (KeepPlaces-same s0 (slice_set s0 shard y1) (map-set_same (λ (s : SeatState). s.outboxes) s0 shard y1 d lent))
+        (KeepPlaces-more (slice_set s0 shard y1) s2 (slice_set s2 shard y3) kept (KeepPlaces-same s2 (slice_set s2 shard y3) (map-set_same (λ (s : SeatState). s.outboxes) s2 shard y3 e again)));
     tables =
         map-set (λ (s : SeatState). s.table) s2 shard y3 ∙ ap (λ l. slice_set l shard y3.table) (tabled ∙ map-set (λ (s : SeatState). s.table) s0 shard y1)
         ∙ set_twice (map (λ (s : SeatState). s.table) s0) shard y1.table y3.table ∙ sym (map-set (λ (s : SeatState). s.table) s0 shard y3) ∙ map-set_same (λ (s : SeatState). s.table) s0 shard y3 d home;
@@ -144,7 +154,7 @@ AreCounted-same a b c d shard counts same known was =
     }
 
 pub AreSameSeats-refl : (a : List SeatState) → AreSameSeats a a
-AreSameSeats-refl a = record { tables = refl; sending = refl; taking = refl }
+AreSameSeats-refl a = record { tables = refl; sending = refl; taking = refl; places = λ w s. omega arith }
 
 -- a list of which one changes has room as before at the others
 pub room_more : {V C : Type 0} (len cap : V → ℕ) (sum_of : C → ℕ) (vs : List V) (cs : List C) (s : ℕ) (v : V) (c : C) → s < length vs → s < length cs → len v + sum_of (get_or cs s c) ≤ cap v
@@ -206,7 +216,8 @@ frees_of items w s section seat seat0 old old0 new same worker list frees =
     (subst (λ x. AddsFrees w section (joined (known_lists x.inboxes)) (items old0) (items new)) same
     (subst (λ y. AddsFrees w section (joined (known_lists seat.inboxes)) (items y) (items new)) list frees))
 
-same_by : {A B : Type 0} (f : A → B) (a b : List A) → length b ≡ length a → ((i : ℕ) (d e : A) → i < length a → f (get_or b i e) ≡ f (get_or a i d)) → map f b ≡ map f a
+-- two lists of which f makes the same at each place
+pub same_by : {A B : Type 0} (f : A → B) (a b : List A) → length b ≡ length a → ((i : ℕ) (d e : A) → i < length a → f (get_or b i e) ≡ f (get_or a i d)) → map f b ≡ map f a
 same_by f [] [] long each = refl
 same_by f [] (y ∷ ys) long each = absurd (omega arith)
 same_by f (x ∷ xs) [] long each = absurd (omega arith)

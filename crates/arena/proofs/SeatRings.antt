@@ -8,7 +8,7 @@ use Rattle.marks.specs.Numbers.{Limits}
 use Rattle.remote_queue.specs.Rings.{AreTransposed, Ring, Sending, Taking, cell, inbox_rings, outbox_rings}
 use Rattle.arena.specs.Seats.{AreLinked, AreSeatsOf, HasItsRings, IsTableOf, KeepsEnds, SeatState, Table, in_rings, out_rings, sending_side}
 use Rattle.arena.proofs.Linking.{same_length, same_workers}
-use Rattle.arena.proofs.Made.{same_both}
+use Rattle.arena.proofs.Made.{same_both, with_first}
 
 same_map : {A : Type 0} (xs : List A) → map (λ x. x) xs ≡ xs
 same_map [] = refl
@@ -70,6 +70,13 @@ AreSeatsOf-same limits table a b sending tables all = AreSeatsOf-from limits tab
 pub AreSeatsOf-set : (limits : Limits) (table : Table) (seats : List SeatState) (i : ℕ) (x d : SeatState) → KeepsEnds (get_or seats i d) x → AreSeatsOf limits table seats → AreSeatsOf limits table (slice_set seats i x)
 AreSeatsOf-set limits table seats i x d keeps all =
     AreSeatsOf-from limits table seats (slice_set seats i x) (map-set_same (λ (s : SeatState). s.worker) seats i x d keeps.worker_is) (map-set_same (λ (s : SeatState). s.table) seats i x d keeps.table_is) all
+
+-- what is the same of each element stays so where another list has the same, as a list of workers that threads give back
+pub All-same : {A B C : Type 0} (f : A → C) (g : B → C) (before : List A) (after : List B) (x : C) → map g after ≡ map f before → All (λ a. f a ≡ x) before → All (λ b. g b ≡ x) after
+All-same f g before after x same all = λ k d below.
+    let long : length after ≡ length before = sym (length-map after g) ∙ ap length same ∙ length-map before f in
+    with_first (g (get_or after k d) ≡ x) before k (omega arith)
+    (λ e. sym (get_or-map g after k d x below) ∙ ap (λ l. get_or l k x) same ∙ get_or-map f before k e x (omega arith) ∙ all k e (omega arith))
 
 -- the rings of rows and columns of ends
 pub made_table : (rows : List (Vec Sending Global)) (columns : List (Vec Taking Global)) (n : ℕ) → length rows ≡ n → length columns ≡ n → All (λ v. vec_len v ≡ n) rows → All (λ v. vec_len v ≡ n) columns

@@ -6,7 +6,9 @@ use Rattle.std.proofs.Math.Seq.{map-set_same}
 use Rattle.std.proofs.lemmas.Grind.{get_or-set_at}
 use Rattle.std.proofs.lemmas.List.{get_or-map, get_or-set_other, map-set, length-map}
 use Rattle.span.specs.declared.key.Key.{Key}
+use Rattle.std.proofs.lemmas.Simd.{map-map}
 use Rattle.remote_queue.specs.Rings.{Sending}
+use Rattle.arena.specs.Seats.{AreNoFewer, KeepPlaces, SeatState, free_places}
 
 -- what was sent after one end sent a key, or kept it
 pub sent_step : {A : Type 0} (outboxes : List Sending) (i : ℕ) (before after : Sending) (key : Key) (r : Result A Key) → i < length outboxes → before ≡ get_or outboxes i before
@@ -36,6 +38,28 @@ no_fewer_set f (x ∷ xs) zero after d more zero = more
 no_fewer_set f (x ∷ xs) zero after d more (suc k) = omega arith
 no_fewer_set f (x ∷ xs) (suc i) after d more zero = omega arith
 no_fewer_set f (x ∷ xs) (suc i) after d more (suc k) = no_fewer_set f xs i after d more k
+
+-- one seat keeps its places
+pub KeepPlaces-set : (seats : List SeatState) (i : ℕ) (x d : SeatState) → AreNoFewer (free_places (get_or seats i d).outboxes) (free_places x.outboxes) → KeepPlaces seats (slice_set seats i x)
+KeepPlaces-set [] i x d more w s = omega arith
+KeepPlaces-set (y ∷ seats) zero x d more zero s = more s
+KeepPlaces-set (y ∷ seats) zero x d more (suc w) s = omega arith
+KeepPlaces-set (y ∷ seats) (suc i) x d more zero s = omega arith
+KeepPlaces-set (y ∷ seats) (suc i) x d more (suc w) s = KeepPlaces-set seats i x d more w s
+
+pub KeepPlaces-more : (a b c : List SeatState) → KeepPlaces a b → KeepPlaces b c → KeepPlaces a c
+KeepPlaces-more a b c one two w s = omega (arith, one w s, two w s)
+
+-- the same ends know the same places
+pub KeepPlaces-same : (a b : List SeatState) → map (λ (s : SeatState). s.outboxes) b ≡ map (λ (s : SeatState). s.outboxes) a → KeepPlaces a b
+KeepPlaces-same a b same w s =
+    let alike : map (λ (s : SeatState). free_places s.outboxes) b ≡ map (λ (s : SeatState). free_places s.outboxes) a =
+    sym (map-map free_places (λ (s : SeatState). s.outboxes) b) ∙ ap (map free_places) same ∙ map-map free_places (λ (s : SeatState). s.outboxes) a
+    in
+    let here : slice_index_or (slice_index_or (map (λ (s : SeatState). free_places s.outboxes) b) w []) s 0 ≡ slice_index_or (slice_index_or (map (λ (s : SeatState). free_places s.outboxes) a) w []) s 0 =
+    ap (λ t. slice_index_or (slice_index_or t w []) s 0) alike
+    in
+    omega (arith, here)
 
 -- the places known at the end that sent
 pub place_step : {A B : Type 0} (outboxes : List Sending) (i : ℕ) (before after : Sending) (r : Result A B) → i < length outboxes → before ≡ get_or outboxes i before → OnOk r (before.free ≤ after.free + 1)

@@ -66,6 +66,11 @@ free_places outboxes = map (λ outbox. outbox.free) outboxes
 abbrev pub AreNoFewer : List ℕ → List ℕ → Type 0
 AreNoFewer before after = (shard : ℕ) → slice_index_or before shard 0 ≤ slice_index_or after shard 0
 
+-- of each ring between the seats at least as many places are known to be free as before
+abbrev pub KeepPlaces : List SeatState → List SeatState → Type 0
+KeepPlaces before after =
+    (worker : ℕ) → AreNoFewer (slice_index_or (map (λ seat. free_places seat.outboxes) before) worker []) (slice_index_or (map (λ seat. free_places seat.outboxes) after) worker [])
+
 -- what a worker sent to a shard
 abbrev pub sent_on : List SeatState → ℕ → ℕ → List Key
 sent_on seats worker shard = slice_index_or (slice_index_or (map sent_lists seats) worker []) shard []

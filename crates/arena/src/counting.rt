@@ -1,7 +1,7 @@
 // How many keys are left in each ring.
 ghost use Rattle.std.specs.Prelude.{◌≡◌, ◌<◌, ◌≤◌, ◌++◌, ℕ, [], All, IfOk, length, map, slice_get, slice_index_or, vec_capacity, vec_len};
 ghost use Rattle.remote_queue.specs.Rings.{cell};
-ghost use Rattle.arena.specs.Seats.{AreLinked, known_lists, out_rings, sending_side, sent_lists, taken_lists};
+ghost use Rattle.arena.specs.Seats.{AreLinked, KeepPlaces, known_lists, out_rings, sending_side, sent_lists, taken_lists};
 ghost use Rattle.arena.specs.Settled.{AreCounted, AreSameSeats, known_by, taking_side};
 ghost use Rattle.span.specs.declared.limits.TheConstants.{MOST_RING_KEYS, MOST_SHARDS};
 
@@ -23,6 +23,7 @@ fn count_rings(seats: &mut [Seat], shard: usize, inboxes: &mut Vec<Inbox>, count
     ensures seats { (map sending_side seats.new ≡ map sending_side seats.old)
         × (map (λ seat. seat.inboxes) seats.new ≡ map (λ seat. seat.inboxes) seats.old) }
     ensures tables { map (λ seat. seat.table) seats.new ≡ map (λ seat. seat.table) seats.old }
+    ensures places { KeepPlaces seats.old seats.new }
     ensures inboxes { taking_side inboxes.new.items ≡ taking_side inboxes.old.items }
     ensures counted { counts.new.items ≡ map length (known_lists inboxes.new.items) }
     ensures few { All (λ count. count ≤ MOST_RING_KEYS) counts.new.items }

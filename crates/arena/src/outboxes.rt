@@ -184,6 +184,7 @@ pub(crate) fn finish_on(outboxes: &mut Vec<Outbox>, shard: usize, inbox: &mut In
         × (map (λ outbox. outbox.sent) outboxes.new.items
         ≡ map (λ outbox. outbox.sent) outboxes.old.items) }
     ensures none { NoneWaits outboxes.old.items → NoneWaits outboxes.new.items }
+    ensures places { AreNoFewer (free_places outboxes.old.items) (free_places outboxes.new.items) }
     ensures inbox { (inbox.new.ring ≡ inbox.old.ring) × (inbox.new.taken ≡ inbox.old.taken) }
     ensures left { result ≡ length inbox.new.known }
     ensures whole { slice_index_or (map (λ outbox. outbox.sent) outboxes.old.items) shard []

@@ -400,6 +400,8 @@ impl Seat {
         ensures seat { (sending_side self.new ≡ sending_side self.old)
             × (self.new.inboxes ≡ self.old.inboxes) }
         ensures table { self.new.table ≡ self.old.table }
+        ensures places { AreNoFewer (free_places self.old.outboxes)
+            (free_places self.new.outboxes) }
         ensures inbox { (inbox.new.ring ≡ inbox.old.ring) × (inbox.new.taken ≡ inbox.old.taken) }
         ensures left { result ≡ length inbox.new.known }
         ensures whole { slice_index_or (sent_lists self.old) shard [] ≡ inbox.new.taken
@@ -422,6 +424,7 @@ impl Seat {
         ensures seat { (sending_side self.new ≡ sending_side self.old)
             × (in_rings self.new ≡ in_rings self.old) }
         ensures table { self.new.table ≡ self.old.table }
+        ensures outboxes { self.new.outboxes ≡ self.old.outboxes }
         ensures taken { taken_lists self.new.inboxes ≡ taken_with_known self.old.inboxes }
         ensures freed { AddsFrees self.old.worker section
             (joined (known_lists self.old.inboxes)) receipts.old.items receipts.new.items }

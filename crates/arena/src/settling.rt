@@ -162,6 +162,8 @@ pub(crate) fn settle_seats<F: Frees>(
         (slice_index_or receipts.old shard d).items (slice_index_or receipts.new shard e).items }
     ensures sending { map sending_side seats.new ≡ map sending_side seats.old }
     ensures tables { map (λ seat. seat.table) seats.new ≡ map (λ seat. seat.table) seats.old }
+    ensures outboxes { map (λ seat. seat.outboxes) seats.new
+        ≡ map (λ seat. seat.outboxes) seats.old }
     ensures rings { map in_rings seats.new ≡ map in_rings seats.old }
     ensures taken { map (λ seat. taken_lists seat.inboxes) seats.new
         ≡ map (λ seat. taken_with_known seat.inboxes) seats.old }

@@ -1,6 +1,7 @@
 // What is behind the locks of an arena, in one hand.
-ghost use Rattle.std.specs.Prelude.{◌≡◌, ◌+◌, ◌*◌, ◌≤◌, [], IfOk, IfSome, length, vec_capacity, vec_len};
-ghost use Rattle.span.specs.SpanLogs.{AreLegal, room_for_logs};
+ghost use Rattle.std.specs.Prelude.{◌≡◌, ◌+◌, ◌*◌, ◌≤◌, ◌++◌, [], IfOk, IfSome, flat_map, length, map, vec_capacity, vec_len};
+ghost use Rattle.groups.specs.Group.{spans_in};
+ghost use Rattle.span.specs.SpanLogs.{AreLegal, room_for_logs, span_of_log};
 ghost use Rattle.arena.specs.Receipts.{IsFreeBy};
 ghost use Rattle.arena.specs.SpanCounts.{pooled_spans, spans_of_all};
 ghost use Rattle.span.specs.declared.limits.TheConstants.{ALL_IDS, MOST_SHARDS};
@@ -40,9 +41,11 @@ impl Frees for Unlocked {
 }
 
 impl Unlocked {
-    // The logs of all spans.
+    // The logs of all spans: of those in the pool, and then of those of each shard.
     pub(crate) fn into_logs(self) -> Vec<SpanLog>
-        ensures { AreLegal result.items }
+        ensures legal { AreLegal result.items }
+        ensures all { map span_of_log result.items ≡ spans_in self.pool.groups
+            ++ flat_map (λ shard. spans_in shard.groups) self.shards.items }
     {
         let Unlocked {
             pool,

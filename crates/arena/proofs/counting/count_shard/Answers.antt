@@ -20,6 +20,7 @@ returns-clause-same c =
     c.requires.shard (ap sending_side c.swap_inboxes.ensures.seat) c.swap_inboxes.ensures.inboxes counted.seats.0 counted.seats.1 (ap sending_side c.swap_inboxes-2.ensures.seat) (ap (λ s. s.inboxes) c.swap_inboxes-2.ensures.seat) counted.inboxes counted.tables
     (home_again c.args.seats.now c.count_rings.new.seats c.args.shard c.swap_inboxes.new.self c.swap_inboxes-2.new.self c.index-seats-shard.result c.index-seats-shard-2.result c.swap_inboxes.new.columns.lists c.requires.shard counted.tables
     (ap (λ s. s.table.rows) c.swap_inboxes.ensures.seat) c.swap_inboxes.ensures.columns (ap (λ s. s.table) c.swap_inboxes-2.ensures.seat))
+    (ap (λ s. s.outboxes) c.swap_inboxes.ensures.seat) counted.places (ap (λ s. s.outboxes) c.swap_inboxes-2.ensures.seat)
 
 pub returns-clause-others : goal.returns-clause-others
 returns-clause-others c =

@@ -30,9 +30,9 @@ returns-clause-settled g c =
 pub returns-clause-emptied : goal.returns-clause-emptied
 returns-clause-emptied g c =
     emptied_from vec_items c.args.seats.now c.make_room.new.seats c.settle_seats.new.seats c.in_ok-counts.counts.items (omega (arith, c.in_ok-counts.ensures.len, c.in_ok-counts.counts.ok.0)) c.make_room.ensures.same c.in_ok-counts.ensures.counted
-    c.settle_seats.ensures.sending c.settle_seats.ensures.tables c.settle_seats.ensures.rings c.settle_seats.ensures.taken
+    c.settle_seats.ensures.sending c.settle_seats.ensures.tables c.settle_seats.ensures.outboxes c.settle_seats.ensures.rings c.settle_seats.ensures.taken
 
 pub returns-clause-linked : goal.returns-clause-linked
 returns-clause-linked g c =
     AreLinked-emptied c.args.seats.now c.settle_seats.new.seats (emptied_from vec_items c.args.seats.now c.make_room.new.seats c.settle_seats.new.seats c.in_ok-counts.counts.items (omega (arith, c.in_ok-counts.ensures.len, c.in_ok-counts.counts.ok.0)) c.make_room.ensures.same c.in_ok-counts.ensures.counted
-    c.settle_seats.ensures.sending c.settle_seats.ensures.tables c.settle_seats.ensures.rings c.settle_seats.ensures.taken) (AreLinked-seats c.args.self.now.limits c.args.self.now.table c.args.seats.now c.requires.seats c.args.self.now.rings_are c.know_rings.ensures)
+    c.settle_seats.ensures.sending c.settle_seats.ensures.tables c.settle_seats.ensures.outboxes c.settle_seats.ensures.rings c.settle_seats.ensures.taken) (AreLinked-seats c.args.self.now.limits c.args.self.now.table c.args.seats.now c.requires.seats c.args.self.now.rings_are c.know_rings.ensures)
