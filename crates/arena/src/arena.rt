@@ -57,7 +57,8 @@ impl<G: Gate, L: Log> Arena<G, L> {
     /// # Errors
     ///
     /// As those of [`mark_in`] on what all locks lend: `PlanOpen`, `TooMany`, `Doubled`, and `OutOfMemory` where an allocation was
-    /// refused. The plan of the steward is as it was.
+    /// refused. The plan of the steward is as it was. But for a steward that has a plan, when each comes the contract of
+    /// `mark_in` says; no clause here can name what the locks guarded.
     pub fn mark<R: Wait>(&self, rt: &R, steward: &mut Steward) -> Result<Certificate, MarkError>
         // The steward is of this arena.
         requires { steward.old.limits ≡ self.now.limits }
@@ -133,7 +134,8 @@ impl<G: Gate, L: Log> Arena<G, L> {
         true
     }
 
-    /// How many pages there are and how many keys are live, counted under all locks. It takes no memory.
+    /// How many pages there are and how many keys are live, counted under all locks. It takes no memory. No clause can name what
+    /// the locks guarded: that it is the sum of what `pages` and `live` of the pool and of each shard then say, the tests show.
     pub fn totals<R: Wait>(&self, rt: &R) -> Totals {
         let pool = self.pool.lock(rt);
         let shards = totals_of(rt, &self.shards);

@@ -314,7 +314,8 @@ impl Seat {
     /// # Errors
     ///
     /// As those of [`Pool::receive`](abandoned::Pool::receive) on pool and shard as they then are: `Ended`, `Doubled`, `PlanOpen`
-    /// where a group of the shard is closed, and `OutOfMemory`. Nothing has moved then.
+    /// where a group of the shard is closed, and `OutOfMemory`. Nothing has moved then. When each comes, that call's contract
+    /// says; no clause here can name what the locks guarded.
     pub fn end<G: Gate, L: Log, R: Wait>(
         &mut self,
         rt: &R,
@@ -340,7 +341,8 @@ impl Seat {
     /// # Errors
     ///
     /// As those of [`Pool::retire`](abandoned::Pool::retire) on pool and shard as they then are: `Ended`, `Doubled`, `PlanOpen`
-    /// where a group of the shard is closed, and `OutOfMemory`. Nothing has moved then.
+    /// where a group of the shard is closed, and `OutOfMemory`. Nothing has moved then. When each comes, and how many groups go,
+    /// that call's contract says; no clause here can name what the locks guarded.
     pub fn retire<G: Gate, L: Log, R: Wait>(
         &mut self,
         rt: &R,
@@ -367,7 +369,8 @@ impl Seat {
     /// # Errors
     ///
     /// As those of [`Pool::adopt`](abandoned::Pool::adopt) on pool and shard as they then are: `PagesSpent`, `Ended`, `Doubled`,
-    /// `PlanOpen`, `NothingToAdopt` and `OutOfMemory`. Nothing has moved then.
+    /// `PlanOpen`, `NothingToAdopt` and `OutOfMemory`. Nothing has moved then. When each comes, and which group, that call's
+    /// contract says; no clause here can name what the locks guarded.
     pub fn adopt<G: Gate, L: Log, R: Wait>(
         &mut self,
         rt: &R,

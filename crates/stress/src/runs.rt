@@ -98,13 +98,14 @@ fn work<'a, R: Threads + Wait + Sync>(
     ensures { IfOk result (λ after. map (λ worker. worker.seat.table) after.items
         ≡ map (λ worker. worker.seat.table) workers.entry.items) }
 {
-    thread::map_vec(
+    let after = thread::map_vec(
         rt,
         workers,
         &|worker: Worker<'_>| -> Worker<'_>
             ensures { result.seat.table ≡ worker.entry.seat.table }
         { work_one(rt, worker, old) },
-    )
+    )?;
+    Ok(after)
 }
 
 // Marks all the while.
@@ -189,6 +190,30 @@ fn trouble_of(workers: &[Worker<'_>]) -> Option<Trouble> {
     None
 }
 
+// All sections, one after the other.
+fn all_sections<'a, R: Threads + Wait + Sync>(
+    rt: &R,
+    alloc: Global,
+    workers: Vec<Worker<'a>>,
+    keeper: Keeper<'a>,
+    turn: Turn,
+) -> Result<(Vec<Worker<'a>>, Keeper<'a>), AllocError>
+    ensures { IfOk result (λ after. map (λ worker. worker.seat.table) after.0.items
+        ≡ map (λ worker. worker.seat.table) workers.entry.items) }
+{
+    let mut workers = workers;
+    let mut keeper = keeper;
+    for number in 0..SECTIONS {
+        let old = keys_of(alloc, workers.as_slice())?;
+        // A plan that is closed at once leaves groups in the pool, to be adopted.
+        let takes_steps = number % 4 != 2;
+        let (worked, kept) = section(rt, workers, keeper, old.as_slice(), turn, takes_steps);
+        workers = worked?;
+        keeper = kept;
+    }
+    Ok((workers, keeper))
+}
+
 /// A run in which the steward marks then.
 pub fn run<R: Threads + Wait + Sync>(
     rt: &R,
@@ -198,18 +223,11 @@ pub fn run<R: Threads + Wait + Sync>(
     let Ok((arena, seats, steward)) = Arena::open(alloc, WORKERS, 16, RING, 9, NoGate) else {
         return Err(AllocError);
     };
-    let mut workers = workers_of(alloc, &arena, seats)?;
-    let Some(mut keeper) = Keeper::new(&arena, steward) else {
+    let workers = workers_of(alloc, &arena, seats)?;
+    let Some(keeper) = Keeper::new(&arena, steward) else {
         return Err(AllocError);
     };
-    for number in 0..SECTIONS {
-        let old = keys_of(alloc, workers.as_slice())?;
-        // A plan that is closed at once leaves groups in the pool, to be adopted.
-        let takes_steps = number % 4 != 2;
-        let (worked, kept) = section(rt, workers, keeper, old.as_slice(), turn, takes_steps);
-        workers = worked?;
-        keeper = kept;
-    }
+    let (workers, keeper) = all_sections(rt, alloc, workers, keeper, turn)?;
     let marks = keeper.marks;
     let trouble = trouble_of(workers.as_slice());
     let (ended, adopted, retired) = moves_of(workers.as_slice());

@@ -44,12 +44,7 @@ fn put<R: Wait>(rt: &R, arena: &Arena<NoGate>, seat: &mut Seat) -> Option<Key>
 }
 
 // The first worker puts a value, and the second leaves its key to the first one's thread. Says whether it came to that.
-fn leave_one<R: Wait>(
-    rt: &R,
-    arena: &Arena<NoGate>,
-    first: &mut Seat,
-    second: &mut Seat,
-) -> bool
+fn leave_one<R: Wait>(rt: &R, arena: &Arena<NoGate>, first: &mut Seat, second: &mut Seat) -> bool
     requires { first.old.limits ≡ arena.now.limits }
     ensures { first.new.limits ≡ first.old.limits }
 {
@@ -60,12 +55,7 @@ fn leave_one<R: Wait>(
 }
 
 // Tends, and does so again where memory was refused. It gives how many keys there were.
-fn tend<R: Wait>(
-    rt: &R,
-    arena: &Arena<NoGate>,
-    seat: &mut Seat,
-    asked: &mut Asked,
-) -> Option<usize>
+fn tend<R: Wait>(rt: &R, arena: &Arena<NoGate>, seat: &mut Seat, asked: &mut Asked) -> Option<usize>
     requires { seat.old.limits ≡ arena.now.limits }
 {
     match seat.tend(rt, arena, asked) {
