@@ -7,8 +7,8 @@ use remote_queue::Links;
 use std::marker::Model;
 use std::mem::swap;
 
-// Lists of rings that only proofs read: it has no bytes, and its calls do nothing when they run. That an end is of a ring of the
-// list is for the one who has both to show.
+// Lists of rings that only proofs read: it has no bytes, and its calls do nothing when they run. Nothing ties them to memory; that
+// ends are of rings of such a list is a fact of the type that has both (`Seat`).
 #[derive(Drop)]
 pub struct RingLists {
     pub(crate) ghost lists: { List (List Ring) },

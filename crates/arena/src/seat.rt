@@ -39,6 +39,7 @@ pub struct Seat {
     worker: u32,
     section: u64,
     limits: Limits,
+    // All rings of the arena, of which it has the ends of a row and of a column.
     table: RingTable,
     // How many calls were made since the first key was left that may still wait. Where this is none, no key waits.
     delay: Option<u32>,
@@ -296,7 +297,8 @@ impl Seat {
     {
         self.hand_over();
         let most = self.limits.ring_capacity();
-        receipts.make_room(look_at_rings(&mut self.inboxes, most))?;
+        let seen = look_at_rings(&mut self.inboxes, most);
+        receipts.make_room(seen)?;
         Ok(tend_rings(
             rt,
             arena,
