@@ -1,8 +1,10 @@
 -- A free opens no span and closes none.
-use Rattle.std.proofs.Common.{zero, suc, ◌≡◌, ℕ, ◌<◌, List, [], ◌∷◌, Some, length, get_or, set, slice_get, ap, ◌∙◌, refl, arith, length-append, length-set}
+use Rattle.std.proofs.Common.{zero, suc, ◌≡◌, ℕ, ◌<◌, List, [], ◌∷◌, ◌++◌, Some, length, map, get_or, set, slice_get, ap, sym, ◌∙◌, refl, arith, append_assoc, length-append, length-set}
 use Rattle.std.proofs.lemmas.List.Sums.{sum_by-set}
 use Rattle.std.specs.List.{flat_map}
-use Rattle.span.specs.SpanLogs.{AreLegal}
+use Rattle.std.proofs.lemmas.List.Concat.{flat_map-cons}
+use Rattle.span.specs.SpanLogs.{AreLegal, span_of_log}
+use Rattle.span.specs.State.{SpanState}
 use Rattle.span.specs.declared.span_log.SpanLog.{SpanLog}
 use Rattle.span.specs.declared.key.Key.{Key}
 use Rattle.shard.specs.Calls.{Frees}
@@ -47,6 +49,17 @@ pooled_spans-Frees old new key freed.NotHere sound (elsewhere, new_is) = ap pool
 -- one of the shards frees a key
 pub spans_of_all-Frees : (shards : List ShardState) (i : ℕ) (d new : ShardState) (key : Key) (answer : Freed) → i < length shards → Frees (get_or shards i d) key answer new → spans_of_all (set shards i new) ≡ spans_of_all shards
 spans_of_all-Frees shards i d new key answer below frees = omega (arith, sum_by-set shard_spans shards i new d below, shard_spans-Frees (get_or shards i d) new key answer frees)
+
+-- the logs of one shard more
+pub logs_more : (logs after whole : List SpanState) (f : ShardState → List SpanState) (shard : ShardState) (more items : List ShardState) → after ≡ logs ++ f shard → items ≡ shard ∷ more → logs ++ flat_map f items ≡ whole
+    → after ++ flat_map f more ≡ whole
+logs_more logs after whole f shard more items goes is was =
+    ap (λ l. l ++ flat_map f more) goes ∙ append_assoc logs (f shard) (flat_map f more) ∙ ap (λ l. logs ++ l) (sym (flat_map-cons f shard more) ∙ ap (flat_map f) (sym is)) ∙ was
+
+-- a list with no log has none of a span
+pub logs_none : (logs : List SpanLog) → length logs ≡ 0 → map span_of_log logs ≡ []
+logs_none [] none = refl
+logs_none (x ∷ xs) none = absurd (omega arith)
 
 -- an empty list of logs is legal
 pub AreLegal-none : (logs : List SpanLog) → length logs ≡ 0 → AreLegal logs

@@ -4,6 +4,7 @@ mod Frees
 mod KeptSpans
 pub mod Linking
 mod Made
+pub mod SeatRings
 mod Sending
 mod SettledRings
 mod TendedRings

@@ -1,17 +1,18 @@
 -- Seats whose ends belong together.
-use Rattle.std.proofs.Common.{◌≡◌, ℕ, zero, suc, ◌+◌, ◌<◌, ◌≤◌, List, [], ◌∷◌, ◌++◌, length, map, get_or, slice_index_or, slice_set, All, ap, sym, subst, ◌∙◌, refl, arith, inl, inr}
+use Rattle.std.proofs.Common.{◌≡◌, ℕ, zero, suc, ◌+◌, ◌<◌, ◌≤◌, List, [], ◌∷◌, ◌++◌, length, length-set, map, get_or, slice_index_or, slice_set, All, ap, sym, subst, ◌∙◌, refl, arith, inl, inr}
 use Rattle.std.specs.List.{slice_get}
 use Rattle.std.proofs.Math.Seq.{map-set_same}
 use Rattle.std.proofs.lemmas.Simd.{map-map}
 use Rattle.std.proofs.lemmas.Grind.{get_or-set_at}
 use Rattle.std.proofs.lemmas.List.{get_or_default, get_or-map, get_or-set_other, length-map, map-set}
-use Rattle.remote_queue.specs.Rings.{Taking, cell}
+use Rattle.remote_queue.specs.Rings.{Ring, Taking, cell}
 use Rattle.span.specs.declared.receipt.Receipt.{Receipt}
 use Rattle.std.proofs.lemmas.Bool.{cases_eq}
 use Rattle.arena.specs.Receipts.{AddsFrees, joined}
-use Rattle.arena.specs.Seats.{AreLinked, KeepsEnds, SeatState, SendingSide, in_rings, known_lists, out_rings, sending_side, sent_lists, taken_lists, taken_on}
+use Rattle.arena.specs.Seats.{AreLinked, KeepPlaces, KeepsEnds, SeatState, SendingSide, in_rings, known_lists, out_rings, sending_side, sent_lists, taken_lists, taken_on}
 use Rattle.arena.specs.Settled.{AreCounted, AreSameSeats, IsSettled, TakingSide, known_by, taking_side}
 use Rattle.arena.proofs.CountedRings.{same_out_rings, same_sent}
+use Rattle.arena.proofs.Sending.{KeepPlaces-more, KeepPlaces-same}
 
 set_twice : {T : Type 0} (l : List T) (i : ℕ) (a b : T) → slice_set (slice_set l i a) i b ≡ slice_set l i b
 set_twice [] i a b = refl
@@ -56,7 +57,12 @@ pub AreLinked-same : (a b : List SeatState) → AreSameSeats a b → AreLinked a
 AreLinked-same a b same linked = AreLinked-from a b (same_workers a b same.sending) (same_out_rings a b same.sending) (same_in_rings a b same.taking) linked
 
 pub AreSameSeats-more : (a b c : List SeatState) → AreSameSeats a b → AreSameSeats b c → AreSameSeats a c
-AreSameSeats-more a b c one two = record { sending = two.sending ∙ one.sending; taking = two.taking ∙ one.taking }
+AreSameSeats-more a b c one two = record {
+  tables = two.tables ∙ one.tables;
+  sending = two.sending ∙ one.sending;
+  taking = two.taking ∙ one.taking;
+  places = KeepPlaces-more a b c one.places two.places;
+}
 
 -- the ends that a seat gave are of the rings that the workers send by
 pub ends_of : (seats : List SeatState) (shard : ℕ) (y d : SeatState) (inboxes : List Taking) → AreLinked seats → shard < length seats → sending_side y ≡ sending_side (get_or seats shard d) → inboxes ≡ (get_or seats shard d).inboxes
@@ -65,6 +71,20 @@ ends_of seats shard y d inboxes linked below sending given w =
     ap (λ t. cell t w shard) (same_out_rings seats (slice_set seats shard y) (map-set_same sending_side seats shard y d sending))
     ∙ linked.linked w shard
     ∙ ap (λ l. slice_get l w) (get_or-map in_rings seats shard d [] below ∙ ap (map (λ (i : Taking). i.ring)) (sym given))
+
+-- what others kept of the seat that gave its ends away
+pub kept_of : {F : Type 0} (f : SeatState → F) (s0 s2 : List SeatState) (shard : ℕ) (y1 e : SeatState) → shard < length s0 → map f s2 ≡ map f (slice_set s0 shard y1) → f (get_or s2 shard e) ≡ f y1
+kept_of f s0 s2 shard y1 e below same =
+    let set : shard < length (slice_set s0 shard y1) = omega (arith, length-set s0 shard y1) in
+    sym (get_or-map f s2 shard e (f e) (omega (arith, same_length f (slice_set s0 shard y1) s2 same))) ∙ ap (λ l. get_or l shard (f e)) same ∙ get_or-map f (slice_set s0 shard y1) shard e (f e) set
+    ∙ ap f (get_or-set_at s0 shard shard y1 e refl below)
+
+-- the seat has its own columns back
+pub home_again : (s0 s2 : List SeatState) (shard : ℕ) (y1 y3 d e : SeatState) (lent : List (List Ring)) → shard < length s0 → map (λ (s : SeatState). s.table) s2 ≡ map (λ (s : SeatState). s.table) (slice_set s0 shard y1)
+    → y1.table.rows ≡ (get_or s0 shard d).table.rows → lent ≡ (get_or s0 shard d).table.columns → y3.table ≡ record { rows = (get_or s2 shard e).table.rows; columns = lent } → y3.table ≡ (get_or s0 shard d).table
+home_again s0 s2 shard y1 y3 d e lent below tabled rows columns back =
+    let same : (get_or s2 shard e).table.rows ≡ (get_or s0 shard d).table.rows = ap (λ t. t.rows) (kept_of (λ (s : SeatState). s.table) s0 s2 shard y1 e below tabled) ∙ rows in
+    rw (same, columns) at back
 
 -- a seat gives its ends away, others count, and it has its ends back
 module _ (s0 s2 : List SeatState) (shard : ℕ) (y1 y3 d e : SeatState) (inboxes1 inboxes2 : List Taking) (below : shard < length s0)
@@ -76,8 +96,15 @@ module _ (s0 s2 : List SeatState) (shard : ℕ) (y1 y3 d e : SeatState) (inboxes
       map-set (λ (s : SeatState). s.inboxes) s2 shard y3 ∙ ap (λ l. slice_set l shard y3.inboxes) (idle ∙ map-set (λ (s : SeatState). s.inboxes) s0 shard y1) ∙ set_twice (map (λ (s : SeatState). s.inboxes) s0) shard y1.inboxes y3.inboxes
       ∙ ap (slice_set (map (λ (s : SeatState). s.inboxes) s0) shard) back
 
-  pub seats_same : AreSameSeats s0 (slice_set s2 shard y3)
-  seats_same = record {
+  pub seats_same : map (λ (s : SeatState). s.table) s2 ≡ map (λ (s : SeatState). s.table) (slice_set s0 shard y1) → y3.table ≡ (get_or s0 shard d).table → y1.outboxes ≡ (get_or s0 shard d).outboxes → KeepPlaces (slice_set s0 shard y1) s2
+      → y3.outboxes ≡ (get_or s2 shard e).outboxes → AreSameSeats s0 (slice_set s2 shard y3)
+  seats_same tabled home lent kept again = record {
+    places =
+        KeepPlaces-more s0 (slice_set s0 shard y1) (slice_set s2 shard y3) (KeepPlaces-same s0 (slice_set s0 shard y1) (map-set_same (λ (s : SeatState). s.outboxes) s0 shard y1 d lent))
+        (KeepPlaces-more (slice_set s0 shard y1) s2 (slice_set s2 shard y3) kept (KeepPlaces-same s2 (slice_set s2 shard y3) (map-set_same (λ (s : SeatState). s.outboxes) s2 shard y3 e again)));
+    tables =
+        map-set (λ (s : SeatState). s.table) s2 shard y3 ∙ ap (λ l. slice_set l shard y3.table) (tabled ∙ map-set (λ (s : SeatState). s.table) s0 shard y1)
+        ∙ set_twice (map (λ (s : SeatState). s.table) s0) shard y1.table y3.table ∙ sym (map-set (λ (s : SeatState). s.table) s0 shard y3) ∙ map-set_same (λ (s : SeatState). s.table) s0 shard y3 d home;
     sending = map-set_same sending_side s2 shard y3 e took ∙ sending ∙ map-set_same sending_side s0 shard y1 d gave;
     taking =
         sym (map-map taking_side (λ (s : SeatState). s.inboxes) (slice_set s2 shard y3)) ∙ ap (map taking_side) inboxes_after
@@ -127,7 +154,7 @@ AreCounted-same a b c d shard counts same known was =
     }
 
 pub AreSameSeats-refl : (a : List SeatState) → AreSameSeats a a
-AreSameSeats-refl a = record { sending = refl; taking = refl }
+AreSameSeats-refl a = record { tables = refl; sending = refl; taking = refl; places = λ w s. omega arith }
 
 -- a list of which one changes has room as before at the others
 pub room_more : {V C : Type 0} (len cap : V → ℕ) (sum_of : C → ℕ) (vs : List V) (cs : List C) (s : ℕ) (v : V) (c : C) → s < length vs → s < length cs → len v + sum_of (get_or cs s c) ≤ cap v
@@ -189,7 +216,8 @@ frees_of items w s section seat seat0 old old0 new same worker list frees =
     (subst (λ x. AddsFrees w section (joined (known_lists x.inboxes)) (items old0) (items new)) same
     (subst (λ y. AddsFrees w section (joined (known_lists seat.inboxes)) (items y) (items new)) list frees))
 
-same_by : {A B : Type 0} (f : A → B) (a b : List A) → length b ≡ length a → ((i : ℕ) (d e : A) → i < length a → f (get_or b i e) ≡ f (get_or a i d)) → map f b ≡ map f a
+-- two lists of which f makes the same at each place
+pub same_by : {A B : Type 0} (f : A → B) (a b : List A) → length b ≡ length a → ((i : ℕ) (d e : A) → i < length a → f (get_or b i e) ≡ f (get_or a i d)) → map f b ≡ map f a
 same_by f [] [] long each = refl
 same_by f [] (y ∷ ys) long each = absurd (omega arith)
 same_by f (x ∷ xs) [] long each = absurd (omega arith)
@@ -210,4 +238,4 @@ AreLinked-set seats i x d keeps linked =
 
 -- the same seat has the same ends
 pub KeepsEnds-same : (a b : SeatState) → b ≡ a → KeepsEnds a b
-KeepsEnds-same a b same = record { worker_is = ap (λ (s : SeatState). s.worker) same; limits_are = ap (λ (s : SeatState). s.limits) same; outboxes_are = ap out_rings same; inboxes_are = ap in_rings same }
+KeepsEnds-same a b same = record { worker_is = ap (λ (s : SeatState). s.worker) same; limits_are = ap (λ (s : SeatState). s.limits) same; table_is = ap (λ (s : SeatState). s.table) same; outboxes_are = ap out_rings same; inboxes_are = ap in_rings same }

@@ -1,11 +1,14 @@
 -- Lists of senders' ends, of which one changes.
-use Rattle.std.proofs.Common.{◌≡◌, ℕ, ◌<◌, List, [], ◌∷◌, ◌++◌, length, map, get_or, slice_index_or, slice_set, Result, Ok, Err, MatchResult, Some, ap, sym, subst, ◌∙◌, arith}
+use Rattle.std.proofs.Common.{◌≡◌, ℕ, zero, suc, ◌<◌, ◌≤◌, List, [], ◌∷◌, ◌++◌, length, map, get_or, slice_index_or, slice_set, Result, Ok, Err, MatchResult, OnOk, Some, refl, ◌+◌, ap, sym, subst, ◌∙◌, arith}
 use Rattle.std.specs.List.{slice_get}
 use Rattle.std.proofs.lemmas.Option.{slice_get_within}
 use Rattle.std.proofs.Math.Seq.{map-set_same}
-use Rattle.std.proofs.lemmas.List.{get_or-map, map-set, length-map}
+use Rattle.std.proofs.lemmas.Grind.{get_or-set_at}
+use Rattle.std.proofs.lemmas.List.{get_or-map, get_or-set_other, map-set, length-map}
 use Rattle.span.specs.declared.key.Key.{Key}
+use Rattle.std.proofs.lemmas.Simd.{map-map}
 use Rattle.remote_queue.specs.Rings.{Sending}
+use Rattle.arena.specs.Seats.{AreNoFewer, KeepPlaces, SeatState, free_places}
 
 -- what was sent after one end sent a key, or kept it
 pub sent_step : {A : Type 0} (outboxes : List Sending) (i : ℕ) (before after : Sending) (key : Key) (r : Result A Key) → i < length outboxes → before ≡ get_or outboxes i before
@@ -27,6 +30,55 @@ sent_step_at outboxes i j before after key r same below is sent =
     (λ back. (back ≡ key) × (map (λ (o : Sending). o.sent) (slice_set outboxes i after) ≡ map (λ (o : Sending). o.sent) outboxes))
     in
     subst P same (sent_step outboxes i before after key r below is sent)
+
+-- one entry of a list of numbers grows by what another list has less
+pub no_fewer_set : {A : Type 0} (f : A → ℕ) (xs : List A) (i : ℕ) (after d : A) → f (get_or xs i d) ≤ f after → (k : ℕ) → slice_index_or (map f xs) k 0 ≤ slice_index_or (map f (slice_set xs i after)) k 0
+no_fewer_set f [] i after d more k = omega arith
+no_fewer_set f (x ∷ xs) zero after d more zero = more
+no_fewer_set f (x ∷ xs) zero after d more (suc k) = omega arith
+no_fewer_set f (x ∷ xs) (suc i) after d more zero = omega arith
+no_fewer_set f (x ∷ xs) (suc i) after d more (suc k) = no_fewer_set f xs i after d more k
+
+-- one seat keeps its places
+pub KeepPlaces-set : (seats : List SeatState) (i : ℕ) (x d : SeatState) → AreNoFewer (free_places (get_or seats i d).outboxes) (free_places x.outboxes) → KeepPlaces seats (slice_set seats i x)
+KeepPlaces-set [] i x d more w s = omega arith
+KeepPlaces-set (y ∷ seats) zero x d more zero s = more s
+KeepPlaces-set (y ∷ seats) zero x d more (suc w) s = omega arith
+KeepPlaces-set (y ∷ seats) (suc i) x d more zero s = omega arith
+KeepPlaces-set (y ∷ seats) (suc i) x d more (suc w) s = KeepPlaces-set seats i x d more w s
+
+pub KeepPlaces-more : (a b c : List SeatState) → KeepPlaces a b → KeepPlaces b c → KeepPlaces a c
+KeepPlaces-more a b c one two w s = omega (arith, one w s, two w s)
+
+-- the same ends know the same places
+pub KeepPlaces-same : (a b : List SeatState) → map (λ (s : SeatState). s.outboxes) b ≡ map (λ (s : SeatState). s.outboxes) a → KeepPlaces a b
+KeepPlaces-same a b same w s =
+    let alike : map (λ (s : SeatState). free_places s.outboxes) b ≡ map (λ (s : SeatState). free_places s.outboxes) a =
+    sym (map-map free_places (λ (s : SeatState). s.outboxes) b) ∙ ap (map free_places) same ∙ map-map free_places (λ (s : SeatState). s.outboxes) a
+    in
+    let here : slice_index_or (slice_index_or (map (λ (s : SeatState). free_places s.outboxes) b) w []) s 0 ≡ slice_index_or (slice_index_or (map (λ (s : SeatState). free_places s.outboxes) a) w []) s 0 =
+    ap (λ t. slice_index_or (slice_index_or t w []) s 0) alike
+    in
+    omega (arith, here)
+
+-- the places known at the end that sent
+pub place_step : {A B : Type 0} (outboxes : List Sending) (i : ℕ) (before after : Sending) (r : Result A B) → i < length outboxes → before ≡ get_or outboxes i before → OnOk r (before.free ≤ after.free + 1)
+    → OnOk r (slice_index_or (map (λ o. o.free) outboxes) i 0 ≤ slice_index_or (map (λ o. o.free) (slice_set outboxes i after)) i 0 + 1)
+place_step outboxes i before after (Err e) below is place = tt
+place_step outboxes i before after (Ok x) below is place =
+    let old : slice_index_or (map (λ (o : Sending). o.free) outboxes) i 0 ≡ before.free = get_or-map (λ (o : Sending). o.free) outboxes i before 0 below ∙ ap (λ (o : Sending). o.free) (sym is) in
+    let new : slice_index_or (map (λ (o : Sending). o.free) (slice_set outboxes i after)) i 0 ≡ after.free =
+    ap (λ l. slice_index_or l i 0) (map-set (λ (o : Sending). o.free) outboxes i after) ∙ get_or-set_at (map (λ (o : Sending). o.free) outboxes) i i after.free 0 refl (omega (arith, length-map outboxes (λ (o : Sending). o.free)))
+    in
+    omega (arith, place, old, new)
+
+-- the places known at the others
+pub other_places : (outboxes : List Sending) (i : ℕ) (after : Sending) (k : ℕ) → (k ≡ i → ⊥) → slice_index_or (map (λ o. o.free) outboxes) k 0 ≤ slice_index_or (map (λ o. o.free) (slice_set outboxes i after)) k 0
+other_places outboxes i after k other =
+    let same : slice_index_or (map (λ (o : Sending). o.free) (slice_set outboxes i after)) k 0 ≡ slice_index_or (map (λ (o : Sending). o.free) outboxes) k 0 =
+    ap (λ l. slice_index_or l k 0) (map-set (λ (o : Sending). o.free) outboxes i after) ∙ get_or-set_other (map (λ (o : Sending). o.free) outboxes) i k after.free 0 other
+    in
+    omega (arith, same)
 
 -- a place where something is read is within the list
 pub read_within : {A B : Type 0} (f : A → B) (xs : List A) (i : ℕ) (y : B) → slice_get (map f xs) i ≡ Some y → i < length xs

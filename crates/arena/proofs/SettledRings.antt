@@ -11,6 +11,7 @@ use Rattle.arena.specs.Settled.{AreCounted, AreEmptied, AreSameSeats, known_by, 
 use Rattle.arena.proofs.CountedRings.{same_out_rings}
 use Rattle.arena.proofs.Frees.{AddsFrees-more, joined-push}
 use Rattle.arena.proofs.Made.{with_first}
+use Rattle.arena.proofs.Sending.{KeepPlaces-more, KeepPlaces-same}
 use Rattle.arena.proofs.Linking.{AreLinked-from, same_in_rings, same_taken, same_workers}
 
 -- one ring more, of which all that is known is taken
@@ -54,8 +55,10 @@ known_taken_on (x ∷ xs) (suc s) w = known_taken_on xs s w
 
 -- where all that was counted is taken, all that was sent is taken
 pub emptied_from : {C : Type 0} (row : C → List ℕ) (a b c : List SeatState) (counts : List C) → length counts ≡ length a → AreSameSeats a b → ((s : ℕ) (d : C) → s < length a → AreCounted a b s (row (get_or counts s d)))
-    → map sending_side c ≡ map sending_side b → map in_rings c ≡ map in_rings b → map (λ seat. taken_lists seat.inboxes) c ≡ map (λ seat. taken_with_known seat.inboxes) b → AreEmptied a c
-emptied_from row a b c counts long same counted sending rings took = record {
+    → map sending_side c ≡ map sending_side b → map (λ (s : SeatState). s.table) c ≡ map (λ (s : SeatState). s.table) b → map (λ (s : SeatState). s.outboxes) c ≡ map (λ (s : SeatState). s.outboxes) b → map in_rings c ≡ map in_rings b → map (λ seat. taken_lists seat.inboxes) c ≡ map (λ seat. taken_with_known seat.inboxes) b → AreEmptied a c
+emptied_from row a b c counts long same counted sending tables outboxes rings took = record {
+  places = KeepPlaces-more a b c same.places (KeepPlaces-same b c outboxes);
+  tables = tables ∙ same.tables;
   sending = sending ∙ same.sending;
   rings = rings ∙ same_in_rings a b same.taking;
   taken = λ w s h below.

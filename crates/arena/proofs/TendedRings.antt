@@ -1,10 +1,11 @@
 -- Ring after ring.
-use Rattle.std.proofs.Common.{◌≡◌, ℕ, ◌+◌, ◌<◌, ◌≤◌, List, [], ◌∷◌, ◌++◌, length, get_or, slice_set, take, ap, sym, subst, ◌∙◌, refl, inl, inr, arith, length-append, length-take-le, append_assoc}
+use Rattle.std.proofs.Common.{◌≡◌, ℕ, zero, suc, sum_by, ◌+◌, ◌<◌, ◌≤◌, List, [], ◌∷◌, ◌++◌, length, get_or, slice_set, take, ap, sym, subst, ◌∙◌, refl, inl, inr, arith, length-append, length-take-le, append_assoc}
 use Rattle.std.proofs.Math.Seq.{map-set_same, get_or-append_seam}
 use Rattle.std.proofs.lemmas.Bool.{cases_eq, cases_lt}
 use Rattle.std.proofs.lemmas.Grind.{get_or-set_at}
 use Rattle.std.proofs.lemmas.List.{append-nil, get_or-map, get_or-set_other, get_or_append_left, get_or_past, length-map, map-set}
 use Rattle.std.proofs.lemmas.List.Elements.{All-push}
+use Rattle.std.proofs.lemmas.List.Sums.{sum_by-cons}
 use Rattle.span.specs.declared.key.Key.{Key}
 use Rattle.span.specs.declared.receipt.Receipt.{Receipt}
 use Rattle.remote_queue.specs.Rings.{Taking}
@@ -12,6 +13,15 @@ use Rattle.arena.specs.Receipts.{AddsFrees, joined}
 use Rattle.arena.specs.Seats.{taken_lists}
 use Rattle.arena.specs.Tended.{AreRingsTended, IsRingTended}
 use Rattle.arena.proofs.Frees.{AddsFrees-none, AddsFrees-more, joined-push}
+
+-- the sum goes on by one entry, which is looked at
+pub known_more : (f : Taking → ℕ) (inboxes : List Taking) (n : ℕ) (after : Taking) → n < length inboxes → sum_by f (take (n + 1) (slice_set inboxes n after)) ≡ sum_by f (take n inboxes) + f after
+known_more f (x ∷ xs) zero after below = omega (arith, sum_by-cons f after (take 0 xs))
+known_more f (x ∷ xs) (suc n) after below =
+    let more = known_more f xs n after (omega arith) in
+    let next : suc n + 1 ≡ suc (n + 1) = omega arith in
+    rw next (sum_by-cons f x (take (n + 1) (slice_set xs n after)) ∙ omega (arith, more, sum_by-cons f x (take n xs)))
+known_more f [] n after below = absurd (omega arith)
 
 -- after a list of n entries, the next one is the last of the longer list, and the others stay
 push_other : {T : Type 0} (rows : List (List T)) (row : List T) (n w : ℕ) → length rows ≡ n → (w ≡ n → ⊥) → get_or (rows ++ row ∷ []) w [] ≡ get_or rows w []

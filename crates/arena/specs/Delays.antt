@@ -1,7 +1,7 @@
 -- How long a key waits at a seat for its block to be full, counted in calls of the seat: the 64th further call hands it over.
 use Rattle.std.specs.Prelude.{◌≡◌, ℕ, ◌+◌, All, List, Option, None, Some, IsSome, nat_lt, if◌then◌else◌}
 use Rattle.remote_queue.specs.Rings.{Sending}
-use Rattle.arena.specs.Seats.{KeepsEnds, SeatState, sent_lists}
+use Rattle.arena.specs.Seats.{AreNoFewer, KeepsEnds, SeatState, free_places, sent_lists}
 use Rattle.arena.specs.declared.outboxes.TheConstants.{MOST_DELAY}
 
 -- no key waits at any of the ends for its block to be full
@@ -18,12 +18,13 @@ abbrev pub delay_begun : Option ℕ → Option ℕ
 delay_begun None = Some 0
 delay_begun (Some calls) = delay_after (Some calls)
 
--- the same worker, section, numbers and rings, the same takers' ends, and the same keys sent
+-- the same worker, section, numbers and rings, the same takers' ends, and the same keys sent; and no place that was known to be free is lost
 pub record KeepsSeat (old new : SeatState) : Type 0 where
   pub ends : KeepsEnds old new
   pub section_is : new.section ≡ old.section
   pub inboxes_are : new.inboxes ≡ old.inboxes
   pub sent_are : sent_lists new ≡ sent_lists old
+  pub places : AreNoFewer (free_places old.outboxes) (free_places new.outboxes)
 
 -- no key of the seat waits for its block to be full, and no call is counted
 pub record HasNoneWaiting (seat : SeatState) : Type 0 where

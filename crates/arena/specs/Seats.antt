@@ -1,15 +1,26 @@
 -- What contracts see of a seat, and of seats whose ends of rings belong together.
-use Rattle.std.specs.Prelude.{◌≡◌, ℕ, ◌<◌, All, List, [], Option, length, map, slice_index_or}
+use Rattle.std.specs.Prelude.{◌≡◌, ℕ, ◌<◌, ◌≤◌, All, List, [], Option, length, map, slice_index_or}
 use Rattle.span.specs.declared.key.Key.{Key}
 use Rattle.marks.specs.Numbers.{Limits}
-use Rattle.remote_queue.specs.Rings.{Ring, Sending, Taking, cell}
+use Rattle.remote_queue.specs.Rings.{AreTransposed, Ring, Sending, Taking, cell}
 
--- the worker's number, the section of the run that it is in, the numbers of its arena, and its ends of rings: to each shard, and from each worker into its own shard;
+-- the rings of an arena: by worker those to each shard, and by shard those from each worker
+pub record Table : Type 0 where
+  pub rows : List (List Ring)
+  pub columns : List (List Ring)
+
+-- a table of as many workers and shards, in which the ring of a worker to a shard is that of the shard from the worker
+abbrev pub IsTableOf : ℕ → Table → Type 0
+IsTableOf shards table =
+    (length table.rows ≡ shards) × (length table.columns ≡ shards) × All (λ row. length row ≡ shards) table.rows × All (λ column. length column ≡ shards) table.columns × AreTransposed table.rows table.columns
+
+-- the worker's number, the section of the run that it is in, the numbers and the rings of its arena, and its ends of rings: to each shard, and from each worker into its own shard;
 -- and, where keys may wait for their block to be full, how many calls it made since the first of these was left
 pub record SeatState : Type 0 where
   pub worker : ℕ
   pub section : ℕ
   pub limits : Limits
+  pub table : Table
   pub delay : Option ℕ
   pub outboxes : List Sending
   pub inboxes : List Taking
@@ -47,6 +58,19 @@ taken_lists inboxes = map (λ inbox. inbox.taken) inboxes
 abbrev pub known_lists : List Taking → List (List Key)
 known_lists inboxes = map (λ inbox. inbox.known) inboxes
 
+-- how many places of each ring are known to be free
+abbrev pub free_places : List Sending → List ℕ
+free_places outboxes = map (λ outbox. outbox.free) outboxes
+
+-- of each ring at least as many places are known to be free as before
+abbrev pub AreNoFewer : List ℕ → List ℕ → Type 0
+AreNoFewer before after = (shard : ℕ) → slice_index_or before shard 0 ≤ slice_index_or after shard 0
+
+-- of each ring between the seats at least as many places are known to be free as before
+abbrev pub KeepPlaces : List SeatState → List SeatState → Type 0
+KeepPlaces before after =
+    (worker : ℕ) → AreNoFewer (slice_index_or (map (λ seat. free_places seat.outboxes) before) worker []) (slice_index_or (map (λ seat. free_places seat.outboxes) after) worker [])
+
 -- what a worker sent to a shard
 abbrev pub sent_on : List SeatState → ℕ → ℕ → List Key
 sent_on seats worker shard = slice_index_or (slice_index_or (map sent_lists seats) worker []) shard []
@@ -55,10 +79,11 @@ sent_on seats worker shard = slice_index_or (slice_index_or (map sent_lists seat
 abbrev pub taken_on : List SeatState → ℕ → ℕ → List Key
 taken_on seats shard worker = slice_index_or (slice_index_or (map (λ seat. taken_lists seat.inboxes) seats) shard []) worker []
 
--- the same worker, numbers and rings
+-- the same worker, numbers, arena's rings, and rings of its own
 pub record KeepsEnds (old new : SeatState) : Type 0 where
   pub worker_is : new.worker ≡ old.worker
   pub limits_are : new.limits ≡ old.limits
+  pub table_is : new.table ≡ old.table
   pub outboxes_are : out_rings new ≡ out_rings old
   pub inboxes_are : in_rings new ≡ in_rings old
 
@@ -78,3 +103,18 @@ pub record AreLinked (seats : List SeatState) : Type 0 where
   pub in_order : (worker : ℕ) (d : SeatState) → worker < length seats → (slice_index_or seats worker d).worker ≡ worker
   pub wide : All (λ seat. (length seat.outboxes ≡ length seats) × (length seat.inboxes ≡ length seats)) seats
   pub linked : (worker shard : ℕ) → cell (map out_rings seats) worker shard ≡ cell (map in_rings seats) shard worker
+
+-- each seat stands at its worker's number
+abbrev pub AreInOrder : List SeatState → Type 0
+AreInOrder seats = (worker : ℕ) (d : SeatState) → worker < length seats → (slice_index_or seats worker d).worker ≡ worker
+
+-- all seats of the arena with these numbers and rings: one a worker, in order
+pub record AreSeatsOf (limits : Limits) (table : Table) (seats : List SeatState) : Type 0 where
+  pub each : length seats ≡ limits.shards
+  pub in_order : AreInOrder seats
+  pub of_table : All (λ seat. seat.table ≡ table) seats
+
+-- the rings of a seat are those of its row and its column
+pub record HasItsRings (seat : SeatState) : Type 0 where
+  pub row_is : out_rings seat ≡ slice_index_or seat.table.rows seat.worker []
+  pub column_is : in_rings seat ≡ slice_index_or seat.table.columns seat.worker []

@@ -1,10 +1,21 @@
 -- Keys that are taken from rings while others work, and freed.
-use Rattle.std.specs.Prelude.{◌≡◌, ℕ, ◌≤◌, ◌++◌, All, List, [], length, map, slice_index_or}
+use Rattle.std.specs.Prelude.{◌≡◌, ℕ, ◌<◌, ◌≤◌, ◌++◌, All, List, [], length, map, min, slice_index_or}
+use mathlib.Core.List.{IsPrefix}
 use Rattle.span.specs.declared.key.Key.{Key}
 use Rattle.span.specs.declared.receipt.Receipt.{Receipt}
 use Rattle.remote_queue.specs.Rings.{Taking}
 use Rattle.arena.specs.Receipts.{AddsFrees, joined}
 use Rattle.arena.specs.Seats.{SeatState, taken_lists}
+use Rattle.arena.specs.Settled.{taking_side}
+
+-- how many keys an end knows to be on its ring, at most that many
+abbrev pub known_count : ℕ → Taking → ℕ
+known_count most inbox = min (length inbox.known) most
+
+-- the same ends, with the same keys taken; each may have seen more keys on its ring, and knows these
+pub record AreLookedAt (before after : List Taking) : Type 0 where
+  pub same : taking_side after ≡ taking_side before
+  pub seen : (from : ℕ) (d e : Taking) → from < length before → IsPrefix (slice_index_or before from d).known (slice_index_or after from e).known
 
 -- that many keys were taken from a ring, and each was freed
 pub record IsRingTended (worker section count : ℕ) (before after : Taking) (receipts_before receipts_after : List Receipt) : Type 0 where

@@ -3,10 +3,12 @@ ghost use Rattle.std.specs.Prelude.{◌≡◌, ◌≤◌, Err, IfOk, IsSome, Non
 ghost use Rattle.certificate.specs.Plans.{IsBestPlanOf, IsCertificateOf, IsShortOf};
 ghost use Rattle.certificate.specs.Text.{IsWritable};
 ghost use Rattle.marks.specs.Plans.{next_pair};
+ghost use Rattle.arena.specs.Seats.{IsTableOf};
 ghost use Rattle.arena.specs.Stewards.{Steps, begun};
 
 use crate::gate::Gate;
 use crate::locks::{reopen_all, totals_of};
+use crate::ring_table::RingTable;
 use crate::steward::Steward;
 use crate::words::{Place, Words};
 use abandoned::Pool;
@@ -26,12 +28,15 @@ pub struct Arena<G: Gate, L: Log = Kept> {
     pub(crate) alloc: Global,
     /// The numbers of the arena, which its seats and its steward share.
     pub limits: Limits,
+    /// The rings that its seats send and take by, which only contracts see.
+    pub table: RingTable,
     pub(crate) pool: Mutex<Pool<L>>,
     pub(crate) shards: Vec<Mutex<Shard<L>>>,
     pub(crate) words: Words,
     pub(crate) gate: G,
     ghost shards_are: { vec_len shards ≡ limits.shards },
     ghost has_a_shard: { 1 ≤ vec_len shards },
+    ghost rings_are: { IsTableOf limits.shards table },
 }
 
 /// What came of a step.
@@ -52,7 +57,8 @@ impl<G: Gate, L: Log> Arena<G, L> {
     /// # Errors
     ///
     /// As those of [`mark_in`] on what all locks lend: `PlanOpen`, `TooMany`, `Doubled`, and `OutOfMemory` where an allocation was
-    /// refused. The plan of the steward is as it was.
+    /// refused. The plan of the steward is as it was. But for a steward that has a plan, when each comes the contract of
+    /// `mark_in` says; no clause here can name what the locks guarded.
     pub fn mark<R: Wait>(&self, rt: &R, steward: &mut Steward) -> Result<Certificate, MarkError>
         // The steward is of this arena.
         requires { steward.old.limits ≡ self.now.limits }
@@ -128,7 +134,8 @@ impl<G: Gate, L: Log> Arena<G, L> {
         true
     }
 
-    /// How many pages there are and how many keys are live, counted under all locks. It takes no memory.
+    /// How many pages there are and how many keys are live, counted under all locks. It takes no memory. No clause can name what
+    /// the locks guarded: that it is the sum of what `pages` and `live` of the pool and of each shard then say, the tests show.
     pub fn totals<R: Wait>(&self, rt: &R) -> Totals {
         let pool = self.pool.lock(rt);
         let shards = totals_of(rt, &self.shards);

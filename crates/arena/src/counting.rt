@@ -1,10 +1,11 @@
 // How many keys are left in each ring.
 ghost use Rattle.std.specs.Prelude.{◌≡◌, ◌<◌, ◌≤◌, ◌++◌, ℕ, [], All, IfOk, length, map, slice_get, slice_index_or, vec_capacity, vec_len};
 ghost use Rattle.remote_queue.specs.Rings.{cell};
-ghost use Rattle.arena.specs.Seats.{AreLinked, known_lists, out_rings, sending_side, sent_lists, taken_lists};
+ghost use Rattle.arena.specs.Seats.{AreLinked, KeepPlaces, known_lists, out_rings, sending_side, sent_lists, taken_lists};
 ghost use Rattle.arena.specs.Settled.{AreCounted, AreSameSeats, known_by, taking_side};
 ghost use Rattle.span.specs.declared.limits.TheConstants.{MOST_RING_KEYS, MOST_SHARDS};
 
+use crate::ring_table::RingLists;
 use crate::seat::Seat;
 use remote_queue::Inbox;
 use std::alloc::{AllocError, Global};
@@ -21,6 +22,8 @@ fn count_rings(seats: &mut [Seat], shard: usize, inboxes: &mut Vec<Inbox>, count
     // The seats are as they were, and each count is that of its ring.
     ensures seats { (map sending_side seats.new ≡ map sending_side seats.old)
         × (map (λ seat. seat.inboxes) seats.new ≡ map (λ seat. seat.inboxes) seats.old) }
+    ensures tables { map (λ seat. seat.table) seats.new ≡ map (λ seat. seat.table) seats.old }
+    ensures places { KeepPlaces seats.old seats.new }
     ensures inboxes { taking_side inboxes.new.items ≡ taking_side inboxes.old.items }
     ensures counted { counts.new.items ≡ map length (known_lists inboxes.new.items) }
     ensures few { All (λ count. count ≤ MOST_RING_KEYS) counts.new.items }
@@ -46,9 +49,10 @@ fn count_shard(alloc: Global, seats: &mut [Seat], shard: usize) -> Result<Vec<us
 {
     let mut counts = Vec::with_capacity(alloc, seats.len())?;
     let mut inboxes = Vec::new(alloc);
-    seats[shard].swap_inboxes(&mut inboxes);
+    let mut columns = RingLists::none();
+    seats[shard].swap_inboxes(&mut inboxes, &mut columns);
     count_rings(seats, shard, &mut inboxes, &mut counts);
-    seats[shard].swap_inboxes(&mut inboxes);
+    seats[shard].swap_inboxes(&mut inboxes, &mut columns);
     Ok(counts)
 }
 

@@ -1,13 +1,13 @@
 // The end of an arena.
-ghost use Rattle.std.specs.Prelude.{◌≡◌, ◌<◌, ℕ, [], IfErr, IfOk, OnErr, length, map, slice_index_or, vec_items, vec_len};
+ghost use Rattle.std.specs.Prelude.{◌≡◌, ◌<◌, ℕ, IfErr, IfOk, OnErr, length, map, slice_index_or, vec_items, vec_len};
 ghost use Rattle.span.specs.SpanLogs.{AreLegal};
-ghost use Rattle.arena.specs.Seats.{AreLinked};
+ghost use Rattle.arena.specs.Seats.{AreLinked, AreSeatsOf};
 ghost use Rattle.arena.specs.Settled.{AreSameSeats, IsSettled, greatest_section};
 
 use crate::arena::Arena;
 use crate::gate::Gate;
 use crate::seat::Seat;
-use crate::settling::{greatest, make_room, settle_seats};
+use crate::settling::{greatest, know_rings, make_room, settle_seats};
 use crate::unlocked::{Unlocked, unlock};
 use span::{Receipt, SpanLog};
 use std::alloc::AllocError;
@@ -44,9 +44,8 @@ pub fn finish<G: Gate>(
     mut seats: Vec<Seat>,
     receipts: &mut [Vec<Receipt>],
 ) -> Result<Finished, Unfinished<G>>
-    // All seats are here, with their rings and a list each.
-    requires seats { vec_len seats ≡ arena.limits.shards }
-    requires linked { AreLinked seats.items }
+    // All seats are here, in order, with a list each.
+    requires seats { AreSeatsOf arena.limits arena.table seats.items }
     requires lists { length receipts.old ≡ vec_len seats }
 
     // What a settled end hands out.
@@ -58,8 +57,11 @@ pub fn finish<G: Gate>(
         (slice_index_or receipts.old shard d).items (slice_index_or receipts.new shard e).items) }
 
     // What a refusal hands back.
-    ensures limits { IfErr result (λ back. back.arena.limits ≡ arena.limits) }
-    ensures seats { IfErr result (λ back. AreSameSeats seats.items back.seats.items) }
+    ensures arena { IfErr result (λ back. (back.arena.limits ≡ arena.limits)
+        × (back.arena.table ≡ arena.table)) }
+    ensures same { IfErr result (λ back. AreSameSeats seats.items back.seats.items) }
+    ensures seats { IfErr result (λ back. AreSeatsOf back.arena.limits back.arena.table
+        back.seats.items) }
     ensures linked { IfErr result (λ back. AreLinked back.seats.items) }
     ensures err { OnErr result (map vec_items receipts.new ≡ map vec_items receipts.old) }
 {
@@ -72,30 +74,6 @@ pub fn finish<G: Gate>(
     }
 }
 
-/// As [`finish`], but settles no ring: what is still on one is let go with it, and there are no counts. It serves where all
-/// seats have handed over, and then each has tended its rings.
-///
-/// # Errors
-///
-/// Arena and seats, unchanged, where there is no memory for the logs.
-pub fn finish_unsettled<G: Gate>(
-    mut arena: Arena<G>,
-    seats: Vec<Seat>,
-) -> Result<Finished, Unfinished<G>>
-    ensures legal { IfOk result (λ finished. AreLegal finished.logs.items) }
-    ensures counts { IfOk result (λ finished. finished.counts.items ≡ []) }
-    ensures limits { IfErr result (λ back. back.arena.limits ≡ arena.limits) }
-    ensures seats { IfErr result (λ back. back.seats ≡ seats) }
-{
-    let Ok(unlocked) = unlock(&mut arena) else {
-        return Err(Unfinished { arena, seats });
-    };
-    Ok(Finished {
-        logs: unlocked.into_logs(),
-        counts: Vec::new(arena.alloc),
-    })
-}
-
 // What is behind the locks of the arena, once every ring is settled, and how many keys each ring had. The arena has no span
 // afterwards. All memory is taken before the first key is.
 fn settled<G: Gate>(
@@ -103,9 +81,8 @@ fn settled<G: Gate>(
     seats: &mut [Seat],
     receipts: &mut [Vec<Receipt>],
 ) -> Result<(Unlocked, Vec<Vec<usize>>), AllocError>
-    // All seats are here, with their rings and a list each.
-    requires seats { length seats.old ≡ arena.old.limits.shards }
-    requires linked { AreLinked seats.old }
+    // All seats are here, in order, with a list each.
+    requires seats { AreSeatsOf arena.old.limits arena.old.table seats.old }
     requires lists { length receipts.old ≡ length seats.old }
 
     // What a settled end hands out.
@@ -116,13 +93,14 @@ fn settled<G: Gate>(
         (slice_index_or receipts.new shard e).items) }
 
     // What a refusal hands back.
-    ensures limits { arena.new.limits ≡ arena.old.limits }
+    ensures arena { (arena.new.limits ≡ arena.old.limits) × (arena.new.table ≡ arena.old.table) }
     ensures linked { OnErr result (AreLinked seats.new) }
     ensures err { OnErr result (AreSameSeats seats.old seats.new
         × (map vec_items receipts.new ≡ map vec_items receipts.old)) }
 {
     // There are 64 shards at most.
     let _ = arena.limits.shards();
+    know_rings(seats);
     let counts = make_room(arena.alloc, seats, receipts)?;
     let mut unlocked = unlock(arena)?;
     let section = greatest(seats);

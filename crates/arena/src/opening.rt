@@ -3,11 +3,12 @@ ghost use Rattle.std.specs.Prelude.{◌≡◌, ◌≤◌, ◌↔◌, All, IfOk, 
 ghost use Rattle.std.specs.List.{range_with_len};
 ghost use Rattle.marks.specs.Numbers.{AreWithin, limits_of};
 ghost use Rattle.remote_queue.specs.Rings.{AreFreshInboxes, AreFreshOutboxes, AreTransposed, inbox_rings, outbox_rings};
-ghost use Rattle.arena.specs.Seats.{AreLinked, first_standing, standing};
+ghost use Rattle.arena.specs.Seats.{AreLinked, AreSeatsOf, IsTableOf, first_standing, standing};
 
 use crate::arena::Arena;
 use crate::error::OpenError;
 use crate::gate::Gate;
+use crate::ring_table::RingTable;
 use crate::seat::Seat;
 use crate::steward::Steward;
 use crate::words::Words;
@@ -45,6 +46,8 @@ impl<G: Gate> Arena<G, Kept> {
             ≡ limits_of shards page_limit ring_capacity gens) }
         ensures standing { IfOk result (λ opened. map standing opened.1.items
             ≡ map (first_standing opened.0.limits) (range_with_len 0 shards)) }
+        ensures seats { IfOk result (λ opened. AreSeatsOf opened.0.limits opened.0.table
+            opened.1.items) }
         ensures linked { IfOk result (λ opened. AreLinked opened.1.items) }
         ensures fresh { IfOk result (λ opened. All (λ seat.
             AreFreshOutboxes ring_capacity seat.outboxes × AreFreshInboxes seat.inboxes)
@@ -77,6 +80,8 @@ impl<G: Gate, L: Log> Arena<G, L> {
             ≡ limits_of shards page_limit ring_capacity gens) }
         ensures standing { IfOk result (λ opened. map standing opened.1.items
             ≡ map (first_standing opened.0.limits) (range_with_len 0 shards)) }
+        ensures seats { IfOk result (λ opened. AreSeatsOf opened.0.limits opened.0.table
+            opened.1.items) }
         ensures linked { IfOk result (λ opened. AreLinked opened.1.items) }
         ensures fresh { IfOk result (λ opened. All (λ seat.
             AreFreshOutboxes ring_capacity seat.outboxes × AreFreshInboxes seat.inboxes)
@@ -90,9 +95,10 @@ impl<G: Gate, L: Log> Arena<G, L> {
             return Err(OpenError::Config);
         };
         let links = links_of(alloc, limits)?;
-        let seats = seats_of(alloc, limits, links)?;
+        let table = RingTable::of(&links);
+        let seats = seats_of(alloc, limits, &table, links)?;
         let steward = Steward::new(alloc, limits)?;
-        let arena = arena_of(alloc, limits, gate)?;
+        let arena = arena_of(alloc, limits, table, gate)?;
         Ok((arena, seats, steward))
     }
 }
@@ -119,7 +125,12 @@ fn links_of(alloc: Global, limits: Limits) -> Result<Links, AllocError>
 }
 
 // A seat for each worker, by number, with the ends of its row and its column.
-fn seats_of(alloc: Global, limits: Limits, links: Links) -> Result<Vec<Seat>, AllocError>
+fn seats_of(
+    alloc: Global,
+    limits: Limits,
+    table: &RingTable,
+    links: Links,
+) -> Result<Vec<Seat>, AllocError>
     // The rings are those of that many workers and shards, and fresh.
     requires workers { (vec_len links.outboxes ≡ limits.shards)
         × All (λ column. vec_len column ≡ limits.shards) links.inboxes.items }
@@ -130,10 +141,15 @@ fn seats_of(alloc: Global, limits: Limits, links: Links) -> Result<Vec<Seat>, Al
     requires unsent { All (λ row. AreFreshOutboxes limits.ring_capacity row.items)
         links.outboxes.items }
     requires untaken { All (λ column. AreFreshInboxes column.items) links.inboxes.items }
+    requires table { table.now ≡ record {
+      rows = outbox_rings links.outboxes.items;
+      columns = inbox_rings links.inboxes.items;
+    } }
 
     // Each seat has its place and its rings.
     ensures standing { IfOk result (λ seats. map standing seats.items
         ≡ map (first_standing limits) (range_with_len 0 limits.shards)) }
+    ensures seats { IfOk result (λ seats. AreSeatsOf limits table.now seats.items) }
     ensures linked { IfOk result (λ seats. AreLinked seats.items) }
     ensures fresh { IfOk result (λ seats. All (λ seat.
         AreFreshOutboxes limits.ring_capacity seat.outboxes × AreFreshInboxes seat.inboxes)
@@ -147,7 +163,8 @@ fn seats_of(alloc: Global, limits: Limits, links: Links) -> Result<Vec<Seat>, Al
     for worker in 0..limits.shards() {
         let outboxes = replace(&mut rows[worker as usize], Vec::new(alloc));
         let inboxes = replace(&mut columns[worker as usize], Vec::new(alloc));
-        seats.push_reserved(Seat::new(worker, limits, outboxes, inboxes));
+        let seat = Seat::new(worker, limits, table.again(), outboxes, inboxes);
+        seats.push_reserved(seat);
     }
     Ok(seats)
 }
@@ -156,15 +173,19 @@ fn seats_of(alloc: Global, limits: Limits, links: Links) -> Result<Vec<Seat>, Al
 fn arena_of<G: Gate, L: Log>(
     alloc: Global,
     limits: Limits,
+    table: RingTable,
     gate: G,
 ) -> Result<Arena<G, L>, AllocError>
-    ensures { IfOk result (λ arena. arena.limits ≡ limits) }
+    requires { IsTableOf limits.shards table }
+    ensures limits { IfOk result (λ arena. arena.limits ≡ limits) }
+    ensures table { IfOk result (λ arena. arena.table ≡ table) }
 {
     let words = Words::new(alloc, limits.shards())?;
     let shards = locked_shards(alloc, limits)?;
     Ok(Arena {
         alloc,
         limits,
+        table,
         pool: Mutex::new(Pool::with_log(alloc)),
         shards,
         words,

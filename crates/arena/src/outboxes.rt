@@ -1,6 +1,7 @@
 // A worker's ends of its rings: how keys that wait for their block to be full are handed over in time.
-ghost use Rattle.std.specs.Prelude.{All, ◌≡◌, ◌+◌, ◌<◌, ◌≤◌, ◌∷◌, ◌++◌, [], IfSome, IsOk, IsSome, MatchResult, None, OnErr, OnOk, Some, length, map, slice_get, slice_index_or, slice_set, vec_len};
+ghost use Rattle.std.specs.Prelude.{All, ◌≡◌, ℕ, ◌+◌, ◌<◌, ◌≤◌, ◌∷◌, ◌++◌, [], IfSome, IsOk, IsSome, MatchResult, None, OnErr, OnOk, Some, length, map, slice_get, slice_index_or, slice_set, vec_len};
 ghost use Rattle.arena.specs.Delays.{NoneWaits, delay_after, delay_begun};
+ghost use Rattle.arena.specs.Seats.{AreNoFewer, free_places};
 ghost use Rattle.span.specs.declared.limits.TheConstants.{MOST_RING_KEYS};
 ghost use Rattle.arena.specs.declared.outboxes.TheConstants.{MOST_DELAY};
 
@@ -30,6 +31,11 @@ pub(crate) fn leave_on(
         ≡ map (λ outbox. outbox.sent) outboxes.old.items)) }
     ensures succeeds { 0 < slice_index_or (map (λ outbox. outbox.free) outboxes.old.items)
         key.span.shard 0 → IsOk result }
+    ensures place { OnOk result (slice_index_or (free_places outboxes.old.items) key.span.shard 0
+        ≤ slice_index_or (free_places outboxes.new.items) key.span.shard 0 + 1) }
+    ensures places { (shard : ℕ) → (shard ≡ key.span.shard → ⊥)
+        → slice_index_or (free_places outboxes.old.items) shard 0
+        ≤ slice_index_or (free_places outboxes.new.items) shard 0 }
     ensures begun { OnOk result (delay.new ≡ delay_begun delay.old) }
     ensures refused { OnErr result (delay.new ≡ None) }
     ensures few { IfSome delay.new (λ calls. calls < MOST_DELAY) }
@@ -56,6 +62,7 @@ fn count_key_on(outboxes: &mut Vec<Outbox>, delay: &mut Option<u32>)
         ≡ map (λ outbox. outbox.ring) outboxes.old.items }
     ensures sent { map (λ outbox. outbox.sent) outboxes.new.items
         ≡ map (λ outbox. outbox.sent) outboxes.old.items }
+    ensures places { AreNoFewer (free_places outboxes.old.items) (free_places outboxes.new.items) }
     ensures begun { delay.new ≡ delay_begun delay.old }
     ensures few { IfSome delay.new (λ calls. calls < MOST_DELAY) }
     ensures none { delay.new ≡ None → NoneWaits outboxes.new.items }
@@ -75,6 +82,7 @@ pub(crate) fn count_call_on(outboxes: &mut Vec<Outbox>, delay: &mut Option<u32>)
         ≡ map (λ outbox. outbox.ring) outboxes.old.items }
     ensures sent { map (λ outbox. outbox.sent) outboxes.new.items
         ≡ map (λ outbox. outbox.sent) outboxes.old.items }
+    ensures places { AreNoFewer (free_places outboxes.old.items) (free_places outboxes.new.items) }
     ensures delay { delay.new ≡ delay_after delay.old }
     ensures few { IfSome delay.new (λ calls. calls < MOST_DELAY) }
     ensures none { delay.new ≡ None → NoneWaits outboxes.new.items }
@@ -94,6 +102,7 @@ fn count_on(outboxes: &mut Vec<Outbox>, delay: &mut Option<u32>, calls: u32)
         ≡ map (λ outbox. outbox.ring) outboxes.old.items }
     ensures sent { map (λ outbox. outbox.sent) outboxes.new.items
         ≡ map (λ outbox. outbox.sent) outboxes.old.items }
+    ensures places { AreNoFewer (free_places outboxes.old.items) (free_places outboxes.new.items) }
     ensures delay { delay.new ≡ delay_after (Some calls) }
     ensures few { IfSome delay.new (λ calls. calls < MOST_DELAY) }
     ensures none { delay.new ≡ None → NoneWaits outboxes.new.items }
@@ -115,6 +124,7 @@ pub(crate) fn hand_over_waiting(outboxes: &mut Vec<Outbox>, delay: &mut Option<u
         ≡ map (λ outbox. outbox.ring) outboxes.old.items }
     ensures sent { map (λ outbox. outbox.sent) outboxes.new.items
         ≡ map (λ outbox. outbox.sent) outboxes.old.items }
+    ensures places { AreNoFewer (free_places outboxes.old.items) (free_places outboxes.new.items) }
     ensures delay { delay.new ≡ None }
     ensures none { NoneWaits outboxes.new.items }
     ensures unchanged { delay.old ≡ None → outboxes.new.items ≡ outboxes.old.items }
@@ -140,6 +150,11 @@ fn send_on(outboxes: &mut Vec<Outbox>, key: Key) -> Result<(), Key>
         ≡ map (λ outbox. outbox.sent) outboxes.old.items)) }
     ensures succeeds { 0 < slice_index_or (map (λ outbox. outbox.free) outboxes.old.items)
         key.span.shard 0 → IsOk result }
+    ensures place { OnOk result (slice_index_or (free_places outboxes.old.items) key.span.shard 0
+        ≤ slice_index_or (free_places outboxes.new.items) key.span.shard 0 + 1) }
+    ensures places { (shard : ℕ) → (shard ≡ key.span.shard → ⊥)
+        → slice_index_or (free_places outboxes.old.items) shard 0
+        ≤ slice_index_or (free_places outboxes.new.items) shard 0 }
 {
     outboxes[key.span.shard as usize].send(key)
 }
@@ -151,6 +166,7 @@ fn hand_over_on(outboxes: &mut Vec<Outbox>)
         ≡ map (λ outbox. outbox.ring) outboxes.old.items }
     ensures sent { map (λ outbox. outbox.sent) outboxes.new.items
         ≡ map (λ outbox. outbox.sent) outboxes.old.items }
+    ensures places { AreNoFewer (free_places outboxes.old.items) (free_places outboxes.new.items) }
     ensures none { NoneWaits outboxes.new.items }
 {
     for shard in 0..outboxes.len() {
@@ -168,6 +184,7 @@ pub(crate) fn finish_on(outboxes: &mut Vec<Outbox>, shard: usize, inbox: &mut In
         × (map (λ outbox. outbox.sent) outboxes.new.items
         ≡ map (λ outbox. outbox.sent) outboxes.old.items) }
     ensures none { NoneWaits outboxes.old.items → NoneWaits outboxes.new.items }
+    ensures places { AreNoFewer (free_places outboxes.old.items) (free_places outboxes.new.items) }
     ensures inbox { (inbox.new.ring ≡ inbox.old.ring) × (inbox.new.taken ≡ inbox.old.taken) }
     ensures left { result ≡ length inbox.new.known }
     ensures whole { slice_index_or (map (λ outbox. outbox.sent) outboxes.old.items) shard []

@@ -1,6 +1,7 @@
 // Where the receipts of the keys go that a seat takes from its rings.
 ghost use Rattle.std.specs.Prelude.{◌≡◌, ◌≤◌, ◌<◌, ◌+◌, ◌-◌, ◌^◌, ℕ, List, [], ◌∷◌, ◌++◌, OnOk, vec_capacity, vec_len};
 ghost use Rattle.span.specs.declared.receipt.Receipt.{Receipt};
+ghost use Rattle.arena.specs.DroppedReceipts.{dropped_receipts};
 
 use crate::unkept::Unkept;
 use span::Receipt;
@@ -57,7 +58,7 @@ pub struct Dropped {
 impl Dropped {
     /// No receipt yet.
     pub fn new() -> Dropped
-        ensures { result.unkept.receipts ≡ [] }
+        ensures { dropped_receipts result ≡ [] }
     {
         Dropped {
             unkept: Unkept::new(),
@@ -66,7 +67,7 @@ impl Dropped {
 }
 
 impl Receipts for Dropped {
-    ghost told = { λ d. d.unkept.receipts };
+    ghost told = { dropped_receipts };
 
     // There is always room.
     ghost room = { λ d. 2 ^ 64 };

@@ -1,11 +1,11 @@
 // A worker's place at the arena.
 ghost use Rattle.std.proofs.Props.{props};
-ghost use Rattle.std.specs.Prelude.{All, ◌≡◌, ◌+◌, ◌-◌, ◌<◌, ◌≤◌, ◌^◌, ◌↔◌, ◌∷◌, ◌++◌, [], IfOk, IfSome, IsOk, IsTrue, MatchResult, None, OnErr, OnOk, Some, length, map, slice_get, slice_index_or, slice_set, sum, vec_capacity, vec_len};
+ghost use Rattle.std.specs.Prelude.{All, ◌≡◌, ℕ, ◌+◌, ◌-◌, ◌<◌, ◌≤◌, ◌^◌, ◌↔◌, ◌∷◌, ◌++◌, [], IfOk, IfSome, IsOk, IsTrue, MatchResult, None, OnErr, OnOk, Some, length, map, slice_get, slice_index_or, slice_set, sum, vec_capacity, vec_len};
 ghost use Rattle.arena.specs.Delays.{CountsCall, HandsOver, HasNoneWaiting, NoneWaits, delay_begun};
 ghost use Rattle.arena.specs.Receipts.{AddsFrees, IsGetBy, done_by, found_by, free_receipt, get_receipt, joined, put_receipt};
-ghost use Rattle.arena.specs.Seats.{KeepsEnds, in_rings, known_lists, sending_side, sent_lists, taken_lists};
+ghost use Rattle.arena.specs.Seats.{AreNoFewer, HasItsRings, KeepsEnds, free_places, in_rings, known_lists, sending_side, sent_lists, taken_lists};
 ghost use Rattle.arena.specs.Settled.{taken_with_known};
-ghost use Rattle.arena.specs.Tended.{IsTended};
+ghost use Rattle.arena.specs.Tended.{AreLookedAt, IsTended};
 ghost use Rattle.arena.specs.declared.outboxes.TheConstants.{MOST_DELAY};
 ghost use Rattle.span.specs.declared.limits.TheConstants.{MOST_RING_KEYS, MOST_SHARDS};
 
@@ -13,9 +13,10 @@ use crate::arena::Arena;
 use crate::gate::Gate;
 use crate::outboxes::{MOST_DELAY, count_call_on, finish_on, hand_over_waiting, leave_on};
 use crate::receipts::Receipts;
+use crate::ring_table::{RingLists, RingTable};
 use crate::sections::{get_in, get_pool, put_in, unopened_get};
 use crate::settling::{Frees, settle_rings};
-use crate::tending::tend_rings;
+use crate::tending::{look_at_rings, tend_rings};
 use crate::words::Place;
 use abandoned::{AdoptError, ReceiveError};
 use marks::Limits;
@@ -38,6 +39,8 @@ pub struct Seat {
     worker: u32,
     section: u64,
     limits: Limits,
+    // All rings of the arena, of which it has the ends of a row and of a column.
+    table: RingTable,
     // How many calls were made since the first key was left that may still wait. Where this is none, no key waits.
     delay: Option<u32>,
     // By shard.
@@ -50,6 +53,10 @@ pub struct Seat {
     ghost none_waits: { delay ≡ None → NoneWaits outboxes.items },
     ghost outbox_each: { vec_len outboxes ≡ limits.shards },
     ghost inboxes_few: { vec_len inboxes ≤ MOST_SHARDS },
+    ghost sends_by_its_row: { map (λ outbox. outbox.ring) outboxes.items
+        ≡ slice_index_or table.rows worker [] },
+    ghost takes_by_its_column: { map (λ inbox. inbox.ring) inboxes.items
+        ≡ slice_index_or table.columns worker [] },
 }
 
 impl Model for Seat {
@@ -62,6 +69,7 @@ impl Model for Seat {
       worker = seat.worker;
       section = seat.section;
       limits = seat.limits;
+      table = seat.table;
       delay = seat.delay;
       outboxes = seat.outboxes.items;
       inboxes = seat.inboxes.items;
@@ -73,6 +81,7 @@ impl Seat {
     pub(crate) fn new(
         worker: u32,
         limits: Limits,
+        table: RingTable,
         outboxes: Vec<Outbox>,
         inboxes: Vec<Inbox>,
     ) -> Seat
@@ -81,10 +90,15 @@ impl Seat {
         requires none_waits { NoneWaits outboxes.items }
         requires outbox_each { vec_len outboxes ≡ limits.shards }
         requires inboxes_few { vec_len inboxes ≤ MOST_SHARDS }
+        requires row { map (λ outbox. outbox.ring) outboxes.items
+            ≡ slice_index_or table.rows worker [] }
+        requires column { map (λ inbox. inbox.ring) inboxes.items
+            ≡ slice_index_or table.columns worker [] }
         ensures { result ≡ record {
           worker = worker;
           section = 0;
           limits = limits;
+          table = table;
           delay = None;
           outboxes = outboxes.items;
           inboxes = inboxes.items;
@@ -94,6 +108,7 @@ impl Seat {
             worker,
             section: 0,
             limits,
+            table,
             delay: None,
             outboxes,
             inboxes,
@@ -228,8 +243,14 @@ impl Seat {
             ≡ slice_set (sent_lists self.old) key.span.shard
             (slice_index_or (sent_lists self.old) key.span.shard [] ++ key ∷ []))
             (λ back. (back ≡ key) × (sent_lists self.new ≡ sent_lists self.old)) }
-        ensures succeeds { 0 < slice_index_or (map (λ outbox. outbox.free) self.old.outboxes)
-            key.span.shard 0 → IsOk result }
+        ensures succeeds { 0 < slice_index_or (free_places self.old.outboxes) key.span.shard 0
+            → IsOk result }
+        ensures place { OnOk result (slice_index_or (free_places self.old.outboxes)
+            key.span.shard 0
+            ≤ slice_index_or (free_places self.new.outboxes) key.span.shard 0 + 1) }
+        ensures places { (shard : ℕ) → (shard ≡ key.span.shard → ⊥)
+            → slice_index_or (free_places self.old.outboxes) shard 0
+            ≤ slice_index_or (free_places self.new.outboxes) shard 0 }
         ensures waits { OnOk result (self.new.delay ≡ delay_begun self.old.delay) }
         ensures none { self.new.delay ≡ None → NoneWaits self.new.outboxes }
         ensures refused { OnErr result (HasNoneWaiting self.new) }
@@ -247,14 +268,14 @@ impl Seat {
         hand_over_waiting(&mut self.outboxes, &mut self.delay);
     }
 
-    /// Hands over what the seat has left to others, and takes the keys that have come in for its shard, ring after ring by
-    /// worker, at most a ring's capacity from each, and frees each, as [`Seat::free`] does. Each leaves one receipt, in the
-    /// order in which they were taken. It gives how many there were.
+    /// Hands over what the seat has left to others, looks how many keys have come in for its shard, and takes these, ring after
+    /// ring by worker, at most a ring's capacity from each, and frees each, as [`Seat::free`] does. Each leaves one receipt, in
+    /// the order in which they were taken. It gives how many there were.
     ///
     /// # Errors
     ///
-    /// `AllocError` where room for a full ring's receipts of each ring was refused. No key was taken then; what the seat has left
-    /// to others is handed over.
+    /// `AllocError` where room for the receipts of the keys that were seen on the rings was refused. No key was taken then; what the
+    /// seat has left to others is handed over.
     pub fn tend<G: Gate, L: Log, R: Wait, K: Receipts>(
         &mut self,
         rt: &R,
@@ -267,12 +288,17 @@ impl Seat {
         ensures none { HasNoneWaiting self.new }
         ensures seat { KeepsEnds self.old self.new
             × (sending_side self.new ≡ sending_side self.old) }
-        ensures err { OnErr result (HandsOver self.old self.new
+        ensures places { AreNoFewer (free_places self.old.outboxes)
+            (free_places self.new.outboxes) }
+        ensures err { OnErr result (HandsOver self.old
+            (record self.new { inboxes = self.old.inboxes })
+            × AreLookedAt self.old.inboxes self.new.inboxes
             × (K.told receipts.new ≡ K.told receipts.old)) }
     {
         self.hand_over();
         let most = self.limits.ring_capacity();
-        receipts.make_room(self.inboxes.len() * most)?;
+        let seen = look_at_rings(&mut self.inboxes, most);
+        receipts.make_room(seen)?;
         Ok(tend_rings(
             rt,
             arena,
@@ -290,7 +316,8 @@ impl Seat {
     /// # Errors
     ///
     /// As those of [`Pool::receive`](abandoned::Pool::receive) on pool and shard as they then are: `Ended`, `Doubled`, `PlanOpen`
-    /// where a group of the shard is closed, and `OutOfMemory`. Nothing has moved then.
+    /// where a group of the shard is closed, and `OutOfMemory`. Nothing has moved then. When each comes, that call's contract
+    /// says; no clause here can name what the locks guarded.
     pub fn end<G: Gate, L: Log, R: Wait>(
         &mut self,
         rt: &R,
@@ -316,7 +343,8 @@ impl Seat {
     /// # Errors
     ///
     /// As those of [`Pool::retire`](abandoned::Pool::retire) on pool and shard as they then are: `Ended`, `Doubled`, `PlanOpen`
-    /// where a group of the shard is closed, and `OutOfMemory`. Nothing has moved then.
+    /// where a group of the shard is closed, and `OutOfMemory`. Nothing has moved then. When each comes, and how many groups go,
+    /// that call's contract says; no clause here can name what the locks guarded.
     pub fn retire<G: Gate, L: Log, R: Wait>(
         &mut self,
         rt: &R,
@@ -343,7 +371,8 @@ impl Seat {
     /// # Errors
     ///
     /// As those of [`Pool::adopt`](abandoned::Pool::adopt) on pool and shard as they then are: `PagesSpent`, `Ended`, `Doubled`,
-    /// `PlanOpen`, `NothingToAdopt` and `OutOfMemory`. Nothing has moved then.
+    /// `PlanOpen`, `NothingToAdopt` and `OutOfMemory`. Nothing has moved then. When each comes, and which group, that call's
+    /// contract says; no clause here can name what the locks guarded.
     pub fn adopt<G: Gate, L: Log, R: Wait>(
         &mut self,
         rt: &R,
@@ -375,6 +404,9 @@ impl Seat {
             ≡ Some inbox.old.ring }
         ensures seat { (sending_side self.new ≡ sending_side self.old)
             × (self.new.inboxes ≡ self.old.inboxes) }
+        ensures table { self.new.table ≡ self.old.table }
+        ensures places { AreNoFewer (free_places self.old.outboxes)
+            (free_places self.new.outboxes) }
         ensures inbox { (inbox.new.ring ≡ inbox.old.ring) × (inbox.new.taken ≡ inbox.old.taken) }
         ensures left { result ≡ length inbox.new.known }
         ensures whole { slice_index_or (sent_lists self.old) shard [] ≡ inbox.new.taken
@@ -396,6 +428,8 @@ impl Seat {
         requires room { vec_len receipts.old + sum counts.now ≤ vec_capacity receipts.old }
         ensures seat { (sending_side self.new ≡ sending_side self.old)
             × (in_rings self.new ≡ in_rings self.old) }
+        ensures table { self.new.table ≡ self.old.table }
+        ensures outboxes { self.new.outboxes ≡ self.old.outboxes }
         ensures taken { taken_lists self.new.inboxes ≡ taken_with_known self.old.inboxes }
         ensures freed { AddsFrees self.old.worker section
             (joined (known_lists self.old.inboxes)) receipts.old.items receipts.new.items }
@@ -410,14 +444,30 @@ impl Seat {
         );
     }
 
-    // Gives its takers' ends for others.
-    pub(crate) fn swap_inboxes(&mut self, inboxes: &mut Vec<Inbox>)
-        requires { vec_len inboxes.old ≤ MOST_SHARDS }
-        ensures seat { self.new ≡ record self.old { inboxes = inboxes.old.items } }
+    // What its type keeps: its ends are of its row and its column of the rings.
+    pub(crate) fn knows_its_rings(&self)
+        ensures { HasItsRings self.now }
+    {
+        let _ = &self.worker;
+    }
+
+    // Gives its takers' ends for others, which are of its column of another table.
+    pub(crate) fn swap_inboxes(&mut self, inboxes: &mut Vec<Inbox>, columns: &mut RingLists)
+        requires few { vec_len inboxes.old ≤ MOST_SHARDS }
+        requires column { map (λ inbox. inbox.ring) inboxes.old.items
+            ≡ slice_index_or columns.old.lists self.old.worker [] }
+        ensures seat { self.new ≡ record self.old {
+          table = record { rows = self.old.table.rows; columns = columns.old.lists };
+          inboxes = inboxes.old.items;
+        } }
         ensures inboxes { inboxes.new.items ≡ self.old.inboxes }
+        ensures columns { columns.new.lists ≡ self.old.table.columns }
+        ensures column { map (λ inbox. inbox.ring) inboxes.new.items
+            ≡ slice_index_or columns.new.lists self.old.worker [] }
         ensures few { vec_len inboxes.new ≤ MOST_SHARDS }
     {
         swap(&mut self.inboxes, inboxes);
+        self.table.swap_columns(columns);
     }
 
     // Looks the key up, under the lock of whoever has its span. A span that was never opened takes no lock.

@@ -1,7 +1,7 @@
 // Emptying the rings when all seats are in one hand.
-ghost use Rattle.std.specs.Prelude.{◌≡◌, ◌+◌, ◌<◌, ◌≤◌, ◌++◌, ℕ, [], All, IfOk, OnErr, OnOk, length, map, sum, slice_index_or, vec_capacity, vec_items, vec_len};
+ghost use Rattle.std.specs.Prelude.{◌≡◌, ◌+◌, ◌<◌, ◌≤◌, ◌↔◌, ◌++◌, ℕ, [], All, IfOk, IsTrue, OnErr, OnOk, length, map, sum, slice_index_or, vec_capacity, vec_items, vec_len};
 ghost use Rattle.arena.specs.Receipts.{AddsFrees, IsFreeBy, joined};
-ghost use Rattle.arena.specs.Seats.{AreLinked, in_rings, known_lists, sending_side, taken_lists};
+ghost use Rattle.arena.specs.Seats.{AreInOrder, AreLinked, AreSeatsOf, HasItsRings, in_rings, known_lists, sending_side, taken_lists};
 ghost use Rattle.arena.specs.Settled.{AreCounted, AreEmptied, AreSameSeats, IsSettled, greatest_section, taken_with_known};
 ghost use Rattle.span.specs.declared.limits.TheConstants.{MOST_RING_KEYS, MOST_SHARDS};
 
@@ -35,6 +35,14 @@ impl<'a, G: Gate, L: Log, R: Wait> Frees for UnderLocks<'a, G, L, R> {
 }
 
 impl<G: Gate, L: Log> Arena<G, L> {
+    /// Whether a seat of each worker is there, in order, as [`Arena::settle`] and [`finish`](crate::finish) ask of its seats.
+    pub fn has_all(&self, seats: &[Seat]) -> bool
+        ensures { IsTrue result
+            ↔ ((length seats.now ≡ self.now.limits.shards) × AreInOrder seats.now) }
+    {
+        seats.len() == self.limits.shards() as usize && are_in_order(seats)
+    }
+
     /// Settles every ring, by shard, then worker, when all seats are in one hand: takes each key that was sent and not yet
     /// taken, and frees it as [`Seat::free`] does. Each leaves one receipt, in the order in which it was sent, last in the list
     /// of the worker of the ring's shard, with the greatest section of the seats. It gives how many keys each ring had, by
@@ -49,9 +57,8 @@ impl<G: Gate, L: Log> Arena<G, L> {
         seats: &mut [Seat],
         receipts: &mut [Vec<Receipt>],
     ) -> Result<Vec<Vec<usize>>, AllocError>
-        // All seats are here, with their rings and a list each.
-        requires seats { length seats.old ≡ self.now.limits.shards }
-        requires linked { AreLinked seats.old }
+        // All seats are here, in order, with a list each.
+        requires seats { AreSeatsOf self.now.limits self.now.table seats.old }
         requires lists { length receipts.old ≡ length seats.old }
 
         // Every ring is emptied.
@@ -62,18 +69,41 @@ impl<G: Gate, L: Log> Arena<G, L> {
             (slice_index_or receipts.new shard e).items) }
         ensures emptied { OnOk result (AreEmptied seats.old seats.new) }
 
-        // The ends stay together, and a refusal changes nothing.
+        // The seats stay the arena's, and a refusal changes nothing.
+        ensures seats { AreSeatsOf self.now.limits self.now.table seats.new }
         ensures linked { AreLinked seats.new }
         ensures err { OnErr result (AreSameSeats seats.old seats.new
             × (map vec_items receipts.new ≡ map vec_items receipts.old)) }
     {
         // There are 64 shards at most.
         let _ = self.limits.shards();
+        know_rings(seats);
         let counts = make_room(self.alloc, seats, receipts)?;
         let section = greatest(seats);
         let mut locks = UnderLocks { rt, arena: self };
         settle_seats(&mut locks, seats, counts.as_slice(), section, receipts);
         Ok(counts)
+    }
+}
+
+// Whether each seat stands at its worker's number.
+fn are_in_order(seats: &[Seat]) -> bool
+    ensures { IsTrue result ↔ AreInOrder seats.now }
+{
+    for place in 0..seats.len() {
+        if seats[place].worker() as usize != place {
+            return false;
+        }
+    }
+    true
+}
+
+// What the type of a seat keeps, said of each: it has the ends of its row and its column of the rings.
+pub(crate) fn know_rings(seats: &[Seat])
+    ensures { All HasItsRings seats.now }
+{
+    for seat in seats {
+        seat.knows_its_rings();
     }
 }
 
@@ -131,6 +161,9 @@ pub(crate) fn settle_seats<F: Frees>(
         → AddsFrees shard section (joined (known_lists (slice_index_or seats.old shard x).inboxes))
         (slice_index_or receipts.old shard d).items (slice_index_or receipts.new shard e).items }
     ensures sending { map sending_side seats.new ≡ map sending_side seats.old }
+    ensures tables { map (λ seat. seat.table) seats.new ≡ map (λ seat. seat.table) seats.old }
+    ensures outboxes { map (λ seat. seat.outboxes) seats.new
+        ≡ map (λ seat. seat.outboxes) seats.old }
     ensures rings { map in_rings seats.new ≡ map in_rings seats.old }
     ensures taken { map (λ seat. taken_lists seat.inboxes) seats.new
         ≡ map (λ seat. taken_with_known seat.inboxes) seats.old }

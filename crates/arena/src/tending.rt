@@ -1,6 +1,6 @@
 // Taking keys from rings while others work, with a receipt for each.
-ghost use Rattle.std.specs.Prelude.{◌≡◌, ◌+◌, ◌*◌, ◌≤◌, ◌++◌, length, take, vec_len};
-ghost use Rattle.arena.specs.Tended.{AreRingsTended, IsRingTended};
+ghost use Rattle.std.specs.Prelude.{◌≡◌, ◌+◌, ◌≤◌, ◌++◌, length, sum_by, take, vec_len};
+ghost use Rattle.arena.specs.Tended.{AreLookedAt, AreRingsTended, IsRingTended, known_count};
 ghost use Rattle.span.specs.declared.limits.TheConstants.{MOST_RING_KEYS, MOST_SHARDS};
 
 use crate::arena::Arena;
@@ -13,7 +13,22 @@ use std::sync::Wait;
 // How many keys are taken from a ring at once.
 const BLOCK: usize = 64;
 
-// Takes at most that many keys from each of the rings, one ring after the other, and frees each. It gives how many there were.
+// How many keys are seen on the rings, at most that many of each. Their ends then know them.
+pub(crate) fn look_at_rings(inboxes: &mut Vec<Inbox>, most: usize) -> usize
+    requires few { (vec_len inboxes.old ≤ MOST_SHARDS) × (most ≤ MOST_RING_KEYS) }
+    ensures len { vec_len inboxes.new ≡ vec_len inboxes.old }
+    ensures looked { AreLookedAt inboxes.old.items inboxes.new.items }
+    ensures count { result ≡ sum_by (known_count most) inboxes.new.items }
+{
+    let mut count = 0;
+    for from in 0..inboxes.len() {
+        count += inboxes[from].look().min(most);
+    }
+    count
+}
+
+// Takes the keys that are known from each of the rings, at most that many, one ring after the other, and frees each. It gives how
+// many there were.
 pub(crate) fn tend_rings<G: Gate, L: Log, R: Wait, K: Receipts>(
     rt: &R,
     arena: &Arena<G, L>,
@@ -24,7 +39,7 @@ pub(crate) fn tend_rings<G: Gate, L: Log, R: Wait, K: Receipts>(
     receipts: &mut K,
 ) -> usize
     requires few { (vec_len inboxes.old ≤ MOST_SHARDS) × (most ≤ MOST_RING_KEYS) }
-    requires room { vec_len inboxes.old * most ≤ K.room receipts.old }
+    requires room { sum_by (known_count most) inboxes.old.items ≤ K.room receipts.old }
     ensures len { vec_len inboxes.new ≡ vec_len inboxes.old }
     ensures tended { AreRingsTended most worker section
         (vec_len inboxes.old) inboxes.old.items inboxes.new.items (K.told receipts.old)
@@ -33,12 +48,13 @@ pub(crate) fn tend_rings<G: Gate, L: Log, R: Wait, K: Receipts>(
     let mut total = 0;
     let mut block = places::<BLOCK>();
     for from in 0..inboxes.len() {
+        let known = inboxes[from].known().min(most);
         total += tend_ring(
             rt,
             arena,
             &mut inboxes[from],
             &mut block,
-            most,
+            known,
             worker,
             section,
             receipts,

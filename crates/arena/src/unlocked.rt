@@ -1,6 +1,7 @@
 // What is behind the locks of an arena, in one hand.
-ghost use Rattle.std.specs.Prelude.{◌≡◌, ◌+◌, ◌*◌, ◌≤◌, [], IfOk, IfSome, length, vec_capacity, vec_len};
-ghost use Rattle.span.specs.SpanLogs.{AreLegal, room_for_logs};
+ghost use Rattle.std.specs.Prelude.{◌≡◌, ◌+◌, ◌*◌, ◌≤◌, ◌++◌, [], IfOk, IfSome, flat_map, length, map, vec_capacity, vec_len};
+ghost use Rattle.groups.specs.Group.{spans_in};
+ghost use Rattle.span.specs.SpanLogs.{AreLegal, room_for_logs, span_of_log};
 ghost use Rattle.arena.specs.Receipts.{IsFreeBy};
 ghost use Rattle.arena.specs.SpanCounts.{pooled_spans, spans_of_all};
 ghost use Rattle.span.specs.declared.limits.TheConstants.{ALL_IDS, MOST_SHARDS};
@@ -40,9 +41,11 @@ impl Frees for Unlocked {
 }
 
 impl Unlocked {
-    // The logs of all spans.
+    // The logs of all spans: of those in the pool, and then of those of each shard.
     pub(crate) fn into_logs(self) -> Vec<SpanLog>
-        ensures { AreLegal result.items }
+        ensures legal { AreLegal result.items }
+        ensures all { map span_of_log result.items ≡ spans_in self.pool.groups
+            ++ flat_map (λ shard. spans_in shard.groups) self.shards.items }
     {
         let Unlocked {
             pool,
@@ -59,7 +62,7 @@ impl Unlocked {
 
 // Takes what is behind the locks of the arena, which has no span afterwards. Memory is taken before the first of them leaves.
 pub(crate) fn unlock<G: Gate>(arena: &mut Arena<G>) -> Result<Unlocked, AllocError>
-    ensures { arena.new.limits ≡ arena.old.limits }
+    ensures { (arena.new.limits ≡ arena.old.limits) × (arena.new.table ≡ arena.old.table) }
 {
     // There are 64 shards at most.
     let _ = arena.limits.shards();

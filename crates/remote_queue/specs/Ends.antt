@@ -11,7 +11,7 @@ use Rattle.remote_queue.specs.Rings.{Sending, Taking}
 -- the sender's end of a ring, with the keys that wait to be handed over
 abbrev pub sending : Producer Key Global KeysInRange → List Key → Sending
 sending producer waiting = record {
-  ring = record { words = producer.end.words; slots = producer.end.slots; names = producer.end.names; heap = producer.end.heap };
+  ring = record { capacity = producer.capacity; words = producer.end.words; slots = producer.end.slots; names = producer.end.names; heap = producer.end.heap };
   sent = sent producer ++ waiting;
   free = known_free producer - length waiting;
   waiting = length waiting;
@@ -20,7 +20,7 @@ sending producer waiting = record {
 -- the taker's end of a ring
 abbrev pub taking : Consumer Key Global KeysInRange → Taking
 taking consumer = record {
-  ring = record { words = consumer.end.words; slots = consumer.end.slots; names = consumer.end.names; heap = consumer.end.heap };
+  ring = record { capacity = consumer.capacity; words = consumer.end.words; slots = consumer.end.slots; names = consumer.end.names; heap = consumer.end.heap };
   taken = received consumer;
   known = known_items consumer;
 }

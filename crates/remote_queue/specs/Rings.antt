@@ -6,8 +6,9 @@ use Rattle.std.specs.declared.alloc.Global.{Global}
 use Rattle.span.specs.declared.key.Key.{Key}
 use Rattle.span.specs.declared.limits.TheConstants.{MOST_RING_KEYS, MOST_SHARDS, MOST_SPANS}
 
--- which ring it is
+-- which ring it is, and how many keys it holds
 pub record Ring : Type 0 where
+  pub capacity : ℕ
   pub words : Ptr
   pub slots : Ptr
   pub names : Names
@@ -63,9 +64,9 @@ abbrev pub AreLong : {T : Type 0} → ℕ → List (List T) → Type 0
 AreLong n [] = Unit {0}
 AreLong n (row ∷ rows) = (length row ≡ n) × AreLong n rows
 
--- senders' ends by which nothing was sent, so that no key waits, with all places of their rings free
+-- senders' ends of rings of that capacity by which nothing was sent, so that no key waits, with all places of their rings free
 abbrev pub AreFreshOutboxes : ℕ → List Sending → Type 0
-AreFreshOutboxes capacity = All (λ outbox. (outbox.sent ≡ []) × (outbox.free ≡ capacity) × (outbox.waiting ≡ 0))
+AreFreshOutboxes capacity = All (λ outbox. (outbox.sent ≡ []) × (outbox.free ≡ capacity) × (outbox.waiting ≡ 0) × (outbox.ring.capacity ≡ capacity))
 
 -- takers' ends by which nothing was taken
 abbrev pub AreFreshInboxes : List Taking → Type 0

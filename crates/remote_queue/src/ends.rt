@@ -1,5 +1,5 @@
 // The two ends of a ring.
-ghost use Rattle.std.specs.Prelude.{◌≡◌, ◌+◌, ◌-◌, ◌<◌, ◌≤◌, ◌↔◌, [], ◌∷◌, ◌++◌, All, IfOk, IsOk, IsSome, IsTrue, MatchOption, MatchResult, OnErr, drop, length, take, vec_capacity, vec_len};
+ghost use Rattle.std.specs.Prelude.{◌≡◌, ◌+◌, ◌-◌, ◌<◌, ◌≤◌, ◌↔◌, [], ◌∷◌, ◌++◌, All, IfOk, IsOk, IsSome, IsTrue, MatchOption, MatchResult, OnErr, OnOk, drop, length, take, vec_capacity, vec_len};
 ghost use mathlib.Core.List.{IsPrefix};
 ghost use Rattle.rtrb.specs.Ring.{ProducerLooked, SameProducer, known_free, sent};
 ghost use Rattle.remote_queue.specs.Rings.{IsInRange};
@@ -71,7 +71,8 @@ impl Model for Inbox {
 pub(crate) fn ring(alloc: Global, capacity: usize) -> Result<(Outbox, Inbox), AllocError>
     requires { (1 ≤ capacity) × (capacity ≤ MOST_RING_KEYS) }
     ensures { IfOk result (λ ends. (ends.0.ring ≡ ends.1.ring) × (ends.0.sent ≡ [])
-        × (ends.0.free ≡ capacity) × (ends.0.waiting ≡ 0) × (ends.1.taken ≡ [])) }
+        × (ends.0.free ≡ capacity) × (ends.0.waiting ≡ 0) × (ends.0.ring.capacity ≡ capacity)
+        × (ends.1.taken ≡ [])) }
 {
     let waiting = Vec::with_capacity(alloc, capacity.min(BLOCK))?;
     let (producer, consumer) = RingBuffer::with_protocol::<Global, KeysInRange>(alloc, capacity)?;
@@ -120,6 +121,8 @@ fn send_by(
         ≡ sent producer.old ++ waiting.old.items)) }
     ensures none { OnErr result (vec_len waiting.new ≡ 0) }
     ensures succeeds { vec_len waiting.old < known_free producer.old → IsOk result }
+    ensures place { OnOk result (known_free producer.old + vec_len waiting.new
+        ≤ known_free producer.new + vec_len waiting.old + 1) }
 {
     if !has_place(producer, waiting.len()) {
         hand_over_by(producer, waiting);
@@ -147,6 +150,8 @@ impl Outbox {
             (λ _. self.new.sent ≡ self.old.sent ++ key ∷ [])
             (λ back. (back ≡ key) × (self.new.sent ≡ self.old.sent)) }
         ensures succeeds { 0 < self.old.free → IsOk result }
+        ensures place { OnOk result (self.old.free ≤ self.new.free + 1) }
+        ensures full { OnErr result (self.old.free ≡ 0) }
         ensures refused { OnErr result (self.new.waiting ≡ 0) }
     {
         send_by(&mut self.producer, &mut self.waiting, key)
@@ -194,6 +199,25 @@ impl Inbox {
         self.consumer.pop_partial_slice(keys)
     }
 
+    /// How many keys it sees on the ring, which it then knows: that many takes answer. It waits for nobody and takes no memory.
+    pub fn look(&mut self) -> usize
+        ensures ring { self.new.ring ≡ self.old.ring }
+        ensures taken { self.new.taken ≡ self.old.taken }
+        ensures known { IsPrefix self.old.known self.new.known }
+        ensures count { result ≡ length self.new.known }
+        ensures few { result ≤ MOST_RING_KEYS }
+    {
+        self.consumer.slots()
+    }
+
+    /// How many keys it knows to be on the ring: that many takes answer.
+    pub fn known(&self) -> usize
+        ensures count { result ≡ length self.now.known }
+        ensures few { result ≤ MOST_RING_KEYS }
+    {
+        self.consumer.cached_slots()
+    }
+
     /// Takes the next of the known keys, where there is one, as after a [`finish`] that counted it.
     pub fn take_known(&mut self) -> Key
         requires { 0 < length self.old.known }
@@ -216,9 +240,11 @@ pub fn finish(outbox: &mut Outbox, inbox: &mut Inbox) -> usize
     ensures outbox { (outbox.new.ring ≡ outbox.old.ring) × (outbox.new.sent ≡ outbox.old.sent)
         × (outbox.old.free ≤ outbox.new.free) }
     ensures none { outbox.new.waiting ≡ 0 }
+    ensures places { outbox.new.ring.capacity ≤ outbox.new.free + result }
     ensures inbox { (inbox.new.ring ≡ inbox.old.ring) × (inbox.new.taken ≡ inbox.old.taken) }
     ensures few { result ≤ MOST_RING_KEYS }
 {
     outbox.hand_over();
+    outbox.producer.slots_beside(&mut inbox.consumer);
     inbox.consumer.slots_beside(&mut outbox.producer)
 }

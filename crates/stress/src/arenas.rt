@@ -4,10 +4,10 @@
 //! What is called stands in helpers that promise nothing, and the answers are compared at once: a test carries no clauses then,
 //! and has one exit.
 ghost use Rattle.std.specs.Prelude.{◌≡◌, length};
-ghost use Rattle.arena.specs.Seats.{AreLinked};
+ghost use Rattle.arena.specs.Seats.{AreSeatsOf};
 
 use abandoned::{AdoptError, ReceiveError};
-use arena::{Arena, Gate, NoGate, OpenError, Seat, Stepped, Steward, finish, finish_unsettled};
+use arena::{Arena, Gate, NoGate, OpenError, Seat, Stepped, Steward, finish};
 use fold::Step;
 use marks::{MarkError, Totals};
 use shard::PutError;
@@ -670,57 +670,12 @@ fn puts_beside_a_thread_that_is_held(rt: HostRuntime) -> Result<(), Fail> {
     Ok(())
 }
 
-// Room for a seat, asked for again where memory was refused.
-fn room_for_seat(alloc: Global) -> Option<Vec<Seat>> {
-    match Vec::with_capacity(alloc, 1) {
-        Ok(seats) => Some(seats),
-        Err(_) => Vec::with_capacity(alloc, 1).ok(),
-    }
-}
-
-// How many logs and how many changes an arena leaves: of a span whose group came to the pool and was emptied there, and of one
-// that stands in a shard. Where memory was refused, arena and seats are ended again, as they were handed back.
-fn logs_left<R: Wait>(rt: &R, alloc: Global, two: Two<NoGate, Kept>) -> Option<(usize, usize)> {
-    let Two {
-        arena,
-        mut first,
-        mut second,
-        ..
-    } = two;
-    let key = put(rt, &arena, &mut first, 5)?;
-    put(rt, &arena, &mut second, 6)?;
-    if !end(rt, &arena, &mut first) || !first.free(rt, &arena, &key).0 {
-        return None;
-    }
-    let mut seats = room_for_seat(alloc)?;
-    seats.push(first).ok()?;
-    let finished = match finish_unsettled(arena, seats) {
-        Ok(finished) => finished,
-        Err(back) => finish_unsettled(back.arena, back.seats).ok()?,
-    };
-    let mut changes: usize = 0;
-    for log in &finished.logs {
-        changes = changes.saturating_add(log.changes.len());
-    }
-    Some((finished.logs.len(), changes))
-}
-
-#[test]
-fn leaves_all_logs(rt: HostRuntime) -> Result<(), Fail> {
-    let Some(two) = make_again(rt.alloc()) else {
-        return Err("no arena".into());
-    };
-    let left = logs_left(&rt, rt.alloc(), two);
-    assert_eq!(rt; left, Some((2, 3)));
-    Ok(())
-}
-
 // The first of two seats puts a value, and the second leaves its key to the first one's thread. Says whether it came to that.
 fn leaves_one<R: Wait>(rt: &R, arena: &Arena<NoGate>, seats: &mut [Seat]) -> bool
     requires two { length seats.old ≡ 2 }
-    requires linked { AreLinked seats.old }
+    requires seats { AreSeatsOf arena.now.limits arena.now.table seats.old }
     ensures len { length seats.new ≡ 2 }
-    ensures linked { AreLinked seats.new }
+    ensures seats { AreSeatsOf arena.now.limits arena.now.table seats.new }
 {
     if !seats[0].fits(arena) {
         return false;
@@ -740,7 +695,7 @@ fn settled_at_the_end<R: Wait>(rt: &R, alloc: Global) -> Option<(usize, usize, u
     let Ok((arena, mut seats, _)) = Arena::open(alloc, 2, 4, 4, 9, NoGate) else {
         return None;
     };
-    if seats.len() != 2 || arena.limits.shards() != 2 {
+    if seats.len() != 2 {
         return None;
     }
     if !leaves_one(rt, &arena, seats.as_mut_slice()) {

@@ -35,6 +35,8 @@ mod sections;
 #[cfg(test)]
 mod steward;
 #[cfg(test)]
+mod tends;
+#[cfg(test)]
 mod tests;
 #[cfg(test)]
 mod worker;

@@ -1,7 +1,7 @@
 //! Keys at each place where a span may be: in a group that was folded onto another, in a shard that adopted its group, and in
 //! the pool. They are left to the threads of shards that ended, and freed when the rings are settled, by the arena or at its end.
 ghost use Rattle.std.specs.Prelude.{◌≡◌, length, vec_len};
-ghost use Rattle.arena.specs.Seats.{AreLinked};
+ghost use Rattle.arena.specs.Seats.{AreSeatsOf};
 
 use arena::{Arena, Finished, NoGate, Seat, Stepped, Steward, Unfinished, finish};
 use fold::Step;
@@ -31,9 +31,9 @@ fn put<R: Wait>(
     worker: usize,
     value: u128,
 ) -> Option<Key>
-    requires { AreLinked seats.old }
+    requires { AreSeatsOf arena.now.limits arena.now.table seats.old }
     ensures len { length seats.new ≡ length seats.old }
-    ensures linked { AreLinked seats.new }
+    ensures seats { AreSeatsOf arena.now.limits arena.now.table seats.new }
 {
     if worker >= seats.len() || !seats[worker].fits(arena) {
         return None;
@@ -51,9 +51,9 @@ fn free<R: Wait>(
     worker: usize,
     key: &Key,
 ) -> bool
-    requires { AreLinked seats.old }
+    requires { AreSeatsOf arena.now.limits arena.now.table seats.old }
     ensures len { length seats.new ≡ length seats.old }
-    ensures linked { AreLinked seats.new }
+    ensures seats { AreSeatsOf arena.now.limits arena.now.table seats.new }
 {
     if worker >= seats.len() || !seats[worker].fits(arena) {
         return false;
@@ -62,9 +62,9 @@ fn free<R: Wait>(
 }
 
 fn end<R: Wait>(rt: &R, arena: &Arena<NoGate>, seats: &mut [Seat], worker: usize) -> bool
-    requires { AreLinked seats.old }
+    requires { AreSeatsOf arena.now.limits arena.now.table seats.old }
     ensures len { length seats.new ≡ length seats.old }
-    ensures linked { AreLinked seats.new }
+    ensures seats { AreSeatsOf arena.now.limits arena.now.table seats.new }
 {
     if worker >= seats.len() || !seats[worker].fits(arena) {
         return false;
@@ -73,9 +73,9 @@ fn end<R: Wait>(rt: &R, arena: &Arena<NoGate>, seats: &mut [Seat], worker: usize
 }
 
 fn adopt<R: Wait>(rt: &R, arena: &Arena<NoGate>, seats: &mut [Seat], worker: usize) -> bool
-    requires { AreLinked seats.old }
+    requires { AreSeatsOf arena.now.limits arena.now.table seats.old }
     ensures len { length seats.new ≡ length seats.old }
-    ensures linked { AreLinked seats.new }
+    ensures seats { AreSeatsOf arena.now.limits arena.now.table seats.new }
 {
     if worker >= seats.len() || !seats[worker].fits(arena) {
         return false;
@@ -84,10 +84,10 @@ fn adopt<R: Wait>(rt: &R, arena: &Arena<NoGate>, seats: &mut [Seat], worker: usi
 }
 
 // Leaves the key to the thread of its shard, and says whether the ring took it.
-fn leave(seats: &mut [Seat], worker: usize, key: Key) -> bool
-    requires { AreLinked seats.old }
+fn leave(arena: &Arena<NoGate>, seats: &mut [Seat], worker: usize, key: Key) -> bool
+    requires { AreSeatsOf arena.now.limits arena.now.table seats.old }
     ensures len { length seats.new ≡ length seats.old }
-    ensures linked { AreLinked seats.new }
+    ensures seats { AreSeatsOf arena.now.limits arena.now.table seats.new }
 {
     if worker >= seats.len() || !seats[worker].has_shard_of(&key) {
         return false;
@@ -118,14 +118,14 @@ fn fold<R: Wait>(rt: &R, arena: &Arena<NoGate>, steward: &mut Steward) -> bool {
 }
 
 // Leaves the keys that are to be freed, as worker 1, and says whether the rings took them.
-fn leave_all(seats: &mut [Seat], places: &Places) -> bool
-    requires { AreLinked seats.old }
+fn leave_all(arena: &Arena<NoGate>, seats: &mut [Seat], places: &Places) -> bool
+    requires { AreSeatsOf arena.now.limits arena.now.table seats.old }
     ensures len { length seats.new ≡ length seats.old }
-    ensures linked { AreLinked seats.new }
+    ensures seats { AreSeatsOf arena.now.limits arena.now.table seats.new }
 {
-    let guest = leave(seats, 1, places.guest);
-    let adopted = leave(seats, 1, places.adopted);
-    let pooled = leave(seats, 1, places.pooled);
+    let guest = leave(arena, seats, 1, places.guest);
+    let adopted = leave(arena, seats, 1, places.adopted);
+    let pooled = leave(arena, seats, 1, places.pooled);
     guest && adopted && pooled
 }
 
@@ -136,9 +136,9 @@ fn spread<R: Wait>(
     seats: &mut [Seat],
     steward: &mut Steward,
 ) -> Option<Places>
-    requires { AreLinked seats.old }
+    requires { AreSeatsOf arena.now.limits arena.now.table seats.old }
     ensures len { length seats.new ≡ length seats.old }
-    ensures linked { AreLinked seats.new }
+    ensures seats { AreSeatsOf arena.now.limits arena.now.table seats.new }
 {
     let gone = put(rt, arena, seats, 0, 10)?;
     let guest = put(rt, arena, seats, 0, 11)?;
@@ -156,7 +156,7 @@ fn spread<R: Wait>(
         adopted,
         pooled,
     };
-    let left = leave_all(seats, &places);
+    let left = leave_all(arena, seats, &places);
     if !(freed && ended && folded && moved && last && left) {
         return None;
     }
@@ -226,14 +226,13 @@ fn settle<R: Wait>(
     seats: &mut [Seat],
     lists: &mut [Vec<Receipt>],
 ) -> Option<usize>
-    requires seats { length seats.old ≡ arena.now.limits.shards }
-    requires linked { AreLinked seats.old }
+    requires seats { AreSeatsOf arena.now.limits arena.now.table seats.old }
     requires lists { length lists.old ≡ length seats.old }
 {
     if let Ok(counts) = arena.settle(rt, seats, lists) {
         return Some(total(counts.as_slice()));
     }
-    if seats.len() != arena.limits.shards() as usize || lists.len() != seats.len() {
+    if lists.len() != seats.len() {
         return None;
     }
     let counts = arena.settle(rt, seats, lists).ok()?;
@@ -241,7 +240,7 @@ fn settle<R: Wait>(
 }
 
 // The sum of all counts.
-fn total(counts: &[Vec<usize>]) -> usize {
+pub(crate) fn total(counts: &[Vec<usize>]) -> usize {
     let mut all = 0usize;
     for row in counts {
         for count in row {
@@ -262,7 +261,7 @@ fn settled<R: Wait>(rt: &R, alloc: Global) -> Option<Settled> {
     let all = seats.as_mut_slice();
     let places = spread(rt, &arena, all, &mut steward)?;
     let mut lists = four_lists(alloc)?;
-    if all.len() != arena.limits.shards() as usize || lists.len() != all.len() {
+    if lists.len() != all.len() {
         return None;
     }
     let before = arena.totals(rt);
@@ -296,8 +295,7 @@ fn finish_again(
     seats: Vec<Seat>,
     lists: &mut [Vec<Receipt>],
 ) -> Option<Finished>
-    requires seats { vec_len seats ≡ arena.limits.shards }
-    requires linked { AreLinked seats.items }
+    requires seats { AreSeatsOf arena.limits arena.table seats.items }
     requires lists { length lists.old ≡ vec_len seats }
 {
     let back = match finish(arena, seats, lists) {
@@ -305,7 +303,7 @@ fn finish_again(
         Err(back) => back,
     };
     let Unfinished { arena, seats } = back;
-    if seats.len() != lists.len() || seats.len() != arena.limits.shards() as usize {
+    if seats.len() != lists.len() {
         return None;
     }
     finish(arena, seats, lists).ok()
@@ -318,7 +316,7 @@ fn left<R: Wait>(rt: &R, alloc: Global) -> Option<(usize, [usize; 4], usize, usi
     };
     spread(rt, &arena, seats.as_mut_slice(), &mut steward)?;
     let mut lists = four_lists(alloc)?;
-    if seats.len() != arena.limits.shards() as usize || lists.len() != seats.len() {
+    if lists.len() != seats.len() {
         return None;
     }
     let finished = finish_again(arena, seats, lists.as_mut_slice())?;
@@ -343,5 +341,46 @@ fn ends_wherever_a_span_is(rt: HostRuntime) -> Result<(), Fail> {
         None => left(&rt, rt.alloc()),
     };
     assert_eq!(rt; left, Some((3, [1, 0, 1, 1], 4, 9)));
+    Ok(())
+}
+
+// The first of two workers ends its shard, whose group comes to the pool and is emptied there, and the second has one that stands
+// in its shard. Says whether it came to that.
+fn empties_one<R: Wait>(rt: &R, arena: &Arena<NoGate>, seats: &mut [Seat]) -> Option<bool>
+    requires { AreSeatsOf arena.now.limits arena.now.table seats.old }
+    ensures len { length seats.new ≡ length seats.old }
+    ensures seats { AreSeatsOf arena.now.limits arena.now.table seats.new }
+{
+    let key = put(rt, arena, seats, 0, 5)?;
+    put(rt, arena, seats, 1, 6)?;
+    Some(end(rt, arena, seats, 0) && free(rt, arena, seats, 0, &key))
+}
+
+// How many logs and how many changes the two leave.
+fn logs_left<R: Wait>(rt: &R, alloc: Global) -> Option<(usize, usize)> {
+    let Ok((arena, mut seats, _)) = Arena::open(alloc, 2, 4, 4, 9, NoGate) else {
+        return None;
+    };
+    let emptied = empties_one(rt, &arena, seats.as_mut_slice())?;
+    let mut lists = vec![in alloc; Vec::new(alloc), Vec::new(alloc)].ok()?;
+    if !emptied || lists.len() != seats.len() {
+        return None;
+    }
+    let finished = finish_again(arena, seats, lists.as_mut_slice())?;
+    let mut changes = 0usize;
+    for log in &finished.logs {
+        changes = changes.saturating_add(log.changes.len());
+    }
+    Some((finished.logs.len(), changes))
+}
+
+#[test]
+fn leaves_all_logs(rt: HostRuntime) -> Result<(), Fail> {
+    // Once more where memory was refused.
+    let left = match logs_left(&rt, rt.alloc()) {
+        Some(left) => Some(left),
+        None => logs_left(&rt, rt.alloc()),
+    };
+    assert_eq!(rt; left, Some((2, 3)));
     Ok(())
 }

@@ -1,10 +1,10 @@
 // A whole run: the sections of all workers, the steward's marks, and the audit.
-ghost use Rattle.std.specs.Prelude.{All};
-ghost use Rattle.arena.specs.Delays.{HasNoneWaiting};
+ghost use Rattle.std.specs.Prelude.{◌≡◌, IfOk, map};
 
+use crate::places::total;
 use crate::steward::{Keeper, Marks};
 use crate::worker::{Trouble, Worker};
-use arena::{Arena, NoGate, Seat, finish_unsettled};
+use arena::{Arena, NoGate, Seat, finish};
 use audit::{AuditError, audit};
 use span::{Key, Receipt};
 use std::alloc::{AllocError, Global};
@@ -45,7 +45,7 @@ pub struct Told {
     pub retired: usize,
     /// How many keys were left to the threads of their shards.
     pub sent: usize,
-    /// How many of them these took from their rings.
+    /// How many of them were taken from the rings, by these threads or when the arena was ended.
     pub taken: usize,
     /// What the audit says of the receipts.
     pub verdict: Result<(), AuditError>,
@@ -56,12 +56,16 @@ fn workers_of<'a>(
     alloc: Global,
     arena: &'a Arena<NoGate>,
     seats: Vec<Seat>,
-) -> Result<Vec<Worker<'a>>, AllocError> {
+) -> Result<Vec<Worker<'a>>, AllocError>
+    ensures { IfOk result (λ workers. map (λ worker. worker.seat.table) workers.items
+        ≡ map (λ seat. seat.table) seats.items) }
+{
     let mut workers = Vec::new(alloc);
     for seat in seats {
-        if let Some(worker) = Worker::new(alloc, arena, seat) {
-            workers.push(worker)?;
-        }
+        let Some(worker) = Worker::new(alloc, arena, seat) else {
+            return Err(AllocError);
+        };
+        workers.push(worker)?;
     }
     Ok(workers)
 }
@@ -76,7 +80,9 @@ fn keys_of(alloc: Global, workers: &[Worker<'_>]) -> Result<Vec<Key>, AllocError
 }
 
 // The calls of a section of one worker.
-fn work_one<'a, R: Wait>(rt: &R, worker: Worker<'a>, old: &[Key]) -> Worker<'a> {
+fn work_one<'a, R: Wait>(rt: &R, worker: Worker<'a>, old: &[Key]) -> Worker<'a>
+    ensures { result.seat.table ≡ worker.entry.seat.table }
+{
     let mut worker = worker;
     worker.go_on();
     worker.work(rt, old);
@@ -88,8 +94,18 @@ fn work<'a, R: Threads + Wait + Sync>(
     rt: &R,
     workers: Vec<Worker<'a>>,
     old: &[Key],
-) -> Result<Vec<Worker<'a>>, AllocError> {
-    thread::map_vec(rt, workers, &|worker| work_one(rt, worker, old))
+) -> Result<Vec<Worker<'a>>, AllocError>
+    ensures { IfOk result (λ after. map (λ worker. worker.seat.table) after.items
+        ≡ map (λ worker. worker.seat.table) workers.entry.items) }
+{
+    let after = thread::map_vec(
+        rt,
+        workers,
+        &|worker: Worker<'_>| -> Worker<'_>
+            ensures { result.seat.table ≡ worker.entry.seat.table }
+        { work_one(rt, worker, old) },
+    )?;
+    Ok(after)
 }
 
 // Marks all the while.
@@ -107,7 +123,10 @@ fn section<'a, R: Threads + Wait + Sync>(
     old: &[Key],
     turn: Turn,
     takes_steps: bool,
-) -> (Result<Vec<Worker<'a>>, AllocError>, Keeper<'a>) {
+) -> (Result<Vec<Worker<'a>>, AllocError>, Keeper<'a>)
+    ensures { IfOk result.0 (λ after. map (λ worker. worker.seat.table) after.items
+        ≡ map (λ worker. worker.seat.table) workers.entry.items) }
+{
     match turn {
         Turn::Between => {
             let workers = work(rt, workers, old);
@@ -117,32 +136,6 @@ fn section<'a, R: Threads + Wait + Sync>(
         }
         Turn::Beside => thread::join(rt, move || work(rt, workers, old), move || keep(rt, keeper)),
     }
-}
-
-// Hands over what the workers left to each other's threads.
-fn hand_over_all(workers: &mut [Worker<'_>])
-    ensures { All (λ worker. HasNoneWaiting worker.seat) workers.new }
-{
-    for index in 0..workers.len() {
-        workers[index].hand_over();
-    }
-}
-
-// Frees the keys that are on the rings: all that were sent, since none waits at a seat.
-fn tend_handed_over<R: Wait>(rt: &R, workers: &mut [Worker<'_>])
-    requires { All (λ worker. HasNoneWaiting worker.seat) workers.old }
-{
-    for worker in workers.iter_mut() {
-        if let Err(trouble) = worker.tend(rt) {
-            worker.trouble = Some(trouble);
-        }
-    }
-}
-
-// Frees the keys that were left to the threads of shards, when no worker runs any more.
-fn tend_all<R: Wait>(rt: &R, workers: &mut [Worker<'_>]) {
-    hand_over_all(workers);
-    tend_handed_over(rt, workers);
 }
 
 // How many keys were left to the threads of their shards, and how many these took.
@@ -173,7 +166,10 @@ fn moves_of(workers: &[Worker<'_>]) -> (usize, usize, usize) {
 fn taken_apart(
     alloc: Global,
     workers: Vec<Worker<'_>>,
-) -> Result<(Vec<Seat>, Vec<Vec<Receipt>>), AllocError> {
+) -> Result<(Vec<Seat>, Vec<Vec<Receipt>>), AllocError>
+    ensures { IfOk result (λ apart. map (λ seat. seat.table) apart.0.items
+        ≡ map (λ worker. worker.seat.table) workers.entry.items) }
+{
     let mut seats = Vec::with_capacity(alloc, workers.len())?;
     let mut lists = Vec::with_capacity(alloc, workers.len())?;
     for worker in workers {
@@ -194,6 +190,30 @@ fn trouble_of(workers: &[Worker<'_>]) -> Option<Trouble> {
     None
 }
 
+// All sections, one after the other.
+fn all_sections<'a, R: Threads + Wait + Sync>(
+    rt: &R,
+    alloc: Global,
+    workers: Vec<Worker<'a>>,
+    keeper: Keeper<'a>,
+    turn: Turn,
+) -> Result<(Vec<Worker<'a>>, Keeper<'a>), AllocError>
+    ensures { IfOk result (λ after. map (λ worker. worker.seat.table) after.0.items
+        ≡ map (λ worker. worker.seat.table) workers.entry.items) }
+{
+    let mut workers = workers;
+    let mut keeper = keeper;
+    for number in 0..SECTIONS {
+        let old = keys_of(alloc, workers.as_slice())?;
+        // A plan that is closed at once leaves groups in the pool, to be adopted.
+        let takes_steps = number % 4 != 2;
+        let (worked, kept) = section(rt, workers, keeper, old.as_slice(), turn, takes_steps);
+        workers = worked?;
+        keeper = kept;
+    }
+    Ok((workers, keeper))
+}
+
 /// A run in which the steward marks then.
 pub fn run<R: Threads + Wait + Sync>(
     rt: &R,
@@ -203,28 +223,25 @@ pub fn run<R: Threads + Wait + Sync>(
     let Ok((arena, seats, steward)) = Arena::open(alloc, WORKERS, 16, RING, 9, NoGate) else {
         return Err(AllocError);
     };
-    let mut workers = workers_of(alloc, &arena, seats)?;
-    let Some(mut keeper) = Keeper::new(&arena, steward) else {
+    let workers = workers_of(alloc, &arena, seats)?;
+    let Some(keeper) = Keeper::new(&arena, steward) else {
         return Err(AllocError);
     };
-    for number in 0..SECTIONS {
-        let old = keys_of(alloc, workers.as_slice())?;
-        // A plan that is closed at once leaves groups in the pool, to be adopted.
-        let takes_steps = number % 4 != 2;
-        let (worked, kept) = section(rt, workers, keeper, old.as_slice(), turn, takes_steps);
-        workers = worked?;
-        keeper = kept;
-    }
-    tend_all(rt, workers.as_mut_slice());
+    let (workers, keeper) = all_sections(rt, alloc, workers, keeper, turn)?;
     let marks = keeper.marks;
     let trouble = trouble_of(workers.as_slice());
     let (ended, adopted, retired) = moves_of(workers.as_slice());
     let (sent, taken) = deferred_of(workers.as_slice());
-    let (seats, lists) = taken_apart(alloc, workers)?;
+    let (seats, mut lists) = taken_apart(alloc, workers)?;
     drop(keeper);
-    let Ok(finished) = finish_unsettled(arena, seats) else {
+    // Each worker is here again, in its place.
+    if !arena.has_all(seats.as_slice()) || lists.len() != seats.len() {
+        return Err(AllocError);
+    }
+    let Ok(finished) = finish(arena, seats, lists.as_mut_slice()) else {
         return Err(AllocError);
     };
+    let taken = taken.saturating_add(total(finished.counts.as_slice()));
     let verdict = audit(alloc, finished.logs.as_slice(), lists.as_slice());
     Ok(Told {
         trouble,

@@ -1,6 +1,5 @@
 // A worker of a run.
-ghost use Rattle.std.specs.Prelude.{◌≡◌};
-ghost use Rattle.arena.specs.Delays.{HasNoneWaiting};
+ghost use Rattle.std.specs.Prelude.{◌≡◌, IfSome};
 
 use abandoned::{AdoptError, ReceiveError};
 use arena::{Arena, NoGate, Seat};
@@ -56,7 +55,9 @@ pub struct Worker<'a> {
 
 impl<'a> Worker<'a> {
     /// A worker in this seat, or `None` where the seat is that of an arena of other numbers.
-    pub fn new(alloc: Global, arena: &'a Arena<NoGate>, seat: Seat) -> Option<Worker<'a>> {
+    pub fn new(alloc: Global, arena: &'a Arena<NoGate>, seat: Seat) -> Option<Worker<'a>>
+        ensures { IfSome result (λ worker. worker.seat ≡ seat) }
+    {
         if !seat.fits(arena) {
             return None;
         }
@@ -77,7 +78,9 @@ impl<'a> Worker<'a> {
     }
 
     /// From now on its receipts carry the next section, and its keys are those of the section before.
-    pub fn go_on(&mut self) {
+    pub fn go_on(&mut self)
+        ensures { self.new.seat.table ≡ self.old.seat.table }
+    {
         if self.seat.section() < u64::MAX {
             self.seat.next_section();
         }
@@ -85,7 +88,9 @@ impl<'a> Worker<'a> {
     }
 
     /// The calls of a section. `old` are keys that workers were given in the section before.
-    pub fn work<R: Wait>(&mut self, rt: &R, old: &[Key]) {
+    pub fn work<R: Wait>(&mut self, rt: &R, old: &[Key])
+        ensures { self.new.seat.table ≡ self.old.seat.table }
+    {
         for turn in 0..CALLS {
             if let Err(trouble) = self.call(rt, old, turn) {
                 self.trouble = Some(trouble);
@@ -98,7 +103,9 @@ impl<'a> Worker<'a> {
     // section on, workers of even number adopt near its start; each other worker ends its shard late in the section of its
     // number. In the middle of every second section each retires two groups. So what the first mark finds is the same in each
     // run: the groups of the shard that ended, in the pool.
-    fn call<R: Wait>(&mut self, rt: &R, old: &[Key], turn: usize) -> Result<(), Trouble> {
+    fn call<R: Wait>(&mut self, rt: &R, old: &[Key], turn: usize) -> Result<(), Trouble>
+        ensures { self.new.seat.table ≡ self.old.seat.table }
+    {
         let is_even = self.seat.worker() % 2 == 0;
         if turn == 10 && is_even && self.seat.section() > 1 {
             return self.adopt(rt);
@@ -122,7 +129,9 @@ impl<'a> Worker<'a> {
     }
 
     // A key of its own, at random, which is then its own no more.
-    fn own_key(&mut self, word: u32) -> Option<Key> {
+    fn own_key(&mut self, word: u32) -> Option<Key>
+        ensures { self.new.seat.table ≡ self.old.seat.table }
+    {
         if self.keys.is_empty() {
             return None;
         }
@@ -130,7 +139,9 @@ impl<'a> Worker<'a> {
         Some(self.keys.swap_remove(place))
     }
 
-    fn put<R: Wait>(&mut self, rt: &R, word: u32) -> Result<(), Trouble> {
+    fn put<R: Wait>(&mut self, rt: &R, word: u32) -> Result<(), Trouble>
+        ensures { self.new.seat.table ≡ self.old.seat.table }
+    {
         self.keys.reserve(1)?;
         self.receipts.reserve(1)?;
         match self.seat.put(rt, self.arena, word as u128) {
@@ -145,7 +156,9 @@ impl<'a> Worker<'a> {
     }
 
     // Looks up a key of the section before, or the last of its own.
-    fn get<R: Wait>(&mut self, rt: &R, old: &[Key], word: u32) -> Result<(), Trouble> {
+    fn get<R: Wait>(&mut self, rt: &R, old: &[Key], word: u32) -> Result<(), Trouble>
+        ensures { self.new.seat.table ≡ self.old.seat.table }
+    {
         let last = self.keys.last().copied();
         let key = if word % 2 == 0 {
             last
@@ -162,7 +175,9 @@ impl<'a> Worker<'a> {
     }
 
     // Frees a key of its own, or one of the section before, whoever was given it; a third of them later, where the ring has room.
-    fn free<R: Wait>(&mut self, rt: &R, old: &[Key], word: u32) -> Result<(), Trouble> {
+    fn free<R: Wait>(&mut self, rt: &R, old: &[Key], word: u32) -> Result<(), Trouble>
+        ensures { self.new.seat.table ≡ self.old.seat.table }
+    {
         let key = if word % 16 < 6 {
             self.own_key(word / 16)
         } else {
@@ -181,23 +196,18 @@ impl<'a> Worker<'a> {
         Ok(())
     }
 
-    /// Hands over the keys that it left to the threads of their shards.
-    pub fn hand_over(&mut self)
-        ensures { HasNoneWaiting self.new.seat }
-    {
-        self.seat.hand_over();
-    }
-
-    /// Frees the keys that came in for its shard.
-    pub fn tend<R: Wait>(&mut self, rt: &R) -> Result<(), Trouble>
-        ensures { HasNoneWaiting self.new.seat }
+    // Frees the keys that came in for its shard.
+    fn tend<R: Wait>(&mut self, rt: &R) -> Result<(), Trouble>
+        ensures { self.new.seat.table ≡ self.old.seat.table }
     {
         let taken = self.seat.tend(rt, self.arena, &mut self.receipts)?;
         self.taken = self.taken.saturating_add(taken);
         Ok(())
     }
 
-    fn end<R: Wait>(&mut self, rt: &R) -> Result<(), Trouble> {
+    fn end<R: Wait>(&mut self, rt: &R) -> Result<(), Trouble>
+        ensures { self.new.seat.table ≡ self.old.seat.table }
+    {
         match self.seat.end(rt, self.arena) {
             Err(ReceiveError::OutOfMemory) => Err(Trouble::OutOfMemory),
             Err(ReceiveError::Doubled) => Err(Trouble::Doubled),
@@ -209,7 +219,9 @@ impl<'a> Worker<'a> {
         }
     }
 
-    fn retire<R: Wait>(&mut self, rt: &R) -> Result<(), Trouble> {
+    fn retire<R: Wait>(&mut self, rt: &R) -> Result<(), Trouble>
+        ensures { self.new.seat.table ≡ self.old.seat.table }
+    {
         match self.seat.retire(rt, self.arena, 2) {
             Err(ReceiveError::OutOfMemory) => Err(Trouble::OutOfMemory),
             Err(ReceiveError::Doubled) => Err(Trouble::Doubled),
@@ -221,7 +233,9 @@ impl<'a> Worker<'a> {
         }
     }
 
-    fn adopt<R: Wait>(&mut self, rt: &R) -> Result<(), Trouble> {
+    fn adopt<R: Wait>(&mut self, rt: &R) -> Result<(), Trouble>
+        ensures { self.new.seat.table ≡ self.old.seat.table }
+    {
         match self.seat.adopt(rt, self.arena) {
             Err(AdoptError::OutOfMemory) => Err(Trouble::OutOfMemory),
             Err(AdoptError::Doubled) => Err(Trouble::Doubled),

@@ -3,6 +3,7 @@ use Rattle.std.proofs.Math.Seq.{map-set_same}
 use Rattle.std.proofs.lemmas.List.Elements.{All-from_get_or}
 use Rattle.arena.specs.Seats.{sending_side, sent_lists, taken_lists}
 use Rattle.arena.proofs.CountedRings.{all_counted, counted_more, few_more, ring_here, same_taking, whole_here, whole_more}
+use Rattle.arena.proofs.Sending.{KeepPlaces-more, KeepPlaces-set}
 use Rattle.arena.proofs.counting.count_rings.Goals as goal
 
 pub count_left-requires : goal.count_left-requires
@@ -31,6 +32,8 @@ loop-from-preserved c =
       room = search rules;
       wide = search rules;
       sending = map-set_same sending_side seats w c.count_left.new.self d one.seat.0 ∙ inv.sending;
+      tables = map-set_same (λ s. s.table) seats w c.count_left.new.self d one.table ∙ inv.tables;
+      places = KeepPlaces-more c.args.seats.now seats _ inv.places (KeepPlaces-set seats w c.count_left.new.self d one.places);
       idle = map-set_same (λ s. s.inboxes) seats w c.count_left.new.self d one.seat.1 ∙ inv.idle;
       taking = same_taking inboxes w after before c.index_mut.ensures.value one.inbox.0 one.inbox.1 ∙ inv.taking;
       counted = rw pushed (counted_more inboxes w after inside c.loop-from.counts.items c.count_left.result long one.left inv.counted);

@@ -1,5 +1,5 @@
 use Rattle.std.proofs.Common.{◌≡◌, ◌<◌, ◌≤◌, ◌++◌, ℕ, [], length, map, slice_index_or, vec_len, vec_capacity}
-use Rattle.arena.specs.Seats.{known_lists, sending_side, sent_lists, taken_lists}
+use Rattle.arena.specs.Seats.{KeepPlaces, known_lists, sending_side, sent_lists, taken_lists}
 use Rattle.arena.specs.Settled.{taking_side}
 use Rattle.arena.proofs.counting.count_rings.Given as goal
 
@@ -9,6 +9,8 @@ invariant-loop-from l = record {
   room : length l.seats ≤ vec_capacity l.counts;
   wide : vec_len l.inboxes ≡ length l.seats;
   sending : map sending_side l.seats ≡ map sending_side l.fn.seats;
+  tables : map (λ s. s.table) l.seats ≡ map (λ s. s.table) l.fn.seats;
+  places : KeepPlaces l.fn.seats l.seats;
   idle : map (λ s. s.inboxes) l.seats ≡ map (λ s. s.inboxes) l.fn.seats;
   taking : taking_side l.inboxes.items ≡ taking_side l.fn.inboxes.items;
   counted : (k : ℕ) → k < l.from → slice_index_or l.counts.items k 0 ≡ length (slice_index_or (known_lists l.inboxes.items) k []);

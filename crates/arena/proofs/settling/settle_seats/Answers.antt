@@ -23,6 +23,8 @@ loop-shard-preserved g c =
       seats_left = λ k d past. let other : k ≢ s = omega arith in rw get_or-set_other (inv.seats_left k d (omega arith));
       lists_left = λ k d past. let other : k ≢ s = omega arith in rw get_or-set_other (inv.lists_left k d (omega arith));
       sending = map-set_same sending_side c.loop-shard.seats s c.settle.new.self x one.seat.0 ∙ inv.sending;
+      tables = map-set_same (λ (seat : SeatState). seat.table) c.loop-shard.seats s c.settle.new.self x one.table ∙ inv.tables;
+      outboxes = map-set_same (λ (seat : SeatState). seat.outboxes) c.loop-shard.seats s c.settle.new.self x one.outboxes ∙ inv.outboxes;
       rings = map-set_same in_rings c.loop-shard.seats s c.settle.new.self x one.seat.1 ∙ inv.rings;
       taken = set_each (λ (seat : SeatState). taken_lists seat.inboxes) (λ (seat : SeatState). taken_with_known seat.inboxes) c.args.seats.now c.loop-shard.seats s c.settle.new.self x within below
           (one.taken ∙ ap (λ (seat : SeatState). taken_with_known seat.inboxes) seat) inv.taken;

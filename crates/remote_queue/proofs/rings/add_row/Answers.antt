@@ -29,7 +29,7 @@ loop-shard-preserved c =
       rings = row_step (inbox_rings c.args.columns.now.items) _ _ _ _ c.loop-shard.shard _ _ inv.rings (omega (arith, length-map c.loop-shard.row.items (λ o. o.ring))) (omega (arith, length-map c.args.columns.now.items (λ c. map (λ i. i.ring) c.items))) (search rules) c.in_ok-push_to.ensures.rings more;
       untaken = c.in_ok-push_to.ensures.untaken;
       unsent =
-          let p = λ (o : Sending). (o.sent ≡ []) × (o.free ≡ c.args.capacity) × (o.waiting ≡ 0) in
+          let p = λ (o : Sending). (o.sent ≡ []) × (o.free ≡ c.args.capacity) × (o.waiting ≡ 0) × (o.ring.capacity ≡ c.args.capacity) in
           let same = c.push_reserved.ensures.items in
-          subst (All p) (sym same) (All-push p c.loop-shard.row.items _ inv.unsent (c.in_ok-outbox.ensures.1, c.in_ok-outbox.ensures.2, c.in_ok-outbox.ensures.3));
+          subst (All p) (sym same) (All-push p c.loop-shard.row.items _ inv.unsent (c.in_ok-outbox.ensures.1, c.in_ok-outbox.ensures.2, c.in_ok-outbox.ensures.3, c.in_ok-outbox.ensures.4));
     }
