@@ -36,7 +36,7 @@ HaltsReplay serial text replies failures_old failures_new old new fault.SinkFail
 HaltsReplay serial text replies failures_old failures_new old new (fault.BadTrace line cause) = IsFaultAt text line cause × (failures_new ≡ failures_old) × (new ≡ old)
 HaltsReplay serial text replies failures_old failures_new old new fault.OutOfMemory = (failures_new ≡ failures_old) × (new ≡ old)
 HaltsReplay serial text replies failures_old failures_new old new fault.Doubled = (serial ≡ false) × (failures_new ≡ failures_old) × (new ≡ old)
-HaltsReplay serial text replies failures_old failures_new old new (fault.Audit cause) = (serial ≡ false) × FailsAudit cause × (failures_new ≡ failures_old) × (new ≡ old)
+HaltsReplay serial text replies failures_old failures_new old new (fault.Audit cause) = (serial ≡ false) × FailsAudit text replies cause × (failures_new ≡ failures_old) × (new ≡ old)
 HaltsReplay serial text replies failures_old failures_new old new _ = ⊥
 
 module _ {D : Type 0} (held : D → List ℕ → Option (List ℕ)) where
@@ -91,7 +91,7 @@ module _ {D : Type 0} (held : D → List ℕ → Option (List ℕ)) (failures : 
   HaltsRun serial replies certificate failures_old failures_new old new before after (fault.BadTrace line cause) = ((text : List ℕ) × IsFaultAt text line cause) × IsUntouched failures_old failures_new old new before after
   HaltsRun serial replies certificate failures_old failures_new old new before after fault.OutOfMemory = IsUntouched failures_old failures_new old new before after
   HaltsRun serial replies certificate failures_old failures_new old new before after fault.Doubled = (serial ≡ false) × IsUntouched failures_old failures_new old new before after
-  HaltsRun serial replies certificate failures_old failures_new old new before after (fault.Audit cause) = (serial ≡ false) × FailsAudit cause × IsUntouched failures_old failures_new old new before after
+  HaltsRun serial replies certificate failures_old failures_new old new before after (fault.Audit cause) = (serial ≡ false) × ((text : List ℕ) × FailsAudit text replies cause) × IsUntouched failures_old failures_new old new before after
   HaltsRun serial replies certificate failures_old failures_new old new before after _ = ⊥
 
   -- where the job came to a halt; a check writes no file

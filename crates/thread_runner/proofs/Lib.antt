@@ -1,1 +1,6 @@
 mod Voices
+mod Places
+mod Growing
+mod Taking
+mod Following
+mod Counting

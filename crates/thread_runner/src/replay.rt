@@ -1,23 +1,27 @@
 // Replays a trace by threads, and holds what its calls were told against the logs.
 ghost use Rattle.std.specs.Prelude.{◌≡◌, ◌<◌, ◌-◌, ◌^◌, IfOk, IfErr, List, OnErr, OnOk, map, vec_items};
+ghost use Rattle.std.specs.List.{sum_by};
 ghost use Rattle.audit.specs.Agreement.{Agreement};
 ghost use Rattle.audit.specs.History.{HaveHistories};
 ghost use Rattle.trace_text.specs.Trace.{Spells};
 ghost use Rattle.trace_text.specs.declared.header.Header.{Header};
 ghost use Rattle.trace_text.specs.declared.line.Line.{Line};
+ghost use Rattle.thread_runner.specs.Asked.{replies_in};
+ghost use Rattle.thread_runner.specs.Followed.{AreVoices};
 ghost use Rattle.thread_runner.specs.Threaded.{IsAuditStop, IsNoFault, IsRunStop, IsThreadedReport, StopsThreads, TellsAll, WritesThreadedReport};
 ghost use Rattle.thread_runner.specs.Told.{voice_of};
 
 use crate::body::{push_body, replies_of};
 use crate::diary::Diary;
 use crate::error::ThreadsError;
-use crate::layout::Layout;
+use crate::layout::{Layout, Text};
 use crate::section::{Ran, Told, run_sections};
-use crate::worker::Text;
+use crate::worker::Reading;
 use arena::{Arena, Gate, NoGate, finish_unsettled};
 use audit::{AuditError, audit_by_threads};
 use span::{Receipt, SpanLog};
 use std::alloc::{AllocError, Global};
+use std::marker::Brand;
 use std::sync::Wait;
 use std::thread::Threads;
 use trace_runner::{Ending, Sink, Trace, give, parse, push_ending};
@@ -31,13 +35,15 @@ struct Replayed {
     certificate: Vec<u8>,
 }
 
-// How many replies the threads had.
-fn calls_of(diaries: &[Diary]) -> usize {
+// How many replies the threads had. More than a number counts find no memory.
+fn calls_of(diaries: &[Diary]) -> Result<usize, AllocError>
+    ensures { IfOk result (λ calls. calls ≡ sum_by (λ diary. diary.calls) diaries.now) }
+{
     let mut calls = 0usize;
     for diary in diaries {
-        calls = calls.saturating_add(diary.calls());
+        calls = calls.checked_add(diary.calls()).ok_or(AllocError)?;
     }
-    calls
+    Ok(calls)
 }
 
 // The receipts of each thread.
@@ -59,8 +65,8 @@ fn report_of(
     shown: bool,
     ending: &Ending,
 ) -> Result<Vec<u8>, AllocError>
-    ensures { IfOk result (λ text. TellsAll shown
-        (map voice_of told.now.diaries.items) told.now.adoptions.items text.items) }
+    ensures { IfOk result (λ text. TellsAll shown (map voice_of told.now.diaries.items)
+        told.now.adoptions.items ending.now text.items) }
 {
     let replies = replies_of(
         alloc,
@@ -97,17 +103,20 @@ fn held_against<R: Threads + Sync>(
     }
 }
 
-// The whole report of what a run left, where its receipts agree with the logs.
+// The whole report of what a run of the trace left, where its receipts agree with the logs.
 fn audited<R: Threads + Sync>(
     rt: &R,
     alloc: Global,
+    trace: &Trace,
     told: Told,
     logs: &[SpanLog],
     shown: bool,
     ending: &Ending,
 ) -> Result<Replayed, ThreadsError>
-    ensures ok { IfOk result (λ replayed. IsThreadedReport shown replayed.report.items) }
-    ensures err { IfErr result IsRunStop }
+    requires voices { AreVoices trace.now shown (map voice_of told.diaries.items) }
+    requires calls { ending.now.calls ≡ replies_in trace.now.lines.items }
+    ensures ok { IfOk result (λ replayed. IsThreadedReport trace.now shown replayed.report.items) }
+    ensures err { IfErr result (IsRunStop trace.now shown) }
 {
     let mut report = report_of(alloc, &told, shown, ending)?;
     let receipts = receipts_of(alloc, told.diaries)?;
@@ -120,15 +129,17 @@ fn audited<R: Threads + Sync>(
 }
 
 // The report of a run of the trace by threads, and its last certificate.
-fn replay<R: Threads + Wait + Sync, G: Gate + Sync>(
+fn replay<R: Threads + Wait + Sync, G: Gate + Sync, J: Reading>(
     rt: &R,
     alloc: Global,
     gate: G,
     trace: &Trace,
     shown: bool,
 ) -> Result<Replayed, ThreadsError>
-    ensures ok { IfOk result (λ replayed. IsThreadedReport shown replayed.report.items) }
-    ensures err { IfErr result IsRunStop }
+    requires lines { trace.now.lines.items ≡ J.lines }
+    requires shown { shown ≡ J.shown }
+    ensures ok { IfOk result (λ replayed. IsThreadedReport trace.now shown replayed.report.items) }
+    ensures err { IfErr result (IsRunStop trace.now shown) }
 {
     let header = &trace.header;
     let (pages, ring) = (header.pages as usize, header.ring as usize);
@@ -142,17 +153,25 @@ fn replay<R: Threads + Wait + Sync, G: Gate + Sync>(
         layout: Layout::of(alloc, trace)?,
         replies: shown,
     };
-    let Ran { seats, told } = run_sections(rt, alloc, &text, &arena, seats, steward)?;
+    let Ran { seats, told } = run_sections::<R, G, J>(rt, alloc, &text, &arena, seats, steward)?;
     let totals = arena.totals(rt);
     let ending = Ending {
         pages: totals.pages,
         live: totals.live,
-        calls: calls_of(told.diaries.as_slice()),
+        calls: calls_of(told.diaries.as_slice())?,
     };
     let Ok(finished) = finish_unsettled(arena, seats) else {
         return Err(ThreadsError::OutOfMemory);
     };
-    audited(rt, alloc, told, finished.logs.as_slice(), shown, &ending)
+    audited(
+        rt,
+        alloc,
+        trace,
+        told,
+        finished.logs.as_slice(),
+        shown,
+        &ending,
+    )
 }
 
 /// Replays a trace by threads: reads the text whole, runs each section's lines on a thread for each of its threads that has
@@ -212,7 +231,7 @@ pub fn replay_gated<R: Threads + Wait + Sync, G: Gate + Sync, S: Sink>(
     ensures err_certificate { OnErr result (cert.new ≡ cert.old) }
 {
     let trace = parse(alloc, text)?;
-    let replayed = replay(rt, alloc, gate, &trace, replies)?;
+    let replayed = replay::<R, G, Brand>(rt, alloc, gate, &trace, replies)?;
     match give(out, replayed.report.as_slice()) {
         Ok(()) => {
             *cert = replayed.certificate;
