@@ -1,21 +1,19 @@
 -- What a thread was told follows its lines, line after line.
-use Rattle.std.proofs.Common.{add-zero, ◌≡◌, ◌∙◌, ◌+◌, ◌++◌, ◌<◌, ◌≤◌, ℕ, Bool, true, List, [], ◌∷◌, Some, ap, append-nil, arith, length, refl, slice_get, subst, sym, take}
-use Rattle.std.specs.List.{AllByRecursion, flat_map, sum_by}
+use Rattle.std.proofs.Common.{add-zero, ◌≡◌, ◌∙◌, ◌+◌, ◌++◌, ◌≤◌, ℕ, Bool, List, [], ◌∷◌, Some, ap, append-nil, length, refl, slice_get, subst, sym, take}
+use Rattle.std.specs.List.{flat_map, sum_by}
 use Rattle.std.specs.Option.{option_map_or}
 use Rattle.std.proofs.lemmas.Grind.{flat_map-append}
 use Rattle.std.proofs.lemmas.List.{take_all}
 use Rattle.std.proofs.lemmas.List.Sums.{sum_by_push}
 use Rattle.std.proofs.Math.Logic.{∥∥₁_map}
-use Rattle.span.specs.declared.receipt.Receipt.{Receipt}
 use Rattle.trace_text.specs.declared.line.Call.{Call}
 use Rattle.trace_text.specs.declared.line.Line.{Line}
 use Rattle.trace_text.specs.declared.line.Line.TheVariants as line
 use Rattle.thread_runner.specs.Asked.{asked_by, places_of, replies_at, replies_on}
-use Rattle.thread_runner.specs.Followed.{AtBarrier, AtLine, Follows, IsPassage, Passage, entries_in, entries_on, places_in, receipts_from, receipts_in}
+use Rattle.thread_runner.specs.Followed.{AtBarrier, AtLine, Follows, IsPassage, Passage, entries_in, places_in, receipts_in}
 use Rattle.thread_runner.specs.Grown.{Grows, IsDiaryOf, IsEmptyDiary, TakesIn, Tells, Tracks}
-use Rattle.thread_runner.specs.Told.{Voice, voice_of}
+use Rattle.thread_runner.specs.Told.{voice_of}
 use Rattle.thread_runner.specs.declared.diary.Diary.{Diary}
-use Rattle.thread_runner.specs.declared.diary.Entry.{Entry}
 use Rattle.thread_runner.specs.declared.diary.Entry.TheVariants as entry
 use Rattle.arena_core.proofs.Lists.{each-append}
 use Rattle.audit.proofs.Replies.{take_more}

@@ -1,9 +1,9 @@
 -- How a diary goes on, call after call.
-use Rattle.std.proofs.Common.{◌≡◌, ◌∙◌, ◌+◌, ◌++◌, ℕ, Bool, true, List, [], ◌∷◌, ap, append-nil, append_assoc, arith, length, length-append, refl, subst, sym, suc}
+use Rattle.std.proofs.Common.{◌≡◌, ◌∙◌, ◌+◌, ◌++◌, ℕ, List, [], ◌∷◌, ap, append-nil, append_assoc, arith, length, length-append, refl, subst, sym, suc}
 use Rattle.std.specs.List.{flat_map}
-use Rattle.std.proofs.lemmas.Grind.{common_steps, flat_map-append}
+use Rattle.std.proofs.lemmas.Grind.{flat_map-append}
 use Rattle.span.specs.declared.receipt.Receipt.{Receipt}
-use Rattle.thread_runner.specs.Asked.{Answers, AreAnswers, Asked, Called, Outcome, Said, Tends, Took}
+use Rattle.thread_runner.specs.Asked.{Answers, AreAnswers, Asked, Outcome, Tends, Took}
 use Rattle.thread_runner.specs.Followed.{entries_on, receipts_from}
 use Rattle.thread_runner.specs.Grown.{Grows, TakesIn, Tells}
 use Rattle.thread_runner.specs.declared.diary.Diary.{Diary}

@@ -1,5 +1,5 @@
 -- Where the lines of a thread stand.
-use Rattle.std.proofs.Common.{◌≡◌, ◌∙◌, ◌+◌, ◌++◌, ◌==◌, ◌<◌, ℕ, Bool, true, false, List, [], ◌∷◌, Some, None, ap, suc, zero, inl, inr, ◌≤◌, set, get_or, vec_items, Vec, append-nil, arith, length, map, refl, subst, sym, add_assoc, zero-add, add-zero, slice_get}
+use Rattle.std.proofs.Common.{◌≡◌, ◌∙◌, ◌+◌, ◌++◌, ◌==◌, ◌<◌, ℕ, Bool, true, false, List, [], ◌∷◌, Some, ap, suc, zero, inl, inr, ◌≤◌, set, get_or, vec_items, Vec, append-nil, arith, length, map, refl, subst, sym, add-zero, slice_get}
 use Rattle.std.specs.Prelude.{if◌then◌else◌}
 use Rattle.std.proofs.lemmas.Bool.{eqb-true}
 use Rattle.std.proofs.lemmas.Bool.Decides.{eqb_tells}
@@ -58,8 +58,11 @@ line_at-place thread lines done place is =
 -- a list that is written at the thread's place
 pub AddsAt-set : (thread place : ℕ) (old : List (List ℕ)) (before now : List ℕ) → slice_get old thread ≡ Some before → now ≡ before ++ place ∷ [] → AddsAt thread place old (set old thread now)
 AddsAt-set thread place old before now here is at listed there = elim (eqb_tells thread at) [
-  | inl (passes, same) ↦ (before, ap (slice_get old) (sym same) ∙ here,
-      (let written : Some listed ≡ Some now = sym there ∙ ap (slice_get (set old thread now)) (sym same) ∙ slice_get-set_same old thread before now here in let it : listed ≡ now = cc in it) ∙ is ∙ ap (λ (b : Bool). before ++ (if b then place ∷ [] else [])) (sym passes))
+  | inl (passes, same) ↦ (
+    before,
+    ap (slice_get old) (sym same) ∙ here,
+    (let written : Some listed ≡ Some now = sym there ∙ ap (slice_get (set old thread now)) (sym same) ∙ slice_get-set_same old thread before now here in let it : listed ≡ now = cc in it) ∙ is ∙ ap (λ (b : Bool). before ++ (if b then place ∷ [] else [])) (sym passes),
+  )
   | inr (fails, differ) ↦ (listed, sym (slice_get-set_other old thread at now (λ e. differ (sym e))) ∙ there, sym (append-nil listed) ∙ ap (λ (b : Bool). listed ++ (if b then place ∷ [] else [])) (sym fails))
 ]
 

@@ -1,5 +1,5 @@
 -- What a diary keeps of the keys that were taken from rings.
-use Rattle.std.proofs.Common.{◌≡◌, ◌∙◌, ◌++◌, ◌<◌, ℕ, Bool, true, false, List, [], ◌∷◌, ap, append-nil, arith, length, refl, sym, suc, ◌+◌}
+use Rattle.std.proofs.Common.{◌≡◌, ◌∙◌, ◌++◌, ℕ, Bool, true, false, List, [], ◌∷◌, ap, append-nil, arith, length, refl, sym, suc, ◌+◌}
 use Rattle.std.specs.List.{All, AllByRecursion}
 use Rattle.std.proofs.lemmas.List.{length-map}
 use Rattle.span.specs.declared.receipt.Receipt.{Receipt}

@@ -204,13 +204,7 @@ impl<'a, G: Gate> Caller<'a, G> {
     }
 
     // Puts `count` values in order, from `value` up.
-    fn fill<R: Wait>(
-        &mut self,
-        rt: &R,
-        number: usize,
-        count: u32,
-        value: u128,
-    ) -> Result<(), Halt>
+    fn fill<R: Wait>(&mut self, rt: &R, number: usize, count: u32, value: u128) -> Result<(), Halt>
         requires { value + count ≤ 2 ^ 128 }
         ensures told { OnOk result (Tells self.old.seat.worker number
             (map (λ i. Puts (value + i)) (range_with_len 0 count))

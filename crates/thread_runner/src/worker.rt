@@ -40,8 +40,7 @@ pub(crate) struct Worker<'a, G: Gate, J: Reading> {
     done: usize,
     of: PhantomData<J>,
     ghost reads: { text.now.trace.now.lines.items ≡ J.lines } by { Prim.hlevel props },
-    ghost tracks: { Tracks J.lines J.shown caller.seat.worker done caller.diary }
-        by { Prim.hlevel props },
+    ghost tracks: { Tracks J.lines J.shown caller.seat.worker done caller.diary } by { Prim.hlevel props },
 }
 
 /// A worker at a barrier that has handed over the keys that its lines left to the threads of shards: none waits at its seat.
@@ -173,7 +172,10 @@ impl<'a, G: Gate, J: Reading> Worker<'a, G, J> {
         ensures { IfOk result (λ parts. IsDiaryOf J.lines J.shown self.entry.caller.seat.worker parts.1) }
     {
         let Worker {
-            text, caller, done, ..
+            text,
+            caller,
+            done,
+            ..
         } = self;
         if !text.layout.has_no_line_after(caller.thread(), done) {
             return Err(Halt::Doubled);

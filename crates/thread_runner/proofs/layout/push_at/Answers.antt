@@ -1,6 +1,5 @@
 use Rattle.std.proofs.Common.{map, vec_items}
 use Rattle.std.proofs.lemmas.List.{length-map, map-set}
-use Rattle.thread_runner.specs.Laid.{AddsAt}
 use Rattle.thread_runner.proofs.Places.{AddsAt-none, AddsAt-set, slice_get-items}
 use Rattle.thread_runner.proofs.layout.push_at.Goals as goal
 

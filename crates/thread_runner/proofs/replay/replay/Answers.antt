@@ -8,7 +8,7 @@ pub audited-requires-clause-voices : goal.audited-requires-clause-voices
 audited-requires-clause-voices g c κs within =
     let diaries = c.in_ok-seats.field-0.told.diaries.items in
     let are = subst (λ ls. AreDiaries ls c.args.shown c.args.trace.now.header.shards diaries) (sym c.requires.lines)
-        (subst (λ b. AreDiaries g.J.Reading.lines b c.args.trace.now.header.shards diaries) (sym c.requires.shown) c.in_ok-seats.ensures) in
+    (subst (λ b. AreDiaries g.J.Reading.lines b c.args.trace.now.header.shards diaries) (sym c.requires.shown) c.in_ok-seats.ensures) in
     AreVoices-diaries c.args.trace.now c.args.shown diaries are
 
 pub audited-requires-clause-calls : goal.audited-requires-clause-calls

@@ -1,4 +1,4 @@
-use Rattle.std.proofs.Common.{◌+◌, ◌∙◌, ◌∷◌, [], List, ap, map, subst, sym, ℕ, zero-add}
+use Rattle.std.proofs.Common.{◌+◌, ◌∙◌, ◌∷◌, [], List, map, subst, sym, ℕ, zero-add}
 use Rattle.std.specs.List.{range_with_len}
 use Rattle.std.proofs.lemmas.List.FromFn.{map-range_with_len_more}
 use Rattle.thread_runner.specs.Asked.{Asked, Puts}

@@ -1,7 +1,6 @@
 use Rattle.std.proofs.Common.{◌≡◌, Some, arith, slice_get, take}
 use Rattle.std.proofs.lemmas.Option.{slice_get_read}
 use Rattle.trace_text.proofs.Clips.{all_fine}
-use Rattle.trace_text.specs.declared.line.Call.{Call}
 use Rattle.thread_runner.proofs.caller.Caller.line.Goals as goal
 
 pub call-requires : goal.call-requires

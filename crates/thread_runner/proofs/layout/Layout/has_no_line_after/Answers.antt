@@ -1,6 +1,5 @@
-use Rattle.std.proofs.Common.{◌≡◌, ◌∙◌, ◌<◌, ◌≤◌, ap, arith, length, rules, sym}
+use Rattle.std.proofs.Common.{◌≤◌, ap, arith, length, rules, sym}
 use Rattle.std.proofs.lemmas.Bool.{ltb-true}
-use Rattle.thread_runner.specs.Asked.{places_of}
 use Rattle.thread_runner.proofs.Places.{slice_get-items}
 use Rattle.thread_runner.proofs.layout.Layout.has_no_line_after.Goals as goal
 

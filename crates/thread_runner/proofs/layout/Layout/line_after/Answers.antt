@@ -1,7 +1,6 @@
-use Rattle.std.proofs.Common.{◌≡◌, ◌∙◌, ap, refl, slice_get, sym}
+use Rattle.std.proofs.Common.{◌∙◌, ap, refl, slice_get, sym}
 use Rattle.std.proofs.lemmas.Bool.{ltb-true}
 use Rattle.std.proofs.lemmas.Option.{slice_get_read}
-use Rattle.thread_runner.specs.Asked.{places_of}
 use Rattle.thread_runner.proofs.Places.{slice_get-items}
 use Rattle.thread_runner.proofs.layout.Layout.line_after.Goals as goal
 
