@@ -19,10 +19,10 @@ abbrev pub status_of_verdict : Bool → ℕ
 status_of_verdict true = 0
 status_of_verdict false = 1
 
--- a replay of the text has written its report, whole: a serial one with this certificate, or one by threads
+-- a replay of the text, a serial one or one by threads, has written its report, whole, with this certificate
 abbrev pub WritesRun : (serial : Bool) → (text : List ℕ) → (replies : Bool) → (old new : Option (List ℕ)) → (certificate : List ℕ) → Type 0
 WritesRun true text replies old new certificate = WritesReport text replies old new certificate
-WritesRun false text replies old new certificate = WritesThreadedReport text replies old new
+WritesRun false text replies old new certificate = WritesThreadedReport text replies old new certificate
 
 -- a replay of the text has written a prefix of its report
 abbrev pub WritesRunFront : (serial : Bool) → (text : List ℕ) → (replies : Bool) → (old new : Option (List ℕ)) → Type 0
@@ -36,7 +36,7 @@ HaltsReplay serial text replies failures_old failures_new old new fault.SinkFail
 HaltsReplay serial text replies failures_old failures_new old new (fault.BadTrace line cause) = IsFaultAt text line cause × (failures_new ≡ failures_old) × (new ≡ old)
 HaltsReplay serial text replies failures_old failures_new old new fault.OutOfMemory = (failures_new ≡ failures_old) × (new ≡ old)
 HaltsReplay serial text replies failures_old failures_new old new fault.Doubled = (serial ≡ false) × (failures_new ≡ failures_old) × (new ≡ old)
-HaltsReplay serial text replies failures_old failures_new old new (fault.Audit cause) = (serial ≡ false) × FailsAudit cause × (failures_new ≡ failures_old) × (new ≡ old)
+HaltsReplay serial text replies failures_old failures_new old new (fault.Audit cause) = (serial ≡ false) × FailsAudit text replies cause × (failures_new ≡ failures_old) × (new ≡ old)
 HaltsReplay serial text replies failures_old failures_new old new _ = ⊥
 
 module _ {D : Type 0} (held : D → List ℕ → Option (List ℕ)) where
@@ -91,7 +91,7 @@ module _ {D : Type 0} (held : D → List ℕ → Option (List ℕ)) (failures : 
   HaltsRun serial replies certificate failures_old failures_new old new before after (fault.BadTrace line cause) = ((text : List ℕ) × IsFaultAt text line cause) × IsUntouched failures_old failures_new old new before after
   HaltsRun serial replies certificate failures_old failures_new old new before after fault.OutOfMemory = IsUntouched failures_old failures_new old new before after
   HaltsRun serial replies certificate failures_old failures_new old new before after fault.Doubled = (serial ≡ false) × IsUntouched failures_old failures_new old new before after
-  HaltsRun serial replies certificate failures_old failures_new old new before after (fault.Audit cause) = (serial ≡ false) × FailsAudit cause × IsUntouched failures_old failures_new old new before after
+  HaltsRun serial replies certificate failures_old failures_new old new before after (fault.Audit cause) = (serial ≡ false) × ((text : List ℕ) × FailsAudit text replies cause) × IsUntouched failures_old failures_new old new before after
   HaltsRun serial replies certificate failures_old failures_new old new before after _ = ⊥
 
   -- where the job came to a halt; a check writes no file

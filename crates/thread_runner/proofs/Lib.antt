@@ -1,2 +1,7 @@
 mod Voices
 mod Noting
+mod Places
+mod Growing
+mod Taking
+mod Following
+mod Counting

@@ -1,5 +1,9 @@
 pub mod Errors
 pub mod Told
+pub mod Asked
+pub mod Followed
+pub mod Grown
+pub mod Laid
 pub mod Report
 pub mod Marked
 pub mod Noted

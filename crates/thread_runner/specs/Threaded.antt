@@ -17,6 +17,8 @@ use Rattle.trace_runner.specs.declared.report.LineAnswer.{LineAnswer}
 use Rattle.trace_text.specs.Trace.{IsFaultAt, IsTrace}
 use Rattle.trace_text.specs.declared.trace.Trace.{Trace}
 use Rattle.trace_runner.specs.Report.{end_line}
+use Rattle.thread_runner.specs.Asked.{replies_in}
+use Rattle.thread_runner.specs.Followed.{AreVoices}
 use Rattle.thread_runner.specs.Marked.{AreNotesOf}
 use Rattle.thread_runner.specs.Report.{body_text, threaded_text}
 use Rattle.thread_runner.specs.Told.{Voice, other_line, voice_lines}
@@ -43,9 +45,10 @@ pub record AreByLine (told replies : List LineAnswer) : Type 0 where
 abbrev pub AreReplies : List Voice → List OtherLine → List LineAnswer → Type 0
 AreReplies voices adoptions replies = AreByLine (told_replies voices adoptions) replies
 
--- the bytes are the report of a run of the trace whose receipts agree with the logs of its spans, so that its calls on each span have one history;
--- where replies are shown, that of each call on a key is what its receipt says. It tells of each mark of the trace, and of all steps of its plan; the
--- certificate is that of the last mark that planned, or nothing; and the keys that it counts as live are those that the logs leave
+-- the bytes are the report of a run of the trace: each thread was told what came of its own lines, in order, and its receipts are those of that; they
+-- agree with the logs of the spans, so that the calls on each span have one history. Where replies are shown, that of each call on a key is what its
+-- receipt says; and all replies of threads are counted. It tells of each mark of the trace, and of all steps of its plan; the certificate is that of the
+-- last mark that planned, or nothing; and the keys that it counts as live are those that the logs leave
 pub record IsThreadedReport (trace : Trace) (shown : Bool) (bytes certificate : List ℕ) : Type 0 where
   pub logs : List SpanLog
   pub voices : List Voice
@@ -53,6 +56,8 @@ pub record IsThreadedReport (trace : Trace) (shown : Bool) (bytes certificate : 
   pub replies : List LineAnswer
   pub notes : List Note
   pub ending : Ending
+  pub of_lines : AreVoices trace shown voices
+  pub counted : ending.calls ≡ replies_in trace.lines.items
   pub of_marks : AreNotesOf trace.lines.items notes certificate
   pub live : ending.live ≡ live_count (map span_of_log logs)
   pub agreed : Agreement logs (map (λ voice. voice.receipts) voices)
@@ -75,9 +80,13 @@ abbrev pub TellsAll : Bool → List Voice → List OtherLine → List Note → E
 TellsAll shown voices adoptions notes ending text =
     (replies : List LineAnswer) × (shown ≡ true → AreReplies voices adoptions replies) × (text ≡ body_text shown replies notes ++ end_line ending)
 
--- receipts of a run do not agree with its logs, first in this part
-abbrev pub FailsAudit : AuditCause → Type 0
-FailsAudit cause = (logs : List SpanLog) × (voices : List Voice) × FailsFirst logs (map (λ voice. voice.receipts) voices) cause
+-- a run of the trace by threads, each of which was told what came of its own lines, left receipts and logs that do not agree, first in this part
+abbrev pub FailsRun : Trace → Bool → AuditCause → Type 0
+FailsRun trace shown cause = (logs : List SpanLog) × (voices : List Voice) × AreVoices trace shown voices × FailsFirst logs (map (λ voice. voice.receipts) voices) cause
+
+-- the text is a trace, and a run of it so
+abbrev pub FailsAudit : List ℕ → Bool → AuditCause → Type 0
+FailsAudit text shown cause = (trace : Trace) × IsTrace text trace × FailsRun trace shown cause
 
 -- the audit did not say that receipts agree with logs: memory ran out, or they do not, first in this part
 abbrev pub IsAuditStop : List SpanLog → List (List Receipt) → ThreadsError → Type 0
@@ -85,12 +94,12 @@ IsAuditStop logs lists OutOfMemory = Unit {0}
 IsAuditStop logs lists (AuditFault cause) = FailsFirst logs lists cause
 IsAuditStop logs lists _ = ⊥
 
--- no report came of a run: memory ran out, a shard or the pool was not as the run had left it, or the audit failed
-abbrev pub IsRunStop : ThreadsError → Type 0
-IsRunStop OutOfMemory = Unit {0}
-IsRunStop Doubled = Unit {0}
-IsRunStop (AuditFault cause) = FailsAudit cause
-IsRunStop _ = ⊥
+-- no report came of a run of the trace: memory ran out, a shard or the pool was not as the run had left it, or the audit failed
+abbrev pub IsRunStop : Trace → Bool → ThreadsError → Type 0
+IsRunStop trace shown OutOfMemory = Unit {0}
+IsRunStop trace shown Doubled = Unit {0}
+IsRunStop trace shown (AuditFault cause) = FailsRun trace shown cause
+IsRunStop trace shown _ = ⊥
 
 -- the text is at no fault
 abbrev pub IsNoFault : ThreadsError → Type 0
@@ -103,5 +112,5 @@ abbrev pub StopsThreads : List ℕ → Bool → (failures_old failures_new : ℕ
 StopsThreads text shown failures_old failures_new old new OutOfMemory = (failures_new ≡ failures_old) × (new ≡ old)
 StopsThreads text shown failures_old failures_new old new (BadTrace line cause) = IsFaultAt text line cause × (failures_new ≡ failures_old) × (new ≡ old)
 StopsThreads text shown failures_old failures_new old new Doubled = (failures_new ≡ failures_old) × (new ≡ old)
-StopsThreads text shown failures_old failures_new old new (AuditFault cause) = FailsAudit cause × (failures_new ≡ failures_old) × (new ≡ old)
+StopsThreads text shown failures_old failures_new old new (AuditFault cause) = FailsAudit text shown cause × (failures_new ≡ failures_old) × (new ≡ old)
 StopsThreads text shown failures_old failures_new old new SinkFailed = (failures_new ≡ failures_old + 1) × WritesThreadedFront text shown old new

@@ -1,7 +1,9 @@
 // What a thread was told.
-ghost use Rattle.std.specs.Prelude.{◌≡◌, ◌++◌, IfOk, OnOk, drop, map, take};
+ghost use Rattle.std.specs.Prelude.{◌≡◌, ◌++◌, ◌∷◌, [], IfOk, OnOk, drop, map, take};
 ghost use Rattle.std.specs.List.{flat_map};
 ghost use Rattle.arena.specs.Delays.{HasNoneWaiting};
+ghost use Rattle.thread_runner.specs.Grown.{Grows, IsEmptyDiary, TakesIn};
+ghost use Rattle.thread_runner.specs.declared.diary.Entry.TheVariants as entry;
 ghost use Rattle.thread_runner.specs.Told.{answer_of, call_line, diary_lines, entry_lines, is_free, lineless, other_line, receipts_after, told_lines};
 
 use arena::{Arena, Gate, Seat};
@@ -66,7 +68,9 @@ pub(crate) struct Diary {
 
 impl Diary {
     /// The diary of a thread that was told nothing yet.
-    pub(crate) fn new(alloc: Global, replies: bool) -> Diary {
+    pub(crate) fn new(alloc: Global, replies: bool) -> Diary
+        ensures { IsEmptyDiary replies result }
+    {
         Diary {
             replies,
             receipts: Vec::new(alloc),
@@ -76,7 +80,9 @@ impl Diary {
     }
 
     /// Makes room for what that many calls are told.
-    pub(crate) fn reserve(&mut self, calls: usize) -> Result<(), AllocError> {
+    pub(crate) fn reserve(&mut self, calls: usize) -> Result<(), AllocError>
+        ensures { OnOk result (Grows [] [] 0 self.old self.new) }
+    {
         if self.replies {
             self.entries.reserve(calls)?;
         }
@@ -84,26 +90,40 @@ impl Diary {
     }
 
     // Keeps an entry, where the report has replies.
-    fn note(&mut self, entry: Entry) -> Result<(), AllocError> {
+    fn note(&mut self, entry: Entry) -> Result<(), AllocError>
+        ensures { OnOk result (Grows (entry ∷ []) [] 0 self.old self.new) }
+    {
         if self.replies {
             self.entries.push(entry)?;
         }
         Ok(())
     }
 
+    // Counts a reply. More than a number counts find no memory.
+    fn count(&mut self) -> Result<(), AllocError>
+        ensures { OnOk result (Grows [] [] 1 self.old self.new) }
+    {
+        self.calls = self.calls.checked_add(1).ok_or(AllocError)?;
+        Ok(())
+    }
+
     /// Keeps the receipt of a call on the line of that number.
-    pub(crate) fn keep(&mut self, line: usize, receipt: Receipt) -> Result<(), AllocError> {
+    pub(crate) fn keep(&mut self, line: usize, receipt: Receipt) -> Result<(), AllocError>
+        ensures { OnOk result (Grows (entry.Called line ∷ []) (receipt ∷ []) 1 self.old self.new) }
+    {
+        self.count()?;
         self.note(Entry::Called(line))?;
         self.receipts.push(receipt)?;
-        self.calls = self.calls.saturating_add(1);
         Ok(())
     }
 
     /// Keeps what the line of that number came to other than by a call on a key.
-    pub(crate) fn keep_other(&mut self, line: usize, other: Other) -> Result<(), AllocError> {
-        self.note(Entry::Said(OtherLine { line, other }))?;
-        self.calls = self.calls.saturating_add(1);
-        Ok(())
+    pub(crate) fn keep_other(&mut self, line: usize, other: Other) -> Result<(), AllocError>
+        ensures { OnOk result (Grows (entry.Said (record { line = line; other = other }) ∷ []) [] 1
+            self.old self.new) }
+    {
+        self.count()?;
+        self.note(Entry::Said(OtherLine { line, other }))
     }
 
     /// Frees the keys that have come in on the rings to the seat's shard, keeps their receipts, and says how many there were.
@@ -114,6 +134,8 @@ impl Diary {
         arena: &Arena<G>,
     ) -> Result<usize, AllocError>
         requires { seat.old.limits ≡ arena.now.limits }
+        ensures told { IfOk result (λ count. TakesIn seat.old.worker count self.old self.new) }
+        ensures worker { seat.new.worker ≡ seat.old.worker }
         ensures limits { seat.new.limits ≡ seat.old.limits }
         ensures none { HasNoneWaiting seat.new }
     {

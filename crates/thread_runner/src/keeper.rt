@@ -80,7 +80,7 @@ fn take_steps<R: Wait, G: Gate>(
 }
 
 impl<'a, G: Gate> Keeper<'a, G> {
-    /// The keeper of this steward, or `None` where the steward is that of an arena of other numbers, or has an open plan.
+    /// The keeper of this steward, who has no open plan, or `None` where the steward is that of an arena of other numbers.
     pub(crate) fn new(alloc: Global, arena: &'a Arena<G>, steward: Steward) -> Option<Keeper<'a, G>>
         requires { steward.plan ≡ None }
         ensures { (lines : List Line) → IfSome result (λ keeper. HaveCome lines 0

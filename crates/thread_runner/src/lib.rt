@@ -31,6 +31,7 @@
 #![tactic(auto)]
 
 mod body;
+mod caller;
 mod diary;
 mod error;
 mod keeper;

@@ -1,5 +1,6 @@
 // Replays a trace by threads, and holds what its calls were told against the logs.
 ghost use Rattle.std.specs.Prelude.{◌≡◌, ◌<◌, ◌-◌, ◌^◌, IfOk, IfErr, List, OnErr, OnOk, map, vec_items};
+ghost use Rattle.std.specs.List.{sum_by};
 ghost use Rattle.span.specs.SpanLogs.{span_of_log};
 ghost use Rattle.groups.specs.Spans.{live_count};
 ghost use Rattle.audit.specs.Agreement.{Agreement};
@@ -7,6 +8,8 @@ ghost use Rattle.audit.specs.History.{HaveHistories};
 ghost use Rattle.trace_text.specs.Trace.{Spells};
 ghost use Rattle.trace_text.specs.declared.header.Header.{Header};
 ghost use Rattle.trace_text.specs.declared.line.Line.{Line};
+ghost use Rattle.thread_runner.specs.Asked.{replies_in};
+ghost use Rattle.thread_runner.specs.Followed.{AreVoices};
 ghost use Rattle.thread_runner.specs.Marked.{AreNotesOf};
 ghost use Rattle.thread_runner.specs.Threaded.{IsAuditStop, IsNoFault, IsRunStop, IsThreadedReport, StopsThreads, TellsAll, WritesThreadedReport};
 ghost use Rattle.thread_runner.specs.Told.{voice_of};
@@ -14,14 +17,15 @@ ghost use Rattle.thread_runner.specs.Told.{voice_of};
 use crate::body::{push_body, replies_of};
 use crate::diary::Diary;
 use crate::error::ThreadsError;
-use crate::layout::Layout;
+use crate::layout::{Layout, Text};
 use crate::live::live_in;
 use crate::section::{Ran, Told, run_sections};
-use crate::worker::Text;
+use crate::worker::Reading;
 use arena::{Arena, Gate, NoGate, finish_unsettled};
 use audit::{AuditError, audit_by_threads};
 use span::{Receipt, SpanLog};
 use std::alloc::{AllocError, Global};
+use std::marker::Brand;
 use std::sync::Wait;
 use std::thread::Threads;
 use trace_runner::{Ending, Sink, Trace, give, parse, push_ending};
@@ -35,13 +39,15 @@ struct Replayed {
     certificate: Vec<u8>,
 }
 
-// How many replies the threads had.
-fn calls_of(diaries: &[Diary]) -> usize {
+// How many replies the threads had. More than a number counts find no memory.
+fn calls_of(diaries: &[Diary]) -> Result<usize, AllocError>
+    ensures { IfOk result (λ calls. calls ≡ sum_by (λ diary. diary.calls) diaries.now) }
+{
     let mut calls = 0usize;
     for diary in diaries {
-        calls = calls.saturating_add(diary.calls());
+        calls = calls.checked_add(diary.calls()).ok_or(AllocError)?;
     }
-    calls
+    Ok(calls)
 }
 
 // The receipts of each thread.
@@ -111,11 +117,13 @@ fn audited<R: Threads + Sync>(
     shown: bool,
     ending: &Ending,
 ) -> Result<Replayed, ThreadsError>
-    requires live { ending.now.live ≡ live_count (map span_of_log logs.now) }
+    requires voices { AreVoices trace.now shown (map voice_of told.diaries.items) }
+    requires calls { ending.now.calls ≡ replies_in trace.now.lines.items }
     requires notes { AreNotesOf trace.now.lines.items told.notes.items told.certificate.items }
+    requires live { ending.now.live ≡ live_count (map span_of_log logs.now) }
     ensures ok { IfOk result (λ replayed. IsThreadedReport trace.now shown
         replayed.report.items replayed.certificate.items) }
-    ensures err { IfErr result IsRunStop }
+    ensures err { IfErr result (IsRunStop trace.now shown) }
 {
     let mut report = report_of(alloc, &told, shown, ending)?;
     let receipts = receipts_of(alloc, told.diaries)?;
@@ -128,16 +136,18 @@ fn audited<R: Threads + Sync>(
 }
 
 // The report of a run of the trace by threads, and its last certificate.
-fn replay<R: Threads + Wait + Sync, G: Gate + Sync>(
+fn replay<R: Threads + Wait + Sync, G: Gate + Sync, J: Reading>(
     rt: &R,
     alloc: Global,
     gate: G,
     trace: &Trace,
     shown: bool,
 ) -> Result<Replayed, ThreadsError>
+    requires lines { trace.now.lines.items ≡ J.lines }
+    requires shown { shown ≡ J.shown }
     ensures ok { IfOk result (λ replayed. IsThreadedReport trace.now shown
         replayed.report.items replayed.certificate.items) }
-    ensures err { IfErr result IsRunStop }
+    ensures err { IfErr result (IsRunStop trace.now shown) }
 {
     let header = &trace.header;
     let (pages, ring) = (header.pages as usize, header.ring as usize);
@@ -151,7 +161,7 @@ fn replay<R: Threads + Wait + Sync, G: Gate + Sync>(
         layout: Layout::of(alloc, trace)?,
         replies: shown,
     };
-    let Ran { seats, told } = run_sections(rt, alloc, &text, &arena, seats, steward)?;
+    let Ran { seats, told } = run_sections::<R, G, J>(rt, alloc, &text, &arena, seats, steward)?;
     let pages = arena.totals(rt).pages;
     let Ok(finished) = finish_unsettled(arena, seats) else {
         return Err(ThreadsError::OutOfMemory);
@@ -160,7 +170,7 @@ fn replay<R: Threads + Wait + Sync, G: Gate + Sync>(
     let ending = Ending {
         pages,
         live: live_in(logs)?,
-        calls: calls_of(told.diaries.as_slice()),
+        calls: calls_of(told.diaries.as_slice())?,
     };
     audited(rt, alloc, trace, told, logs, shown, &ending)
 }
@@ -222,7 +232,7 @@ pub fn replay_gated<R: Threads + Wait + Sync, G: Gate + Sync, S: Sink>(
     ensures err_certificate { OnErr result (cert.new ≡ cert.old) }
 {
     let trace = parse(alloc, text)?;
-    let replayed = replay(rt, alloc, gate, &trace, replies)?;
+    let replayed = replay::<R, G, Brand>(rt, alloc, gate, &trace, replies)?;
     match give(out, replayed.report.as_slice()) {
         Ok(()) => {
             *cert = replayed.certificate;

@@ -2,14 +2,17 @@
 ghost use Rattle.std.specs.Prelude.{◌≡◌, ◌+◌, ◌<◌, ◌≤◌, ◌^◌, ℕ, IfOk, List, None, length, true};
 ghost use Rattle.trace_text.specs.declared.line.Line.{Line};
 ghost use Rattle.trace_runner.specs.Barrier.{is_barrier};
+ghost use Rattle.thread_runner.specs.Grown.{AreDiaries};
 ghost use Rattle.thread_runner.specs.Marked.{AreNotesOf, barrier_from, is_mark, is_mark_at, marks_above};
 ghost use Rattle.thread_runner.specs.Noted.{HaveCome, plan_pairs};
 
 use crate::body::Note;
+use crate::caller::Keys;
 use crate::diary::{Diary, OtherLine};
 use crate::error::Halt;
 use crate::keeper::Keeper;
-use crate::worker::{Keys, SentOff, Text, Worker};
+use crate::layout::Text;
+use crate::worker::{Reading, SentOff, Worker};
 use arena::{Arena, Gate, Seat, Steward};
 use std::alloc::{AllocError, Global};
 use std::sync::Wait;
@@ -41,21 +44,24 @@ pub(crate) struct Told {
 
 // A run between two sections.
 #[derive(Drop)]
-struct Crew<'a, G: Gate> {
+struct Crew<'a, G: Gate, J: Reading> {
     alloc: Global,
     text: &'a Text<'a>,
-    workers: Vec<Worker<'a, G>>,
+    workers: Vec<Worker<'a, G, J>>,
     keys: Keys,
     adoptions: Vec<OtherLine>,
 }
 
 // A worker for each seat.
-fn workers_of<'a, G: Gate>(
+fn workers_of<'a, G: Gate, J: Reading>(
     alloc: Global,
     arena: &'a Arena<G>,
     text: &'a Text<'a>,
     seats: Vec<Seat>,
-) -> Result<Vec<Worker<'a, G>>, AllocError> {
+) -> Result<Vec<Worker<'a, G, J>>, AllocError>
+    requires lines { text.now.trace.now.lines.items ≡ J.lines }
+    requires shown { text.now.replies ≡ J.shown }
+{
     let mut workers = Vec::with_capacity(alloc, seats.len())?;
     for seat in seats {
         if let Some(worker) = Worker::new(alloc, arena, text, seat) {
@@ -75,35 +81,33 @@ fn no_keys(alloc: Global, threads: usize) -> Result<Keys, AllocError> {
 }
 
 // A section's lines of one worker.
-fn work_one<'a, R: Wait, G: Gate>(
+fn run_one<'a, R: Wait, G: Gate, J: Reading>(
     rt: &R,
-    worker: Worker<'a, G>,
+    worker: Worker<'a, G, J>,
     keys: &Keys,
     end: usize,
-) -> Result<Worker<'a, G>, Halt> {
-    let mut worker = worker;
-    worker.run(rt, keys, end)?;
-    Ok(worker)
+) -> Result<Worker<'a, G, J>, Halt> {
+    worker.run(rt, keys, end)
 }
 
 // A section's lines, each worker's on a thread of its own.
-fn work<'a, R: Threads + Wait + Sync, G: Gate + Sync>(
+fn work<'a, R: Threads + Wait + Sync, G: Gate + Sync, J: Reading>(
     rt: &R,
-    workers: Vec<Worker<'a, G>>,
+    workers: Vec<Worker<'a, G, J>>,
     keys: &Keys,
     end: usize,
-) -> Result<Vec<Result<Worker<'a, G>, Halt>>, AllocError> {
-    thread::map_vec(rt, workers, &|worker| work_one(rt, worker, keys, end))
+) -> Result<Vec<Result<Worker<'a, G, J>, Halt>>, AllocError> {
+    thread::map_vec(rt, workers, &|worker| run_one(rt, worker, keys, end))
 }
 
 // A section's lines, with the steps of the open plan beside them.
-fn work_beside<'a, R: Threads + Wait + Sync, G: Gate + Sync>(
+fn work_beside<'a, R: Threads + Wait + Sync, G: Gate + Sync, J: Reading>(
     rt: &R,
-    workers: Vec<Worker<'a, G>>,
+    workers: Vec<Worker<'a, G, J>>,
     keeper: Keeper<'a, G>,
     keys: &Keys,
     end: usize,
-) -> Result<(Vec<Result<Worker<'a, G>, Halt>>, Keeper<'a, G>), AllocError>
+) -> Result<(Vec<Result<Worker<'a, G, J>, Halt>>, Keeper<'a, G>), AllocError>
     ensures pairs { IfOk result (λ both. plan_pairs both.1.steward.plan
         ≡ plan_pairs keeper.entry.steward.plan) }
     ensures minutes { IfOk result (λ both. both.1.minutes ≡ keeper.entry.minutes) }
@@ -127,7 +131,9 @@ fn text_lines<'a>(text: &'a Text<'a>) -> &'a [Line]
 }
 
 // How many threads the trace has.
-fn threads_of(text: &Text<'_>) -> u32 {
+fn threads_of(text: &Text<'_>) -> u32
+    ensures { result ≡ text.now.trace.now.header.shards }
+{
     text.trace.header.shards
 }
 
@@ -160,10 +166,10 @@ fn barrier_of(lines: &[Line], from: usize) -> usize
 }
 
 // All workers hand over what their lines left to the threads of shards.
-fn send_off_all<'a, G: Gate>(
+fn send_off_all<'a, G: Gate, J: Reading>(
     alloc: Global,
-    workers: Vec<Worker<'a, G>>,
-) -> Result<Vec<SentOff<'a, G>>, AllocError> {
+    workers: Vec<Worker<'a, G, J>>,
+) -> Result<Vec<SentOff<'a, G, J>>, AllocError> {
     let mut sent = Vec::with_capacity(alloc, workers.len())?;
     for worker in workers {
         sent.push(worker.sent_off())?;
@@ -171,32 +177,71 @@ fn send_off_all<'a, G: Gate>(
     Ok(sent)
 }
 
-// Frees the keys that are on the rings to the shard of that thread.
-fn settle_thread<'a, G: Gate, R: Wait>(
+// Frees the keys that are on the rings to the shards of the workers, one after another. They then go on with their lines.
+fn all_settled<'a, G: Gate, J: Reading, R: Wait>(
     rt: &R,
-    sent: &mut Vec<SentOff<'a, G>>,
-    thread: u32,
-) -> Result<(), AllocError> {
-    for one in sent.iter_mut() {
-        one.settle_as(rt, thread)?;
-    }
-    Ok(())
-}
-
-// The workers, to go on with their lines.
-fn workers_again<'a, G: Gate>(
     alloc: Global,
-    sent: Vec<SentOff<'a, G>>,
-) -> Result<Vec<Worker<'a, G>>, AllocError> {
+    sent: Vec<SentOff<'a, G, J>>,
+) -> Result<Vec<Worker<'a, G, J>>, AllocError> {
     let mut workers = Vec::with_capacity(alloc, sent.len())?;
     for one in sent {
-        workers.push(one.into_worker())?;
+        workers.push(one.settled(rt)?)?;
     }
     Ok(workers)
 }
 
-impl<'a, G: Gate + Sync> Crew<'a, G> {
-    // Runs the lines of the section that ends above that place, with the steps of the open plan beside them.
+// The worker of that thread, taken out of these.
+fn take_worker<'a, G: Gate, J: Reading>(
+    workers: &mut Vec<Worker<'a, G, J>>,
+    thread: u32,
+) -> Result<Worker<'a, G, J>, Halt>
+    ensures { IfOk result (λ worker. worker.caller.seat.worker ≡ thread) }
+{
+    for place in 0..workers.len() {
+        if workers[place].thread() == thread {
+            return Ok(workers.swap_remove(place));
+        }
+    }
+    Err(Halt::Doubled)
+}
+
+// One worker for each of that many threads, in order.
+fn in_order<'a, G: Gate, J: Reading>(
+    alloc: Global,
+    workers: Vec<Worker<'a, G, J>>,
+    threads: u32,
+) -> Result<Vec<Worker<'a, G, J>>, Halt> {
+    let mut workers = workers;
+    let mut ordered = Vec::with_capacity(alloc, workers.len())?;
+    for thread in 0..threads {
+        ordered.push(take_worker(&mut workers, thread)?)?;
+    }
+    Ok(ordered)
+}
+
+// What the workers of that many threads leave, in order, where each has run all its lines.
+fn seats_and_diaries<'a, G: Gate, J: Reading>(
+    alloc: Global,
+    workers: Vec<Worker<'a, G, J>>,
+    threads: u32,
+) -> Result<(Vec<Seat>, Vec<Diary>), Halt>
+    ensures { IfOk result (λ parts. AreDiaries J.lines J.shown threads parts.1.items) }
+{
+    let mut workers = workers;
+    let mut seats = Vec::with_capacity(alloc, workers.len())?;
+    let mut diaries = Vec::with_capacity(alloc, workers.len())?;
+    for thread in 0..threads {
+        let worker = take_worker(&mut workers, thread)?;
+        let (seat, diary) = worker.taken_apart()?;
+        seats.push(seat)?;
+        diaries.push(diary)?;
+    }
+    Ok((seats, diaries))
+}
+
+impl<'a, G: Gate + Sync, J: Reading> Crew<'a, G, J> {
+    // Runs the lines of the section that ends above that place, with the steps of the open plan beside them. The workers are
+    // then in order.
     fn run<R: Threads + Wait + Sync>(
         self,
         rt: &R,
@@ -230,7 +275,7 @@ impl<'a, G: Gate + Sync> Crew<'a, G> {
         let crew = Crew {
             alloc,
             text,
-            workers: all,
+            workers: in_order(alloc, all, threads_of(text))?,
             keys,
             adoptions,
         };
@@ -247,12 +292,8 @@ impl<'a, G: Gate + Sync> Crew<'a, G> {
 
     // Abandons the shards of the threads that ended in the section, ascending.
     fn abandon<R: Wait>(&mut self, rt: &R) -> Result<(), Halt> {
-        for thread in 0..self.text.trace.header.shards {
-            for worker in self.workers.iter_mut() {
-                if worker.thread() == thread {
-                    worker.leave(rt)?;
-                }
-            }
+        for worker in self.workers.iter_mut() {
+            worker.leave(rt)?;
         }
         Ok(())
     }
@@ -261,11 +302,8 @@ impl<'a, G: Gate + Sync> Crew<'a, G> {
     // no key is left behind at a seat.
     fn settle_rings<R: Wait>(&mut self, rt: &R) -> Result<(), AllocError> {
         let workers = mem::replace(&mut self.workers, Vec::new(self.alloc));
-        let mut sent = send_off_all(self.alloc, workers)?;
-        for thread in 0..threads_of(self.text) {
-            settle_thread(rt, &mut sent, thread)?;
-        }
-        self.workers = workers_again(self.alloc, sent)?;
+        let sent = send_off_all(self.alloc, workers)?;
+        self.workers = all_settled(rt, self.alloc, sent)?;
         Ok(())
     }
 
@@ -363,8 +401,10 @@ impl<'a, G: Gate + Sync> Crew<'a, G> {
         Ok((crew, keeper))
     }
 
-    // What the run leaves.
-    fn taken_apart(self, keeper: Keeper<'a, G>) -> Result<Ran, AllocError>
+    // What the run of that many threads leaves.
+    fn taken_apart(self, keeper: Keeper<'a, G>, threads: u32) -> Result<Ran, Halt>
+        ensures diaries { IfOk result (λ ran. AreDiaries J.lines J.shown threads
+            ran.told.diaries.items) }
         ensures notes { IfOk result (λ ran. ran.told.notes ≡ keeper.entry.minutes.notes) }
         ensures certificate { IfOk result (λ ran. ran.told.certificate
             ≡ keeper.entry.minutes.certificate) }
@@ -375,13 +415,7 @@ impl<'a, G: Gate + Sync> Crew<'a, G> {
             adoptions,
             ..
         } = self;
-        let mut seats = Vec::with_capacity(alloc, workers.len())?;
-        let mut diaries = Vec::with_capacity(alloc, workers.len())?;
-        for worker in workers {
-            let (seat, diary) = worker.taken_apart();
-            seats.push(seat)?;
-            diaries.push(diary)?;
-        }
+        let (seats, diaries) = seats_and_diaries(alloc, workers, threads)?;
         let (notes, certificate) = keeper.into_notes();
         Ok(Ran {
             seats,
@@ -400,7 +434,7 @@ impl<'a, G: Gate + Sync> Crew<'a, G> {
 /// # Errors
 ///
 /// `OutOfMemory` where an allocation was refused, and `Doubled` where a shard or the pool was not as the run had left it.
-pub(crate) fn run_sections<'a, R: Threads + Wait + Sync, G: Gate + Sync>(
+pub(crate) fn run_sections<'a, R: Threads + Wait + Sync, G: Gate + Sync, J: Reading>(
     rt: &R,
     alloc: Global,
     text: &'a Text<'a>,
@@ -408,14 +442,18 @@ pub(crate) fn run_sections<'a, R: Threads + Wait + Sync, G: Gate + Sync>(
     seats: Vec<Seat>,
     steward: Steward,
 ) -> Result<Ran, Halt>
-    requires { steward.plan ≡ None }
-    ensures { IfOk result (λ ran. AreNotesOf text.now.trace.now.lines.items ran.told.notes.items
-        ran.told.certificate.items) }
+    requires lines { text.now.trace.now.lines.items ≡ J.lines }
+    requires shown { text.now.replies ≡ J.shown }
+    requires unplanned { steward.plan ≡ None }
+    ensures diaries { IfOk result (λ ran. AreDiaries J.lines J.shown
+        text.now.trace.now.header.shards ran.told.diaries.items) }
+    ensures notes { IfOk result (λ ran. AreNotesOf text.now.trace.now.lines.items
+        ran.told.notes.items ran.told.certificate.items) }
 {
     let Some(keeper) = Keeper::new(alloc, arena, steward) else {
         return Err(Halt::Doubled);
     };
-    let crew = Crew {
+    let crew: Crew<'a, G, J> = Crew {
         alloc,
         text,
         workers: workers_of(alloc, arena, text, seats)?,
@@ -423,5 +461,5 @@ pub(crate) fn run_sections<'a, R: Threads + Wait + Sync, G: Gate + Sync>(
         adoptions: Vec::new(alloc),
     };
     let (crew, keeper) = crew.sections(rt, keeper, text_lines(text))?;
-    Ok(crew.taken_apart(keeper)?)
+    crew.taken_apart(keeper, threads_of(text))
 }

@@ -1,0 +1,6 @@
+use Rattle.std.proofs.Common.{[], map, vec_items}
+use Rattle.thread_runner.specs.Laid.{AreLaid}
+use Rattle.thread_runner.proofs.layout.empty_lists.Given as goal
+
+abbrev pub invariant-loop : goal.invariant-loop
+invariant-loop l = AreLaid [] (map vec_items l.lists.items)

@@ -1,0 +1,8 @@
+use Rattle.std.proofs.Common.{◌≡◌, take}
+use Rattle.std.specs.List.{sum_by}
+use Rattle.thread_runner.specs.declared.diary.Diary.{Diary}
+use Rattle.thread_runner.proofs.replay.calls_of.Given as goal
+
+-- the replies so far
+abbrev pub invariant-loop-diary : goal.invariant-loop-diary
+invariant-loop-diary l = l.calls ≡ sum_by (λ (d : Diary). d.calls) (take l.diary-index l.diaries)

@@ -1,0 +1,13 @@
+-- Where each thread's lines stand. No public clause cites this module.
+use Rattle.std.specs.Prelude.{◌≡◌, ℕ, ◌==◌, List, [], ◌∷◌, ◌++◌, Some, slice_get, if◌then◌else◌}
+use Rattle.trace_text.specs.declared.line.Line.{Line}
+use Rattle.thread_runner.specs.Asked.{places_of}
+
+-- of each thread that has a list, it has the places of the thread's lines
+abbrev pub AreLaid : List Line → List (List ℕ) → Type 0
+AreLaid lines places = (thread : ℕ) (listed : List ℕ) → slice_get places thread ≡ Some listed → listed ≡ places_of thread lines
+
+-- the place was added to the thread's list, where it has one, and no other list changed
+abbrev pub AddsAt : (thread place : ℕ) → (old new : List (List ℕ)) → Type 0
+AddsAt thread place old new = (at : ℕ) (listed : List ℕ) → slice_get new at ≡ Some listed
+    → (before : List ℕ) × (slice_get old at ≡ Some before) × (listed ≡ before ++ (if thread == at then place ∷ [] else []))
