@@ -5,3 +5,4 @@ mod Growing
 mod Taking
 mod Following
 mod Counting
+mod Each

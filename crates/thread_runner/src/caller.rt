@@ -47,7 +47,8 @@ impl<'a, G: Gate> Caller<'a, G> {
         replies: bool,
         seat: Seat,
     ) -> Option<Caller<'a, G>>
-        ensures { IfSome result (λ caller. IsEmptyDiary replies caller.diary) }
+        ensures diary { IfSome result (λ caller. IsEmptyDiary replies caller.diary) }
+        ensures seat { IfSome result (λ caller. caller.seat ≡ seat) }
     {
         if !seat.fits(arena) {
             return None;
@@ -72,6 +73,7 @@ impl<'a, G: Gate> Caller<'a, G> {
     pub(crate) fn reserve(&mut self, calls: usize) -> Result<(), AllocError>
         ensures told { OnOk result (Grows [] [] 0 self.old.diary self.new.diary) }
         ensures thread { self.new.seat.worker ≡ self.old.seat.worker }
+        ensures table { self.new.seat.table ≡ self.old.seat.table }
     {
         self.diary.reserve(calls)
     }
@@ -90,6 +92,7 @@ impl<'a, G: Gate> Caller<'a, G> {
             → OnOk result (Tells self.old.seat.worker (place + 6) (asked_by call)
             self.old.diary self.new.diary) }
         ensures thread { self.new.seat.worker ≡ self.old.seat.worker }
+        ensures table { self.new.seat.table ≡ self.old.seat.table }
     {
         let trace = text.trace;
         if trace.lines.len() <= place {
@@ -115,6 +118,7 @@ impl<'a, G: Gate> Caller<'a, G> {
         ensures told { OnOk result (Tells self.old.seat.worker number (asked_by call.now)
             self.old.diary self.new.diary) }
         ensures thread { self.new.seat.worker ≡ self.old.seat.worker }
+        ensures table { self.new.seat.table ≡ self.old.seat.table }
     {
         match call {
             Call::Put { value, .. } => self.put(rt, number, *value),
@@ -187,6 +191,7 @@ impl<'a, G: Gate> Caller<'a, G> {
         ensures told { OnOk result (Tells self.old.seat.worker number (Puts value ∷ [])
             self.old.diary self.new.diary) }
         ensures thread { self.new.seat.worker ≡ self.old.seat.worker }
+        ensures table { self.new.seat.table ≡ self.old.seat.table }
     {
         match self.seat.put(rt, self.arena, value) {
             Ok((key, receipt)) => {
@@ -210,6 +215,7 @@ impl<'a, G: Gate> Caller<'a, G> {
             (map (λ i. Puts (value + i)) (range_with_len 0 count))
             self.old.diary self.new.diary) }
         ensures thread { self.new.seat.worker ≡ self.old.seat.worker }
+        ensures table { self.new.seat.table ≡ self.old.seat.table }
     {
         for i in 0..count {
             self.put(rt, number, value + u128::from(i))?;
@@ -222,6 +228,7 @@ impl<'a, G: Gate> Caller<'a, G> {
         ensures told { OnOk result (Tells self.old.seat.worker number (Gets ∷ [])
             self.old.diary self.new.diary) }
         ensures thread { self.new.seat.worker ≡ self.old.seat.worker }
+        ensures table { self.new.seat.table ≡ self.old.seat.table }
     {
         let Some(key) = key else {
             return self.other(number, Other::Unbound);
@@ -236,6 +243,7 @@ impl<'a, G: Gate> Caller<'a, G> {
         ensures told { OnOk result (Tells self.old.seat.worker number (Frees ∷ [])
             self.old.diary self.new.diary) }
         ensures thread { self.new.seat.worker ≡ self.old.seat.worker }
+        ensures table { self.new.seat.table ≡ self.old.seat.table }
     {
         let Some(key) = key else {
             return self.other(number, Other::Unbound);
@@ -259,6 +267,7 @@ impl<'a, G: Gate> Caller<'a, G> {
             (replicate (indices.end - indices.start) Frees)
             self.old.diary self.new.diary) }
         ensures thread { self.new.seat.worker ≡ self.old.seat.worker }
+        ensures table { self.new.seat.table ≡ self.old.seat.table }
     {
         for index in indices.start..indices.end {
             let key = self.key_at(text, keys, first.saturating_add(index as usize));
@@ -272,6 +281,7 @@ impl<'a, G: Gate> Caller<'a, G> {
         ensures told { OnOk result (Tells self.old.seat.worker number (Leaves ∷ [])
             self.old.diary self.new.diary) }
         ensures thread { self.new.seat.worker ≡ self.old.seat.worker }
+        ensures table { self.new.seat.table ≡ self.old.seat.table }
     {
         let Some(key) = key else {
             return self.other(number, Other::Unbound);
@@ -290,6 +300,7 @@ impl<'a, G: Gate> Caller<'a, G> {
         ensures told { OnOk result (Tells self.old.seat.worker number (Tends ∷ [])
             self.old.diary self.new.diary) }
         ensures thread { self.new.seat.worker ≡ self.old.seat.worker }
+        ensures table { self.new.seat.table ≡ self.old.seat.table }
     {
         let count = self.diary.tend(rt, &mut self.seat, self.arena)?;
         self.diary.keep_other(number, Other::Settled(count))?;
@@ -300,6 +311,7 @@ impl<'a, G: Gate> Caller<'a, G> {
     pub(crate) fn send_off(&mut self)
         ensures diary { self.new.diary ≡ self.old.diary }
         ensures thread { self.new.seat.worker ≡ self.old.seat.worker }
+        ensures table { self.new.seat.table ≡ self.old.seat.table }
         ensures none { HasNoneWaiting self.new.seat }
     {
         self.seat.hand_over();
@@ -311,6 +323,7 @@ impl<'a, G: Gate> Caller<'a, G> {
         ensures told { IfOk result (λ count. TakesIn self.old.seat.worker count
             self.old.diary self.new.diary) }
         ensures thread { self.new.seat.worker ≡ self.old.seat.worker }
+        ensures table { self.new.seat.table ≡ self.old.seat.table }
         ensures none { HasNoneWaiting self.new.seat }
     {
         self.diary.tend(rt, &mut self.seat, self.arena)
@@ -320,6 +333,7 @@ impl<'a, G: Gate> Caller<'a, G> {
     pub(crate) fn leave<R: Wait>(&mut self, rt: &R) -> Result<(), Halt>
         ensures diary { self.new.diary ≡ self.old.diary }
         ensures thread { self.new.seat.worker ≡ self.old.seat.worker }
+        ensures table { self.new.seat.table ≡ self.old.seat.table }
     {
         if !self.leaves {
             return Ok(());
@@ -338,6 +352,7 @@ impl<'a, G: Gate> Caller<'a, G> {
     pub(crate) fn adopt<R: Wait>(&mut self, rt: &R) -> Result<Other, Halt>
         ensures diary { self.new.diary ≡ self.old.diary }
         ensures thread { self.new.seat.worker ≡ self.old.seat.worker }
+        ensures table { self.new.seat.table ≡ self.old.seat.table }
     {
         match self.seat.adopt(rt, self.arena) {
             Ok(head) => Ok(Other::Adopted(head)),
@@ -354,6 +369,7 @@ impl<'a, G: Gate> Caller<'a, G> {
     pub(crate) fn go_on(&mut self)
         ensures diary { self.new.diary ≡ self.old.diary }
         ensures thread { self.new.seat.worker ≡ self.old.seat.worker }
+        ensures table { self.new.seat.table ≡ self.old.seat.table }
     {
         if self.seat.section() < u64::MAX {
             self.seat.next_section();
@@ -364,6 +380,7 @@ impl<'a, G: Gate> Caller<'a, G> {
     pub(crate) fn hand_over(&mut self, keys: &mut Keys) -> Result<(), AllocError>
         ensures diary { self.new.diary ≡ self.old.diary }
         ensures thread { self.new.seat.worker ≡ self.old.seat.worker }
+        ensures table { self.new.seat.table ≡ self.old.seat.table }
     {
         if let Some(known) = keys.get_mut(self.seat.worker() as usize) {
             known.append(&mut self.fresh)?;

@@ -136,6 +136,7 @@ impl Diary {
         requires { seat.old.limits ≡ arena.now.limits }
         ensures told { IfOk result (λ count. TakesIn seat.old.worker count self.old self.new) }
         ensures worker { seat.new.worker ≡ seat.old.worker }
+        ensures table { seat.new.table ≡ seat.old.table }
         ensures limits { seat.new.limits ≡ seat.old.limits }
         ensures none { HasNoneWaiting seat.new }
     {

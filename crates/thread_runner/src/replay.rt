@@ -1,6 +1,6 @@
 // Replays a trace by threads, and holds what its calls were told against the logs.
-ghost use Rattle.std.specs.Prelude.{◌≡◌, ◌<◌, ◌-◌, ◌^◌, IfOk, IfErr, List, OnErr, OnOk, map, vec_items};
-ghost use Rattle.std.specs.List.{sum_by};
+ghost use Rattle.std.specs.Prelude.{◌≡◌, ◌<◌, ◌-◌, ◌^◌, IfOk, IfErr, List, None, OnErr, OnOk, map, vec_items, vec_len};
+ghost use Rattle.std.specs.List.{AllByRecursion, sum_by};
 ghost use Rattle.span.specs.SpanLogs.{span_of_log};
 ghost use Rattle.groups.specs.Spans.{live_count};
 ghost use Rattle.audit.specs.Agreement.{Agreement};
@@ -16,12 +16,12 @@ ghost use Rattle.thread_runner.specs.Told.{voice_of};
 
 use crate::body::{push_body, replies_of};
 use crate::diary::Diary;
-use crate::error::ThreadsError;
+use crate::error::{Halt, ThreadsError};
 use crate::layout::{Layout, Text};
 use crate::live::live_in;
 use crate::section::{Ran, Told, run_sections};
 use crate::worker::Reading;
-use arena::{Arena, Gate, NoGate, finish_unsettled};
+use arena::{Arena, Gate, NoGate, Seat, Steward, finish};
 use audit::{AuditError, audit_by_threads};
 use span::{Receipt, SpanLog};
 use std::alloc::{AllocError, Global};
@@ -135,16 +135,87 @@ fn audited<R: Threads + Sync>(
     })
 }
 
+// So many lists of no receipt.
+fn no_receipts(alloc: Global, count: usize) -> Result<Vec<Vec<Receipt>>, AllocError>
+    ensures { IfOk result (λ lists. vec_len lists ≡ count) }
+{
+    let mut lists = Vec::with_capacity(alloc, count)?;
+    for _ in 0..count {
+        lists.push(Vec::new(alloc))?;
+    }
+    Ok(lists)
+}
+
+// Whether no ring had a key, by the counts of each.
+fn were_empty(counts: &[Vec<usize>]) -> bool {
+    counts.iter().all(|row| row.iter().all(|count| *count == 0))
+}
+
+// The logs of all spans of an arena that comes to its end with these seats, whose rings were settled: no key is left on one, and so no
+// receipt is left out.
+fn logs_of<G: Gate>(
+    alloc: Global,
+    arena: Arena<G>,
+    seats: Vec<Seat>,
+) -> Result<Vec<SpanLog>, Halt>
+    requires { AllByRecursion (λ seat. seat.table ≡ arena.table) seats.items }
+{
+    if !arena.has_all(seats.as_slice()) {
+        return Err(Halt::Doubled);
+    }
+    let mut receipts = no_receipts(alloc, seats.len())?;
+    let Ok(finished) = finish(arena, seats, receipts.as_mut_slice()) else {
+        return Err(Halt::OutOfMemory);
+    };
+    if !were_empty(finished.counts.as_slice()) {
+        return Err(Halt::Doubled);
+    }
+    Ok(finished.logs)
+}
+
+// The report of a run of the trace by threads at an arena that was opened for it, and its last certificate.
+fn replay_at<R: Threads + Wait + Sync, G: Gate + Sync, J: Reading>(
+    rt: &R,
+    alloc: Global,
+    arena: Arena<G>,
+    seats: Vec<Seat>,
+    steward: Steward,
+    trace: &Trace,
+    shown: bool,
+) -> Result<Replayed, ThreadsError>
+    requires unplanned { steward.plan ≡ None }
+    requires lines { trace.now.lines.items ≡ J.lines }
+    requires shown { shown ≡ J.shown }
+    requires table { arena.table ≡ J.table }
+    requires seats { AllByRecursion (λ seat. seat.table ≡ J.table) seats.items }
+    ensures ok { IfOk result (λ replayed. IsThreadedReport trace.now shown
+        replayed.report.items replayed.certificate.items) }
+    ensures err { IfErr result (IsRunStop trace.now shown) }
+{
+    let text = Text {
+        trace,
+        layout: Layout::of(alloc, trace)?,
+        replies: shown,
+    };
+    let Ran { seats, told } = run_sections::<R, G, J>(rt, alloc, &text, &arena, seats, steward)?;
+    let pages = arena.totals(rt).pages;
+    let logs = logs_of(alloc, arena, seats)?;
+    let ending = Ending {
+        pages,
+        live: live_in(logs.as_slice())?,
+        calls: calls_of(told.diaries.as_slice())?,
+    };
+    audited(rt, alloc, trace, told, logs.as_slice(), shown, &ending)
+}
+
 // The report of a run of the trace by threads, and its last certificate.
-fn replay<R: Threads + Wait + Sync, G: Gate + Sync, J: Reading>(
+fn replay<R: Threads + Wait + Sync, G: Gate + Sync>(
     rt: &R,
     alloc: Global,
     gate: G,
     trace: &Trace,
     shown: bool,
 ) -> Result<Replayed, ThreadsError>
-    requires lines { trace.now.lines.items ≡ J.lines }
-    requires shown { shown ≡ J.shown }
     ensures ok { IfOk result (λ replayed. IsThreadedReport trace.now shown
         replayed.report.items replayed.certificate.items) }
     ensures err { IfErr result (IsRunStop trace.now shown) }
@@ -156,23 +227,7 @@ fn replay<R: Threads + Wait + Sync, G: Gate + Sync, J: Reading>(
         // The header's numbers are within their ranges.
         return Err(ThreadsError::OutOfMemory);
     };
-    let text = Text {
-        trace,
-        layout: Layout::of(alloc, trace)?,
-        replies: shown,
-    };
-    let Ran { seats, told } = run_sections::<R, G, J>(rt, alloc, &text, &arena, seats, steward)?;
-    let pages = arena.totals(rt).pages;
-    let Ok(finished) = finish_unsettled(arena, seats) else {
-        return Err(ThreadsError::OutOfMemory);
-    };
-    let logs = finished.logs.as_slice();
-    let ending = Ending {
-        pages,
-        live: live_in(logs)?,
-        calls: calls_of(told.diaries.as_slice())?,
-    };
-    audited(rt, alloc, trace, told, logs, shown, &ending)
+    replay_at::<R, G, Brand>(rt, alloc, arena, seats, steward, trace, shown)
 }
 
 /// Replays a trace by threads: reads the text whole, runs each section's lines on a thread for each of its threads that has
@@ -232,7 +287,7 @@ pub fn replay_gated<R: Threads + Wait + Sync, G: Gate + Sync, S: Sink>(
     ensures err_certificate { OnErr result (cert.new ≡ cert.old) }
 {
     let trace = parse(alloc, text)?;
-    let replayed = replay::<R, G, Brand>(rt, alloc, gate, &trace, replies)?;
+    let replayed = replay(rt, alloc, gate, &trace, replies)?;
     match give(out, replayed.report.as_slice()) {
         Ok(()) => {
             *cert = replayed.certificate;

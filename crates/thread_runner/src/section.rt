@@ -1,5 +1,6 @@
 // The sections of a run, and what stands between them.
 ghost use Rattle.std.specs.Prelude.{◌≡◌, ◌+◌, ◌<◌, ◌≤◌, ◌^◌, ℕ, IfOk, List, None, length, true};
+ghost use Rattle.std.specs.List.{AllByRecursion};
 ghost use Rattle.trace_text.specs.declared.line.Line.{Line};
 ghost use Rattle.trace_runner.specs.Barrier.{is_barrier};
 ghost use Rattle.thread_runner.specs.Grown.{AreDiaries};
@@ -61,6 +62,7 @@ fn workers_of<'a, G: Gate, J: Reading>(
 ) -> Result<Vec<Worker<'a, G, J>>, AllocError>
     requires lines { text.now.trace.now.lines.items ≡ J.lines }
     requires shown { text.now.replies ≡ J.shown }
+    requires table { AllByRecursion (λ seat. seat.table ≡ J.table) seats.items }
 {
     let mut workers = Vec::with_capacity(alloc, seats.len())?;
     for seat in seats {
@@ -225,7 +227,9 @@ fn seats_and_diaries<'a, G: Gate, J: Reading>(
     workers: Vec<Worker<'a, G, J>>,
     threads: u32,
 ) -> Result<(Vec<Seat>, Vec<Diary>), Halt>
-    ensures { IfOk result (λ parts. AreDiaries J.lines J.shown threads parts.1.items) }
+    ensures seats { IfOk result (λ parts. AllByRecursion (λ seat. seat.table ≡ J.table)
+        parts.0.items) }
+    ensures diaries { IfOk result (λ parts. AreDiaries J.lines J.shown threads parts.1.items) }
 {
     let mut workers = workers;
     let mut seats = Vec::with_capacity(alloc, workers.len())?;
@@ -403,6 +407,8 @@ impl<'a, G: Gate + Sync, J: Reading> Crew<'a, G, J> {
 
     // What the run of that many threads leaves.
     fn taken_apart(self, keeper: Keeper<'a, G>, threads: u32) -> Result<Ran, Halt>
+        ensures seats { IfOk result (λ ran. AllByRecursion (λ seat. seat.table ≡ J.table)
+            ran.seats.items) }
         ensures diaries { IfOk result (λ ran. AreDiaries J.lines J.shown threads
             ran.told.diaries.items) }
         ensures notes { IfOk result (λ ran. ran.told.notes ≡ keeper.entry.minutes.notes) }
@@ -445,6 +451,9 @@ pub(crate) fn run_sections<'a, R: Threads + Wait + Sync, G: Gate + Sync, J: Read
     requires lines { text.now.trace.now.lines.items ≡ J.lines }
     requires shown { text.now.replies ≡ J.shown }
     requires unplanned { steward.plan ≡ None }
+    requires table { AllByRecursion (λ seat. seat.table ≡ J.table) seats.items }
+    ensures seats { IfOk result (λ ran. AllByRecursion (λ seat. seat.table ≡ J.table)
+        ran.seats.items) }
     ensures diaries { IfOk result (λ ran. AreDiaries J.lines J.shown
         text.now.trace.now.header.shards ran.told.diaries.items) }
     ensures notes { IfOk result (λ ran. AreNotesOf text.now.trace.now.lines.items

@@ -2,6 +2,7 @@
 ghost use Rattle.std.specs.Prelude.{◌≡◌, Bool, IfOk, List, [], false};
 ghost use Rattle.std.proofs.Props.{props};
 ghost use Rattle.arena.specs.Delays.{HasNoneWaiting};
+ghost use Rattle.arena.specs.Seats.{Table};
 ghost use Rattle.trace_text.specs.declared.line.Line.{Line};
 ghost use Rattle.thread_runner.specs.Grown.{IsDiaryOf, Tracks};
 
@@ -22,6 +23,9 @@ pub(crate) trait Reading: Send + Sync {
 
     /// Whether the report has the replies.
     ghost shown: { Bool };
+
+    /// The rings of the arena.
+    ghost table: { Table };
 }
 
 /// Whoever calls a function for the brand picks what it reads.
@@ -29,6 +33,8 @@ impl Reading for Brand {
     ghost lines = { [] };
 
     ghost shown = { false };
+
+    ghost table = { record { rows = []; columns = [] } };
 }
 
 /// A thread of the trace, which tells what the lines that it has run ask for.
@@ -39,6 +45,8 @@ pub(crate) struct Worker<'a, G: Gate, J: Reading> {
     /// How many of its lines it has run.
     done: usize,
     of: PhantomData<J>,
+    ghost rows: { caller.seat.table.rows ≡ J.table.rows } by { Prim.hlevel props },
+    ghost columns: { caller.seat.table.columns ≡ J.table.columns } by { Prim.hlevel props },
     ghost reads: { text.now.trace.now.lines.items ≡ J.lines } by { Prim.hlevel props },
     ghost tracks: { Tracks J.lines J.shown caller.seat.worker done caller.diary } by { Prim.hlevel props },
 }
@@ -83,6 +91,7 @@ impl<'a, G: Gate, J: Reading> Worker<'a, G, J> {
     ) -> Option<Worker<'a, G, J>>
         requires lines { text.now.trace.now.lines.items ≡ J.lines }
         requires shown { text.now.replies ≡ J.shown }
+        requires table { seat.table ≡ J.table }
     {
         let caller = Caller::new(alloc, arena, text.replies, seat)?;
         Some(Worker {
@@ -169,7 +178,8 @@ impl<'a, G: Gate, J: Reading> Worker<'a, G, J> {
 
     /// Its seat, and what it was told, where it has run all its lines.
     pub(crate) fn taken_apart(self) -> Result<(Seat, Diary), Halt>
-        ensures { IfOk result (λ parts. IsDiaryOf J.lines J.shown self.entry.caller.seat.worker parts.1) }
+        ensures seat { IfOk result (λ parts. parts.0.table ≡ J.table) }
+        ensures diary { IfOk result (λ parts. IsDiaryOf J.lines J.shown self.entry.caller.seat.worker parts.1) }
     {
         let Worker {
             text,

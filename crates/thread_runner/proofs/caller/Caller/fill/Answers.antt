@@ -15,5 +15,6 @@ loop-i-preserved g c =
     record {
       told = subst (λ (asked : List Asked). Tells thread c.args.number asked c.args.self.now.diary c.put.new.self.diary) (sym more)
           (Tells-append thread c.args.number (map put (range_with_len 0 c.loop-i.i)) (put c.loop-i.i ∷ []) c.args.self.now.diary c.loop-i.self.diary c.put.new.self.diary c.loop-i.invariant.told next);
+      table = c.put.ensures.table ∙ c.loop-i.invariant.table;
       thread = c.put.ensures.thread ∙ c.loop-i.invariant.thread;
     }

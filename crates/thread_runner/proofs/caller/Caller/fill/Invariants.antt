@@ -8,5 +8,6 @@ use Rattle.thread_runner.proofs.caller.Caller.fill.Given as goal
 abbrev pub invariant-loop-i : goal.invariant-loop-i
 invariant-loop-i g l = record {
   told : Tells l.fn.self.seat.worker l.number (map (λ k. Puts (l.value + k)) (range_with_len 0 l.i)) l.fn.self.diary l.self.diary;
+  table : l.self.seat.table ≡ l.fn.self.seat.table;
   thread : l.self.seat.worker ≡ l.fn.self.seat.worker;
 }

@@ -16,6 +16,7 @@ loop-index-preserved g c =
           (sym (ap (λ n. replicate n Frees) next ∙ replicate_next (c.loop-index.index - c.args.indices.start) Frees))
           (Tells-append thread c.args.number (replicate (c.loop-index.index - c.args.indices.start) Frees) (Frees ∷ []) c.args.self.now.diary c.loop-index.self.diary c.free.new.self.diary c.loop-index.invariant.told freed);
       bound = omega arith;
+      table = c.free.ensures.table ∙ c.loop-index.invariant.table;
       thread = c.free.ensures.thread ∙ c.loop-index.invariant.thread;
     }
 
