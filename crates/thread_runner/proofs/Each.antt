@@ -1,5 +1,5 @@
 -- What holds of each of a list, by recursion and by number.
-use Rattle.std.proofs.Common.{◌<◌, ℕ, List, [], ◌∷◌, arith, suc, zero}
+use Rattle.std.proofs.Common.{List, [], ◌∷◌, arith, suc, zero}
 use Rattle.std.specs.List.{All, AllByRecursion}
 
 pub All-each : {X : Type 0} (P : X → Type 0) (xs : List X) → AllByRecursion P xs → All P xs

@@ -1,7 +1,7 @@
 -- How the notes of a run go on.
-use Rattle.std.proofs.Common.{◌≡◌, ◌∙◌, ◌++◌, ◌+◌, ◌-◌, ◌<◌, ◌≤◌, ℕ, Bool, true, false, cond, List, [], ◌∷◌, Option, None, Some, add-zero, ap, arith, drop, length, map, option_map, refl, slice_get, suc, subst, sym, take, zero}
+use Rattle.std.proofs.Common.{◌≡◌, ◌∙◌, ◌++◌, ◌+◌, ◌<◌, ◌≤◌, ℕ, Bool, true, false, cond, List, [], ◌∷◌, Option, None, Some, ap, arith, drop, length, map, option_map, refl, slice_get, suc, subst, sym, take, zero}
 use Rattle.std.specs.Prelude.{filter, is_some, not}
-use Rattle.std.specs.List.{AllByRecursion, flat_map, fold, range_with_len, take_while}
+use Rattle.std.specs.List.{flat_map, range_with_len, take_while}
 use Rattle.std.specs.Option.{option_map_or}
 use Rattle.std.proofs.lemmas.Grind.{flat_map-append}
 use Rattle.std.proofs.lemmas.List.{append-nil, append_assoc, drop_all, length-append, map-append, take_all, take_more}
@@ -20,11 +20,10 @@ use Rattle.marks.specs.Plans.{OpenPlan, next_pair, with_next_done}
 use Rattle.span.specs.declared.id.SpanId.{SpanId}
 use Rattle.trace_text.specs.declared.line.Line.{Line}
 use Rattle.trace_runner.specs.Barrier.{is_barrier}
-use Rattle.trace_runner.specs.declared.report.PlanNews.{PlanNews}
 use Rattle.trace_runner.specs.declared.report.PlanNews.TheVariants.{Marked, TooMany, Closed}
 use Rattle.trace_runner.specs.declared.report.TakenStep.{TakenStep}
 use Rattle.thread_runner.specs.Marked.{AreNotesTo, IsCarriedOut, IsMarkMade, IsShown, MarkMade, PlanMade, barrier_from, certificate_after, is_mark, is_mark_at, mark_notes, mark_number, marks_above, news_marked, note_at, note_closed, note_planned, place_marked, plan_notes, taken_pair, text_after}
-use Rattle.thread_runner.specs.Noted.{AreNoted, HaveCome, IsLastOpen, pairs_done, pairs_left, plan_pairs}
+use Rattle.thread_runner.specs.Noted.{HaveCome, pairs_done, pairs_left, plan_pairs}
 use Rattle.thread_runner.specs.declared.body.Note.{Note}
 use Rattle.thread_runner.specs.declared.minutes.Minutes.{Minutes}
 

@@ -1,6 +1,6 @@
 use Rattle.std.proofs.Common.{◌≡◌, rules}
 use Rattle.std.specs.Prelude.{IsTrue}
-use Rattle.arena.specs.Seats.{AreSeatsOf, SeatState}
+use Rattle.arena.specs.Seats.{SeatState}
 use Rattle.thread_runner.proofs.Each.{All-each}
 use Rattle.thread_runner.proofs.replay.logs_of.Goals as goal
 

@@ -16,4 +16,4 @@ audited-requires-clause-calls g c κs within =
     let diaries = c.in_ok-seats.field-0.told.diaries.items in
     let trace = c.args.trace.now in
     let are = subst (λ ls. AreDiaries ls g.J.Reading.shown trace.header.shards diaries) (sym c.requires.lines) c.in_ok-seats.ensures.diaries in
-    (rw c.as_slice.ensures.value at c.in_ok-calls_of.ensures) ∙ AreDiaries-counted trace.lines.items g.J.Reading.shown trace.header.shards diaries (AreBelow-sound trace.header trace.lines.items trace.sound) are
+    (rw c.as_slice-2.ensures.value at c.in_ok-calls_of.ensures) ∙ AreDiaries-counted trace.lines.items g.J.Reading.shown trace.header.shards diaries (AreBelow-sound trace.header trace.lines.items trace.sound) are
