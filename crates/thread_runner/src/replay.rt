@@ -153,11 +153,7 @@ fn were_empty(counts: &[Vec<usize>]) -> bool {
 
 // The logs of all spans of an arena that comes to its end with these seats, whose rings were settled: no key is left on one, and so no
 // receipt is left out.
-fn logs_of<G: Gate>(
-    alloc: Global,
-    arena: Arena<G>,
-    seats: Vec<Seat>,
-) -> Result<Vec<SpanLog>, Halt>
+fn logs_of<G: Gate>(alloc: Global, arena: Arena<G>, seats: Vec<Seat>) -> Result<Vec<SpanLog>, Halt>
     requires { AllByRecursion (λ seat. seat.table ≡ arena.table) seats.items }
 {
     if !arena.has_all(seats.as_slice()) {

@@ -14,10 +14,12 @@ const TWO_PUTS_REPORT: &[u8] =
     b"6 key 0.0/0/1\n7 key 1.0/0/1\nend pages 2 live 2 calls 2\naudit ok\n";
 
 /// A plan whose step is taken beside thread 2, or else after it. The thread frees the key that is to be folded.
-const STEP_BESIDE_A_FREE: &[u8] = b"mesh 1\nshards 3\npages 4\nring 4\ngens 9\n0 put a 1\n0 end\n1 fill b 2 10\n1 sweep b 0 1\nmark\n2 put c 3\n2 free a\n";
+const STEP_BESIDE_A_FREE: &[u8] =
+    b"mesh 1\nshards 3\npages 4\nring 4\ngens 9\n0 put a 1\n0 end\n1 fill b 2 10\n1 sweep b 0 1\nmark\n2 put c 3\n2 free a\n";
 
 /// The report where the step came before the free.
-const STEP_BESIDE_A_FREE_REPORT: &[u8] = b"6 key 0.0/0/1\n7 ended\n8 key 1.0/0/1\n8 key 1.0/1/1\n9 yes\nmark 1 abandoned 1 owned 1 folds 1 pages 2\nfold 0.0 onto 1.0\nshort none\npartners none\n11 key 2.0/0/1\n12 yes\nstep 0.0 onto 1.0 folded\nclosed 1 pages 2\nend pages 2 live 2 calls 7\naudit ok\n";
+const STEP_BESIDE_A_FREE_REPORT: &[u8] =
+    b"6 key 0.0/0/1\n7 ended\n8 key 1.0/0/1\n8 key 1.0/1/1\n9 yes\nmark 1 abandoned 1 owned 1 folds 1 pages 2\nfold 0.0 onto 1.0\nshort none\npartners none\n11 key 2.0/0/1\n12 yes\nstep 0.0 onto 1.0 folded\nclosed 1 pages 2\nend pages 2 live 2 calls 7\naudit ok\n";
 
 /// Whether a shard's first call has come, and whether it met the other shard's.
 #[derive(Drop)]
