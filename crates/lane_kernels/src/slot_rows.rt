@@ -19,7 +19,7 @@ pub const LEAST_BY_SLOTS: usize = 200;
 
 /// A list of sets as a row of bits for each of the 256 slots: bit j of the row of slot s says whether set j has s. A set is
 /// disjoint from those that are in none of its slots' rows, so what is told of it and all the others takes a step for each of its
-/// slots and each 64 sets, and not for each set.
+/// slots and each 64 sets, and not for each set. Where few rows are asked for, the sets' words alone are kept, and answer the same.
 #[derive(Drop)]
 pub struct SlotRows {
     planes: Planes,
@@ -84,8 +84,9 @@ impl SlotRows {
         self.planes.row_words()
     }
 
-    /// Writes the row that [`Planes::disjoint_row`] writes. A set of more slots than [`MOST_BY_SLOTS`] goes by the sets' words, but
-    /// for those 64 sets of which each has so many that it must share one of the 256 slots.
+    /// Writes the row that [`Planes::disjoint_row`] writes. Where there are no rows by slots, or the set has more slots than
+    /// [`MOST_BY_SLOTS`], it goes by the sets' words, and passes over those 64 sets of which each has so many slots that it must
+    /// share one of the 256.
     pub fn disjoint_row(&self, set: &Bits256, row: &mut [u64])
         requires { length row.old ≡ (length self.now + 63) / 64 }
         ensures len { length row.new ≡ length row.old }

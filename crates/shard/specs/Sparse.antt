@@ -1,6 +1,5 @@
 -- Which of a shard's groups have the fewest live slots.
 use Rattle.std.specs.Prelude.{◌≡◌, ◌⊎◌, ℕ, ◌<◌, ◌≤◌, List, Some, length, slice_get}
-use Rattle.span.specs.declared.id.SpanId.{SpanId}
 use Rattle.span.specs.Ids.{rank}
 use Rattle.groups.specs.Spans.{live_count}
 use Rattle.groups.specs.Group.{spans_of}
@@ -21,10 +20,6 @@ pub record IsSparsest (groups : List GroupState) (index : ℕ) (group : GroupSta
   pub some : 1 ≤ live_of group
   pub fewest : (other : ℕ) (g : GroupState) → slice_get groups other ≡ Some g → 1 ≤ live_of g → live_of group ≤ live_of g
   pub first : (other : ℕ) (g : GroupState) → other < index → slice_get groups other ≡ Some g → 1 ≤ live_of g → live_of group < live_of g
-
--- the head of that group
-abbrev pub IsHeadOfSparsest : List GroupState → SpanId → Type 0
-IsHeadOfSparsest groups head = (index : ℕ) × (group : GroupState) × IsSparsest groups index group × (group.head.id ≡ head)
 
 -- the group has fewer live keys than the other, or as many and the lower head
 abbrev pub IsSparser : GroupState → GroupState → Type 0

@@ -32,7 +32,8 @@ fn live_after(changes: &[Change]) -> usize
     live.count() as usize
 }
 
-/// How many keys are live by the logs of all spans. More than a number counts find no memory.
+/// How many keys are live by the logs of all spans. The error comes where these are more than a `usize` counts, and so more than
+/// there is memory for.
 pub(crate) fn live_in(logs: &[SpanLog]) -> Result<usize, AllocError>
     ensures { IfOk result (λ live. live ≡ live_count (map span_of_log logs.now)) }
 {

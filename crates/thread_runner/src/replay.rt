@@ -237,8 +237,8 @@ fn replay<R: Threads + Wait + Sync, G: Gate + Sync>(
 ///
 /// `BadTrace` exactly for a text that is no trace, with its first line at fault and the first cause that holds of it.
 /// `AuditFault` where what the calls were told doesn't agree with the logs, with the first part that fails. `Doubled` where a
-/// shard or the pool was not as the run had left it. `OutOfMemory` where an allocation was refused. After each of these
-/// `out` has taken nothing. `SinkFailed` where `out` failed; it has then taken a prefix of the report. After each of them
+/// shard or the pool was not as the run had left it, or at the end a seat was missing, a thread had lines left or a ring had a
+/// key. `OutOfMemory` where an allocation was refused. After each of these `out` has taken nothing. `SinkFailed` where `out` failed; it has then taken a prefix of the report. After each of them
 /// `cert` is as it was.
 pub fn replay_threads<R: Threads + Wait + Sync, S: Sink>(
     rt: &R,
