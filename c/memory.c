@@ -124,13 +124,12 @@ static void free_in_the_pool(void) {
     WANT_PAGES(2 * PAGES - 2);
 }
 
-/* Each step of a plan gives a page back. The first one grows the lists of guests. */
+/* Each step of a plan gives a page back, and the lists of groups and pages, which are full, stay as long as they are. */
 static void fold(void) {
     struct teurlaks_mark_reply marked = teurlaks_mark(&core);
     WANT(marked.status == TEURLAKS_OK && marked.folds == PAGES - 2);
     for (size_t step = 1; step <= PAGES - 2; step++) {
         WANT(teurlaks_step(&core).status == TEURLAKS_OK);
-        if (step == 1 && pages == others + 2 * PAGES - 2) others++;
         WANT_PAGES(2 * PAGES - 2 - step);
     }
     size_t before = calls;
@@ -141,8 +140,17 @@ static void fold(void) {
     WANT_PAGES(PAGES);
 }
 
+/* A shard that has ended keeps none of its lists: of what its one span took, the generations stay. */
+static void end_without_lists(void) {
+    size_t before = blocks;
+    struct teurlaks_put_reply put = teurlaks_put(&core, 2, (struct teurlaks_word){1, 1});
+    WANT(put.status == TEURLAKS_OK && teurlaks_free(&core, put.key) == TEURLAKS_OK);
+    WANT(teurlaks_end(&core, 2) == TEURLAKS_OK);
+    WANT(blocks == before + 1);
+}
+
 int main(void) {
-    WANT(teurlaks_new(&core, 2, PAGES, 1, 9) == TEURLAKS_OK);
+    WANT(teurlaks_new(&core, 3, PAGES, 1, 9) == TEURLAKS_OK);
     others = pages;
     fill(0);
     fill(1);
@@ -151,6 +159,7 @@ int main(void) {
     end();
     free_in_the_pool();
     fold();
+    end_without_lists();
     teurlaks_drop(&core);
     WANT(blocks == 0 && bytes == 0);
     printf("each page that a fold, an end or a free regained was given back to the allocator\n");

@@ -1,5 +1,5 @@
-/* Words of 128 bits under keys: a key that was freed finds nothing for ever, a live one its own word, and sparse pages of the
- * pool are folded onto those of running shards while every key stays valid. The library is proved (crates/teurlaks_c); README.md
+/* Objects of 16, 64 or 256 bytes under keys: a key that was freed finds nothing for ever, a live one its own object, and sparse pages of
+ * the pool are folded onto those of running shards while every key stays valid. The library is proved (crates/teurlaks_c); README.md
  * beside this file has a page of use.
  *
  * What a caller owes, since nothing can check it:
@@ -34,7 +34,7 @@ enum {
     TEURLAKS_EMPTIED = 9,          /* the pair's abandoned group had no live key left */
     TEURLAKS_NO_PAIR_LEFT = 10,    /* the open plan is done with */
     TEURLAKS_NO_PLAN = 11,         /* no plan is open */
-    TEURLAKS_TOO_SMALL = 12,       /* the text takes more bytes than there is room for; nothing was written */
+    TEURLAKS_TOO_SMALL = 12,       /* the text or the object takes more than there is room for; nothing was written */
     TEURLAKS_RING_FULL = 13        /* a ring holds as many keys as it may; no call here answers it */
 };
 
@@ -43,7 +43,7 @@ struct teurlaks_handle {
     uint8_t *at;
 };
 
-/* The name of one stored word, 8 bytes. Any numbers may be given: a key that is not live finds nothing. */
+/* The name of one stored object, 8 bytes. Any numbers may be given: a key that is not live finds nothing. */
 struct teurlaks_key {
     uint8_t shard;
     uint8_t slot;
@@ -73,6 +73,12 @@ struct teurlaks_put_reply {
 struct teurlaks_get_reply {
     struct teurlaks_word value;
     uint32_t status;
+};
+
+/* How many words the object has, where the status is TEURLAKS_OK or TEURLAKS_TOO_SMALL; else 0. */
+struct teurlaks_words_reply {
+    uint32_t status;
+    size_t len;
 };
 
 /* The key, where the status is TEURLAKS_OK. */
@@ -116,7 +122,7 @@ struct teurlaks_certificate_reply {
     size_t len;
 };
 
-/* Pages of 256 slots, and live keys. */
+/* Pages of 4,096 bytes, and live keys. */
 struct teurlaks_totals_reply {
     size_t pages;
     size_t live;
@@ -129,11 +135,19 @@ uint32_t teurlaks_new(struct teurlaks_handle *out, uint32_t shards, uint32_t pag
 /* Gives all memory back. */
 void teurlaks_drop(struct teurlaks_handle *handle);
 
-/* Keeps the word in the shard, under a key that was never given out before. */
+/* Keeps an object of one word in the shard, under a key that was never given out before. */
 struct teurlaks_put_reply teurlaks_put(struct teurlaks_handle *handle, uint32_t shard, struct teurlaks_word value);
 
-/* The word of the key, or TEURLAKS_NONE. */
+/* The word of the key, or TEURLAKS_NONE; TEURLAKS_TOO_SMALL where its object has more words than one. */
 struct teurlaks_get_reply teurlaks_get(struct teurlaks_handle *handle, struct teurlaks_key key);
+
+/* Keeps an object of 1, 4 or 16 words in the shard, as teurlaks_put does with one; another number is TEURLAKS_CONFIG. Objects of different
+ * sizes stand on different pages: 256, 64 or 16 of them on a page. `words` is not NULL. */
+struct teurlaks_put_reply teurlaks_put_words(struct teurlaks_handle *handle, uint32_t shard, const struct teurlaks_word *words, size_t words_len);
+
+/* Writes the words of the key's object into the first of `words`, where words_len are room enough (16 always are); or TEURLAKS_NONE.
+ * `words` is not NULL, and may point anywhere where words_len is 0. */
+struct teurlaks_words_reply teurlaks_get_words(struct teurlaks_handle *handle, struct teurlaks_key key, struct teurlaks_word *words, size_t words_len);
 
 /* Frees the key, or TEURLAKS_NONE. Takes no memory. */
 uint32_t teurlaks_free(struct teurlaks_handle *handle, struct teurlaks_key key);
@@ -146,11 +160,11 @@ struct teurlaks_next_reply teurlaks_next(struct teurlaks_handle *handle, struct 
 /* How much is kept. */
 struct teurlaks_totals_reply teurlaks_totals(struct teurlaks_handle *handle);
 
-/* Ends the shard: its groups go to the pool, with their pages, and it takes no word again. */
+/* Ends the shard: its groups go to the pool, with their pages, and it takes no object again. */
 uint32_t teurlaks_end(struct teurlaks_handle *handle, uint32_t shard);
 
-/* Moves up to `most` groups of the shard to the pool, with their pages, and the shard goes on: those with the fewest live words, of those
- * that have one. Fewer than `most` go only where no group with a live word is left. TEURLAKS_PLAN_OPEN where a group of the shard is in
+/* Moves up to `most` groups of the shard to the pool, with their pages, and the shard goes on: those with the fewest live keys, of those
+ * that have one. Fewer than `most` go only where no group with a live key is left. TEURLAKS_PLAN_OPEN where a group of the shard is in
  * the plan that is open. */
 struct teurlaks_retire_reply teurlaks_retire(struct teurlaks_handle *handle, uint32_t shard, size_t most);
 
@@ -173,5 +187,7 @@ struct teurlaks_certificate_reply teurlaks_certificate(struct teurlaks_handle *h
 #ifdef __cplusplus
 }
 #endif
+
+#include "teurlaks_bytes.h"
 
 #endif

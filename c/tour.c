@@ -49,6 +49,37 @@ static void forged_keys(struct teurlaks_handle *core) {
     }
 }
 
+/* Bytes of each number, and what is refused of them. */
+static void bytes_of_each_number(void) {
+    struct teurlaks_handle core = {0};
+    struct teurlaks_put_reply put[257];
+    uint8_t bytes[256], found[256];
+    if (teurlaks_new(&core, 1, 16, 1, 9) != TEURLAKS_OK) exit(1);
+    for (size_t i = 0; i < sizeof bytes; i++) bytes[i] = (uint8_t)(i * 37);
+    for (size_t len = 1; len <= sizeof bytes; len++) {
+        put[len] = teurlaks_put_bytes(&core, 0, bytes, len);
+        WANT(put[len].status == TEURLAKS_OK);
+    }
+    WANT(teurlaks_totals(&core).live == 256 && teurlaks_totals(&core).pages == 14);
+    for (size_t len = 1; len <= sizeof bytes; len++) {
+        struct teurlaks_word words[16];
+        size_t words_len = len <= 16 ? 1 : len <= 64 ? 4 : 16;
+        memset(found, 'x', sizeof found);
+        WANT(teurlaks_get_bytes(&core, put[len].key, found, len) == TEURLAKS_OK && !memcmp(found, bytes, len));
+        WANT(len == sizeof found || found[len] == 'x');
+        WANT(len > 64 || teurlaks_get_bytes(&core, put[len].key, found, 65) == TEURLAKS_TOO_SMALL);
+        WANT((teurlaks_get(&core, put[len].key).status == TEURLAKS_OK) == (words_len == 1));
+        WANT(teurlaks_get_words(&core, put[len].key, words, 16).len == words_len);
+        WANT(teurlaks_get_words(&core, put[len].key, words, words_len - 1).status == TEURLAKS_TOO_SMALL);
+        WANT(teurlaks_free(&core, put[len].key) == TEURLAKS_OK);
+        WANT(teurlaks_get_bytes(&core, put[len].key, found, len) == TEURLAKS_NONE);
+    }
+    WANT(teurlaks_put_bytes(&core, 0, bytes, 0).status == TEURLAKS_CONFIG);
+    WANT(teurlaks_put_bytes(&core, 0, bytes, 257).status == TEURLAKS_CONFIG);
+    WANT(teurlaks_put_words(&core, 0, (struct teurlaks_word[2]){word(1), word(2)}, 2).status == TEURLAKS_CONFIG);
+    teurlaks_drop(&core);
+}
+
 /* Frees all live keys, and says how many there were. */
 static size_t free_all(struct teurlaks_handle *core) {
     size_t freed = 0;
@@ -95,7 +126,7 @@ static void tour(void) {
     AGAIN(told, told.status, teurlaks_certificate(&core, text, len - 1));
     WANT(told.status == TEURLAKS_TOO_SMALL && text[0] == 'x');
     AGAIN(told, told.status, teurlaks_certificate(&core, text, sizeof text));
-    WANT(told.status == TEURLAKS_OK && told.len == len && text[len] == 'x' && !memcmp(text, "meshcert 1\n", 11));
+    WANT(told.status == TEURLAKS_OK && told.len == len && text[len] == 'x' && !memcmp(text, "meshcert 2\n", 11));
     WANT(!memcmp(text + len - strlen(plan), plan, strlen(plan)));
 
     struct teurlaks_step_reply step;
@@ -128,6 +159,7 @@ static void tour(void) {
 }
 
 int main(void) {
+    bytes_of_each_number();
     long runs = 0;
     do {
         before_failure = runs++;

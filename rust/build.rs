@@ -1,4 +1,5 @@
-//! Links the proved archive `libteurlaks_c.a`, and the three functions through which it asks for memory.
+//! Links the proved archive `libteurlaks_c.a`, and the three functions through which it asks for memory: those of `c/pages.c`, by which
+//! pages that are given back leave the process. Where the archive's folder has a `liblibc_c.a`, its three are taken.
 //!
 //! `TEURLAKS_ARCHIVE` names the folder where the archive lies. Where it is not set, the Rattle kit's `rt lib` proves and makes it in
 //! `crates/teurlaks_c` of the repository. The kit is `KIT`, or the folder above the `bin` where `rt` is found on the `PATH`, or `/opt/rattle`.
@@ -18,8 +19,30 @@ fn main() {
     if archive.join("liblibc_c.a").exists() {
         link(&archive, "libc_c");
     } else {
-        link(&kit().join("c"), "libc_c");
+        link(&source_of_pages(), "teurlaks_pages");
     }
+}
+
+/// Compiles the source of pages, and gives the folder of its archive.
+fn source_of_pages() -> PathBuf {
+    let source = Path::new(env!("CARGO_MANIFEST_DIR")).join("../c/pages.c");
+    let folder = PathBuf::from(env::var_os("OUT_DIR").expect("cargo sets OUT_DIR"));
+    println!("cargo:rerun-if-changed={}", source.display());
+    println!("cargo:rerun-if-env-changed=CC");
+    let object = folder.join("pages.o");
+    let words = ["-std=c11", "-O2", "-fPIC", "-pthread", "-c"];
+    run(tool("CC", "cc").args(words).arg(&source).arg("-o").arg(&object));
+    run(tool("AR", "ar").arg("rcs").arg(folder.join("libteurlaks_pages.a")).arg(&object));
+    folder
+}
+
+fn tool(variable: &str, default: &str) -> Command {
+    Command::new(env::var_os(variable).unwrap_or_else(|| default.into()))
+}
+
+fn run(command: &mut Command) {
+    let done = command.status();
+    assert!(done.is_ok_and(|status| status.success()), "{command:?} failed");
 }
 
 fn link(folder: &Path, name: &str) {

@@ -1,10 +1,12 @@
 //! The store: shards, the pool and the open plan as one value.
 
+use crate::class::Class;
 use crate::ids::{Key, SpanId};
 use crate::plan::{self, Graph, Matching};
 use crate::slots::Slots;
 use crate::trace::Header;
 use std::collections::BTreeMap;
+use std::ops::Range;
 
 const MOST_SPANS: usize = 1024;
 const MOST_GROUPS: usize = 4096;
@@ -14,15 +16,17 @@ type Page = [u128; 256];
 /// A change of a span. Nothing here reads the log again: it is kept since `meshrun` keeps it.
 #[allow(dead_code)]
 enum Change {
-    Put { slot: u8, generation: u32, value: u128 },
+    Put { slot: u8, generation: u32, first: usize },
     Free { slot: u8, generation: u32 },
 }
 
 struct Span {
     live: Slots,
     worn: Slots,
-    generations: Box<[u32; 256]>,
+    generations: Box<[u32]>,
     log: Vec<Change>,
+    /// The words of what was put, in order.
+    words: Vec<u128>,
     /// The place of its group among all groups.
     group: usize,
 }
@@ -34,6 +38,7 @@ enum Home {
 }
 
 struct Group {
+    class: Class,
     /// The head, then the guests.
     spans: Vec<SpanId>,
     occupied: Slots,
@@ -46,9 +51,22 @@ struct Group {
 struct Shard {
     /// Places of its groups among all groups, by ascending head.
     groups: Vec<usize>,
-    /// A bit for each of these: whether a put should look there.
-    rooms: Vec<u64>,
+    /// A bit for each of these, by class: whether a put should look there.
+    rooms: [Vec<u64>; 3],
     ended: bool,
+}
+
+impl Shard {
+    /// Has puts of the class look at the group.
+    fn note(&mut self, class: Class, at: usize) {
+        self.rooms[class as usize][at / 64] |= 1 << (at % 64);
+    }
+}
+
+/// The words of a slot among those of its page.
+fn words_of(class: Class, slot: u8) -> Range<usize> {
+    let first = class.words() * usize::from(slot);
+    first..first + class.words()
 }
 
 /// A put needs a page, and its shard has all that it may have.
@@ -82,8 +100,8 @@ pub enum Stepped {
     Emptied,
 }
 
-/// A side of a snapshot: heads ascending, with what they occupy and where they are.
-type Side = Vec<(SpanId, Slots, usize)>;
+/// A side of a snapshot: heads ascending, with their class and what they occupy, and where they are.
+type Side = Vec<(SpanId, (Class, Slots), usize)>;
 
 pub struct Core<const LOG: bool = false> {
     limits: Header,
@@ -132,17 +150,20 @@ impl<const LOG: bool> Core<LOG> {
         &mut self.spans[usize::from(id.shard)][usize::from(id.serial)]
     }
 
-    pub fn put(&mut self, shard: usize, value: u128) -> Result<Key, PagesSpent> {
-        let (group, slot) = match self.room(shard) {
+    /// Puts an object of the class whose words count up from a base.
+    pub fn put(&mut self, shard: usize, class: Class, base: u128) -> Result<Key, PagesSpent> {
+        let (group, slot) = match self.room(shard, class) {
             Some(found) => found,
-            None => (self.open(shard)?, 0),
+            None => (self.open(shard, class)?, 0),
         };
         let gens = self.limits.gens;
         let group = &mut self.groups[group];
         let id = group.spans[0];
         group.occupied.insert(slot);
         if let Some(page) = &mut group.page {
-            page[usize::from(slot)] = value;
+            for (word, k) in page[words_of(class, slot)].iter_mut().zip(0..) {
+                *word = base + k;
+            }
         }
         let span = &mut self.spans[usize::from(id.shard)][usize::from(id.serial)];
         let generation = span.generations[usize::from(slot)] + 1;
@@ -152,10 +173,12 @@ impl<const LOG: bool> Core<LOG> {
             span.worn.insert(slot);
         }
         if LOG {
+            let first = span.words.len();
+            span.words.extend((0..class.words() as u128).map(|k| base + k));
             span.log.push(Change::Put {
                 slot,
                 generation,
-                value,
+                first,
             });
         }
         self.live += 1;
@@ -166,16 +189,16 @@ impl<const LOG: bool> Core<LOG> {
         })
     }
 
-    /// The open group of lowest head that has a usable slot, and its lowest such slot. Bits of groups without one go off.
-    fn room(&mut self, shard: usize) -> Option<(usize, u8)> {
+    /// The open group of the class of lowest head that has a usable slot, and its lowest such slot. Bits of groups without one go off.
+    fn room(&mut self, shard: usize, class: Class) -> Option<(usize, u8)> {
         let Shard { groups, rooms, .. } = &mut self.shards[shard];
-        for (w, word) in rooms.iter_mut().enumerate() {
+        for (w, word) in rooms[class as usize].iter_mut().enumerate() {
             while *word != 0 {
                 let place = groups[w * 64 + word.trailing_zeros() as usize];
                 let group = &self.groups[place];
                 let head = group.spans[0];
                 let worn = &self.spans[usize::from(head.shard)][usize::from(head.serial)].worn;
-                if let Some(slot) = group.occupied.union(worn).lowest_outside() {
+                if let Some(slot) = group.occupied.union(worn).lowest_outside_below(class.slots()) {
                     return Some((place, slot));
                 }
                 *word &= *word - 1;
@@ -184,8 +207,8 @@ impl<const LOG: bool> Core<LOG> {
         None
     }
 
-    /// Opens a span on a new page. No other group of the shard takes a put then, so all other bits are off.
-    fn open(&mut self, shard: usize) -> Result<usize, PagesSpent> {
+    /// Opens a span on a new page. No other group of the class in the shard takes a put then, so all other bits of the class are off.
+    fn open(&mut self, shard: usize, class: Class) -> Result<usize, PagesSpent> {
         let opened = self.spans[shard].len();
         if self.shards[shard].groups.len() >= self.limits.pages || opened >= MOST_SPANS {
             return Err(PagesSpent);
@@ -198,11 +221,13 @@ impl<const LOG: bool> Core<LOG> {
         self.spans[shard].push(Span {
             live: Slots::default(),
             worn: Slots::default(),
-            generations: Box::new([0; 256]),
+            generations: vec![0; class.slots()].into(),
             log: Vec::new(),
+            words: Vec::new(),
             group,
         });
         self.groups.push(Group {
+            class,
             spans: vec![id],
             occupied: Slots::default(),
             page: Some(Box::new([0; 256])),
@@ -222,9 +247,11 @@ impl<const LOG: bool> Core<LOG> {
         let at = home.groups.partition_point(|g| all[*g].spans[0] < head);
         let last = at == home.groups.len();
         home.groups.insert(at, group);
-        home.rooms.resize(home.groups.len().div_ceil(64), 0);
+        for rooms in &mut home.rooms {
+            rooms.resize(home.groups.len().div_ceil(64), 0);
+        }
         if last {
-            home.rooms[at / 64] |= 1 << (at % 64);
+            home.note(self.groups[group].class, at);
             self.groups[group].home = Home::Shard(shard, at);
         } else {
             self.renumber(shard);
@@ -234,12 +261,12 @@ impl<const LOG: bool> Core<LOG> {
     /// After groups came or were opened in the middle: where each stands, and a bit for each that takes puts.
     fn renumber(&mut self, shard: usize) {
         let home = &mut self.shards[shard];
-        home.rooms.fill(0);
-        for (at, place) in home.groups.iter().enumerate() {
-            let group = &mut self.groups[*place];
+        home.rooms.iter_mut().for_each(|rooms| rooms.fill(0));
+        for at in 0..home.groups.len() {
+            let group = &mut self.groups[home.groups[at]];
             group.home = Home::Shard(shard, at);
             if !group.closed {
-                home.rooms[at / 64] |= 1 << (at % 64);
+                home.note(group.class, at);
             }
         }
     }
@@ -250,9 +277,10 @@ impl<const LOG: bool> Core<LOG> {
         known.then_some(span)
     }
 
-    pub fn get(&self, key: Key) -> Option<u128> {
+    /// The words of the key's object.
+    pub fn get(&self, key: Key) -> Option<&[u128]> {
         let group = &self.groups[self.find(key)?.group];
-        group.page.as_ref().map(|page| page[usize::from(key.slot)])
+        group.page.as_ref().map(|page| &page[words_of(group.class, key.slot)])
     }
 
     pub fn free(&mut self, key: Key) -> bool {
@@ -272,7 +300,7 @@ impl<const LOG: bool> Core<LOG> {
         group.occupied.remove(key.slot);
         self.live -= 1;
         match group.home {
-            Home::Shard(shard, at) if !group.closed => self.shards[shard].rooms[at / 64] |= 1 << (at % 64),
+            Home::Shard(shard, at) if !group.closed => self.shards[shard].note(group.class, at),
             Home::Pool if group.occupied.is_empty() => self.drop_page(place),
             _ => {}
         }
@@ -311,7 +339,7 @@ impl<const LOG: bool> Core<LOG> {
     fn side(&self, places: impl Iterator<Item = usize>) -> Result<Side, MarkError> {
         let entry = |place| {
             let group: &Group = &self.groups[place];
-            (group.spans[0], group.occupied, place)
+            (group.spans[0], (group.class, group.occupied), place)
         };
         let mut side: Side = places.map(entry).collect();
         side.sort_unstable_by_key(|(head, ..)| *head);
@@ -326,7 +354,7 @@ impl<const LOG: bool> Core<LOG> {
         let abandoned = self.side(self.pool.values().copied())?;
         let running = self.shards.iter().filter(|shard| !shard.ended);
         let owned = self.side(running.flat_map(|shard| shard.groups.iter().copied()))?;
-        let sets = |side: &Side| -> Vec<Slots> { side.iter().map(|(_, set, _)| *set).collect() };
+        let sets = |side: &Side| -> Vec<(Class, Slots)> { side.iter().map(|(_, set, _)| *set).collect() };
         let graph = Graph::new(&sets(&abandoned), &sets(&owned));
         let matching = match given {
             None => plan::largest(&graph),
@@ -357,7 +385,7 @@ impl<const LOG: bool> Core<LOG> {
             let group = &mut self.groups[*onto];
             group.closed = true;
             if let Home::Shard(shard, at) = group.home {
-                self.shards[shard].rooms[at / 64] &= !(1 << (at % 64));
+                self.shards[shard].rooms[group.class as usize][at / 64] &= !(1 << (at % 64));
             }
             self.closed.push(*onto);
         }
@@ -378,7 +406,7 @@ impl<const LOG: bool> Core<LOG> {
         self.pool.remove(&self.groups[from].spans[0]);
         self.pages -= 1;
         let guests = std::mem::take(&mut self.groups[from].spans);
-        let occupied = self.groups[from].occupied;
+        let (class, occupied) = (self.groups[from].class, self.groups[from].occupied);
         let page = self.groups[from].page.take();
         for id in &guests {
             self.span_mut(*id).group = onto;
@@ -388,7 +416,8 @@ impl<const LOG: bool> Core<LOG> {
         group.occupied = group.occupied.union(&occupied);
         if let (Some(source), Some(target)) = (page, &mut group.page) {
             for slot in occupied.iter() {
-                target[usize::from(slot)] = source[usize::from(slot)];
+                let words = words_of(class, slot);
+                target[words.clone()].copy_from_slice(&source[words]);
             }
         }
     }
@@ -400,7 +429,7 @@ impl<const LOG: bool> Core<LOG> {
             let group = &mut self.groups[place];
             group.closed = false;
             if let Home::Shard(shard, at) = group.home {
-                self.shards[shard].rooms[at / 64] |= 1 << (at % 64);
+                self.shards[shard].note(group.class, at);
             }
         }
     }

@@ -15,6 +15,8 @@ struct Bound {
 
 struct Draw {
     random: Random,
+    /// The verbs' ends of the classes that the version has.
+    classes: &'static [&'static str],
     text: String,
     shards: usize,
     ended: Vec<bool>,
@@ -37,9 +39,15 @@ pub fn text(seed: u64) -> Vec<u8> {
     let gens = [1, 2, 3, 9, u32::MAX][random.below(5)];
     let ring = 1 + random.below(3);
     let lines = 5 + random.below(80);
+    let (version, classes): (u8, &[&str]) = if seed % 4 < 3 {
+        (2, &["", "", "64", "256"])
+    } else {
+        (1, &[""])
+    };
     let mut draw = Draw {
         random,
-        text: header_with(shards, pages, ring, gens),
+        classes,
+        text: header_with(version, shards, pages, ring, gens),
         shards,
         ended: vec![false; shards],
         bound: Vec::new(),
@@ -124,7 +132,8 @@ impl Draw {
     fn part(&mut self, thread: usize) {
         let (count, kept) = (3 + self.random.below(6), self.random.below(3));
         let name = format!("n{}", self.bound.len());
-        self.say(format_args!("{thread} fill {name} {count} 7"));
+        let class = self.class();
+        self.say(format_args!("{thread} fill{class} {name} {count} 7"));
         self.say(format_args!("{thread} sweep {name} 0 {kept}"));
         self.say(format_args!("{thread} sweep {name} {} {count}", kept + 1));
         self.bound.push(Bound {
@@ -133,6 +142,10 @@ impl Draw {
             thread,
             section: self.section,
         });
+    }
+
+    fn class(&mut self) -> &'static str {
+        self.classes[self.random.below(self.classes.len())]
     }
 
     fn end(&mut self) {
@@ -158,9 +171,10 @@ impl Draw {
     fn bind(&mut self, thread: usize, count: Option<usize>) {
         let name = format!("n{}", self.bound.len());
         let value = [self.random.draw() as u128, u128::MAX - 500, 0][self.random.below(3)];
+        let class = self.class();
         match count {
-            None => self.say(format_args!("{thread} put {name} {value}")),
-            Some(count) => self.say(format_args!("{thread} fill {name} {count} {value}")),
+            None => self.say(format_args!("{thread} put{class} {name} {value}")),
+            Some(count) => self.say(format_args!("{thread} fill{class} {name} {count} {value}")),
         }
         self.bound.push(Bound {
             name,
@@ -197,7 +211,7 @@ impl Draw {
 }
 
 /// Words that stand where others should.
-const WORDS: [&str; 26] = [
+const WORDS: [&str; 30] = [
     "0",
     "1",
     "63",
@@ -210,6 +224,10 @@ const WORDS: [&str; 26] = [
     " ",
     "put",
     "fill",
+    "put64",
+    "put256",
+    "fill64",
+    "fill256",
     "end",
     "later",
     "tend",

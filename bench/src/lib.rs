@@ -1,6 +1,7 @@
 //! A plain Rust program beside `meshrun`, and what measures the two.
 
 pub mod child;
+pub mod class;
 pub mod clock;
 pub mod core;
 pub mod drawn;

@@ -1,19 +1,21 @@
 //! Largest plans: who folds onto whom, by Hopcroft and Karp.
 
+use crate::class::Class;
 use crate::slots::Slots;
 use std::collections::VecDeque;
 
-/// For each abandoned group a row of bits: which owned groups have no slot in common with it.
+/// For each abandoned group a row of bits: which owned groups of its class have no slot in common with it.
 pub struct Graph {
     rows: Vec<Vec<u64>>,
     owned: usize,
 }
 
 impl Graph {
-    pub fn new(abandoned: &[Slots], owned: &[Slots]) -> Graph {
-        let row = |a: &Slots| {
-            let word = |chunk: &[Slots]| {
-                let bit = |(j, b): (usize, &Slots)| u64::from(a.is_disjoint(b)) << j;
+    pub fn new(abandoned: &[(Class, Slots)], owned: &[(Class, Slots)]) -> Graph {
+        let row = |(class, a): &(Class, Slots)| {
+            let word = |chunk: &[(Class, Slots)]| {
+                let bit =
+                    |(j, (other, b)): (usize, &(Class, Slots))| u64::from(class == other && a.is_disjoint(b)) << j;
                 chunk.iter().enumerate().map(bit).sum()
             };
             owned.chunks(64).map(word).collect()

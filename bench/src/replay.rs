@@ -1,5 +1,6 @@
 //! Runs a trace, and builds its report.
 
+use crate::class::Class;
 use crate::core::{AdoptError, Core, MarkError, PagesSpent, Stepped};
 use crate::ids::{Key, SpanId};
 use crate::report::{push_id, push_ids, push_key, push_number};
@@ -82,10 +83,15 @@ impl Run<'_> {
 
     fn call(&mut self, number: usize, thread: usize, call: &Call) {
         match *call {
-            Call::Put { key, value } => self.put(number, thread, key, value),
-            Call::Fill { first, count, value } => {
+            Call::Put { key, class, value } => self.put(number, thread, key, class, value),
+            Call::Fill {
+                first,
+                class,
+                count,
+                value,
+            } => {
                 for i in 0..count {
-                    self.put(number, thread, first + i as usize, value + u128::from(i));
+                    self.put(number, thread, first + i as usize, class, value + u128::from(i));
                 }
             }
             Call::Get { key } => self.get(number, key),
@@ -121,8 +127,8 @@ impl Run<'_> {
         }
     }
 
-    fn put(&mut self, number: usize, thread: usize, place: usize, value: u128) {
-        match self.core.put(thread, value) {
+    fn put(&mut self, number: usize, thread: usize, place: usize, class: Class, value: u128) {
+        match self.core.put(thread, class, value) {
             Ok(key) => {
                 self.keys[place] = Some(key);
                 self.reply(number, |out| {
@@ -135,11 +141,11 @@ impl Run<'_> {
     }
 
     fn get(&mut self, number: usize, place: usize) {
-        let found = self.keys[place].map(|key| self.core.get(key));
+        let found = self.keys[place].map(|key| self.core.get(key).map(|words| (words[0], words.len())));
         self.reply(number, |out| match found {
             None => out.extend_from_slice(b"unbound"),
             Some(None) => out.extend_from_slice(b"none"),
-            Some(Some(value)) => push_value(out, value),
+            Some(Some((base, words))) => push_words(out, base, words),
         });
     }
 
@@ -267,10 +273,14 @@ impl Run<'_> {
     }
 }
 
-fn push_value(out: &mut Vec<u8>, value: u128) {
-    out.extend_from_slice(b"value ");
-    match u64::try_from(value) {
-        Ok(small) => push_number(out, small),
-        Err(_) => out.extend_from_slice(value.to_string().as_bytes()),
+/// The words of an object, which count up from its base.
+fn push_words(out: &mut Vec<u8>, base: u128, words: usize) {
+    out.extend_from_slice(b"value");
+    for word in (0..words as u128).map(|k| base + k) {
+        out.push(b' ');
+        match u64::try_from(word) {
+            Ok(small) => push_number(out, small),
+            Err(_) => out.extend_from_slice(word.to_string().as_bytes()),
+        }
     }
 }

@@ -35,6 +35,11 @@ impl Slots {
         Some((word * 64) as u8 + self.0[word].trailing_ones() as u8)
     }
 
+    /// The least number below a limit that is not a member.
+    pub fn lowest_outside_below(&self, limit: usize) -> Option<u8> {
+        self.lowest_outside().filter(|slot| usize::from(*slot) < limit)
+    }
+
     /// The members, ascending.
     pub fn iter(&self) -> impl Iterator<Item = u8> + '_ {
         (0..=255).filter(|slot| self.contains(*slot))

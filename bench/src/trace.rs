@@ -1,5 +1,6 @@
 //! Reads the text of a trace.
 
+use crate::class::Class;
 use std::collections::HashMap;
 use std::fmt;
 use std::ops::RangeInclusive;
@@ -56,12 +57,30 @@ pub struct Header {
 /// A call of a thread. Keys are places in one table of all keys that the trace may bind, so that no name is looked up twice.
 #[derive(Clone, Copy, Debug)]
 pub enum Call {
-    Put { key: usize, value: u128 },
-    Fill { first: usize, count: u32, value: u128 },
-    Get { key: usize },
-    Free { key: usize },
-    Sweep { from: usize, to: usize },
-    Later { key: usize },
+    Put {
+        key: usize,
+        class: Class,
+        value: u128,
+    },
+    Fill {
+        first: usize,
+        class: Class,
+        count: u32,
+        value: u128,
+    },
+    Get {
+        key: usize,
+    },
+    Free {
+        key: usize,
+    },
+    Sweep {
+        from: usize,
+        to: usize,
+    },
+    Later {
+        key: usize,
+    },
     Tend,
     End,
 }
@@ -130,8 +149,8 @@ impl<'t> Reference<'t> {
 
 /// A thread's call as it is spelled.
 enum Spelled<'t> {
-    Put(&'t [u8], Number),
-    Fill(&'t [u8], Number, Number),
+    Put(Class, &'t [u8], Number),
+    Fill(Class, &'t [u8], Number, Number),
     Get(Reference<'t>),
     Free(Reference<'t>),
     Sweep(&'t [u8], Number, Number),
@@ -151,7 +170,17 @@ fn name_of(word: &[u8]) -> Option<&[u8]> {
     is_name(word).then_some(word)
 }
 
-fn form_of(line: &[u8]) -> Option<Form<'_>> {
+/// The verb of a put or a fill, and the class of what it puts. The wide ones are words of version 2 alone.
+fn binding_verb<'t>(verb: &'t [u8], version: Version) -> Option<(&'t [u8], Class)> {
+    let (verb, class) = match verb {
+        [verb @ .., b'2', b'5', b'6'] => (verb, Class::C256),
+        [verb @ .., b'6', b'4'] => (verb, Class::C64),
+        verb => (verb, Class::C16),
+    };
+    (class == Class::C16 || version == Version::Two).then_some((verb, class))
+}
+
+fn form_of(line: &[u8], version: Version) -> Option<Form<'_>> {
     let mut room = [&line[..0]; 5];
     let mut count = 0;
     for word in line.split(|b| *b == b' ') {
@@ -161,14 +190,19 @@ fn form_of(line: &[u8]) -> Option<Form<'_>> {
     let spelled = match &room[..count] {
         [b"mark"] => return Some(Form::Mark),
         [b"adopt", shard] => return Some(Form::Adopt(Number::of(shard)?)),
-        [_, b"put", name, value] => Spelled::Put(name_of(name)?, Number::of(value)?),
-        [_, b"fill", name, count, value] => Spelled::Fill(name_of(name)?, Number::of(count)?, Number::of(value)?),
         [_, b"get", key] => Spelled::Get(Reference::of(key)?),
         [_, b"free", key] => Spelled::Free(Reference::of(key)?),
         [_, b"sweep", name, from, to] => Spelled::Sweep(name_of(name)?, Number::of(from)?, Number::of(to)?),
         [_, b"later", key] => Spelled::Later(Reference::of(key)?),
         [_, b"tend"] => Spelled::Tend,
         [_, b"end"] => Spelled::End,
+        [_, verb, rest @ ..] => match (binding_verb(verb, version)?, rest) {
+            ((b"put", class), [name, value]) => Spelled::Put(class, name_of(name)?, Number::of(value)?),
+            ((b"fill", class), [name, count, value]) => {
+                Spelled::Fill(class, name_of(name)?, Number::of(count)?, Number::of(value)?)
+            }
+            _ => return None,
+        },
         _ => return None,
     };
     Some(Form::Call(Number::of(room[0])?, spelled))
@@ -255,17 +289,19 @@ impl<'t> Reader<'t> {
 
     fn call(&mut self, thread: usize, spelled: Spelled<'t>) -> Result<Call, Cause> {
         Ok(match spelled {
-            Spelled::Put(name, value) => {
-                let value = value.within(0..=u128::MAX).ok_or(Cause::Limit)?;
+            Spelled::Put(class, name, value) => {
+                let value = base(class, value).ok_or(Cause::Limit)?;
                 Call::Put {
                     key: self.bind(name, None, thread)?,
+                    class,
                     value,
                 }
             }
-            Spelled::Fill(name, count, value) => {
-                let (count, value) = fill_numbers(count, value).ok_or(Cause::Limit)?;
+            Spelled::Fill(class, name, count, value) => {
+                let (count, value) = fill_numbers(class, count, value).ok_or(Cause::Limit)?;
                 Call::Fill {
                     first: self.bind(name, Some(count), thread)?,
+                    class,
                     count,
                     value,
                 }
@@ -313,17 +349,22 @@ impl<'t> Reader<'t> {
     }
 }
 
-fn fill_numbers(count: Number, value: Number) -> Option<(u32, u128)> {
+/// The base of an object whose last word is within the range of words.
+fn base(class: Class, value: Number) -> Option<u128> {
+    value.within(0..=u128::MAX - (class.words() as u128 - 1))
+}
+
+fn fill_numbers(class: Class, count: Number, value: Number) -> Option<(u32, u128)> {
     let count = count.within(1..=LONGEST_FILL)?;
-    let value = value.within(0..=u128::MAX - (count - 1))?;
+    let value = value.within(0..=u128::MAX - (count - 1) - (class.words() as u128 - 1))?;
     Some((count as u32, value))
 }
 
 /// The limits stand before all causes that need the lines above.
 fn check_limits(spelled: &Spelled) -> Result<(), Cause> {
     let within = match spelled {
-        Spelled::Put(_, value) => value.within(0..=u128::MAX).is_some(),
-        Spelled::Fill(_, count, value) => fill_numbers(*count, *value).is_some(),
+        Spelled::Put(class, _, value) => base(*class, *value).is_some(),
+        Spelled::Fill(class, _, count, value) => fill_numbers(*class, *count, *value).is_some(),
         _ => true,
     };
     if within {
@@ -339,24 +380,35 @@ fn header_number(line: Option<&[u8]>, word: &str, most: u128) -> Result<u128, Ca
     number.ok_or(Cause::Header)?.within(1..=most).ok_or(Cause::Limit)
 }
 
-fn header<'t>(lines: &mut impl Iterator<Item = &'t [u8]>) -> Result<Header, Fault> {
-    if lines.next() != Some(b"mesh 1") {
-        return Err(Fault {
-            line: 1,
-            cause: Cause::Header,
-        });
-    }
+#[derive(Clone, Copy, PartialEq, Eq)]
+enum Version {
+    One,
+    Two,
+}
+
+fn header<'t>(lines: &mut impl Iterator<Item = &'t [u8]>) -> Result<(Version, Header), Fault> {
+    let version = match lines.next() {
+        Some(b"mesh 1") => Version::One,
+        Some(b"mesh 2") => Version::Two,
+        _ => {
+            return Err(Fault {
+                line: 1,
+                cause: Cause::Header,
+            });
+        }
+    };
     let mut number = |line, word, most| header_number(lines.next(), word, most).map_err(|cause| Fault { line, cause });
     let shards = number(2, "shards", 64)? as usize;
     let pages = number(3, "pages", 1024)? as usize;
     let ring = number(4, "ring", 1024)? as usize;
     let gens = number(5, "gens", u128::from(u32::MAX))? as u32;
-    Ok(Header {
+    let header = Header {
         shards,
         pages,
         ring,
         gens,
-    })
+    };
+    Ok((version, header))
 }
 
 /// The lines of a text: an LF ends one, and opens none behind the last.
@@ -372,7 +424,7 @@ fn lines_of(text: &[u8]) -> impl Iterator<Item = &[u8]> {
 
 pub fn read(text: &[u8]) -> Result<Trace, Fault> {
     let mut lines = lines_of(text);
-    let header = header(&mut lines)?;
+    let (version, header) = header(&mut lines)?;
     let mut reader = Reader {
         header,
         names: HashMap::new(),
@@ -389,7 +441,7 @@ pub fn read(text: &[u8]) -> Result<Trace, Fault> {
             continue;
         }
         let at = |cause| Fault { line: number, cause };
-        let form = form_of(line).ok_or(at(Cause::Form))?;
+        let form = form_of(line, version).ok_or(at(Cause::Form))?;
         read.push((number, reader.line(form).map_err(at)?));
     }
     if reader.awaits_mark {

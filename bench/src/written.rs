@@ -8,12 +8,12 @@ use std::fmt::Write;
 const GENS: u32 = u32::MAX;
 
 pub fn header(shards: usize, pages: usize, gens: u32) -> String {
-    header_with(shards, pages, 4, gens)
+    header_with(1, shards, pages, 4, gens)
 }
 
-/// A header with rings of so many keys.
-pub fn header_with(shards: usize, pages: usize, ring: usize, gens: u32) -> String {
-    format!("mesh 1\nshards {shards}\npages {pages}\nring {ring}\ngens {gens}\n")
+/// A header of a version, with rings of so many keys.
+pub fn header_with(version: u8, shards: usize, pages: usize, ring: usize, gens: u32) -> String {
+    format!("mesh {version}\nshards {shards}\npages {pages}\nring {ring}\ngens {gens}\n")
 }
 
 /// A store that writes each call as a line. Keys of the first fill are `a.0` and so on.

@@ -1,11 +1,13 @@
 //! All shards as one value.
 
+use crate::bytes::{words_for, Bytes, BytesKey, Words, MOST_BYTES, MOST_WORDS};
 use crate::names::{Group, Key};
 use crate::raw;
 use crate::refused::Refused;
 use std::cell::UnsafeCell;
 use std::fmt;
 use std::iter;
+use std::mem::MaybeUninit;
 use std::ptr;
 
 /// The numbers of a core.
@@ -13,7 +15,7 @@ use std::ptr;
 pub struct Limits {
     /// How many shards there are, 1 to 64.
     pub shards: u32,
-    /// How many pages of 256 slots a shard may have, 1 to 1,024.
+    /// How many pages of 4,096 bytes a shard may have, 1 to 1,024.
     pub pages: u32,
     /// How often a slot may be used, at least once. A slot that was used so often is never used again.
     pub generations: u32,
@@ -54,7 +56,7 @@ pub enum Stepped {
     NoPairLeft,
 }
 
-/// Words of 128 bits under keys, in shards: the proved library as it is.
+/// Objects of 16, 64 or 256 bytes under keys, in shards: the proved library as it is.
 ///
 /// A shard that ends leaves its groups to a pool, and one that goes on may leave its sparsest ones there. A mark plans as many folds of the pool's groups onto those of the shards as can be,
 /// and each step carries one out, which gives one page back. Every key stays valid.
@@ -104,7 +106,7 @@ impl Core {
         }
     }
 
-    /// Keeps a word in the shard, and gives its key, which was never given out before.
+    /// Keeps an object of one word in the shard, and gives its key, which was never given out before.
     #[inline]
     pub fn insert(&mut self, shard: u32, word: u128) -> Result<Key, Refused> {
         // SAFETY: the handle has a core, and no other call runs.
@@ -115,7 +117,60 @@ impl Core {
         }
     }
 
-    /// The word of the key, where it is live.
+    /// Keeps an object of 1, 4 or 16 words in the shard, and gives its key. Another number is refused with [`Refused::Config`].
+    ///
+    /// Objects of different sizes stand on different pages, 256, 64 or 16 of them on each, and only pages of one size are folded onto each other.
+    #[inline]
+    pub fn insert_words(&mut self, shard: u32, words: &[u128]) -> Result<Key, Refused> {
+        // SAFETY: so many words are there.
+        unsafe { self.put_words(shard, words.as_ptr(), words.len()) }
+    }
+
+    /// Keeps 1 to 256 bytes in the shard, in the least object that holds them, and gives their name. Another number is refused with
+    /// [`Refused::Config`].
+    ///
+    /// ```
+    /// # use teurlaks::{Core, Limits};
+    /// let mut core = Core::new(Limits::default())?;
+    /// let key = core.insert_bytes(0, b"a cached page, as it was fetched")?;
+    /// assert_eq!(&core.get_bytes(key).unwrap()[..8], b"a cached");
+    /// core.free(key.key());
+    /// assert_eq!(core.get_bytes(key), None);
+    /// # Ok::<(), teurlaks::Refused>(())
+    /// ```
+    #[inline]
+    pub fn insert_bytes(&mut self, shard: u32, bytes: &[u8]) -> Result<BytesKey, Refused> {
+        if bytes.is_empty() || bytes.len() > MOST_BYTES {
+            return Err(Refused::Config);
+        }
+        let mut words = [MaybeUninit::<u128>::uninit(); MOST_WORDS];
+        let first = words.as_mut_ptr().cast::<u128>();
+        let len = words_for(bytes.len());
+        // SAFETY: there is room for the bytes in so many words, which are zeros before.
+        let key = unsafe {
+            first.write_bytes(0, len);
+            first.cast::<u8>().copy_from_nonoverlapping(bytes.as_ptr(), bytes.len());
+            self.put_words(shard, first, len)
+        };
+        Ok(BytesKey::new(key?, bytes.len()))
+    }
+
+    /// Keeps an object of the words that stand there.
+    ///
+    /// # Safety
+    ///
+    /// So many words stand there. Bytes of them may be uninitialised where no [`Words`] is made of them.
+    #[inline]
+    pub(crate) unsafe fn put_words(&mut self, shard: u32, first: *const u128, len: usize) -> Result<Key, Refused> {
+        // SAFETY: as in `insert`, and a word is its two halves, the lower one first.
+        let put = unsafe { raw::teurlaks_put_words(self.handle.get(), shard, first.cast(), len) };
+        match put.status {
+            raw::OK => Ok(Key(put.key)),
+            other => Err(Refused::of(other)),
+        }
+    }
+
+    /// The word of the key, where it is live and has an object of one word.
     #[inline]
     pub fn get(&self, key: Key) -> Option<u128> {
         // SAFETY: as in `insert`.
@@ -123,10 +178,27 @@ impl Core {
         (got.status == raw::OK).then(|| u128::from(got.value.high) << 64 | u128::from(got.value.low))
     }
 
+    /// The words of the key's object, where it is live.
+    #[inline]
+    pub fn get_words(&self, key: Key) -> Option<Words> {
+        Words::written(|first| {
+            // SAFETY: as in `insert`, and there is room for 16 words, of which it writes as many as it says.
+            let got = unsafe { raw::teurlaks_get_words(self.handle.get(), key.0, first.cast(), MOST_WORDS) };
+            (got.status == raw::OK).then_some(got.len)
+        })
+    }
+
+    /// The bytes of this name, where their key is live.
+    #[inline]
+    pub fn get_bytes(&self, key: BytesKey) -> Option<Bytes> {
+        Bytes::of(self.get_words(key.key())?, key.len())
+    }
+
     /// Whether the key is live.
     #[inline]
     pub fn contains(&self, key: Key) -> bool {
-        self.get(key).is_some()
+        // SAFETY: as in `insert`.
+        unsafe { raw::teurlaks_get(self.handle.get(), key.0).status != raw::NONE }
     }
 
     /// Frees the key, and says whether it was live. It takes no memory.
@@ -136,7 +208,7 @@ impl Core {
         unsafe { raw::teurlaks_free(self.handle.get(), key.0) == raw::OK }
     }
 
-    /// Frees the key, and gives its word, where it was live.
+    /// Frees the key, and gives its word, where it was live and had an object of one word; else nothing changes.
     #[inline]
     pub fn remove(&mut self, key: Key) -> Option<u128> {
         let word = self.get(key)?;
@@ -176,12 +248,12 @@ impl Core {
         iter::successors(self.next_live(None), |key| self.next_live(Some(*key)))
     }
 
-    /// Each live key with its word, in the order of [`Core::next_live`].
-    pub fn iter(&self) -> impl Iterator<Item = (Key, u128)> + '_ {
-        self.keys().filter_map(|key| Some((key, self.get(key)?)))
+    /// Each live key with the words of its object, in the order of [`Core::next_live`].
+    pub fn iter(&self) -> impl Iterator<Item = (Key, Words)> + '_ {
+        self.keys().filter_map(|key| Some((key, self.get_words(key)?)))
     }
 
-    /// Frees each live key, and gives it with its word, in the order of [`Core::next_live`]. Those that are not asked for are freed
+    /// Frees each live key, and gives it with the words of its object, in the order of [`Core::next_live`]. Those that are not asked for are freed
     /// when the iterator is dropped. So an owner of what the words name comes to each of them.
     pub fn drain(&mut self) -> Drain<'_> {
         Drain {
@@ -190,7 +262,7 @@ impl Core {
         }
     }
 
-    /// Ends a shard: its groups go to the pool, with their pages, and it takes no word again.
+    /// Ends a shard: its groups go to the pool, with their pages, and it takes no object again.
     pub fn end(&mut self, shard: u32) -> Result<(), Refused> {
         // SAFETY: as in `insert`.
         done(unsafe { raw::teurlaks_end(self.handle.get(), shard) })
@@ -230,7 +302,7 @@ impl Core {
         done(adopted.status).map(|()| Group(adopted.head))
     }
 
-    /// Plans as many folds as can be, and opens the plan. Until it is closed, the groups that it folds onto take no word.
+    /// Plans as many folds as can be, and opens the plan. Until it is closed, the groups that it folds onto take no object.
     pub fn mark(&mut self) -> Result<Marked, Refused> {
         // SAFETY: as in `insert`.
         let raw::MarkReply {
@@ -272,12 +344,18 @@ impl Core {
 
     /// Marks, takes all steps and closes, and says how many pages came back. Where a step is refused, the plan is closed all the same.
     pub fn mesh(&mut self) -> Result<usize, Refused> {
+        self.mesh_with(|_, _| ())
+    }
+
+    /// As `mesh`, and tells of each fold when it is done.
+    pub(crate) fn mesh_with(&mut self, mut folded: impl FnMut(Group, Group)) -> Result<usize, Refused> {
         let before = self.pages();
         self.mark()?;
         let taken = loop {
             match self.step() {
                 Ok(Stepped::NoPairLeft) => break Ok(()),
-                Ok(_) => {}
+                Ok(Stepped::Folded(abandoned, owned)) => folded(abandoned, owned),
+                Ok(Stepped::Emptied(..)) => {}
                 Err(refused) => break Err(refused),
             }
         };
@@ -304,7 +382,7 @@ impl Core {
         }
     }
 
-    /// How many pages of 256 slots there are.
+    /// How many pages of 4,096 bytes there are.
     pub fn pages(&self) -> usize {
         self.totals().pages
     }
@@ -336,7 +414,7 @@ impl Drop for Core {
     }
 }
 
-/// Frees the keys of a core, and gives each with its word: of [`Core::drain`].
+/// Frees the keys of a core, and gives each with the words of its object: of [`Core::drain`].
 #[derive(Debug)]
 pub struct Drain<'c> {
     core: &'c mut Core,
@@ -344,12 +422,14 @@ pub struct Drain<'c> {
 }
 
 impl Iterator for Drain<'_> {
-    type Item = (Key, u128);
+    type Item = (Key, Words);
 
-    fn next(&mut self) -> Option<(Key, u128)> {
+    fn next(&mut self) -> Option<(Key, Words)> {
         let key = self.core.next_live(self.after)?;
+        let words = self.core.get_words(key)?;
+        self.core.free(key);
         self.after = Some(key);
-        Some((key, self.core.remove(key)?))
+        Some((key, words))
     }
 }
 
@@ -389,3 +469,62 @@ fn halves(word: u128) -> raw::RawWord {
         high: (word >> 64) as u64,
     }
 }
+
+/// The calls of a type with a core that are the core's and do not move a value: its ends and retirements, its marks, and totals of pages.
+macro_rules! letting_go {
+    () => {
+        /// Ends a shard, as [`Core::end`](crate::Core::end).
+        pub fn end(&mut self, shard: u32) -> Result<(), crate::Refused> {
+            self.core.end(shard)
+        }
+
+        /// Moves the sparsest groups of a shard to the pool, as [`Core::retire`](crate::Core::retire), whose shard goes on.
+        pub fn retire(&mut self, shard: u32, most: usize) -> Result<usize, crate::Refused> {
+            self.core.retire(shard, most)
+        }
+
+        /// Plans as many folds as can be, as [`Core::mark`](crate::Core::mark).
+        pub fn mark(&mut self) -> Result<crate::Marked, crate::Refused> {
+            self.core.mark()
+        }
+
+        /// How many pages of 4,096 bytes there are.
+        pub fn pages(&self) -> usize {
+            self.core.pages()
+        }
+
+        /// The last mark's certificate, as [`Core::certificate`](crate::Core::certificate).
+        pub fn certificate(&self) -> Result<Option<String>, crate::Refused> {
+            self.core.certificate()
+        }
+    };
+}
+pub(crate) use letting_go;
+
+/// The other calls of a type whose values are all in its core.
+macro_rules! meshing {
+    () => {
+        crate::core::letting_go!();
+
+        /// Moves a group of the pool to a shard, as [`Core::adopt`](crate::Core::adopt).
+        pub fn adopt(&mut self, shard: u32) -> Result<crate::Group, crate::Refused> {
+            self.core.adopt(shard)
+        }
+
+        /// Carries out the next fold, as [`Core::step`](crate::Core::step).
+        pub fn step(&mut self) -> Result<crate::Stepped, crate::Refused> {
+            self.core.step()
+        }
+
+        /// Closes the plan, as [`Core::close`](crate::Core::close).
+        pub fn close(&mut self) -> Result<(), crate::Refused> {
+            self.core.close()
+        }
+
+        /// Marks, takes all steps and closes, as [`Core::mesh`](crate::Core::mesh).
+        pub fn mesh(&mut self) -> Result<usize, crate::Refused> {
+            self.core.mesh()
+        }
+    };
+}
+pub(crate) use meshing;

@@ -42,6 +42,12 @@ pub struct GetReply {
 }
 
 #[repr(C)]
+pub struct WordsReply {
+    pub status: u32,
+    pub len: usize,
+}
+
+#[repr(C)]
 pub struct NextReply {
     pub status: u32,
     pub key: RawKey,
@@ -92,6 +98,8 @@ extern "C" {
     pub fn teurlaks_drop(handle: *mut Handle);
     pub fn teurlaks_put(handle: *mut Handle, shard: u32, value: RawWord) -> PutReply;
     pub fn teurlaks_get(handle: *mut Handle, key: RawKey) -> GetReply;
+    pub fn teurlaks_put_words(handle: *mut Handle, shard: u32, words: *const RawWord, words_len: usize) -> PutReply;
+    pub fn teurlaks_get_words(handle: *mut Handle, key: RawKey, words: *mut RawWord, words_len: usize) -> WordsReply;
     pub fn teurlaks_free(handle: *mut Handle, key: RawKey) -> u32;
     pub fn teurlaks_next(handle: *mut Handle, after: RawKey) -> NextReply;
     pub fn teurlaks_totals(handle: *mut Handle) -> TotalsReply;

@@ -1,18 +1,30 @@
 //! A slab that owns its values.
 
-use crate::core::{Core, Limits, Marked, Stepped};
+use crate::core::{Core, Limits, Stepped};
 use crate::names::{Group, Key};
 use crate::refused::Refused;
+use crate::values::{Values, Walk};
 use std::fmt;
 use std::ops::{Index, IndexMut};
 
+/// How many shards a slab has where nobody says so.
+const SHARDS: u32 = 16;
+
+/// The words of the core's object beside a value, which tell nothing: where the value is follows from its key.
+const NO_WORDS: [u128; 4] = [0; 4];
+
+/// How many groups a plan may have on a side.
+const MOST_GROUPS: usize = 4096;
+
 /// Values of one type under keys that never lie.
 ///
-/// Each value stands in a table of Rust's, at the place that its key's word names. So any type will do, what is found is a reference, and
-/// each value is dropped once; and no part of this is `unsafe`: were the library wrong, a look-up would fail, and no memory be misused. It
-/// costs one more look-up, and only the words are in the pages that folds give back. The table has each key beside its value, so `iter` and `Drop` go
-/// over it, and not over the pages. Where a value fits into 128 bits and needs no drop,
-/// [`Core`] keeps it in the word itself.
+/// The values stand in pages of their own, one beside each page of the core, and move with its folds: so any type will do, what is found is a
+/// reference, each value is dropped once, and a fold gives the memory of a page of values back to the system. [`Slab::compact`] folds as much
+/// as can be. A page has 256 slots, and 64 where a value has more than 128 bytes; beside a value there are its key and the core's object, 24
+/// bytes or 72. A value of more than 4,096 bytes stands in a block of the global allocator.
+///
+/// A look-up compares the key with the one that stands beside the value, and does not ask the core, which is proved never to give a key out
+/// twice. Values that are copied and have up to 256 bytes stand in the core's pages themselves in a [`Store`](crate::Store).
 ///
 /// ```
 /// use teurlaks::Slab;
@@ -27,124 +39,133 @@ use std::ops::{Index, IndexMut};
 /// # Ok::<(), teurlaks::Refused>(())
 /// ```
 pub struct Slab<T> {
+    // A key is live here exactly where it has a value there.
     core: Core,
-    entries: Vec<Entry<T>>,
-    // The vacant entry that is taken next.
-    vacant: Option<usize>,
-}
-
-enum Entry<T> {
-    Kept(Key, T),
-    // And the vacant entry after it.
-    Vacant(Option<usize>),
+    values: Values<T>,
+    shards: u32,
+    // The shard that an insert without a shard asks first.
+    first: u32,
 }
 
 impl<T> Slab<T> {
-    /// A slab of one shard with no value, for up to 262,144 values.
+    /// A slab of 16 shards with no value, each for up to 262,144 values, or 65,536 of more than 128 bytes.
     pub fn new() -> Result<Slab<T>, Refused> {
-        Slab::with_limits(Limits::default())
+        Slab::with_limits(Limits {
+            shards: SHARDS,
+            ..Limits::default()
+        })
     }
 
     /// A slab of these limits. It is refused with [`Refused::Config`] exactly where a number is out of its range.
     pub fn with_limits(limits: Limits) -> Result<Slab<T>, Refused> {
         Ok(Slab {
             core: Core::new(limits)?,
-            entries: Vec::new(),
-            vacant: None,
+            values: Values::new(),
+            shards: limits.shards,
+            first: 0,
         })
     }
 
-    /// Keeps a value in shard 0, and gives its key, which was never given out before. A value that is refused is dropped.
+    /// Keeps a value in the first shard that has room for it, and gives its key, which was never given out before. A value that is
+    /// refused is dropped. It is refused with [`Refused::Ended`] only where each shard has ended, and with [`Refused::PagesSpent`] only where
+    /// each that has not may have no further page.
+    #[inline]
     pub fn insert(&mut self, value: T) -> Result<Key, Refused> {
-        self.insert_in(0, value)
+        match self.insert_key(self.first) {
+            Ok(key) => {
+                self.values.put(self.first, key, value);
+                Ok(key)
+            }
+            Err(Refused::PagesSpent | Refused::Ended) => self.insert_elsewhere(value),
+            Err(refused) => Err(refused),
+        }
+    }
+
+    /// Keeps a value in another shard than the first that was to be asked.
+    #[cold]
+    fn insert_elsewhere(&mut self, value: T) -> Result<Key, Refused> {
+        let mut why = Refused::Ended;
+        for shard in (self.first..self.shards).chain(0..self.first) {
+            match self.insert_key(shard) {
+                Ok(key) => {
+                    self.values.put(shard, key, value);
+                    self.first = shard;
+                    return Ok(key);
+                }
+                Err(Refused::Ended) => {}
+                Err(Refused::PagesSpent) => why = Refused::PagesSpent,
+                Err(refused) => return Err(refused),
+            }
+        }
+        Err(why)
     }
 
     /// Keeps a value in the shard.
+    #[inline]
     pub fn insert_in(&mut self, shard: u32, value: T) -> Result<Key, Refused> {
-        let place = match self.vacant {
-            Some(place) => place,
-            None => {
-                self.entries.try_reserve(1).map_err(|_| Refused::OutOfMemory)?;
-                self.entries.len()
-            }
-        };
-        let key = self.core.insert(shard, place as u128)?;
-        let kept = Entry::Kept(key, value);
-        if place == self.entries.len() {
-            self.entries.push(kept);
-        } else if let Entry::Vacant(next) = std::mem::replace(&mut self.entries[place], kept) {
-            self.vacant = next;
-        }
+        let key = self.insert_key(shard)?;
+        self.values.put(shard, key, value);
         Ok(key)
     }
 
-    /// The value of the key, where it is live.
-    pub fn get(&self, key: Key) -> Option<&T> {
-        match self.entries.get(self.place_of(key)?)? {
-            Entry::Kept(_, value) => Some(value),
-            Entry::Vacant(_) => None,
+    /// A key of the shard's, for whose value there is room.
+    #[inline]
+    fn insert_key(&mut self, shard: u32) -> Result<Key, Refused> {
+        self.values.reserve(shard)?;
+        if Values::<T>::SLOTS == 256 {
+            self.core.insert(shard, NO_WORDS[0])
+        } else {
+            self.core.insert_words(shard, &NO_WORDS)
         }
+    }
+
+    /// The value of the key, where it is live.
+    #[inline]
+    pub fn get(&self, key: Key) -> Option<&T> {
+        self.values.get(key)
     }
 
     /// The value of the key, to be changed, where it is live.
+    #[inline]
     pub fn get_mut(&mut self, key: Key) -> Option<&mut T> {
-        let place = self.place_of(key)?;
-        match self.entries.get_mut(place)? {
-            Entry::Kept(_, value) => Some(value),
-            Entry::Vacant(_) => None,
-        }
+        self.values.get_mut(key)
     }
 
     /// Whether the key is live.
+    #[inline]
     pub fn contains(&self, key: Key) -> bool {
-        self.core.contains(key)
+        self.values.contains(key)
     }
 
     /// Takes the value of the key out, where it is live. The key finds nothing from then on.
+    #[inline]
     pub fn remove(&mut self, key: Key) -> Option<T> {
-        let place = self.place_of(key)?;
+        let (value, shard) = self.values.take(key)?;
         self.core.free(key);
-        let entry = self.entries.get_mut(place)?;
-        match std::mem::replace(entry, Entry::Vacant(self.vacant)) {
-            Entry::Kept(_, value) => {
-                self.vacant = Some(place);
-                Some(value)
-            }
-            vacant => {
-                *entry = vacant;
-                None
-            }
-        }
+        self.first = self.first.min(shard);
+        Some(value)
     }
 
-    /// Takes out each value that the test does not keep.
+    /// Takes out each value that the test does not keep. Where the test or the drop of a value panics, all that it has not come to stays.
     pub fn retain(&mut self, mut keeps: impl FnMut(Key, &mut T) -> bool) {
-        for place in 0..self.entries.len() {
-            if let Entry::Kept(key, value) = &mut self.entries[place] {
-                let key = *key;
-                if !keeps(key, value) {
-                    self.remove(key);
-                }
+        let mut walk = self.values.walk();
+        while let Some((key, value)) = self.values.next_mut(&mut walk) {
+            if !keeps(key, value) {
+                self.remove(key);
             }
         }
     }
 
-    /// Takes all values out, and keeps the pages.
+    /// Takes all values out, and keeps the core's pages. Where the drop of a value panics, those after it stay.
     pub fn clear(&mut self) {
         self.retain(|_, _| false);
     }
 
-    /// Takes all values out, and gives each with the key that it had, in no particular order. The keys are freed at once; values that are
-    /// not asked for are dropped with the iterator.
-    pub fn drain(&mut self) -> impl Iterator<Item = (Key, T)> {
-        self.core.drain().for_each(drop);
-        self.vacant = None;
-        std::mem::take(&mut self.entries)
-            .into_iter()
-            .filter_map(|entry| match entry {
-                Entry::Kept(key, value) => Some((key, value)),
-                Entry::Vacant(_) => None,
-            })
+    /// Takes all values out, and gives each with the key that it had, in no particular order. Values that are not asked for are dropped
+    /// with the iterator.
+    pub fn drain(&mut self) -> impl Iterator<Item = (Key, T)> + '_ {
+        let walk = self.values.walk();
+        Drain { slab: self, walk }
     }
 
     /// How many values there are.
@@ -159,18 +180,12 @@ impl<T> Slab<T> {
 
     /// Each key with its value, in no particular order.
     pub fn iter(&self) -> impl Iterator<Item = (Key, &T)> {
-        self.entries.iter().filter_map(|entry| match entry {
-            Entry::Kept(key, value) => Some((*key, value)),
-            Entry::Vacant(_) => None,
-        })
+        self.values.iter()
     }
 
     /// Each key with its value, to be changed, in no particular order.
     pub fn iter_mut(&mut self) -> impl Iterator<Item = (Key, &mut T)> {
-        self.entries.iter_mut().filter_map(|entry| match entry {
-            Entry::Kept(key, value) => Some((*key, value)),
-            Entry::Vacant(_) => None,
-        })
+        self.values.iter_mut()
     }
 
     /// Each key, in no particular order.
@@ -183,53 +198,149 @@ impl<T> Slab<T> {
         self.iter().map(|(_, value)| value)
     }
 
-    /// Ends a shard, as [`Core::end`].
-    pub fn end(&mut self, shard: u32) -> Result<(), Refused> {
-        self.core.end(shard)
-    }
-
-    /// Moves the sparsest groups of a shard to the pool, as [`Core::retire`], whose shard goes on.
-    pub fn retire(&mut self, shard: u32, most: usize) -> Result<usize, Refused> {
-        self.core.retire(shard, most)
-    }
+    crate::core::letting_go!();
 
     /// Moves a group of the pool to a shard, as [`Core::adopt`].
     pub fn adopt(&mut self, shard: u32) -> Result<Group, Refused> {
-        self.core.adopt(shard)
+        let group = self.core.adopt(shard)?;
+        self.values.note_adopted(group, shard);
+        self.first = self.first.min(shard);
+        Ok(group)
     }
 
-    /// Plans as many folds as can be, as [`Core::mark`].
-    pub fn mark(&mut self) -> Result<Marked, Refused> {
-        self.core.mark()
-    }
-
-    /// Carries out the next fold, as [`Core::step`].
+    /// Carries out the next fold, as [`Core::step`]. The values move with it, and their page goes back.
     pub fn step(&mut self) -> Result<Stepped, Refused> {
-        self.core.step()
+        let stepped = self.core.step()?;
+        if let Stepped::Folded(abandoned, owned) = stepped {
+            self.values.fold(abandoned, owned);
+        }
+        Ok(stepped)
     }
 
     /// Closes the plan, as [`Core::close`].
     pub fn close(&mut self) -> Result<(), Refused> {
+        self.first = 0;
         self.core.close()
     }
 
-    /// Marks, takes all steps and closes, as [`Core::mesh`].
+    /// Marks, takes all steps and closes, as [`Core::mesh`]. The values move with the folds, and their pages go back.
     pub fn mesh(&mut self) -> Result<usize, Refused> {
-        self.core.mesh()
+        let values = &mut self.values;
+        let meshed = self.core.mesh_with(|abandoned, owned| values.fold(abandoned, owned));
+        self.first = 0;
+        meshed
     }
 
-    /// How many pages of 256 slots there are.
-    pub fn pages(&self) -> usize {
-        self.core.pages()
+    /// Folds sparse pages onto others until that hardly gives any back, and says how many pages went; each takes its page of values with it.
+    /// Every key stays valid, and all groups are in shards afterwards, also those that an end or a retirement had left to the pool.
+    ///
+    /// Half of the pages, those with the fewest values, go to the pool, as many as can be are folded onto the other half, and the shards
+    /// adopt the rest; where that gave at least a sixteenth of the pages back, once more. Each fold copies the values of a page, and a plan
+    /// looks at each pair of pages; measured were 15 ms for 1,600 pages and 80 to 190 ms for 7,800. A page that is folded takes no value of
+    /// its own any more, so each fold uses up one of the 1,024 pages that a shard opens in its life: after 16,384 pages a slab of 16 shards
+    /// opens no other, and one that is filled and compacted again and again wants more shards.
+    ///
+    /// It is refused with [`Refused::PlanOpen`] where a plan is open, and with [`Refused::TooMany`] where there are more than 8,192 pages, since a
+    /// plan has 4,096 on a side, or as many as that with no value on them; and then nothing has changed but whose the groups are. With
+    /// [`Refused::OutOfMemory`] it stops where it is: every key has its value, and it may be tried again.
+    ///
+    /// ```
+    /// # use teurlaks::Slab;
+    /// let mut slab = Slab::new()?;
+    /// let keys: Vec<_> = (0..1024).map(|i| slab.insert(i)).collect::<Result<_, _>>()?;
+    /// slab.retain(|_, i| *i % 19 == 0); // 54 of 1,024 are left, on four pages
+    /// assert_eq!(slab.compact()?, 3);
+    /// assert_eq!((slab.pages(), slab.len(), slab.get(keys[38])), (1, 54, Some(&38)));
+    /// # Ok::<(), teurlaks::Refused>(())
+    /// ```
+    pub fn compact(&mut self) -> Result<usize, Refused> {
+        let before = self.pages();
+        if before > 2 * MOST_GROUPS {
+            return Err(Refused::TooMany);
+        }
+        // What the pool has already, where shards have few enough for a plan. An open plan is refused here, before anything changes.
+        match self.mesh() {
+            Ok(_) | Err(Refused::TooMany) => self.adopt_all()?,
+            Err(refused) => return Err(refused),
+        }
+        loop {
+            let pages = self.pages();
+            let regained = self.fold_sparse_pages()?;
+            if regained == 0 || regained * 16 < pages {
+                break;
+            }
+        }
+        self.values.cool();
+        Ok(before - self.pages())
     }
 
-    /// The last mark's certificate, as [`Core::certificate`].
-    pub fn certificate(&self) -> Result<Option<String>, Refused> {
-        self.core.certificate()
+    /// Folds the sparser half of the pages onto the other one, and says how many went.
+    fn fold_sparse_pages(&mut self) -> Result<usize, Refused> {
+        let regained = self.retire_sparse_pages().and_then(|()| self.mesh());
+        self.adopt_all()?;
+        regained
     }
 
-    fn place_of(&self, key: Key) -> Option<usize> {
-        self.core.get(key).and_then(|word| usize::try_from(word).ok())
+    fn retire_sparse_pages(&mut self) -> Result<(), Refused> {
+        for (shard, pages) in (0..self.shards).zip(self.sparse_pages()?) {
+            match self.core.retire(shard, pages) {
+                Ok(_) | Err(Refused::Ended) => {}
+                Err(refused) => return Err(refused),
+            }
+        }
+        Ok(())
+    }
+
+    /// How many pages of each shard are of the sparser half of all. Each half has 4,096 at most, where that can be, for a plan has no more.
+    fn sparse_pages(&self) -> Result<[usize; 64], Refused> {
+        let mut pages = Vec::new();
+        pages.try_reserve(self.pages()).map_err(|_| Refused::OutOfMemory)?;
+        pages.extend(self.values.pages());
+        pages.sort_unstable();
+        let half = (pages.len() / 2)
+            .max(self.pages().saturating_sub(MOST_GROUPS))
+            .min(MOST_GROUPS);
+        let mut counts = [0; 64];
+        for (_, shard) in pages.iter().take(half) {
+            counts[usize::from(*shard)] += 1;
+        }
+        Ok(counts)
+    }
+
+    /// Moves the groups of the pool that have a page to the shards that may have them.
+    fn adopt_all(&mut self) -> Result<(), Refused> {
+        for shard in 0..self.shards {
+            loop {
+                match self.adopt(shard) {
+                    Ok(_) => {}
+                    Err(Refused::NothingToAdopt) => return Ok(()),
+                    Err(Refused::PagesSpent | Refused::Ended) => break,
+                    Err(refused) => return Err(refused),
+                }
+            }
+        }
+        Ok(())
+    }
+}
+
+/// Takes the values out of a slab one by one: of [`Slab::drain`].
+struct Drain<'s, T> {
+    slab: &'s mut Slab<T>,
+    walk: Walk,
+}
+
+impl<T> Iterator for Drain<'_, T> {
+    type Item = (Key, T);
+
+    fn next(&mut self) -> Option<(Key, T)> {
+        let (key, _) = self.slab.values.next_mut(&mut self.walk)?;
+        Some((key, self.slab.remove(key)?))
+    }
+}
+
+impl<T> Drop for Drain<'_, T> {
+    fn drop(&mut self) {
+        self.for_each(drop);
     }
 }
 
@@ -239,6 +350,7 @@ impl<T> Index<Key> for Slab<T> {
     /// # Panics
     ///
     /// Where the key is not live.
+    #[inline]
     fn index(&self, key: Key) -> &T {
         self.get(key).expect("the key is not live")
     }
@@ -248,6 +360,7 @@ impl<T> IndexMut<Key> for Slab<T> {
     /// # Panics
     ///
     /// Where the key is not live.
+    #[inline]
     fn index_mut(&mut self, key: Key) -> &mut T {
         self.get_mut(key).expect("the key is not live")
     }

@@ -91,6 +91,11 @@ fn without_raw(name: &str) -> String {
     name.strip_prefix("Raw").unwrap_or(name).to_string()
 }
 
+fn slice(name: String, pointer: &str, of: &str) -> Vec<(String, String)> {
+    let first = (name.clone(), format!("{pointer} {}", without_raw(of)));
+    vec![first, (name + "_len", "usize".into())]
+}
+
 /// `name: type` of Rust and of Rattle: none for what takes no bytes, and a pointer and a length for a slice.
 fn rust_fields(part: &[String]) -> Vec<(String, String)> {
     let part = if part[0] == "pub" { &part[1..] } else { part };
@@ -101,8 +106,10 @@ fn rust_fields(part: &[String]) -> Vec<(String, String)> {
     let words: Vec<&str> = part[2..].iter().map(String::as_str).collect();
     match words.as_slice() {
         ["Global"] => Vec::new(),
-        ["&", "mut", "[", "u8", "]"] => vec![(name.clone(), "*mut u8".into()), (name + "_len", "usize".into())],
+        ["&", "mut", "[", of, "]"] => slice(name, "*mut", of),
+        ["&", "[", of, "]"] => slice(name, "*const", of),
         ["&", "mut", to] | ["*", "mut", to] => vec![(name, format!("*mut {}", without_raw(to)))],
+        ["*", "const", to] => vec![(name, format!("*const {}", without_raw(to)))],
         [one] => vec![(name, without_raw(one))],
         other => panic!("{name}: {other:?}"),
     }
@@ -131,7 +138,7 @@ fn of_rust(text: &str, external: bool, declarations: &mut Declarations) {
                 };
                 declarations.functions.insert(name(), (params, result));
             }
-            "const" => {
+            "const" if place == 0 || tokens[place - 1] != "*" => {
                 declarations.statuses.insert(name(), tokens[place + 5].clone());
             }
             _ => {}
@@ -148,6 +155,7 @@ fn camel(name: &str) -> String {
 
 fn c_type(words: &[String]) -> String {
     let (pointer, words) = match words.split_last() {
+        Some((last, rest)) if last == "*" && rest[0] == "const" => ("*const ", &rest[1..]),
         Some((last, rest)) if last == "*" => ("*mut ", rest),
         _ => ("", words),
     };
@@ -204,8 +212,8 @@ fn exported() -> Declarations {
             &mut declarations,
         );
     }
-    assert_eq!(declarations.functions.len(), 14);
-    assert_eq!(declarations.structs.len(), 13);
+    assert_eq!(declarations.functions.len(), 16);
+    assert_eq!(declarations.structs.len(), 14);
     declarations
 }
 

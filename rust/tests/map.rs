@@ -30,7 +30,25 @@ fn sorted<'k>(keys: impl Iterator<Item = &'k Key>) -> impl Iterator<Item = Key> 
     keys.into_iter()
 }
 
-/// A million puts, frees, look-ups, ends, adoptions and meshes, of live keys, stale ones and made-up ones.
+/// Words of an object of some class, which tell the call.
+fn words(call: u128, random: &mut Random) -> Vec<u128> {
+    let len = match random.below(40) {
+        0 => 16,
+        1 | 2 => 4,
+        _ => 1,
+    };
+    (0..len).map(|word| (call << 70 | call) + word).collect()
+}
+
+/// Whether each kind of look-up finds these words, or nothing where there are none.
+fn finds(core: &Core, key: Key, wanted: Option<&Vec<u128>>) -> bool {
+    let word = wanted.filter(|words| words.len() == 1).map(|words| words[0]);
+    core.get_words(key).map(|words| words.to_vec()).as_ref() == wanted
+        && core.get(key) == word
+        && core.contains(key) == wanted.is_some()
+}
+
+/// A million puts, frees, look-ups, ends, adoptions and meshes, of live keys, stale ones and made-up ones, and of objects of each class.
 #[test]
 fn a_million_calls_as_a_map() -> Result<(), Refused> {
     let mut random = Random(7);
@@ -38,29 +56,30 @@ fn a_million_calls_as_a_map() -> Result<(), Refused> {
         shards: 64,
         ..Limits::default()
     })?;
-    let mut map: HashMap<Key, u128> = HashMap::new();
+    let mut map: HashMap<Key, Vec<u128>> = HashMap::new();
     let mut keys: Vec<Key> = Vec::new();
     let mut running = 0;
     for call in 0..1_000_000_u128 {
         let chosen = keys.get(random.below(keys.len().max(1))).copied();
         match (random.below(16), chosen) {
             (0..=5, _) | (_, None) => {
-                let key = core.insert(running, call << 70 | call)?;
-                assert_eq!(map.insert(key, call << 70 | call), None, "{key} was given out twice");
+                let words = words(call, &mut random);
+                let key = core.insert_words(running, &words)?;
+                assert_eq!(map.insert(key, words), None, "{key} was given out twice");
                 keys.push(key);
             }
-            (6..=10, Some(key)) => assert_eq!(core.get(key), map.get(&key).copied()),
+            (6..=10, Some(key)) => assert!(finds(&core, key, map.get(&key)), "{key}"),
             (11..=14, Some(key)) => assert_eq!(core.free(key), map.remove(&key).is_some()),
             (_, Some(key)) => {
-                let bits = key.to_bits() ^ 1 << random.below(64);
-                assert_eq!(core.get(Key::from_bits(bits)), map.get(&Key::from_bits(bits)).copied());
+                let key = Key::from_bits(key.to_bits() ^ 1 << random.below(64));
+                assert!(finds(&core, key, map.get(&key)), "{key}");
             }
         }
         if call % 17_000 == 16_999 {
             let pages = core.pages();
             core.end(running)?;
             running += 1;
-            core.insert(running, 0).map(|key| map.insert(key, 0))?;
+            core.insert(running, 0).map(|key| map.insert(key, vec![0]))?;
             let regained = core.mesh()?;
             assert_eq!(core.pages() + regained, pages + 1);
             if call % 2 == 1 {
@@ -69,10 +88,13 @@ fn a_million_calls_as_a_map() -> Result<(), Refused> {
         }
     }
     assert_eq!(core.len(), map.len());
-    assert!(map.iter().all(|(key, word)| core.get(*key) == Some(*word)));
+    assert!(map.iter().all(|(key, words)| finds(&core, *key, Some(words))));
     // The walk meets each live key once, in order, and a drain frees all.
     assert!(core.keys().eq(sorted(map.keys())));
-    assert!(core.iter().eq(sorted(map.keys()).map(|key| (key, map[&key]))));
+    assert!(core
+        .iter()
+        .map(|(key, words)| (key, words.to_vec()))
+        .eq(sorted(map.keys()).map(|key| (key, map[&key].clone()))));
     let some: Vec<Key> = core.drain().take(100).map(|(key, _)| key).collect();
     assert!(some.into_iter().eq(sorted(map.keys()).take(100)));
     assert_eq!((core.len(), core.next_live(None)), (0, None));

@@ -1,6 +1,6 @@
 //! One shard that goes on, and whose pages fold.
 
-use teurlaks::{Key, Refused, Slab};
+use teurlaks::{Key, Limits, Refused, Slab};
 
 /// Numbers that look random, the same in each run.
 struct Numbers(u64);
@@ -17,9 +17,17 @@ impl Numbers {
 const PAGES: usize = 1024;
 const SLOTS: usize = 256;
 
-/// A slab whose one shard has 1,024 pages with 5 values of 100 left; those that are left, and the keys of those that are gone.
-fn thinned() -> Result<(Slab<usize>, Vec<(Key, usize)>, Vec<Key>), Refused> {
-    let mut slab = Slab::new()?;
+/// A slab whose one shard has 1,024 pages with 5 values of 100 left.
+struct Thinned {
+    slab: Slab<usize>,
+    /// The values that are left.
+    kept: Vec<(Key, usize)>,
+    /// The keys of those that are gone.
+    freed: Vec<Key>,
+}
+
+fn thinned() -> Result<Thinned, Refused> {
+    let mut slab = Slab::with_limits(Limits::default())?;
     let keys = (0..PAGES * SLOTS)
         .map(|value| slab.insert(value))
         .collect::<Result<Vec<_>, _>>()?;
@@ -32,12 +40,13 @@ fn thinned() -> Result<(Slab<usize>, Vec<(Key, usize)>, Vec<Key>), Refused> {
     for (key, value) in &freed {
         assert_eq!(slab.remove(*key), Some(*value));
     }
-    Ok((slab, kept, freed.into_iter().map(|(key, _)| key).collect()))
+    let freed = freed.into_iter().map(|(key, _)| key).collect();
+    Ok(Thinned { slab, kept, freed })
 }
 
 #[test]
 fn one_shard_gives_half_of_its_pages_back() -> Result<(), Refused> {
-    let (mut slab, kept, freed) = thinned()?;
+    let Thinned { mut slab, kept, freed } = thinned()?;
     assert_eq!(slab.pages(), PAGES);
 
     assert_eq!(slab.retire(0, PAGES / 2)?, PAGES / 2);
@@ -58,7 +67,7 @@ fn one_shard_gives_half_of_its_pages_back() -> Result<(), Refused> {
 
 #[test]
 fn retires_what_has_a_live_key() -> Result<(), Refused> {
-    let mut slab = Slab::new()?;
+    let mut slab = Slab::with_limits(Limits::default())?;
     assert_eq!(slab.retire(0, 5)?, 0);
     assert_eq!(slab.retire(1, 5), Err(Refused::Config));
     let key = slab.insert(7)?;
@@ -69,5 +78,24 @@ fn retires_what_has_a_live_key() -> Result<(), Refused> {
     assert_eq!((slab.pages(), slab[other]), (2, 8));
     slab.end(0)?;
     assert_eq!(slab.retire(0, 5), Err(Refused::Ended));
+    Ok(())
+}
+
+/// A plan has 4,096 groups on a side at most, so 8,192 pages are compacted at most.
+#[test]
+fn more_pages_than_a_plan_has() -> Result<(), Refused> {
+    const SLOTS: usize = 64;
+    let mut slab = Slab::new()?;
+    let keys = (0..8193 * SLOTS)
+        .map(|_| slab.insert([0_u8; 129]))
+        .collect::<Result<Vec<_>, _>>()?;
+    for key in keys.iter().skip(1) {
+        slab.remove(*key);
+    }
+    assert_eq!((slab.pages(), slab.compact()), (8193, Err(Refused::TooMany)));
+    assert_eq!(
+        (slab.pages(), slab.len(), slab.get(keys[0])),
+        (8193, 1, Some(&[0; 129]))
+    );
     Ok(())
 }

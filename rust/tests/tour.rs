@@ -101,7 +101,7 @@ fn the_certificate_is_the_text_of_the_format() -> Result<(), Refused> {
     // The first of the 64 digits' bytes has the slots 0 to 7.
     let (slot_0, slot_1) = (format!("01{}", "0".repeat(62)), format!("02{}", "0".repeat(62)));
     let text =
-        format!("meshcert 1\nabandoned 1\n0.0 {slot_0}\nowned 1\n1.0 {slot_1}\nfolds 1\n0.0 1.0\nshort 0\nend\n");
+        format!("meshcert 2\nabandoned 1\n0.0 16 {slot_0}\nowned 1\n1.0 16 {slot_1}\nfolds 1\n0.0 1.0\nshort 0\nend\n");
     assert_eq!(core.certificate()?, Some(text));
     Ok(())
 }

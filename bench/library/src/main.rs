@@ -1,4 +1,7 @@
-//! `library WHO KIND LIVE CALLS`: nanoseconds a call of one store, in a process of its own; `library WHO memory LIVE 0`: resident bytes a live value.
+//! `library WHO KIND LIVE CALLS [BYTES]`: nanoseconds a call of one store, in a process of its own; `library WHO memory LIVE 0`: resident bytes a
+//! live value. A value is a word of 128 bits, or has 16, 64 or 240 bytes where that is said.
+
+mod wide;
 
 use beside::clock;
 use beside::mixes::Store;
@@ -140,20 +143,39 @@ fn of(who: &str, kind: &str, live: usize, calls: usize) -> Option<f64> {
     }
 }
 
+/// The same with values of that many bytes.
+fn of_wide(who: &str, kind: &str, live: usize, calls: usize, bytes: usize) -> Option<f64> {
+    match bytes {
+        16 => wide::of::<16>(who, kind, live, calls),
+        64 => wide::of::<64>(who, kind, live, calls),
+        240 => wide::of::<240>(who, kind, live, calls),
+        _ => None,
+    }
+}
+
+fn asked(words: &[String]) -> Option<f64> {
+    let (calls, bytes) = match words {
+        [_, _, _, calls] => (calls, None),
+        [_, _, _, calls, bytes] => (calls, Some(bytes.parse().ok()?)),
+        _ => return None,
+    };
+    let (who, kind, live, calls) = (&words[0], &words[1], words[2].parse().ok()?, calls.parse().ok()?);
+    match bytes {
+        Some(bytes) => of_wide(who, kind, live, calls, bytes),
+        None => of(who, kind, live, calls),
+    }
+}
+
 fn main() -> ExitCode {
     let words: Vec<String> = std::env::args().skip(1).collect();
-    let [who, kind, live, calls] = words.as_slice() else {
-        eprintln!("library WHO KIND LIVE CALLS");
-        return ExitCode::FAILURE;
-    };
-    match (live.parse(), calls.parse()) {
-        (Ok(live), Ok(calls)) => match of(who, kind, live, calls) {
-            Some(measured) => {
-                println!("{measured:.1}");
-                ExitCode::SUCCESS
-            }
-            None => ExitCode::FAILURE,
-        },
-        _ => ExitCode::FAILURE,
+    match asked(&words) {
+        Some(measured) => {
+            println!("{measured:.1}");
+            ExitCode::SUCCESS
+        }
+        None => {
+            eprintln!("library WHO KIND LIVE CALLS [BYTES]");
+            ExitCode::FAILURE
+        }
     }
 }

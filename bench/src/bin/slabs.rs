@@ -1,5 +1,6 @@
 //! `slabs time MIX WHO` and `slabs memory WHO`: stores that do less than Teurlaks, on the same calls.
 
+use beside::class::Class;
 use beside::clock;
 use beside::core::Core;
 use beside::ids::Key;
@@ -73,10 +74,10 @@ struct Plain<const LOG: bool>(Core<LOG>);
 impl<const LOG: bool> Store for Plain<LOG> {
     type Key = Key;
     fn put(&mut self, value: u128) -> Key {
-        self.0.put(0, value).expect("the mixes fit a shard")
+        self.0.put(0, Class::C16, value).expect("the mixes fit a shard")
     }
     fn get(&mut self, key: Key) -> Option<u128> {
-        self.0.get(key)
+        self.0.get(key).map(|words| words[0])
     }
     fn free(&mut self, key: Key) -> bool {
         self.0.free(key)

@@ -16,7 +16,7 @@ use Rattle.span.specs.declared.id.SpanId.{SpanId}
 use Rattle.span.specs.declared.key.Key.{Key}
 use Rattle.span.proofs.Changes.{IsLegal-push}
 use Rattle.page_table.specs.State.{is_page}
-use Rattle.groups.specs.Spans.{AreApart, union_of, with_free}
+use Rattle.groups.specs.Spans.{AreApart, AreSpansOf, union_of, with_free}
 use Rattle.groups.specs.Tables.{without_page}
 use Rattle.shard.specs.declared.shard.Freed.{Freed}
 use Rattle.shard.specs.declared.shard.Freed.TheVariants as freed
@@ -33,7 +33,7 @@ use Rattle.abandoned.specs.State.{PoolState, PooledState}
 use Rattle.abandoned.proofs.Inserted.{IsSound-inserted, IsTableWith}
 use Rattle.abandoned.proofs.Lifted.{IsSound-left_over, elsewhere-left_over, left_over, once_in_group}
 use Rattle.abandoned.proofs.Pages.{IsSameOn, from-is_page, is_page-same, other_page, page_if_live, sound_paged}
-use Rattle.groups.proofs.Standing.{page-with_span, spans_of-with_span}
+use Rattle.groups.proofs.Standing.{AreSpansOf-with_span, IsSpanOf-with_free, page-with_span, spans_of-with_span}
 use Rattle.abandoned.proofs.Tables.{len-without, pages-without, spans-without}
 use Rattle.abandoned.proofs.TakenIn.{empty_or_not}
 
@@ -95,6 +95,9 @@ module _ (old : PoolState) (sound : IsSound old) (index place : ℕ) (group : Po
     | inr that ↦ before.legal at s that.1
   ]
 
+  classes_now : AreSpansOf (with_span group place changed).head.class (spans_of (with_span group place changed))
+  classes_now = AreSpansOf-with_span group place changed before.classes (IsSpanOf-with_free group.head.class span key (before.classes place span here.1))
+
   span_now : (page : ℕ) → AreOnPage old.table (spans_of group) page → (at : ℕ) (s : SpanState) → slice_get (spans_of (with_span group place changed)) at ≡ Some s → IsOnPage old.table page s
   span_now page paged at s there = elim (cases-set (spans_of group) place changed at s (ap (λ spans. slice_get spans at) spans_now ∙ there)) [
     | inl this ↦
@@ -136,7 +139,7 @@ module _ (old : PoolState) (sound : IsSound old) (index place : ℕ) (group : Po
   -- the group that is emptied
   emptied_table : union_of (spans_of (with_span group place changed)) ≡ set_of.empty → IsTableWith rest (now None) rest.table
   emptied_table none = record {
-    here = record { apart = subst AreApart spans_now less_live; legal = legal_now; page = none };
+    here = record { apart = subst AreApart spans_now less_live; legal = legal_now; classes = classes_now; page = none };
     others = λ at other there page is. record { words = refl; mapped = λ p s t. refl };
     in_use = λ page is. absurd cc;
     own_page = λ page is. absurd cc;
@@ -186,6 +189,7 @@ module _ (old : PoolState) (sound : IsSound old) (index place : ℕ) (group : Po
       here = record {
         apart = subst AreApart spans_now less_live;
         legal = legal_now;
+        classes = classes_now;
         page = subst (λ o. MatchOption o (union_of (spans_of (with_span group place changed)) ≡ set_of.empty) (AreOnPage old.table (spans_of (now o)))) (sym is) (record { has_page = paged.has_page; each = span_now page paged });
       };
       others = others_now;

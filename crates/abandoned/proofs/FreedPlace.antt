@@ -1,17 +1,17 @@
 -- A free in the group that stands at the place of its head.
-use Rattle.std.proofs.Common.{zero, suc, ◌≡◌, ℕ, ◌<◌, Bool, true, false, List, length, Option, Some, set, slice_get, get_or, ap, sym, subst, ◌∙◌, refl}
+use Rattle.std.proofs.Common.{zero, suc, ◌≡◌, ℕ, Bool, true, false, length, length-set, Some, set, slice_get, ap, sym, subst, ◌∙◌, refl}
 use Rattle.std.specs.Bool.{OnFalse, OnTrue}
-use Rattle.std.proofs.lemmas.Option.{slice_get_read, slice_get_within}
 use Rattle.span.specs.Ids.{rank}
 use Rattle.span.specs.State.{SpanState}
 use Rattle.span.specs.declared.id.SpanId.{SpanId}
 use Rattle.page_table.specs.State.{TableState}
-use Rattle.groups.proofs.Lists.{same_some, set-same}
+use Rattle.groups.proofs.Lists.{same_some}
 use Rattle.abandoned.specs.Calls.{GivesUp}
-use Rattle.abandoned.specs.Groups.{FreesIn, GroupsState, HasHeadAt, standing}
+use Rattle.abandoned.specs.Groups.{FreesIn, standing}
+use Rattle.abandoned.specs.Ranked.{FreesAt, RankedState}
 use Rattle.abandoned.specs.State.{PooledState}
 use Rattle.groups.specs.Group.{IsHeadOf, spans_of, with_span}
-use Rattle.abandoned.proofs.GroupPlaces.{AtRank, place-IsHeadOf}
+use Rattle.abandoned.proofs.GroupPlaces.{AtRank, AtRank-set, get-set_other, place-IsHeadOf}
 use Rattle.abandoned.proofs.KnownGuests.{same_spans}
 use Rattle.abandoned.proofs.Places.{standing-set}
 
@@ -23,50 +23,48 @@ pub on_false : {X Y : Type 0} (b : Bool) → (X → Y) → OnFalse b X → OnFal
 on_false true f x = x
 on_false false f x = f x
 
-module _ (places : List (Option PooledState)) (at_rank : AtRank places) (head : SpanId) where
-  module _ (at : ℕ) (at_is : at ≡ rank head) (read : Option PooledState) (read_is : read ≡ get_or places at read) where
-    -- what is read at the place of a head that is here
-    module _ (group : PooledState) (is : HasHeadAt (standing places) head group) where
-      there : slice_get places at ≡ Some (Some group)
-      there = subst (λ n. slice_get places n ≡ Some (Some group)) (sym at_is) (place-IsHeadOf places at_rank head is.0 group is.1).0
+-- the head's id after a free
+pub same_head : (group now : PooledState) (place : ℕ) (span changed : SpanState) (table table_now : TableState) → slice_get (spans_of group) place ≡ Some span → changed.id ≡ span.id
+    → GivesUp (with_span group place changed) table now table_now → now.head.id ≡ group.head.id
+same_head group now zero span changed table table_now here same gives =
+    ap (λ (s : SpanState). s.id) (same_spans (with_span group zero changed) now table table_now gives).0 ∙ same ∙ ap (λ (s : SpanState). s.id) (sym (same_some here))
+same_head group now (suc place) span changed table table_now here same gives =
+    ap (λ (s : SpanState). s.id) (same_spans (with_span group (suc place) changed) now table table_now gives).0
 
-      pub at_within : at < length places
-      at_within = slice_get_within places at (Some group) there
+module _ (old : RankedState) (at_rank : AtRank old.by_rank) (at : ℕ) where
+  module _ (head : SpanId) (at_is : at ≡ rank head) (index : ℕ) (group : PooledState) (is : IsHeadOf (standing old.by_rank) head index group) where
+    pub there : slice_get old.by_rank at ≡ Some (Some group)
+    there = subst (λ n. slice_get old.by_rank n ≡ Some (Some group)) (sym at_is) (place-IsHeadOf old.by_rank at_rank head index group is).0
 
-      pub read_group : read ≡ Some group
-      read_group = same_some (sym (slice_get_read places _ at read refl at_within read_is) ∙ there)
+    pub FreesIn-ranked : (place : ℕ) (span : SpanState) (table table_now : TableState) (new : RankedState) → FreesAt old at group place span table new table_now
+        → FreesIn (record { groups = standing old.by_rank; room = old.room }) index group place span table (record { groups = standing new.by_rank; room = new.room }) table_now
+    FreesIn-ranked place span table table_now new frees = (
+      frees.0,
+      frees.1,
+      ap (λ (r : RankedState). record { groups = standing r.by_rank; room = r.room }) frees.2
+          ∙ ap (λ n. record { groups = standing (set old.by_rank n (Some frees.0)); room = old.room }) at_is
+          ∙ ap (λ gs. record { groups = gs; room = old.room })
+          (standing-set old.by_rank (rank head) group frees.0 (place-IsHeadOf old.by_rank at_rank head index group is).0 ∙ ap (λ n. set (standing old.by_rank) n frees.0) (place-IsHeadOf old.by_rank at_rank head index group is).1),
+    )
 
-    -- the group that was read
-    module _ (group : PooledState) (is : read ≡ Some group) (within : at < length places) where
-      pub group_at : slice_get places at ≡ Some (Some group)
-      group_at = slice_get_read places _ at read refl within read_is ∙ ap Some is
-
-      pub group_at_rank : slice_get places (rank head) ≡ Some (Some group)
-      group_at_rank = subst (λ n. slice_get places n ≡ Some (Some group)) at_is group_at
-
-      pub one_group : (index : ℕ) (other : PooledState) → IsHeadOf (standing places) head index other → other ≡ group
-      one_group index other here = same_some (same_some (sym (place-IsHeadOf places at_rank head index other here).0 ∙ group_at_rank))
-
-      pub standing-changed : (index : ℕ) (other now : PooledState) → IsHeadOf (standing places) head index other → standing (set places at (Some now)) ≡ set (standing places) index now
-      standing-changed index other now here =
-          ap (λ n. standing (set places n (Some now))) at_is ∙ standing-set places (rank head) group now group_at_rank ∙ ap (λ n. set (standing places) n now) (place-IsHeadOf places at_rank head index other here).1
-
-      pub FreesIn-places : (room index place : ℕ) (other now : PooledState) (span : SpanState) (table table_now : TableState) → IsHeadOf (standing places) head index other → GivesUp (with_span group place span) table now table_now
-          → FreesIn (record { groups = standing places; room = room }) index other place span table (record { groups = standing (set places at (Some now)); room = room }) table_now
-      FreesIn-places room index place other now span table table_now here gives = (
-        now,
-        subst (λ (x : PooledState). GivesUp (with_span x place span) table now table_now) (sym (one_group index other here)) gives,
-        ap (λ gs. record { groups = gs; room = room }) (standing-changed index other now here),
+  -- what a free leaves of the other places, done or not
+  pub places-kept : (b : Bool) (group : PooledState) (place : ℕ) (span changed : SpanState) (table table_now : TableState) (new : RankedState)
+      → slice_get old.by_rank at ≡ Some (Some group) → slice_get (spans_of group) place ≡ Some span → changed.id ≡ span.id
+      → OnTrue b (FreesAt old at group place changed table new table_now) → OnFalse b ((new ≡ old) × (table_now ≡ table))
+      → AtRank new.by_rank × (length new.by_rank ≡ length old.by_rank) × (new.room ≡ old.room) × ((other : ℕ) → (other ≡ at → ⊥) → slice_get new.by_rank other ≡ slice_get old.by_rank other)
+  places-kept false group place span changed table table_now new here span_is same frees stays =
+      subst (λ (r : RankedState). AtRank r.by_rank × (length r.by_rank ≡ length old.by_rank) × (r.room ≡ old.room) × ((other : ℕ) → (other ≡ at → ⊥) → slice_get r.by_rank other ≡ slice_get old.by_rank other)) (sym stays.0)
+      (at_rank, refl, refl, λ other apart. refl)
+  places-kept true group place span changed table table_now new here span_is same frees stays =
+      subst (λ (r : RankedState). AtRank r.by_rank × (length r.by_rank ≡ length old.by_rank) × (r.room ≡ old.room) × ((other : ℕ) → (other ≡ at → ⊥) → slice_get r.by_rank other ≡ slice_get old.by_rank other)) (sym frees.2) (
+        AtRank-set old.by_rank at_rank at (Some frees.0) (λ now is. ap (λ (g : PooledState). rank g.head.id) (sym (same_some is)) ∙ ap rank (same_head group frees.0 place span changed table table_now span_is same frees.1) ∙ at_rank at group here),
+        length-set old.by_rank at (Some frees.0),
+        refl,
+        λ other apart. get-set_other old.by_rank at other (Some frees.0) apart,
       )
 
-      pub unchanged : (room : ℕ) (now : PooledState) → now ≡ group → ◌≡◌ {A = GroupsState} (record { groups = standing (set places at (Some now)); room = room }) (record { groups = standing places; room = room })
-      unchanged room now same = ap (λ (x : PooledState). record { groups = standing (set places at (Some x)); room = room }) same ∙ ap (λ ps. record { groups = standing ps; room = room }) (set-same places at (Some group) group_at)
-
 -- the head's id after a free, done or not
-pub same_head : (b : Bool) (group now : PooledState) (place : ℕ) (span changed : SpanState) (table table_now : TableState) → slice_get (spans_of group) place ≡ Some span → changed.id ≡ span.id
+pub head-free : (b : Bool) (group now : PooledState) (place : ℕ) (span changed : SpanState) (table table_now : TableState) → slice_get (spans_of group) place ≡ Some span → changed.id ≡ span.id
     → OnTrue b (GivesUp (with_span group place changed) table now table_now) → OnFalse b ((now ≡ group) × (table_now ≡ table)) → now.head.id ≡ group.head.id
-same_head false group now place span changed table table_now here same gives stays = ap (λ (x : PooledState). x.head.id) stays.0
-same_head true group now zero span changed table table_now here same gives stays =
-    ap (λ (s : SpanState). s.id) (same_spans (with_span group zero changed) now table table_now gives).0 ∙ same ∙ ap (λ (s : SpanState). s.id) (sym (same_some here))
-same_head true group now (suc place) span changed table table_now here same gives stays =
-    ap (λ (s : SpanState). s.id) (same_spans (with_span group (suc place) changed) now table table_now gives).0
+head-free false group now place span changed table table_now here same gives stays = ap (λ (g : PooledState). g.head.id) stays.0
+head-free true group now place span changed table table_now here same gives stays = same_head group now place span changed table table_now here same gives

@@ -1,12 +1,13 @@
 -- Groups at the places of their heads: which one is found, and what a change leaves.
-use Rattle.std.proofs.Common.{zero, suc, ◌≡◌, ℕ, ◌*◌, ◌<◌, ◌≤◌, Bool, true, false, List, [], ◌∷◌, ◌++◌, length, length-set, Bor, Option, Some, None, set, slice_get, ap, sym, subst, ◌∙◌, refl, inl, inr, arith, eq-eqb}
+use Rattle.std.proofs.Common.{zero, suc, ◌≡◌, ℕ, ◌*◌, ◌<◌, ◌≤◌, Bool, true, false, List, [], ◌∷◌, length, length-set, Bor, Option, Some, None, get_or, set, slice_get, ap, sym, subst, ◌∙◌, refl, inl, inr, arith, eq-eqb}
 use Rattle.std.specs.Prelude.{MatchOption, if◌then◌else◌, is_some, nat_eq, option_map}
 use Rattle.std.proofs.lemmas.Bool.{cases_eq, cases_lt, false≢true, ne_eqb}
+use Rattle.std.proofs.lemmas.Option.{get_or_from_slice_get}
 use Rattle.bitmap.specs.Slots.{SlotSet}
 use Rattle.span.specs.Ids.{rank}
 use Rattle.span.specs.declared.id.SpanId.{SpanId}
 use Rattle.shard.specs.Rooms.{has_index}
-use Rattle.groups.proofs.Lists.{cases-set, get-set, in_either, same_some, set-same, there_at}
+use Rattle.groups.proofs.Lists.{cases-set, get-set, set-same, there_at}
 use Rattle.groups.proofs.Ranks.{id_from_rank}
 use Rattle.abandoned.specs.Calls.{HasNoPage, IsFirstPaged}
 use Rattle.groups.specs.Group.{HasNoHead, IsHeadOf, IsPlaceFor}
@@ -20,27 +21,22 @@ pub MatchOption-lent : {X : Type 0} (N : Type 0) (S : X → Type 0) (lent : Opti
 MatchOption-lent N S None held is none some = none (sym is)
 MatchOption-lent N S (Some x) held is none some = some x.now (sym is)
 
-get-set_other : {X : Type 0} (xs : List X) (at other : ℕ) (y : X) → (other ≡ at → ⊥) → slice_get (set xs at y) other ≡ slice_get xs other
+pub get-set_other : {X : Type 0} (xs : List X) (at other : ℕ) (y : X) → (other ≡ at → ⊥) → slice_get (set xs at y) other ≡ slice_get xs other
 get-set_other [] at other y apart = refl
 get-set_other (x ∷ xs) zero zero y apart = absurd (apart refl)
 get-set_other (x ∷ xs) zero (suc other) y apart = refl
 get-set_other (x ∷ xs) (suc at) zero y apart = refl
 get-set_other (x ∷ xs) (suc at) (suc other) y apart = get-set_other xs at other y (λ e. apart (ap suc e))
 
--- all that stands in a list after one more of these
-pub each-push : {X : Type 0} (P : X → Type 0) (xs : List X) (x : X) → ((at : ℕ) (y : X) → slice_get xs at ≡ Some y → P y) → P x → (at : ℕ) (y : X) → slice_get (xs ++ x ∷ []) at ≡ Some y → P y
-each-push P xs x each it at y there = elim (in_either xs (x ∷ []) at y there) [
-  | inl early ↦ each at y early
-  | inr late ↦ last late.0 late.1
-]
-  where
-    last : (later : ℕ) → slice_get (x ∷ []) later ≡ Some y → P y
-    last zero is = subst P (same_some is) it
-    last (suc later) is = absurd cc
-
 page_none : (page : Option ℕ) → is_some page ≡ false → page ≡ None
 page_none None is = refl
 page_none (Some p) is = absurd (false≢true (sym is))
+
+-- a place of no group, or past the end
+pub has_page-none : (place : Option (Option PooledState)) → ((held : Option PooledState) → place ≡ Some held → held ≡ None) → has_page place ≡ false
+has_page-none None none = refl
+has_page-none (Some None) none = refl
+has_page-none (Some (Some group)) none = absurd (let e = none (Some group) refl in cc)
 
 -- each group stands at the rank of its head
 abbrev pub AtRank : List (Option PooledState) → Type 0
@@ -56,12 +52,18 @@ AtRank-set places at_rank at place fits other group there = elim (cases-set plac
   | inr old ↦ at_rank other group old.1
 ]
 
+-- one place may have another group, and its bit is that group's
+pub KnowsPaged-marked : (parts marked : List SlotSet) (places new : List (Option PooledState)) → KnowsPaged parts places → (at : ℕ) → ((other : ℕ) → (other ≡ at → ⊥) → slice_get new other ≡ slice_get places other)
+    → (member : Bool) → member ≡ has_page (slice_get new at) → ((other : ℕ) → has_index marked other ≡ (if nat_eq other at then member else has_index parts other)) → KnowsPaged marked new
+KnowsPaged-marked parts marked places new known at elsewhere member fits marks other = marks other ∙ elim (cases_eq other at) [
+  | inl same ↦ rw (same, eq-eqb at at refl) fits
+  | inr apart ↦ rw (ne_eqb other at apart) (known other ∙ ap has_page (sym (elsewhere other apart)))
+]
+
 pub KnowsPaged-set : (parts marked : List SlotSet) (places : List (Option PooledState)) → KnowsPaged parts places → (at : ℕ) (old place : Option PooledState) → slice_get places at ≡ Some old → (member : Bool) → member ≡ has_page (Some place)
     → ((other : ℕ) → has_index marked other ≡ (if nat_eq other at then member else has_index parts other)) → KnowsPaged marked (set places at place)
-KnowsPaged-set parts marked places known at old place here member fits marks other = marks other ∙ elim (cases_eq other at) [
-  | inl same ↦ rw (same, eq-eqb at at refl) (fits ∙ ap has_page (sym (get-set places at old place here)))
-  | inr apart ↦ rw (ne_eqb other at apart) (known other ∙ ap has_page (sym (get-set_other places at other place apart)))
-]
+KnowsPaged-set parts marked places known at old place here member fits marks =
+    KnowsPaged-marked parts marked places (set places at place) known at (λ other apart. get-set_other places at other place apart) member (fits ∙ ap has_page (sym (get-set places at old place here))) marks
 
 module _ (places : List (Option PooledState)) (at_rank : AtRank places) where
   module _ (head : SpanId) where
@@ -128,8 +130,13 @@ module _ (places : List (Option PooledState)) (at_rank : AtRank places) where
     HasNoPage-places none index group there = let found = place_of places index group there in page-none found.0 group found.1 (none found.0 (omega arith))
 
     -- a bit is on where a group stands
-    pub group_there : (at : ℕ) → has_index parts at ≡ true → (place : Option PooledState) → slice_get places at ≡ Some place → place ≡ None → ⊥
-    group_there at on place here none = false≢true (ap has_page (ap Some (sym none) ∙ sym here) ∙ sym (known at) ∙ on)
+    pub group_there : (at : ℕ) → has_index parts at ≡ true → get_or places at None ≡ None → ⊥
+    group_there at on none = by_place (slice_get places at) refl
+      where
+        by_place : (place : Option (Option PooledState)) → slice_get places at ≡ place → ⊥
+        by_place None here = false≢true (ap has_page (sym here) ∙ sym (known at) ∙ on)
+        by_place (Some None) here = false≢true (ap has_page (sym here) ∙ sym (known at) ∙ on)
+        by_place (Some (Some group)) here = let e = sym none ∙ get_or_from_slice_get places at (Some group) None here in cc
 
     pub IsFirstPaged-places : (at : ℕ) (group : PooledState) → IsNext parts 0 at → slice_get places at ≡ Some (Some group) → IsFirstPaged (standing places) (before places at) group
     IsFirstPaged-places at group next here = record {
@@ -141,24 +148,35 @@ module _ (places : List (Option PooledState)) (at_rank : AtRank places) where
           page-none found.0 lower found.1 (next.least found.0 (omega arith) (place-lower places found.0 at (omega arith)));
     }
 
-pub HaveSize-set : (places : List (Option PooledState)) (parts marked : List SlotSet) → HaveSize places parts → (at : ℕ) (place : Option PooledState) → length marked ≡ length parts → HaveSize (set places at place) marked
-HaveSize-set places parts marked has at place same = record {
+pub HaveSize-same : (places new : List (Option PooledState)) (parts marked : List SlotSet) → HaveSize places parts → length new ≡ length places → length marked ≡ length parts → HaveSize new marked
+HaveSize-same places new parts marked has same same_parts = record {
   size = elim has.size [
-    | inl none ↦ inl (length-set places at place ∙ none)
-    | inr all ↦ inr (length-set places at place ∙ all)
+    | inl none ↦ inl (same ∙ none)
+    | inr all ↦ inr (same ∙ all)
   ];
-  parts_fit = length-set places at place ∙ has.parts_fit ∙ ap (λ n. 256 * n) (sym same);
+  parts_size = elim has.parts_size [
+    | inl none ↦ inl (same_parts ∙ none)
+    | inr all ↦ inr (same_parts ∙ all)
+  ];
+  parts_fit = let fit = has.parts_fit in omega arith;
 }
 
--- there is a place for each head
-pub place_within : (places : List (Option PooledState)) (parts : List SlotSet) → HaveSize places parts → (at : ℕ) → at < length places → (at < 256 * length parts) × (length parts ≤ 256)
-place_within places parts has at low = elim has.size [
-  | inl none ↦ absurd (omega arith)
-  | inr all ↦ let fit = has.parts_fit in (omega arith, omega arith)
-]
+pub HaveSize-set : (places : List (Option PooledState)) (parts marked : List SlotSet) → HaveSize places parts → (at : ℕ) (place : Option PooledState) → length marked ≡ length parts → HaveSize (set places at place) marked
+HaveSize-set places parts marked has at place same = HaveSize-same places (set places at place) parts marked has (length-set places at place) same
 
 pub few_parts : (places : List (Option PooledState)) (parts : List SlotSet) → HaveSize places parts → length parts ≤ 256
-few_parts places parts has = elim has.size [
-  | inl none ↦ let fit = has.parts_fit in omega arith
-  | inr all ↦ let fit = has.parts_fit in omega arith
+few_parts places parts has = elim has.parts_size [
+  | inl none ↦ omega arith
+  | inr all ↦ omega arith
+]
+
+-- there is a bit for each place
+pub place_within : (places : List (Option PooledState)) (parts : List SlotSet) → HaveSize places parts → (at : ℕ) → at < length places → (at < 256 * length parts) × (length parts ≤ 256)
+place_within places parts has at low = (let fit = has.parts_fit in omega arith, few_parts places parts has)
+
+-- there are no places past those of all heads
+pub few_places : (places : List (Option PooledState)) (parts : List SlotSet) → HaveSize places parts → length places ≤ 65536
+few_places places parts has = elim has.size [
+  | inl none ↦ omega arith
+  | inr all ↦ omega arith
 ]

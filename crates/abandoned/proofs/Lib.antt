@@ -18,6 +18,7 @@ pub mod Pages
 pub mod Passing
 pub mod PlaceSpans
 pub mod Places
+pub mod RankedGroups
 pub mod Received
 pub mod Released
 pub mod Retiring

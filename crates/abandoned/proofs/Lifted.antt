@@ -84,7 +84,7 @@ module _ (old : PoolState) (sound : IsSound old) (index : ℕ) (group : PooledSt
       omega arith)
 
   pub IsSoundWhole-whole_of : IsSoundWhole (whole_of old.table group)
-  IsSoundWhole-whole_of = record { apart = its.apart; once = once_in_group; legal = its.legal; words = by_page group.page its.page }
+  IsSoundWhole-whole_of = record { apart = its.apart; once = once_in_group; legal = its.legal; classes = its.classes; words = by_page group.page its.page }
     where
       its : IsSoundGroup (λ page. page) old.table group
       its = sound.groups index group here

@@ -45,8 +45,6 @@ pub record IsMoving (pool₀ : PoolState) (shard₀ : ShardState) (pool : PoolSt
   pub gens : shard.gens ≡ shard₀.gens
   pub opened : shard.opened ≡ shard₀.opened
   pub ended : shard.ended ≡ shard₀.ended
-  pub page_room : shard.table.page_room ≡ shard₀.table.page_room
-  pub span_room : shard.table.span_room ≡ shard₀.table.span_room
 
 pub IsMoving-first : (pool : PoolState) (shard : ShardState) → IsSound pool → IsSoundShard shard → AreApart pool shard → HasRoomFor pool shard → IsMoving pool shard pool shard
 IsMoving-first pool shard sound sound_shard apart room = record {
@@ -63,8 +61,6 @@ IsMoving-first pool shard sound sound_shard apart room = record {
   gens = refl;
   opened = refl;
   ended = refl;
-  page_room = refl;
-  span_room = refl;
 }
 
 pub HasLetAllGo-IsMoving : (pool₀ pool : PoolState) (shard₀ shard : ShardState) → IsMoving pool₀ shard₀ pool shard → shard.groups ≡ [] → HasLetAllGo shard₀ shard
@@ -75,8 +71,6 @@ HasLetAllGo-IsMoving pool₀ pool shard₀ shard is none = record {
   gens = is.gens;
   opened = is.opened;
   ended = is.ended;
-  page_room = is.page_room;
-  span_room = is.span_room;
 }
 
 pub TakesAll-IsMoving : (pool₀ pool : PoolState) (shard₀ shard : ShardState) → IsMoving pool₀ shard₀ pool shard → shard.groups ≡ [] → TakesAll pool₀ (map (whole_of shard₀.table) shard₀.groups) pool
@@ -171,6 +165,4 @@ module _ (pool₀ pool next : PoolState) (shard₀ shard left : ShardState) (who
       gens = ap (λ (s : ShardState). s.gens) lifted.4 ∙ is.gens;
       opened = ap (λ (s : ShardState). s.opened) lifted.4 ∙ is.opened;
       ended = ap (λ (s : ShardState). s.ended) lifted.4 ∙ is.ended;
-      page_room = ap (λ (s : ShardState). s.table.page_room) lifted.4 ∙ is.page_room;
-      span_room = ap (λ (s : ShardState). s.table.span_room) lifted.4 ∙ is.span_room;
     }

@@ -1,5 +1,5 @@
 -- What stands at places, in order: where it is read, written, put in and taken out.
-use Rattle.std.proofs.Common.{zero, suc, ◌≡◌, ℕ, ◌<◌, ◌≤◌, Bool, true, false, cond, List, [], ◌∷◌, ◌++◌, length, insert, Option, Some, None, set, slice_get, take, ap, sym, ◌∙◌, refl, inl, inr, arith}
+use Rattle.std.proofs.Common.{zero, suc, ◌≡◌, ℕ, ◌<◌, ◌≤◌, Bool, true, false, cond, List, [], ◌∷◌, ◌++◌, length, insert, Option, Some, None, get_or, set, slice_get, take, ap, sym, ◌∙◌, refl, inl, inr, arith}
 use Rattle.std.specs.Prelude.{filter, remove}
 use Rattle.std.proofs.lemmas.Bool.{cases_lt}
 use Rattle.groups.proofs.Lists.{same_some}
@@ -17,6 +17,18 @@ none_some {x = x} e = let f : None ≡ Some x = same_some e in cc
 
 pub some_none : {A : Type 0} {x : A} → Some (Some x) ≡ Some None → ⊥
 some_none {x = x} e = let f : Some x ≡ None = same_some e in cc
+
+-- what is read is what stands there, and nothing past the end
+pub held_there : {A : Type 0} (places : List (Option A)) (at : ℕ) (x : A) → get_or places at None ≡ Some x → slice_get places at ≡ Some (Some x)
+held_there [] at x held = absurd cc
+held_there (place ∷ places) zero x held = ap Some held
+held_there (place ∷ places) (suc at) x held = held_there places at x held
+
+-- where nothing stands nothing goes
+pub set-none : {A : Type 0} (places : List (Option A)) (at : ℕ) → get_or places at None ≡ None → set places at None ≡ places
+set-none [] at none = refl
+set-none (place ∷ places) zero none = ap (λ p. p ∷ places) (sym none)
+set-none (place ∷ places) (suc at) none = ap (λ ps. place ∷ ps) (set-none places at none)
 
 module _ {A : Type 0} where
   pub standing_at : (places : List (Option A)) (at : ℕ) (x : A) → slice_get places at ≡ Some (Some x) → slice_get (standing places) (before places at) ≡ Some x

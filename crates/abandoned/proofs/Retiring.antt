@@ -1,6 +1,6 @@
 -- Groups of a running shard on their way to the pool, those with the fewest live keys first.
 use Rattle.std.proofs.Common.{zero, suc, ◌≡◌, ℕ, ◌+◌, ◌<◌, ◌≤◌, Bool, cond, List, [], ◌∷◌, ◌++◌, length, remove, take, drop, Option, Some, None, slice_get, ◌∙◌, ap, sym, subst, refl, inl, inr, arith}
-use Rattle.std.specs.Prelude.{sum_by, unwrap_or}
+use Rattle.std.specs.Prelude.{unwrap_or}
 use Rattle.std.specs.FinMap as finite
 use Rattle.std.proofs.lemmas.Bool.{cases_lt, ne_eqb}
 use Rattle.std.proofs.lemmas.List.{drop_more, length-append, length-drop, length-take, take-append-drop}

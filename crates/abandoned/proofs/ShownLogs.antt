@@ -15,7 +15,7 @@ use Rattle.span.specs.declared.key.Key.{Key}
 use Rattle.span.specs.declared.id.SpanId.{SpanId}
 use Rattle.shard.specs.Calls.{value_found, was_freed}
 use Rattle.groups.specs.Spans.{with_free}
-use Rattle.groups.specs.Shown.{span_named, value_by, word_of}
+use Rattle.groups.specs.Shown.{object_of, span_named, value_by}
 use Rattle.shard.specs.declared.shard.Found.{Found}
 use Rattle.shard.specs.declared.shard.Found.TheVariants.{Gone, NotHere}
 use Rattle.shard.specs.declared.shard.Found.TheVariants as found
@@ -33,10 +33,10 @@ use Rattle.groups.specs.Group.{IsElsewhere, IsHere, spans_in, spans_of}
 use Rattle.abandoned.proofs.Freed.{IsSound-Frees, groups-Leaves}
 use Rattle.abandoned.proofs.Pages.{none_live, sound_paged}
 
--- a slot that is not live has no value, whatever the word
-nothing_live : (o : Option Held) (generation : ℕ) (word : Option Value) → is_some o ≡ false → cond (is_some (value_if generation o)) word None ≡ value_if generation o
-nothing_live None generation word e = refl
-nothing_live (Some held) generation word e = absurd cc
+-- a slot that is not live has no value, whatever the object
+nothing_live : (o : Option Held) (generation : ℕ) (object : Option Value) → is_some o ≡ false → cond (is_some (value_if generation o)) object None ≡ value_if generation o
+nothing_live None generation object e = refl
+nothing_live (Some held) generation object e = absurd cc
 
 module _ (pool : PoolState) (sound : IsSound pool) where
   -- in a group with no page nothing is live
@@ -56,7 +56,7 @@ module _ (pool : PoolState) (sound : IsSound pool) where
     where
       by_page : (index place : ℕ) (group : PooledState) → slice_get pool.groups index ≡ Some group → slice_get (spans_of group) place ≡ Some span → same_span span.id key.span ≡ true
           → (o : Option ℕ) → group.page ≡ o → value_by pool.table key (Some span) ≡ value_in span.log key.slot key.generation
-      by_page index place group here there same None is = nothing_live (map.get (replay span.log) key.slot) key.generation (word_of pool.table key.span key.slot) (not_live index place group span key.slot here there is)
+      by_page index place group here there same None is = nothing_live (map.get (replay span.log) key.slot) key.generation (object_of pool.table key.span span.class key.slot) (not_live index place group span key.slot here there is)
       by_page index place group here there same (Some page) is =
           let its = (sound_paged pool sound index group here page is).each place span there in
           value_by-mapped pool.table key page span its.mapped (λ held is. its.stored key.slot held is) same
@@ -84,9 +84,9 @@ module _ (pool : PoolState) (sound : IsSound pool) where
 
   -- a look-up answers as the plain map
   pub value_found-Gets : (key : Key) (answer : Found) → Gets pool key answer → value_found answer ≡ (shown pool).value_of key
-  value_found-Gets key (found.Value value at) (index, place, page, group, span, here, paged, holds, word, before) =
+  value_found-Gets key (found.Value value at) (index, place, page, group, span, here, paged, holds, object, before) =
       sym (value-logged key ∙ ap (logged_by key) (span_named-here key.span index place group span here)
-      ∙ value_in-held span.log key.slot key.generation value holds (λ held is. word ∙ ((sound_paged pool sound index group here.group_is page paged).each place span here.span_is).stored key.slot held is))
+      ∙ value_in-held span.log key.slot key.generation value.now holds (λ held is. object ∙ ((sound_paged pool sound index group here.group_is page paged).each place span here.span_is).stored key.slot held is))
   value_found-Gets key (Gone at) (index, place, group, span, here, gone, before) =
       sym (value-logged key ∙ ap (logged_by key) (span_named-here key.span index place group span here) ∙ value_in-gone span.log key.slot key.generation gone)
   value_found-Gets key NotHere elsewhere = sym (value-logged key ∙ ap (logged_by key) (span_named-elsewhere key.span elsewhere))

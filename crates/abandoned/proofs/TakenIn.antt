@@ -54,7 +54,7 @@ module _ (old : PoolState) (sound : IsSound old) (whole : WholeState) (fits : Is
   -- where no slot is live
   pub table_without : union_of (spans_moved whole) ≡ set.empty → IsTableWith old (pooled whole None) (less_room old.table (length (spans_moved whole)))
   table_without none = record {
-    here = record { apart = fits.apart; legal = fits.legal; page = none };
+    here = record { apart = fits.apart; legal = fits.legal; classes = fits.classes; page = none };
     others = λ index other there page is. record { words = refl; mapped = λ place span at. refl };
     in_use = λ page is. absurd cc;
     own_page = λ page is. absurd cc;
@@ -85,6 +85,7 @@ module _ (old : PoolState) (sound : IsSound old) (whole : WholeState) (fits : Is
       here = record {
         apart = fits.apart;
         legal = fits.legal;
+        classes = fits.classes;
         page = record {
           has_page = subst IsSome (sym get_page) refl;
           each = λ place span at. record {

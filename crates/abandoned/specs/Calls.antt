@@ -7,7 +7,7 @@ use Rattle.span.specs.declared.key.Key.{Key}
 use Rattle.span.specs.Ids.{rank}
 use Rattle.span.specs.Log.{Holds}
 use Rattle.span.specs.State.{SpanState}
-use Rattle.page_table.specs.State.{TableState, word_at, words_of}
+use Rattle.page_table.specs.State.{TableState, object_at, words_of}
 use Rattle.page_table.specs.Words.{Words}
 use Rattle.shard.specs.Group.{GroupState}
 use Rattle.groups.specs.Group.{HasNoHead, IsElsewhere, IsHeadOf, IsHere, spans_of, with_span, IsPlaceFor}
@@ -15,28 +15,28 @@ use Rattle.groups.specs.Spans.{union_of, with_free}
 use Rattle.groups.specs.Brief.{IsBriefOf}
 use Rattle.groups.specs.Whole.{WholeState, spans_moved}
 use Rattle.shard.specs.Moves.{TakesIn as TakesInShard, whole_of as whole_of_shard, with_room as with_room_in}
-use Rattle.groups.specs.Tables.{with_page, without_page}
+use Rattle.groups.specs.Tables.{no_pages, with_page, without_page}
 use Rattle.shard.specs.State.{ShardState}
 use Rattle.groups.specs.declared.brief.Brief.{Brief}
 use Rattle.shard.specs.declared.shard.Found.{Found}
-use Rattle.shard.specs.declared.shard.Found.TheVariants.{Value, Gone, NotHere}
+use Rattle.shard.specs.declared.shard.Found.TheVariants as found
 use Rattle.shard.specs.declared.shard.Freed.{Freed}
 use Rattle.shard.specs.declared.shard.Freed.TheVariants as freed
 use Rattle.abandoned.specs.State.{PoolState, PooledState, whole_of}
 
--- what a look-up of the key finds: the word at its slot of its span's page, and how many changes its span's log has
+-- what a look-up of the key finds: the object at its slot of its span's page, and how many changes its span's log has
 abbrev pub Gets : PoolState → Key → Found → Type 0
-Gets pool key (Value value at) =
+Gets pool key (found.Value value at) =
     (index place page : ℕ) × (group : PooledState) × (span : SpanState) × IsHere pool.groups key.span index place group span × (group.page ≡ Some page)
-    × Holds span.log key.slot key.generation × (value ≡ word_at pool.table page key.slot) × (at ≡ length span.log)
-Gets pool key (Gone at) =
+    × Holds span.log key.slot key.generation × (value.now ≡ object_at pool.table page span.class key.slot) × (at ≡ length span.log)
+Gets pool key (found.Gone at) =
     (index place : ℕ) × (group : PooledState) × (span : SpanState) × IsHere pool.groups key.span index place group span
     × (Holds span.log key.slot key.generation → ⊥) × (at ≡ length span.log)
-Gets pool key NotHere = IsElsewhere pool.groups key.span
+Gets pool key found.NotHere = IsElsewhere pool.groups key.span
 
 -- the group of the head, and what the brief tells of it; a group of the pool is never closed
 abbrev pub IsBriefHere : List PooledState → SpanId → Brief → Type 0
-IsBriefHere groups head brief = (index : ℕ) × (group : PooledState) × IsHeadOf groups head index group × IsBriefOf (spans_of group) (is_some group.page) false brief
+IsBriefHere groups head brief = (index : ℕ) × (group : PooledState) × IsHeadOf groups head index group × IsBriefOf group.head.class (spans_of group) (is_some group.page) false brief
 
 -- the table without the page of a group, if the group has one
 abbrev pub without_page_of : TableState → Option ℕ → TableState
@@ -104,13 +104,13 @@ TakesAll old (whole ∷ wholes) new = (mid : PoolState) × TakesAll old wholes m
 abbrev pub with_rooms : PoolState → ℕ → ℕ → PoolState
 with_rooms pool pages spans = record pool { table = record pool.table { page_room = pages; span_room = spans } }
 
--- the end of a shard: all its groups come to the pool whole, and those with no live slot give up their pages on the way; the shard has ended and has no group
+-- the end of a shard: all its groups come to the pool whole, and those with no live slot give up their pages on the way; the shard has ended, and has no group and no reserved room
 pub record Receives (old : PoolState) (shard : ShardState) (new : PoolState) (ended : ShardState) : Type 0 where
   pub page_room : ℕ
   pub span_room : ℕ
   pub running : shard.ended ≡ false
   pub moved : TakesAll (with_rooms old page_room span_room) (map (whole_of_shard shard.table) shard.groups) new
-  pub after : ended ≡ record shard { ended = true; onto = None; groups = []; table = record shard.table { spans = finite.empty; pages = finite.empty } }
+  pub after : ended ≡ record shard { ended = true; groups = []; table = no_pages; onto = None }
 
 -- the group is in the pool whole: its spans with their logs, and the words of its page where a slot is live; where none is, it has no page
 pub record IsPooled (pool : PoolState) (whole : WholeState) : Type 0 where

@@ -1,10 +1,9 @@
 -- The groups of the pool, each at the place of its head. No public clause cites this module.
-use Rattle.std.specs.Prelude.{◌≡◌, ◌⊎◌, ◌*◌, ℕ, Bool, false, List, Option, None, Some, filter_map, is_some, length, remove, slice_get, slice_set}
+use Rattle.std.specs.Prelude.{◌≡◌, ◌⊎◌, ◌*◌, ◌≤◌, ℕ, Bool, false, List, Option, None, Some, filter_map, is_some, length, remove, slice_set}
 use Rattle.bitmap.specs.Slots.{SlotSet}
 use Rattle.span.specs.declared.id.SpanId.{SpanId}
 use Rattle.span.specs.State.{SpanState}
 use Rattle.page_table.specs.State.{TableState}
-use Rattle.shard.specs.Rooms.{has_index}
 use Rattle.abandoned.specs.Calls.{GivesUp}
 use Rattle.abandoned.specs.State.{PooledState}
 use Rattle.groups.specs.Group.{HasNoHead, IsHeadOf, with_span}
@@ -39,16 +38,8 @@ abbrev pub FreesIn : GroupsState → ℕ → PooledState → ℕ → SpanState �
 FreesIn old index group place span table new table_now =
     (now : PooledState) × GivesUp (with_span group place span) table now table_now × (new ≡ record old { groups = slice_set old.groups index now })
 
--- there are places for all heads, or none, and 256 of them for each part of the set
+-- there are places for all heads, or none, and bits for each of them
 pub record HaveSize (places : List (Option PooledState)) (parts : List SlotSet) : Type 0 where
   pub size : (length places ≡ 0) ⊎ (length places ≡ ALL_IDS)
-  pub parts_fit : length places ≡ 256 * length parts
-
--- there are places for all heads, on which stands what stood before
-pub record AreReady (places : List (Option PooledState)) (parts : List SlotSet) (new : List (Option PooledState)) (new_parts : List SlotSet) : Type 0 where
-  pub standing_is : standing new ≡ standing places
-  pub was_there : (at : ℕ) (group : PooledState) → slice_get new at ≡ Some (Some group) → slice_get places at ≡ Some (Some group)
-  pub same_page : (at : ℕ) → has_page (slice_get new at) ≡ has_page (slice_get places at)
-  pub same_index : (at : ℕ) → has_index new_parts at ≡ has_index parts at
-  pub count : length new ≡ ALL_IDS
-  pub parts_fit : length new ≡ 256 * length new_parts
+  pub parts_size : (length parts ≡ 0) ⊎ (length parts ≡ 256)
+  pub parts_fit : length places ≤ 256 * length parts

@@ -31,8 +31,6 @@ pub record HasLetAllGo (old new : ShardState) : Type 0 where
   pub gens : new.gens ≡ old.gens
   pub opened : new.opened ≡ old.opened
   pub ended : new.ended ≡ old.ended
-  pub page_room : new.table.page_room ≡ old.table.page_room
-  pub span_room : new.table.span_room ≡ old.table.span_room
 
 -- both are sound, no span stands in both, and the pool has reserved room for the groups that are to go, which are the first of the shard's by sparseness
 pub record AreReady (pool : PoolState) (shard : ShardState) (going rest : List LiveGroup) : Type 0 where

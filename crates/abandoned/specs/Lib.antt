@@ -4,6 +4,8 @@ pub mod GroupsKept
 pub mod Handover
 pub mod Kept
 pub mod Numbers
+pub mod Ranked
+pub mod RankedKept
 pub mod Retires
 pub mod Shown
 pub mod Sound

@@ -6,7 +6,7 @@ use Rattle.groups.specs.Shown.{issued_by, span_named, value_by}
 use Rattle.abandoned.specs.State.{PoolState}
 use Rattle.groups.specs.Group.{spans_in}
 
--- the map of the keys of the pool's spans: what their logs leave live, each with the word of its page
+-- the map of the keys of the pool's spans: what their logs leave live, each with the object on its page
 abbrev pub shown : PoolState → PlainMap
 shown pool = record {
   is_issued = λ key. issued_by key (span_named (spans_in pool.groups) key.span);

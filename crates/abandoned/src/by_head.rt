@@ -1,5 +1,5 @@
 // The groups of the pool, each at the place of its head.
-ghost use Rattle.std.specs.Prelude.{◌≡◌, ◌<◌, ◌≤◌, ◌-◌, ◌+◌, ◌++◌, ◌*◌, ◌↔◌, ℕ, [], IfOk, IfSome, IsTrue, MatchOption, None, OnErr, OnOk, Option, Some, filter, insert, is_some, length, map, max, slice_get, slice_set, vec_capacity, vec_len};
+ghost use Rattle.std.specs.Prelude.{◌≡◌, ◌<◌, ◌≤◌, ◌-◌, ◌+◌, ◌++◌, ◌*◌, ◌↔◌, ◌⊎◌, ℕ, [], IfOk, IfSome, IsTrue, MatchOption, OnErr, OnOk, Some, filter, insert, is_some, length, map, max, slice_get, vec_capacity};
 ghost use Rattle.std.specs.Bool.{OnTrue, OnFalse};
 ghost use Rattle.span.specs.Ids.{rank};
 ghost use Rattle.span.specs.Log.{Holds};
@@ -9,40 +9,34 @@ ghost use Rattle.page_table.specs.State.{HasPage};
 ghost use Rattle.groups.specs.Spans.{with_free_at, live_count};
 ghost use Rattle.abandoned.specs.Calls.{HasNoPage, IsFirstPaged};
 ghost use Rattle.groups.specs.Group.{HasNoHead, IsHeadOf, IsPlaceFor, spans_in, spans_of, summary};
-ghost use Rattle.abandoned.specs.Groups.{AreReady, FreesIn, HasHeadAt, HaveSize, Removes};
+ghost use Rattle.abandoned.specs.Groups.{FreesIn, HasHeadAt, Removes};
 ghost use Rattle.abandoned.specs.Numbers.{HasNoneFrom};
 ghost use Rattle.abandoned.specs.State.{PooledState};
+ghost use Rattle.shard.specs.Rooms.{has_index};
 ghost use Rattle.span.specs.declared.limits.TheConstants.{ALL_IDS};
 ghost use Rattle.bitmap.specs.declared.bits.TheConstants.{SLOTS};
 
+use crate::by_rank::{ByRank, HEADS};
 use crate::numbers::{lowest, mark, next};
 use crate::pooled::Pooled;
 use bitmap::Bits256;
 use page_table::Table;
-use span::{ALL_IDS, Entry, Kept, Log, SpanId, SpanLog};
+use span::{Entry, Kept, Log, SpanId, SpanLog};
 use std::alloc::{AllocError, Global};
 use std::marker::Model;
 
-// How many ids there are.
-const HEADS: usize = ALL_IDS as usize;
-
-/// Groups, each at a place of its own, which is the rank of its head: a look-up, an arrival and a departure cost the
-/// same however many there are, and no group moves up for another.
+/// Groups, each found by the rank of its head: a look-up, an arrival and a departure cost the same however many there
+/// are, and no group moves up for another.
 ///
-/// The places are made with the first room that is reserved, for all heads that may come: one takes as much as a
-/// group without its heap, used or not, so all of them some 13 MB, where the pages of as many groups take 268 MB.
 /// Beside them it keeps a bit for each head, which says whether the group has a page, and one for each 256 of these
 /// bits, which says whether any is on: so it finds the lowest without a walk.
 #[derive(Drop)]
 pub(crate) struct Groups<L: Log> {
-    // By the rank of the head.
-    places: Vec<Option<Pooled<L>>>,
-    // The ranks of the heads whose groups have a page.
+    places: ByRank<L>,
+    // The ranks of the heads whose groups have a page. The parts are made with the first room.
     paged: Vec<Bits256>,
     // The parts of `paged` that have a rank.
     filled: Bits256,
-    // For how many more groups room is reserved.
-    room: usize,
 }
 
 impl<L: Log> Model for Groups<L> {
@@ -66,10 +60,9 @@ impl<L: Log> Groups<L> {
         ensures { result ≡ record { groups = []; room = 0 } }
     {
         Groups {
-            places: Vec::new(alloc),
+            places: ByRank::new(alloc),
             paged: Vec::new(alloc),
             filled: Bits256::empty(),
-            room: 0,
         }
     }
 
@@ -78,11 +71,7 @@ impl<L: Log> Groups<L> {
         ensures { MatchOption result (HasNoHead self.now.groups head)
             (λ group. HasHeadAt self.now.groups head group.now) }
     {
-        let rank = head.rank() as usize;
-        if rank >= self.places.len() {
-            return None;
-        }
-        self.places[rank].as_ref()
+        self.places.get(head.rank() as usize)
     }
 
     /// Makes room for that many more groups, where less is reserved.
@@ -94,9 +83,8 @@ impl<L: Log> Groups<L> {
         ensures ok { OnOk result (self.new ≡ record self.old { room = max self.old.room more }) }
         ensures err { OnErr result (self.new ≡ self.old) }
     {
-        make_places(&mut self.places, &mut self.paged)?;
-        self.room = self.room.max(more);
-        Ok(())
+        make_parts(&mut self.paged)?;
+        self.places.reserve(more)
     }
 
     /// The group comes, in reserved room.
@@ -109,10 +97,9 @@ impl<L: Log> Groups<L> {
               room = self.old.room - 1;
             }) }
     {
-        let place = group.head_id().rank() as usize;
-        mark(&mut self.paged, &mut self.filled, place, group.is_paged());
-        self.places[place] = Some(group);
-        self.room -= 1;
+        let rank = group.head_id().rank() as usize;
+        mark(&mut self.paged, &mut self.filled, rank, group.is_paged());
+        self.places.put(group);
     }
 
     /// The group of the head goes, if it is here. The reserved room stays.
@@ -120,11 +107,11 @@ impl<L: Log> Groups<L> {
         ensures { Removes self.old head result self.new }
     {
         let rank = head.rank() as usize;
-        if rank >= self.places.len() {
+        let Some(group) = self.places.take(rank) else {
             return None;
-        }
+        };
         mark(&mut self.paged, &mut self.filled, rank, false);
-        self.places[rank].take()
+        Some(group)
     }
 
     /// Frees the slot in the span at the place of the head's group, where it is live there at the generation, and
@@ -153,11 +140,13 @@ impl<L: Log> Groups<L> {
         ensures unknown { OnFalse result ((self.new ≡ self.old) × (table.new ≡ table.old)) }
     {
         let rank = head.rank() as usize;
-        let Some(group) = &mut self.places[rank] else {
-            unreachable!();
-        };
-        let freed = group.free(place, slot, generation, table);
-        mark(&mut self.paged, &mut self.filled, rank, group.is_paged());
+        let freed = self.places.free(rank, place, slot, generation, table);
+        mark(
+            &mut self.paged,
+            &mut self.filled,
+            rank,
+            self.places.is_paged(rank),
+        );
         freed
     }
 
@@ -169,7 +158,7 @@ impl<L: Log> Groups<L> {
         let Some(rank) = lowest(self.paged.as_slice(), &self.filled) else {
             return None;
         };
-        self.places[rank].as_ref()
+        self.places.get(rank)
     }
 
     /// How many keys are live in those that have a page.
@@ -181,7 +170,7 @@ impl<L: Log> Groups<L> {
         let mut live = 0;
         let mut from = 0;
         while let Some(rank) = next(self.paged.as_slice(), from) {
-            let Some(group) = &self.places[rank] else {
+            let Some(group) = self.places.get(rank) else {
                 unreachable!();
             };
             live += group.live();
@@ -196,15 +185,15 @@ impl<L: Log> Groups<L> {
         ensures { result ≡ length (spans_in self.now.groups) }
     {
         let mut count = 0;
-        for place in &self.places {
-            if let Some(group) = place {
+        for rank in 0..HEADS {
+            if let Some(group) = self.places.get(rank) {
                 count += group.len();
             }
         }
         count
     }
 
-    /// The head of each group that has a page and the slots that are live in one of its spans, by ascending head.
+    /// Each group that has a page, by ascending head: its head, its class and the slots that are live in one of its spans.
     ///
     /// # Errors
     ///
@@ -216,7 +205,7 @@ impl<L: Log> Groups<L> {
         let mut list = Vec::new(alloc);
         let mut from = 0;
         while let Some(rank) = next(self.paged.as_slice(), from) {
-            let Some(group) = &self.places[rank] else {
+            let Some(group) = self.places.get(rank) else {
                 unreachable!();
             };
             list.push(group.entry())?;
@@ -236,46 +225,29 @@ impl Groups<Kept> {
         ensures room { room_for_logs logs.old ≡ room_for_logs logs.new + length
             (spans_in self.groups) }
     {
-        for place in self.places {
-            if let Some(group) = place {
+        let mut places = self.places;
+        for rank in 0..HEADS {
+            if let Some(group) = places.take(rank) {
                 group.into_spans().into_logs(logs);
             }
         }
     }
 }
 
-// Makes a place for each head and the bits of all, unless they are there.
-fn make_places<L: Log>(
-    places: &mut Vec<Option<Pooled<L>>>,
-    paged: &mut Vec<Bits256>,
-) -> Result<(), AllocError>
-    requires { HaveSize places.old.items paged.old.items }
-    ensures ok { OnOk result (AreReady places.old.items paged.old.items places.new.items
-        paged.new.items) }
-    ensures err { OnErr result ((places.new.items ≡ places.old.items)
-        × (paged.new.items ≡ paged.old.items)) }
+// Makes the bits of all heads, unless they are there.
+fn make_parts(parts: &mut Vec<Bits256>) -> Result<(), AllocError>
+    requires { (length parts.old.items ≡ 0) ⊎ (length parts.old.items ≡ 256) }
+    ensures same { (number : ℕ) → has_index parts.new.items number
+        ≡ has_index parts.old.items number }
+    ensures ok { OnOk result (length parts.new.items ≡ 256) }
+    ensures err { OnErr result (parts.new.items ≡ parts.old.items) }
 {
-    if places.len() > 0 {
+    if parts.len() > 0 {
         return Ok(());
     }
-    places.reserve(HEADS)?;
-    paged.reserve(HEADS / 256)?;
-    fill(places);
-    fill_parts(paged);
+    parts.reserve(HEADS / 256)?;
+    fill_parts(parts);
     Ok(())
-}
-
-// Makes a place for each head, in reserved room.
-fn fill<L: Log>(places: &mut Vec<Option<Pooled<L>>>)
-    requires none { places.old.items ≡ [] }
-    requires room { ALL_IDS ≤ vec_capacity places.old }
-    ensures none { (at : ℕ) (place : Option PooledState)
-        → slice_get places.new.items at ≡ Some place → place ≡ None }
-    ensures len { length places.new.items ≡ ALL_IDS }
-{
-    for _ in 0..HEADS {
-        places.push_reserved(None);
-    }
 }
 
 // Makes the parts of a set of no number below their count.

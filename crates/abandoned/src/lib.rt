@@ -1,6 +1,6 @@
 //! The pool: groups that shards have let go, with the pages of those that still have a live slot.
 //!
-//! A [`Pool`] keeps words under keys as a shard does, save that nothing is put there. A shard's end
+//! A [`Pool`] keeps objects under keys as a shard does, save that nothing is put there. A shard's end
 //! brings its groups here whole, a retirement brings those with the fewest live keys while the shard
 //! goes on, and an adoption moves one of them, whole, to a shard.
 //!
@@ -23,7 +23,7 @@
 //! While a plan of folds is open, nothing is adopted, and no shard with a closed group ends or
 //! retires any: the pool is told of the plan, and keeps that (`PlanOpen`).
 //!
-//! No call walks the pool: each group stands at the rank of its head, and a bit for each head says which
+//! No call walks the pool: an index says where the group of each head stands, and a bit for each head says which
 //! of them have a page.
 //!
 //! The public fact of the crate is that a pool is a plain map of keys: [`Pool::get`] and
@@ -37,16 +37,17 @@
 //! let mut pool = Pool::new(alloc);
 //! let mut first = Shard::new(alloc, 0, 4, 9)?;
 //! let mut second = Shard::new(alloc, 1, 4, 9)?;
-//! let (key, _) = first.put(7)?;                  // 0.0/0/1
+//! let (key, _) = first.put(Object::c16(7))?;     // 0.0/0/1
 //! pool.receive(&mut first)?;                     // shard 0 has ended, and its group is here
-//! pool.get(&key);                                // Found::Value(7, 1)
+//! pool.get(&key);                                // Found::Value(&[7], 1)
 //! pool.adopt(&mut second)?;                      // 0.0, the head of the group that has gone to shard 1
-//! second.get(&key);                              // Found::Value(7, 1), as ever
+//! second.get(&key);                              // Found::Value(&[7], 1), as ever
 //! pool.get(&key);                                // Found::NotHere
 //! ```
 #![tactic(auto)]
 
 mod by_head;
+mod by_rank;
 mod error;
 mod numbers;
 mod pool;

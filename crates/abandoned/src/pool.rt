@@ -5,7 +5,7 @@ ghost use Rattle.span.specs.Ids.{rank};
 ghost use Rattle.span.specs.Order.{HasNoneFrom, IsFirstFrom};
 ghost use Rattle.span.specs.PlainMap as plain;
 ghost use Rattle.span.specs.State.{SpanState};
-ghost use Rattle.shard.specs.Calls.{value_found, was_freed};
+ghost use Rattle.shard.specs.Calls.{FindsObject, value_found, was_freed};
 ghost use Rattle.groups.specs.Tables.{no_pages};
 ghost use Rattle.abandoned.specs.Calls.{Frees, Gets};
 ghost use Rattle.abandoned.specs.Shown.{shown};
@@ -126,7 +126,7 @@ impl<L: Log> Pool<L> {
         self.groups.live()
     }
 
-    /// The head of each group that has a page and the slots that are live in one of its spans, by ascending head.
+    /// Each group that has a page, by ascending head: its head, its class and the slots that are live in one of its spans.
     ///
     /// # Errors
     ///
@@ -135,6 +135,7 @@ impl<L: Log> Pool<L> {
         ensures items { IfOk result (λ groups. groups.items ≡ map summary (paged_groups self.now)) }
         ensures ascending { IsStrictlyIncreasing (map (λ group. rank group.head.id)
             (paged_groups self.now)) }
+        ensures sound { IsSound self.now }
     {
         self.groups.summaries(self.alloc)
     }
@@ -146,9 +147,10 @@ impl<L: Log> Pool<L> {
         self.find(id).is_some()
     }
 
-    /// The word of the key, where it is live here. It is read in the page, which all spans of a group share.
-    pub fn get(&self, key: &Key) -> Found
+    /// The words of the key's object, where it is live here. They are lent from the page, which all spans of a group share.
+    pub fn get(&self, key: &Key) -> Found<'_>
         ensures found { Gets self.now key.now result }
+        ensures width { FindsObject result }
         ensures plain { value_found result ≡ (shown self.now).value_of key.now }
         ensures sound { IsSound self.now }
     {
@@ -163,7 +165,8 @@ impl<L: Log> Pool<L> {
         let Some(page) = group.page() else {
             unreachable!();
         };
-        Found::Value(self.table.value_at(page, key.slot), at)
+        let words = self.table.value_at(page, span.class(), key.slot);
+        Found::Value(words, at)
     }
 
     /// Frees the key, where it is live here, and gives up the page of a group that it empties. It takes no memory.

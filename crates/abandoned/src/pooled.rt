@@ -62,9 +62,11 @@ impl<L: Log> Pooled<L> {
 
     /// A summary of the group.
     pub(crate) fn brief(&self) -> Brief
-        ensures { IsBriefOf (spans_of self.now) (is_some self.now.page) false result }
+        ensures { IsBriefOf self.now.head.class (spans_of self.now) (is_some self.now.page)
+            false result }
     {
         Brief {
+            class: self.spans.class(),
             spans: self.spans.len(),
             occupied: self.spans.occupied(),
             paged: self.page.is_some(),

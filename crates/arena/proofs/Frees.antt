@@ -1,4 +1,5 @@
 -- Receipts that are added for keys.
+use Rattle.std.specs.Prelude.{Bool, true, false}
 use Rattle.std.proofs.Common.{◌≡◌, ℕ, suc, ◌+◌, ◌<◌, List, [], ◌∷◌, ◌++◌, length, take, drop, get_or, ap, subst, sym, ◌∙◌, refl, arith, append_assoc, add-one, take-add, take-suc, drop-cons}
 use Rattle.std.proofs.lemmas.List.{append-nil, map-append}
 use Rattle.std.proofs.lemmas.List.Elements.{All-append}
@@ -6,7 +7,17 @@ use Rattle.std.proofs.lemmas.List.Concat.{flat_map-cons}
 use Rattle.std.proofs.lemmas.Grind.{flat_map-append}
 use Rattle.span.specs.declared.key.Key.{Key}
 use Rattle.span.specs.declared.receipt.Receipt.{Receipt}
-use Rattle.arena.specs.Receipts.{AddsFrees, IsFreeBy, joined}
+use Rattle.span.specs.Receipts.{free}
+use Rattle.span.specs.StoredReceipts.{call_words}
+use Rattle.arena.specs.Receipts.{AddsFrees, IsFree, IsFreeBy, done_by, joined}
+
+-- a receipt of a free has no word of an object
+pub call_words-IsFree : (r : Receipt) → IsFree r → length (call_words r.call) ≡ 0
+call_words-IsFree r is = ap (λ c. length (call_words c)) is ∙ none (done_by r.call)
+  where
+    none : (done : Bool) → length (call_words (free done)) ≡ 0
+    none true = refl
+    none false = refl
 
 module _ {worker section : ℕ} where
   -- for no key nothing is added

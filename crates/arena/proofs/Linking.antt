@@ -157,16 +157,16 @@ pub AreSameSeats-refl : (a : List SeatState) → AreSameSeats a a
 AreSameSeats-refl a = record { tables = refl; sending = refl; taking = refl; places = λ w s. omega arith }
 
 -- a list of which one changes has room as before at the others
-pub room_more : {V C : Type 0} (len cap : V → ℕ) (sum_of : C → ℕ) (vs : List V) (cs : List C) (s : ℕ) (v : V) (c : C) → s < length vs → s < length cs → len v + sum_of (get_or cs s c) ≤ cap v
-    → ((k : ℕ) (d : V) (e : C) → k < s → len (get_or vs k d) + sum_of (get_or cs k e) ≤ cap (get_or vs k d)) → (k : ℕ) (d : V) (e : C) → k < s + 1
-    → len (get_or (slice_set vs s v) k d) + sum_of (get_or cs k e) ≤ cap (get_or (slice_set vs s v) k d)
-room_more len cap sum_of vs cs s v c below counted room were k d e h =
+pub room_more : {V C : Type 0} (room : V → ℕ) (sum_of : C → ℕ) (vs : List V) (cs : List C) (s : ℕ) (v : V) (c : C) → s < length vs → s < length cs → sum_of (get_or cs s c) ≤ room v
+    → ((k : ℕ) (d : V) (e : C) → k < s → sum_of (get_or cs k e) ≤ room (get_or vs k d)) → (k : ℕ) (d : V) (e : C) → k < s + 1
+    → sum_of (get_or cs k e) ≤ room (get_or (slice_set vs s v) k d)
+room_more room sum_of vs cs s v c below counted fits were k d e h =
     elim (cases_eq k s) [
       | inl here ↦
           let at = get_or-set_at vs s k v d here below in
           let row : get_or cs k e ≡ get_or cs s c = ap (λ k. get_or cs k e) here ∙ get_or_default cs s e c counted in
-          subst (λ x. len x + sum_of (get_or cs k e) ≤ cap x) (sym at) (subst (λ y. len v + sum_of y ≤ cap v) (sym row) room)
-      | inr other ↦ subst (λ x. len x + sum_of (get_or cs k e) ≤ cap x) (sym (get_or-set_other vs s k v d other)) (were k d e (omega arith))
+          subst (λ x. sum_of (get_or cs k e) ≤ room x) (sym at) (subst (λ y. sum_of y ≤ room v) (sym row) fits)
+      | inr other ↦ subst (λ x. sum_of (get_or cs k e) ≤ room x) (sym (get_or-set_other vs s k v d other)) (were k d e (omega arith))
     ]
 
 -- one more shard's rings are settled

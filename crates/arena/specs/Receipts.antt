@@ -1,6 +1,6 @@
 -- The receipts of single calls on a shard, on the pool, or on a span that was never opened.
 use Rattle.std.specs.Prelude.{◌≡◌, ℕ, ◌++◌, All, Bool, true, false, List, Option, Some, None, flat_map, map}
-use Rattle.span.specs.Log.{Value as Word}
+use Rattle.span.specs.Log.{Value}
 use Rattle.span.specs.declared.key.Key.{Key}
 use Rattle.span.specs.declared.receipt.Call.{Call}
 use Rattle.span.specs.declared.receipt.Call.TheVariants as call
@@ -15,12 +15,12 @@ use Rattle.shard.specs.declared.shard.Freed.TheVariants as freed
 use Rattle.abandoned.specs.Calls.{Frees as FreesPooled, Gets as GetsPooled}
 use Rattle.abandoned.specs.State.{PoolState}
 
--- the receipt of a put of the value, which gave the key out after that many changes
-abbrev pub put_receipt : ℕ → ℕ → Word → Key → ℕ → Receipt
+-- the receipt of a put of the object, which gave the key out after that many changes
+abbrev pub put_receipt : ℕ → ℕ → Value → Key → ℕ → Receipt
 put_receipt worker section value key at = record { worker = worker; section = section; key = key; at = at; call = call.Put value }
 
 -- the receipt of a look-up of the key that found this after that many changes
-abbrev pub get_receipt : ℕ → ℕ → Key → Option Word → ℕ → Receipt
+abbrev pub get_receipt : ℕ → ℕ → Key → Option Value → ℕ → Receipt
 get_receipt worker section key value at = record { worker = worker; section = section; key = key; at = at; call = look_up value }
 
 -- the receipt of a free of the key after that many changes, which was done or was not
@@ -28,7 +28,7 @@ abbrev pub free_receipt : ℕ → ℕ → Key → Bool → ℕ → Receipt
 free_receipt worker section key done at = record { worker = worker; section = section; key = key; at = at; call = free done }
 
 -- what a look-up found
-abbrev pub found_by : Call → Option Word
+abbrev pub found_by : Call → Option Value
 found_by (call.Found value) = Some value
 found_by _ = None
 
@@ -44,7 +44,7 @@ was_done (Some receipt) = done_by receipt.call
 
 -- the receipt of a look-up that came to this; none where the span is not there
 abbrev pub told_of_get : ℕ → ℕ → Key → Found → Option Receipt
-told_of_get worker section key (found.Value value at) = Some (get_receipt worker section key (Some value) at)
+told_of_get worker section key (found.Value value at) = Some (get_receipt worker section key (Some value.now) at)
 told_of_get worker section key (found.Gone at) = Some (get_receipt worker section key None at)
 told_of_get worker section key found.NotHere = None
 
@@ -69,6 +69,10 @@ TellsGetPooled pool worker section key told = (what : Found) × GetsPooled pool 
 -- the receipt tells what a free of the key in the pool does
 abbrev pub TellsFreePooled : PoolState → ℕ → ℕ → Key → Option Receipt → PoolState → Type 0
 TellsFreePooled old worker section key told new = (what : Freed) × FreesPooled old key what new × (told ≡ told_of_free worker section key what)
+
+-- the receipt is of a free, so that it has no object
+abbrev pub IsFree : Receipt → Type 0
+IsFree receipt = receipt.call ≡ free (done_by receipt.call)
 
 -- the receipt is of a look-up of the key by the worker in the section
 abbrev pub IsGetBy : ℕ → ℕ → Key → Receipt → Type 0

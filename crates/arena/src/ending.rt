@@ -1,15 +1,16 @@
 // The end of an arena.
-ghost use Rattle.std.specs.Prelude.{◌≡◌, ◌<◌, ℕ, IfErr, IfOk, OnErr, length, map, slice_index_or, vec_items, vec_len};
+ghost use Rattle.std.specs.Prelude.{◌≡◌, ◌<◌, ℕ, IfErr, IfOk, OnErr, length, map, slice_index_or, vec_len};
 ghost use Rattle.span.specs.SpanLogs.{AreLegal};
 ghost use Rattle.arena.specs.Seats.{AreLinked, AreSeatsOf};
 ghost use Rattle.arena.specs.Settled.{AreSameSeats, IsSettled, greatest_section};
 
 use crate::arena::Arena;
 use crate::gate::Gate;
+use crate::receipts::Receipts;
 use crate::seat::Seat;
 use crate::settling::{greatest, know_rings, make_room, settle_seats};
 use crate::unlocked::{Unlocked, unlock};
-use span::{Receipt, SpanLog};
+use span::SpanLog;
 use std::alloc::AllocError;
 
 /// What an arena leaves when its run is over.
@@ -39,10 +40,10 @@ pub struct Unfinished<G: Gate> {
 /// # Errors
 ///
 /// Arena and seats, with no key taken, where there is no memory for the counts, the receipts or the logs.
-pub fn finish<G: Gate>(
+pub fn finish<G: Gate, K: Receipts>(
     mut arena: Arena<G>,
     mut seats: Vec<Seat>,
-    receipts: &mut [Vec<Receipt>],
+    receipts: &mut [K],
 ) -> Result<Finished, Unfinished<G>>
     // All seats are here, in order, with a list each.
     requires seats { AreSeatsOf arena.limits arena.table seats.items }
@@ -54,7 +55,8 @@ pub fn finish<G: Gate>(
     ensures settled { IfOk result (λ finished. (shard : ℕ) (c d e : _) → shard < vec_len seats
         → IsSettled seats.items shard (greatest_section seats.items)
         (slice_index_or finished.counts.items shard c).items
-        (slice_index_or receipts.old shard d).items (slice_index_or receipts.new shard e).items) }
+        (K.told (slice_index_or receipts.old shard d))
+        (K.told (slice_index_or receipts.new shard e))) }
 
     // What a refusal hands back.
     ensures arena { IfErr result (λ back. (back.arena.limits ≡ arena.limits)
@@ -63,7 +65,7 @@ pub fn finish<G: Gate>(
     ensures seats { IfErr result (λ back. AreSeatsOf back.arena.limits back.arena.table
         back.seats.items) }
     ensures linked { IfErr result (λ back. AreLinked back.seats.items) }
-    ensures err { OnErr result (map vec_items receipts.new ≡ map vec_items receipts.old) }
+    ensures err { OnErr result (map K.told receipts.new ≡ map K.told receipts.old) }
 {
     match settled(&mut arena, seats.as_mut_slice(), receipts) {
         Ok((unlocked, counts)) => Ok(Finished {
@@ -76,10 +78,10 @@ pub fn finish<G: Gate>(
 
 // What is behind the locks of the arena, once every ring is settled, and how many keys each ring had. The arena has no span
 // afterwards. All memory is taken before the first key is.
-fn settled<G: Gate>(
+fn settled<G: Gate, K: Receipts>(
     arena: &mut Arena<G>,
     seats: &mut [Seat],
-    receipts: &mut [Vec<Receipt>],
+    receipts: &mut [K],
 ) -> Result<(Unlocked, Vec<Vec<usize>>), AllocError>
     // All seats are here, in order, with a list each.
     requires seats { AreSeatsOf arena.old.limits arena.old.table seats.old }
@@ -89,14 +91,15 @@ fn settled<G: Gate>(
     ensures counts { IfOk result (λ ended. vec_len ended.1 ≡ length seats.old) }
     ensures settled { IfOk result (λ ended. (shard : ℕ) (c d e : _) → shard < length seats.old
         → IsSettled seats.old shard (greatest_section seats.old)
-        (slice_index_or ended.1.items shard c).items (slice_index_or receipts.old shard d).items
-        (slice_index_or receipts.new shard e).items) }
+        (slice_index_or ended.1.items shard c).items
+        (K.told (slice_index_or receipts.old shard d))
+        (K.told (slice_index_or receipts.new shard e))) }
 
     // What a refusal hands back.
     ensures arena { (arena.new.limits ≡ arena.old.limits) × (arena.new.table ≡ arena.old.table) }
     ensures linked { OnErr result (AreLinked seats.new) }
     ensures err { OnErr result (AreSameSeats seats.old seats.new
-        × (map vec_items receipts.new ≡ map vec_items receipts.old)) }
+        × (map K.told receipts.new ≡ map K.told receipts.old)) }
 {
     // There are 64 shards at most.
     let _ = arena.limits.shards();

@@ -40,8 +40,8 @@
 //! ```text
 //! // Two shards of four pages, rings of four keys, nine generations, and no gate.
 //! let (arena, mut seats, mut steward) = Arena::open(alloc, 2, 4, 4, 9, NoGate)?;
-//! let (key, receipt) = seats[0].put(rt, &arena, 7)?;       // in shard 0, under its lock
-//! let (found, receipt) = seats[1].get(rt, &arena, &key);   // Some(7), wherever the key's span is
+//! let (key, receipt) = seats[0].put(rt, &arena, Object::c16(7))?;   // in shard 0, under its lock
+//! let (found, receipt) = seats[1].get(rt, &arena, &key);   // Some(Object::c16(7)), wherever the key's span is
 //! seats[1].free_later(key);                                // for the ring to shard 0, without a lock
 //! seats[1].hand_over();                                    // on that ring, with all others that wait
 //! seats[0].tend(rt, &arena, &mut receipts)?;               // 1: the key is freed

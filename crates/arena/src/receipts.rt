@@ -1,23 +1,26 @@
-// Where the receipts of the keys go that a seat takes from its rings.
-ghost use Rattle.std.specs.Prelude.{◌≡◌, ◌≤◌, ◌<◌, ◌+◌, ◌-◌, ◌^◌, ℕ, List, [], ◌∷◌, ◌++◌, OnOk, vec_capacity, vec_len};
+// Where the receipts of the keys go that are taken from rings.
+ghost use Rattle.std.specs.Prelude.{◌≡◌, ◌≤◌, ◌<◌, ◌+◌, ◌^◌, ℕ, List, [], ◌∷◌, ◌++◌, OnOk};
+ghost use Rattle.span.specs.ReceiptLists.{kept_receipts, receipt_room};
 ghost use Rattle.span.specs.declared.receipt.Receipt.{Receipt};
+ghost use Rattle.arena.specs.Receipts.{IsFree};
 ghost use Rattle.arena.specs.DroppedReceipts.{dropped_receipts};
 
 use crate::unkept::Unkept;
-use span::Receipt;
+use span::{Receipt, ReceiptList};
 use std::alloc::AllocError;
 
-/// Where receipts go: into a list, which keeps them for an audit, or nowhere, as [`Dropped`].
+/// Where the receipts of the keys go that are taken from rings, and freed: into a list, which keeps them for an audit, or nowhere,
+/// as [`Dropped`].
 ///
 /// Contracts see all receipts in both, so no other clause speaks of the choice.
 pub trait Receipts: Drop {
     /// The receipts, the oldest first.
     ghost told: { Self → List Receipt };
 
-    /// How many more it takes with no memory.
+    /// How many more of frees it takes with no memory.
     ghost room: { Self → ℕ };
 
-    /// Makes room for that many more receipts.
+    /// Makes room for that many more receipts of frees.
     ///
     /// # Errors
     ///
@@ -27,25 +30,26 @@ pub trait Receipts: Drop {
         ensures room { room self.old ≤ room self.new }
         ensures ok { OnOk result (more ≤ room self.new) };
 
-    /// Adds a receipt at the end, in reserved room, which needs no memory.
+    /// Adds the receipt of a free at the end, in reserved room, which needs no memory.
     fn tell(&mut self, receipt: Receipt)
-        requires { 0 < room self.old }
+        requires room { 0 < room self.old }
+        requires free { IsFree receipt }
         ensures told { told self.new ≡ told self.old ++ receipt ∷ [] }
         ensures room { room self.old ≤ room self.new + 1 };
 }
 
-/// A list keeps its receipts, 80 bytes each.
-impl Receipts for Vec<Receipt> {
-    ghost told = { λ v. v.items };
+/// A list keeps its receipts: 48 bytes for each of a free.
+impl Receipts for ReceiptList {
+    ghost told = { kept_receipts };
 
-    ghost room = { λ v. vec_capacity v - vec_len v };
+    ghost room = { receipt_room };
 
     fn make_room(&mut self, more: usize) -> Result<(), AllocError> {
-        self.reserve(more)
+        self.reserve(more, 0)
     }
 
     fn tell(&mut self, receipt: Receipt) {
-        self.push_reserved(receipt);
+        self.push_reserved(&receipt);
     }
 }
 

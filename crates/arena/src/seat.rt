@@ -1,6 +1,6 @@
 // A worker's place at the arena.
 ghost use Rattle.std.proofs.Props.{props};
-ghost use Rattle.std.specs.Prelude.{All, ◌≡◌, ℕ, ◌+◌, ◌-◌, ◌<◌, ◌≤◌, ◌^◌, ◌↔◌, ◌∷◌, ◌++◌, [], IfOk, IfSome, IsOk, IsTrue, MatchResult, None, OnErr, OnOk, Some, length, map, slice_get, slice_index_or, slice_set, sum, vec_capacity, vec_len};
+ghost use Rattle.std.specs.Prelude.{All, ◌≡◌, ℕ, ◌+◌, ◌-◌, ◌<◌, ◌≤◌, ◌^◌, ◌↔◌, ◌∷◌, ◌++◌, [], IfOk, IfSome, IsOk, IsTrue, MatchResult, None, OnErr, OnOk, Some, length, map, slice_get, slice_index_or, slice_set, sum, vec_len};
 ghost use Rattle.arena.specs.Delays.{CountsCall, HandsOver, HasNoneWaiting, NoneWaits, delay_begun};
 ghost use Rattle.arena.specs.Receipts.{AddsFrees, IsGetBy, done_by, found_by, free_receipt, get_receipt, joined, put_receipt};
 ghost use Rattle.arena.specs.Seats.{AreNoFewer, HasItsRings, KeepsEnds, free_places, in_rings, known_lists, sending_side, sent_lists, taken_lists};
@@ -22,7 +22,7 @@ use abandoned::{AdoptError, ReceiveError};
 use marks::Limits;
 use remote_queue::{Inbox, Outbox};
 use shard::PutError;
-use span::{Call, Key, Log, Receipt, SpanId};
+use span::{Call, Key, Log, Object, Receipt, SpanId};
 use std::alloc::AllocError;
 use std::marker::Model;
 use std::mem::swap;
@@ -157,7 +157,7 @@ impl Seat {
         self.section += 1;
     }
 
-    /// Puts the value into the worker's shard, under that shard's lock, and gives the key and the receipt.
+    /// Puts the object into the worker's shard, under that shard's lock, and gives the key and the receipt.
     ///
     /// # Errors
     ///
@@ -166,7 +166,7 @@ impl Seat {
         &mut self,
         rt: &R,
         arena: &Arena<G, L>,
-        value: u128,
+        value: Object,
     ) -> Result<(Key, Receipt), PutError>
         requires { self.old.limits ≡ arena.now.limits }
         ensures receipt { IfOk result (λ put. put.1 ≡ put_receipt self.old.worker self.old.section
@@ -191,7 +191,7 @@ impl Seat {
         rt: &R,
         arena: &Arena<G, L>,
         key: &Key,
-    ) -> (Option<u128>, Receipt)
+    ) -> (Option<Object>, Receipt)
         requires { self.old.limits ≡ arena.now.limits }
         ensures receipt { result.1 ≡ get_receipt self.old.worker self.old.section key.now result.0
             result.1.at }
@@ -417,22 +417,22 @@ impl Seat {
     }
 
     // Takes the known keys of each of its rings, and frees each. The receipts are of the section.
-    pub(crate) fn settle<F: Frees>(
+    pub(crate) fn settle<F: Frees, K: Receipts>(
         &mut self,
         by: &mut F,
         counts: &[usize],
         section: u64,
-        receipts: &mut Vec<Receipt>,
+        receipts: &mut K,
     )
         requires counts { counts.now ≡ map length (known_lists self.old.inboxes) }
-        requires room { vec_len receipts.old + sum counts.now ≤ vec_capacity receipts.old }
+        requires room { sum counts.now ≤ K.room receipts.old }
         ensures seat { (sending_side self.new ≡ sending_side self.old)
             × (in_rings self.new ≡ in_rings self.old) }
         ensures table { self.new.table ≡ self.old.table }
         ensures outboxes { self.new.outboxes ≡ self.old.outboxes }
         ensures taken { taken_lists self.new.inboxes ≡ taken_with_known self.old.inboxes }
         ensures freed { AddsFrees self.old.worker section
-            (joined (known_lists self.old.inboxes)) receipts.old.items receipts.new.items }
+            (joined (known_lists self.old.inboxes)) (K.told receipts.old) (K.told receipts.new) }
     {
         settle_rings(
             by,
@@ -523,7 +523,7 @@ impl Seat {
 }
 
 // What the look-up of a receipt found.
-fn value_in(receipt: &Receipt) -> Option<u128>
+fn value_in(receipt: &Receipt) -> Option<Object>
     ensures { result ≡ found_by receipt.now.call }
 {
     match receipt.call {

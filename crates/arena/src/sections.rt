@@ -5,8 +5,9 @@
 //! receipts against the logs. Who asks, and in which section of the run, is told by the caller, and
 //! stands in the receipt as it was told.
 ghost use Rattle.std.specs.Prelude.{◌≡◌, ◌↔◌, false, true, Err, IfOk, IfSome, OnErr, if◌then◌else◌, is_some, None};
+ghost use Rattle.span.specs.Classes.{class_of};
 ghost use Rattle.span.specs.PlainMap as plain;
-ghost use Rattle.shard.specs.Calls.{IsSpent, Puts};
+ghost use Rattle.shard.specs.Calls.{FindsObject, IsSpent, Puts};
 ghost use Rattle.shard.specs.Shown.{shown};
 ghost use Rattle.shard.specs.Sound.{IsSound};
 ghost use Rattle.abandoned.specs.Shown.{shown as shown_by_pool};
@@ -15,9 +16,9 @@ ghost use Rattle.arena.specs.Receipts.{TellsFree, TellsFreePooled, TellsGet, Tel
 
 use abandoned::Pool;
 use shard::{Found, Freed, PutError, Shard};
-use span::{Call, Key, Log, Receipt};
+use span::{Call, Key, Log, Object, Receipt};
 
-/// Puts the value into the shard, as [`Shard::put`] does, and makes the receipt of that put. Its key is the receipt's.
+/// Puts the object into the shard, as [`Shard::put`] does, and makes the receipt of that put. Its key is the receipt's.
 ///
 /// # Errors
 ///
@@ -27,10 +28,11 @@ pub fn put_in<L: Log>(
     shard: &mut Shard<L>,
     worker: u32,
     section: u64,
-    value: u128,
+    value: Object,
 ) -> Result<Receipt, PutError>
     // The put, and its receipt.
-    ensures ok { IfOk result (λ receipt. Puts shard.old value receipt.key receipt.at shard.new) }
+    ensures ok { IfOk result (λ receipt. Puts shard.old (class_of value) value receipt.key receipt.at
+        shard.new) }
     ensures receipt { IfOk result (λ receipt. receipt
         ≡ put_receipt worker section value receipt.key receipt.at) }
     ensures fresh { IfOk result (λ receipt. (shown shard.old).is_issued receipt.key ≡ false) }
@@ -42,7 +44,7 @@ pub fn put_in<L: Log>(
 
     // The refusals.
     ensures spent { (result ≡ Err PutError.PagesSpent)
-        ↔ ((shard.old.ended ≡ false) × IsSpent shard.old) }
+        ↔ ((shard.old.ended ≡ false) × IsSpent (class_of value) shard.old) }
     ensures ended { (result ≡ Err PutError.Ended) ↔ (shard.old.ended ≡ true) }
     ensures err { OnErr result (shard.new ≡ shard.old) }
 {
@@ -131,12 +133,16 @@ pub(crate) fn unopened_free(worker: u32, section: u64, key: &Key) -> Receipt
     free_at(0, false, worker, section, key)
 }
 
-// The receipt of a look-up that came to this, where the span is there.
-fn receipt_of_get(found: Found, worker: u32, section: u64, key: &Key) -> Option<Receipt>
-    ensures { result ≡ told_of_get worker section key.now found }
+// The receipt of a look-up that came to this, where the span is there. It has an object of its own, which outlives the lock.
+fn receipt_of_get(found: Found<'_>, worker: u32, section: u64, key: &Key) -> Option<Receipt>
+    requires { FindsObject found }
+    ensures { result ≡ told_of_get worker section key.now found.entry }
 {
     match found {
-        Found::Value(value, at) => Some(get_at(at, Some(value), worker, section, key)),
+        Found::Value(words, at) => {
+            let value = Object::from_words(words);
+            Some(get_at(at, Some(value), worker, section, key))
+        }
         Found::Gone(at) => Some(get_at(at, None, worker, section, key)),
         Found::NotHere => None,
     }
@@ -154,7 +160,7 @@ fn receipt_of_free(freed: Freed, worker: u32, section: u64, key: &Key) -> Option
 }
 
 // The receipt of a look-up of the key that found this after that many changes.
-fn get_at(at: usize, found: Option<u128>, worker: u32, section: u64, key: &Key) -> Receipt
+fn get_at(at: usize, found: Option<Object>, worker: u32, section: u64, key: &Key) -> Receipt
     ensures { result ≡ get_receipt worker section key.now found at }
 {
     Receipt {

@@ -1,5 +1,5 @@
 // Emptying the rings when all seats are in one hand.
-ghost use Rattle.std.specs.Prelude.{◌≡◌, ◌+◌, ◌<◌, ◌≤◌, ◌↔◌, ◌++◌, ℕ, [], All, IfOk, IsTrue, OnErr, OnOk, length, map, sum, slice_index_or, vec_capacity, vec_items, vec_len};
+ghost use Rattle.std.specs.Prelude.{◌≡◌, ◌+◌, ◌<◌, ◌≤◌, ◌↔◌, ◌++◌, ℕ, [], All, IfOk, IsTrue, OnErr, OnOk, length, map, sum, slice_index_or, vec_len};
 ghost use Rattle.arena.specs.Receipts.{AddsFrees, IsFreeBy, joined};
 ghost use Rattle.arena.specs.Seats.{AreInOrder, AreLinked, AreSeatsOf, HasItsRings, in_rings, known_lists, sending_side, taken_lists};
 ghost use Rattle.arena.specs.Settled.{AreCounted, AreEmptied, AreSameSeats, IsSettled, greatest_section, taken_with_known};
@@ -8,6 +8,7 @@ ghost use Rattle.span.specs.declared.limits.TheConstants.{MOST_RING_KEYS, MOST_S
 use crate::arena::Arena;
 use crate::counting::count_all;
 use crate::gate::Gate;
+use crate::receipts::Receipts;
 use crate::seat::Seat;
 use remote_queue::Inbox;
 use span::{Key, Log, Receipt};
@@ -51,11 +52,11 @@ impl<G: Gate, L: Log> Arena<G, L> {
     /// # Errors
     ///
     /// `AllocError` where room for the counts or the receipts was refused. No key was taken then.
-    pub fn settle<R: Wait>(
+    pub fn settle<R: Wait, K: Receipts>(
         &self,
         rt: &R,
         seats: &mut [Seat],
-        receipts: &mut [Vec<Receipt>],
+        receipts: &mut [K],
     ) -> Result<Vec<Vec<usize>>, AllocError>
         // All seats are here, in order, with a list each.
         requires seats { AreSeatsOf self.now.limits self.now.table seats.old }
@@ -65,15 +66,16 @@ impl<G: Gate, L: Log> Arena<G, L> {
         ensures counts { IfOk result (λ counts. vec_len counts ≡ length seats.old) }
         ensures settled { IfOk result (λ counts. (shard : ℕ) (c d e : _) → shard < length seats.old
             → IsSettled seats.old shard (greatest_section seats.old)
-            (slice_index_or counts.items shard c).items (slice_index_or receipts.old shard d).items
-            (slice_index_or receipts.new shard e).items) }
+            (slice_index_or counts.items shard c).items
+            (K.told (slice_index_or receipts.old shard d))
+            (K.told (slice_index_or receipts.new shard e))) }
         ensures emptied { OnOk result (AreEmptied seats.old seats.new) }
 
         // The seats stay the arena's, and a refusal changes nothing.
         ensures seats { AreSeatsOf self.now.limits self.now.table seats.new }
         ensures linked { AreLinked seats.new }
         ensures err { OnErr result (AreSameSeats seats.old seats.new
-            × (map vec_items receipts.new ≡ map vec_items receipts.old)) }
+            × (map K.told receipts.new ≡ map K.told receipts.old)) }
     {
         // There are 64 shards at most.
         let _ = self.limits.shards();
@@ -108,10 +110,10 @@ pub(crate) fn know_rings(seats: &[Seat])
 }
 
 // Counts what is left in the rings, and makes room for a receipt of each key. Keys and receipts stay as they are.
-pub(crate) fn make_room(
+pub(crate) fn make_room<K: Receipts>(
     alloc: Global,
     seats: &mut [Seat],
-    receipts: &mut [Vec<Receipt>],
+    receipts: &mut [K],
 ) -> Result<Vec<Vec<usize>>, AllocError>
     // All seats are here, with their rings and a list each.
     requires linked { AreLinked seats.old }
@@ -120,14 +122,13 @@ pub(crate) fn make_room(
 
     // Nothing changes but room.
     ensures same { AreSameSeats seats.old seats.new }
-    ensures items { map vec_items receipts.new ≡ map vec_items receipts.old }
+    ensures told { map K.told receipts.new ≡ map K.told receipts.old }
     ensures len { IfOk result (λ counts. vec_len counts ≡ length seats.old) }
     ensures counted { IfOk result (λ counts. (shard : ℕ) (d : _) → shard < length seats.old
         → AreCounted seats.old seats.new shard (slice_index_or counts.items shard d).items) }
     ensures room { IfOk result (λ counts. (shard : ℕ) (d e : _) → shard < length seats.old
-        → vec_len (slice_index_or receipts.new shard d) + sum
-        (slice_index_or counts.items shard e).items
-        ≤ vec_capacity (slice_index_or receipts.new shard d)) }
+        → sum (slice_index_or counts.items shard e).items
+        ≤ K.room (slice_index_or receipts.new shard d)) }
 {
     let counts = count_all(alloc, seats)?;
     reserve_all(receipts, counts.as_slice())?;
@@ -136,12 +137,12 @@ pub(crate) fn make_room(
 
 // Takes all that is known to be left in the rings of each shard, and frees it. Each receipt goes last in the list of the shard's
 // worker.
-pub(crate) fn settle_seats<F: Frees>(
+pub(crate) fn settle_seats<F: Frees, K: Receipts>(
     by: &mut F,
     seats: &mut [Seat],
     counts: &[Vec<usize>],
     section: u64,
-    receipts: &mut [Vec<Receipt>],
+    receipts: &mut [K],
 )
     // There is room for the receipts of all counted keys.
     requires wide { (length counts.now ≡ length seats.old)
@@ -152,14 +153,14 @@ pub(crate) fn settle_seats<F: Frees>(
         → (slice_index_or counts.now shard d).items
         ≡ map length (known_lists (slice_index_or seats.old shard x).inboxes) }
     requires room { (shard : ℕ) (d e : _) → shard < length seats.old
-        → vec_len (slice_index_or receipts.old shard d) + sum
-        (slice_index_or counts.now shard e).items
-        ≤ vec_capacity (slice_index_or receipts.old shard d) }
+        → sum (slice_index_or counts.now shard e).items
+        ≤ K.room (slice_index_or receipts.old shard d) }
 
     // Each counted key is freed, and has its receipt.
     ensures freed { (shard : ℕ) (x d e : _) → shard < length seats.old
         → AddsFrees shard section (joined (known_lists (slice_index_or seats.old shard x).inboxes))
-        (slice_index_or receipts.old shard d).items (slice_index_or receipts.new shard e).items }
+        (K.told (slice_index_or receipts.old shard d))
+        (K.told (slice_index_or receipts.new shard e)) }
     ensures sending { map sending_side seats.new ≡ map sending_side seats.old }
     ensures tables { map (λ seat. seat.table) seats.new ≡ map (λ seat. seat.table) seats.old }
     ensures outboxes { map (λ seat. seat.outboxes) seats.new
@@ -185,22 +186,22 @@ pub(crate) fn greatest(seats: &[Seat]) -> u64
 }
 
 // Takes the known keys of each ring, one ring after the other, and frees each.
-pub(crate) fn settle_rings<F: Frees>(
+pub(crate) fn settle_rings<F: Frees, K: Receipts>(
     by: &mut F,
     inboxes: &mut Vec<Inbox>,
     counts: &[usize],
     worker: u32,
     section: u64,
-    receipts: &mut Vec<Receipt>,
+    receipts: &mut K,
 )
     requires counts { counts.now ≡ map length (known_lists inboxes.old.items) }
-    requires room { vec_len receipts.old + sum counts.now ≤ vec_capacity receipts.old }
+    requires room { sum counts.now ≤ K.room receipts.old }
     ensures len { vec_len inboxes.new ≡ vec_len inboxes.old }
     ensures rings { map (λ inbox. inbox.ring) inboxes.new.items
         ≡ map (λ inbox. inbox.ring) inboxes.old.items }
     ensures taken { taken_lists inboxes.new.items ≡ taken_with_known inboxes.old.items }
     ensures freed { AddsFrees worker section (joined (known_lists inboxes.old.items))
-        receipts.old.items receipts.new.items }
+        (K.told receipts.old) (K.told receipts.new) }
 {
     for from in 0..counts.len() {
         settle_ring(
@@ -215,42 +216,41 @@ pub(crate) fn settle_rings<F: Frees>(
 }
 
 // Takes the known keys of a ring, and frees each.
-fn settle_ring<F: Frees>(
+fn settle_ring<F: Frees, K: Receipts>(
     by: &mut F,
     inbox: &mut Inbox,
     left: usize,
     worker: u32,
     section: u64,
-    receipts: &mut Vec<Receipt>,
+    receipts: &mut K,
 )
     requires left { left ≡ length inbox.old.known }
-    requires room { vec_len receipts.old + left ≤ vec_capacity receipts.old }
-    ensures room { (vec_len receipts.new ≡ vec_len receipts.old + left)
-        × (vec_capacity receipts.new ≡ vec_capacity receipts.old) }
+    requires room { left ≤ K.room receipts.old }
+    ensures room { K.room receipts.old ≤ K.room receipts.new + left }
     ensures ring { inbox.new.ring ≡ inbox.old.ring }
     ensures taken { inbox.new.taken ≡ inbox.old.taken ++ inbox.old.known }
-    ensures freed { AddsFrees worker section inbox.old.known receipts.old.items receipts.new.items }
+    ensures freed { AddsFrees worker section inbox.old.known (K.told receipts.old)
+        (K.told receipts.new) }
 {
     for _ in 0..left {
         let key = inbox.take_known();
-        receipts.push_reserved(by.free_key(worker, section, &key));
+        receipts.tell(by.free_key(worker, section, &key));
     }
 }
 
 // Room for as many receipts as each row counts. What the lists have stays.
-fn reserve_all(receipts: &mut [Vec<Receipt>], counts: &[Vec<usize>]) -> Result<(), AllocError>
+fn reserve_all<K: Receipts>(receipts: &mut [K], counts: &[Vec<usize>]) -> Result<(), AllocError>
     requires wide { length counts.now ≡ length receipts.old }
     requires few { All (λ row. All (λ count. count ≤ MOST_RING_KEYS) row.items
         × (vec_len row ≤ MOST_SHARDS)) counts.now }
-    ensures items { map vec_items receipts.new ≡ map vec_items receipts.old }
+    ensures told { map K.told receipts.new ≡ map K.told receipts.old }
     ensures room { OnOk result ((shard : ℕ) (d e : _) → shard < length receipts.old
-        → vec_len (slice_index_or receipts.new shard d) + sum
-        (slice_index_or counts.now shard e).items
-        ≤ vec_capacity (slice_index_or receipts.new shard d)) }
+        → sum (slice_index_or counts.now shard e).items
+        ≤ K.room (slice_index_or receipts.new shard d)) }
 {
     for shard in 0..receipts.len() {
         let more = total(counts[shard].as_slice());
-        receipts[shard].reserve(more)?;
+        receipts[shard].make_room(more)?;
     }
     Ok(())
 }

@@ -5,7 +5,8 @@ use Rattle.std.proofs.lemmas.Bool.{false_from_ne_true}
 use Rattle.std.proofs.option.Match.{None-if_not_some}
 use Rattle.span.specs.declared.id.SpanId.{SpanId}
 use Rattle.span.specs.declared.key.Key.{Key}
-use Rattle.span.specs.Log.{Value as Word}
+use Rattle.span.specs.Classes.{class_of}
+use Rattle.span.specs.Log.{Value}
 use Rattle.span.specs.PlainMap.{PlainMap, with_put, without}
 use Rattle.shard.specs.Calls.{Frees, IsSpent, Puts, was_freed}
 use Rattle.shard.specs.Shown.{shown as shown_by}
@@ -53,7 +54,7 @@ state_of-both_same c number before after pool whereabouts read same pool_is =
     let shards : set c.shards.items number after ≡ c.shards.items = ap (set c.shards.items number) same ∙ set-same c.shards.items number before (shard-read c number before read) in
     λ i. record { limits = record { shards = length (shards i); page_limit = c.page_limit; ring_capacity = c.ring_capacity; gens = c.gens }; shards = shards i; pool = pool_is i; plan = c.plan; rings = c.rings }
 
-pub IsStep-put_fields : {L : Type 0} (c : Inside L) (number : ℕ) (value : Word) (key : Key) (at : ℕ) (before after : ShardState) → IsSound (state_of c) → IsRead c number before → Puts before value key at after
+pub IsStep-put_fields : {L : Type 0} (c : Inside L) (number : ℕ) (value : Value) (key : Key) (at : ℕ) (before after : ShardState) → IsSound (state_of c) → IsRead c number before → Puts before (class_of value) value key at after
     → (shown_by before).is_issued key ≡ false → shown_by after ≡ with_put (shown_by before) key value → IsSoundShard after
     → IsSoundStep (state_of c) (Put number value) (reply.Issued key) (state_of (with_shard_at c number after))
 IsStep-put_fields c number value key at before after kept read puts fresh plain sound =
@@ -61,8 +62,8 @@ IsStep-put_fields c number value key at before after kept read puts fresh plain 
     (IsSoundStep-Puts (state_of c) number value key at before after kept (shard-read c number before read) puts fresh plain sound)
 
 -- a put that the shard refuses leaves the fields as they were
-pub CoreStep-refused_fields : {L : Type 0} (c : Inside L) (number : ℕ) (value : Word) (error : PutError) (before after : ShardState) → IsRead c number before
-    → (◌≡◌ {A = Result (Key × ℕ) PutError} (Err error) (Err put_error.PagesSpent) ↔ ((before.ended ≡ false) × IsSpent before)) → (◌≡◌ {A = Result (Key × ℕ) PutError} (Err error) (Err put_error.Ended) ↔ (before.ended ≡ true)) → after ≡ before
+pub CoreStep-refused_fields : {L : Type 0} (c : Inside L) (number : ℕ) (value : Value) (error : PutError) (before after : ShardState) → IsRead c number before
+    → (◌≡◌ {A = Result (Key × ℕ) PutError} (Err error) (Err put_error.PagesSpent) ↔ ((before.ended ≡ false) × IsSpent (class_of value) before)) → (◌≡◌ {A = Result (Key × ℕ) PutError} (Err error) (Err put_error.Ended) ↔ (before.ended ≡ true)) → after ≡ before
     → CoreStep (state_of c) (Put number value) (reply.Refused (refusal_of error)) (state_of (with_shard_at c number after))
 CoreStep-refused_fields c number value error before after read spent ended same =
     subst (CoreStep (state_of c) (Put number value) (reply.Refused (refusal_of error))) (sym (state_of-same c number before after read same))
@@ -72,7 +73,7 @@ CoreStep-refused_fields c number value error before after read spent ended same 
     at_error cause P comes = (λ e. comes.0 (ap Err e), λ p. let e = comes.1 p in cc)
 
 -- a refused put is a step of the plain map that changes nothing
-pub PlainStep-refused : (limits : Limits) (old new : PlainMap) (number : ℕ) (value : Word) (error : PutError) → new ≡ old → PlainStep limits old (Put number value) (reply.Refused (refusal_of error)) new
+pub PlainStep-refused : (limits : Limits) (old new : PlainMap) (number : ℕ) (value : Value) (error : PutError) → new ≡ old → PlainStep limits old (Put number value) (reply.Refused (refusal_of error)) new
 PlainStep-refused limits old new number value put_error.OutOfMemory same = same
 PlainStep-refused limits old new number value put_error.PagesSpent same = same
 PlainStep-refused limits old new number value put_error.Ended same = same

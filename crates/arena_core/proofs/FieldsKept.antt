@@ -5,7 +5,8 @@ use Rattle.std.proofs.lemmas.List.{length-map}
 use Rattle.std.proofs.lemmas.Option.{get_or_from_slice_get, slice_get_within}
 use Rattle.span.specs.declared.id.SpanId.{SpanId}
 use Rattle.span.specs.declared.key.Key.{Key}
-use Rattle.span.specs.Log.{Value as Word}
+use Rattle.span.specs.Classes.{class_of}
+use Rattle.span.specs.Log.{Value}
 use Rattle.span.specs.PlainMap.{without}
 use Rattle.shard.specs.Calls.{Frees, Puts, was_freed}
 use Rattle.shard.specs.Group.{GroupState}
@@ -48,7 +49,7 @@ module _ {L : Type 0} (c : Inside L) (kept : IsKept c) (number : ℕ) (before : 
   number_is : before.number ≡ number
   number_is = (kept.sound.groups.shards number before (shard-read c number before read)).number_is
 
-  pub GetsNone-Puts : (value : Word) (key : Key) (at : ℕ) (after : ShardState) → Puts before value key at after → GetsNone number before after
+  pub GetsNone-Puts : (value : Value) (key : Key) (at : ℕ) (after : ShardState) → Puts before (class_of value) value key at after → GetsNone number before after
   GetsNone-Puts value key at after puts = kept-IsCall before after number number_is (IsCall-Puts before after value key at puts)
 
   pub GetsNone-same : (after : ShardState) → after ≡ before → GetsNone number before after

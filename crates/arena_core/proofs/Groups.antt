@@ -6,7 +6,8 @@ use Rattle.std.proofs.lemmas.Bool.Decides.{nat_tests}
 use Rattle.std.proofs.lemmas.List.Sums.{sum_by-append, sum_by-cons}
 use Rattle.span.specs.declared.id.SpanId.{SpanId}
 use Rattle.span.specs.declared.key.Key.{Key}
-use Rattle.span.specs.Log.{Value as Word}
+use Rattle.span.specs.Classes.{class_of}
+use Rattle.span.specs.Log.{Value}
 use Rattle.span.specs.State.{SpanState}
 use Rattle.shard.specs.Calls.{Puts, Frees, new_group}
 use Rattle.groups.specs.Spans.{new_span, with_free, union_of, with_put}
@@ -104,7 +105,7 @@ module _ (w : SpanState → ℕ) where
 own-more : (a s n o : ℕ) → cond {A = ℕ} (eqb a n && ltb s (o + 1)) 1 0 ≡ cond {A = ℕ} (eqb a n && ltb s o) 1 0 + cond {A = ℕ} (eqb n a && eqb o s) 1 0
 own-more a s n o = grind (arith, nat_tests)
 
-pub IsCall-Puts : (before after : ShardState) (value : Word) (key : Key) (at : ℕ) → Puts before value key at after → IsCall before after
+pub IsCall-Puts : (before after : ShardState) (value : Value) (key : Key) (at : ℕ) → Puts before (class_of value) value key at after → IsCall before after
 IsCall-Puts before after value key at (running, inl (index, group, room, span_is, generation_is, at_is, after_is)) = record {
   number_is = ap (λ (s : ShardState). s.number) after_is;
   page_limit_is = ap (λ (s : ShardState). s.page_limit) after_is;
@@ -134,10 +135,10 @@ IsCall-Puts before after value key at (running, inr (full, pages, spans, (shard_
 }
   where
     opened : GroupState
-    opened = new_group key.span before.gens page value
+    opened = new_group key.span (class_of value) before.gens page value
 
-    alone : (place : ℕ) (span : SpanState) → slice_get (spans_of (new_group key.span before.gens page value)) place ≡ Some span → span.gens ≡ before.gens
-    alone zero span here = let same : with_put (new_span key.span before.gens) 0 value ≡ span = cc in ap (λ (s : SpanState). s.gens) (sym same)
+    alone : (place : ℕ) (span : SpanState) → slice_get (spans_of (new_group key.span (class_of value) before.gens page value)) place ≡ Some span → span.gens ≡ before.gens
+    alone zero span here = let same : with_put (new_span key.span (class_of value) before.gens) 0 value ≡ span = cc in ap (λ (s : SpanState). s.gens) (sym same)
     alone (suc place) span here = absurd cc
 
 pub IsCall-Frees : (before after : ShardState) (key : Key) (at : ℕ) → Frees before key (Yes at) after → IsCall before after

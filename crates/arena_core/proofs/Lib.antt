@@ -1,4 +1,5 @@
 pub mod Changes
+pub mod Codes
 pub mod FieldSteps
 pub mod Fields
 pub mod FieldsKept

@@ -18,7 +18,7 @@ use Rattle.span.specs.declared.change.Change.TheVariants.{Put, Free}
 use Rattle.span.specs.declared.key.Key.{Key}
 use Rattle.span.specs.declared.id.SpanId.{SpanId}
 use Rattle.span.specs.Ids.{same_span}
-use Rattle.span.specs.Log.{Contents, Held, IsLegal, changed, live_slots, replay, value_if, value_in}
+use Rattle.span.specs.Log.{Contents, Held, IsLegal, Value, changed, live_slots, replay, value_if, value_in}
 use Rattle.span.specs.PlainMap.{same_key}
 use Rattle.span.specs.State.{SpanState}
 use Rattle.groups.specs.Spans.{live_count}
@@ -80,17 +80,17 @@ count_by-slot slot p (e ∷ es) sorted =
 -- what a log holds was put by it
 
 came_from : (before : Contents) (log : List Change) (slot : ℕ) (held : Held) → finmap.get (fold changed before log) slot ≡ Some held
-    → (finmap.get before slot ≡ Some held) ⊎ ((at value : ℕ) × (slice_get log at ≡ Some (Put slot held.generation value)))
+    → (finmap.get before slot ≡ Some held) ⊎ ((at : ℕ) × (value : Value) × (slice_get log at ≡ Some (Put slot held.generation value)))
 came_from before [] slot held is = inl is
 came_from before (Put other generation value ∷ log) slot held is = by_rest (came_from (changed before (Put other generation value)) log slot held is)
   where
-    by_rest : (finmap.get (changed before (Put other generation value)) slot ≡ Some held) ⊎ ((at value : ℕ) × (slice_get log at ≡ Some (Put slot held.generation value)))
-        → (finmap.get before slot ≡ Some held) ⊎ ((at found : ℕ) × (slice_get (Put other generation value ∷ log) at ≡ Some (Put slot held.generation found)))
+    by_rest : (finmap.get (changed before (Put other generation value)) slot ≡ Some held) ⊎ ((at : ℕ) × (value : Value) × (slice_get log at ≡ Some (Put slot held.generation value)))
+        → (finmap.get before slot ≡ Some held) ⊎ ((at : ℕ) × (found : Value) × (slice_get (Put other generation value ∷ log) at ≡ Some (Put slot held.generation found)))
     by_rest (inr (at, found, here)) = inr (suc at, found, here)
     by_rest (inl now) = by_slot (cases_eq slot other) (sym (finmap.get-insert nat_cmp_total before other (record { generation = generation; value = value }) slot ∙ ap (λ b. cond b (Some (record { generation = generation; value = value })) (finmap.get before slot)) (unsigned_tied slot other)) ∙ now)
       where
         by_slot : (slot ≡ other) ⊎ (slot ≢ other) → cond (eqb slot other) (Some (record { generation = generation; value = value })) (finmap.get before slot) ≡ Some held
-            → (finmap.get before slot ≡ Some held) ⊎ ((at found : ℕ) × (slice_get (Put other generation value ∷ log) at ≡ Some (Put slot held.generation found)))
+            → (finmap.get before slot ≡ Some held) ⊎ ((at : ℕ) × (found : Value) × (slice_get (Put other generation value ∷ log) at ≡ Some (Put slot held.generation found)))
         by_slot (inl same) now =
             let is : ◌≡◌ {A = Option Held} (Some (record { generation = generation; value = value })) (Some held) = rw (eq-eqb slot other same) at now in
             let same_held : ◌≡◌ {A = Held} (record { generation = generation; value = value }) held = cc in
@@ -98,12 +98,12 @@ came_from before (Put other generation value ∷ log) slot held is = by_rest (ca
         by_slot (inr differ) now = inl (rw (ne_eqb slot other differ) at now)
 came_from before (Free other generation ∷ log) slot held is = by_rest (came_from (changed before (Free other generation)) log slot held is)
   where
-    by_rest : (finmap.get (changed before (Free other generation)) slot ≡ Some held) ⊎ ((at value : ℕ) × (slice_get log at ≡ Some (Put slot held.generation value)))
-        → (finmap.get before slot ≡ Some held) ⊎ ((at found : ℕ) × (slice_get (Free other generation ∷ log) at ≡ Some (Put slot held.generation found)))
+    by_rest : (finmap.get (changed before (Free other generation)) slot ≡ Some held) ⊎ ((at : ℕ) × (value : Value) × (slice_get log at ≡ Some (Put slot held.generation value)))
+        → (finmap.get before slot ≡ Some held) ⊎ ((at : ℕ) × (found : Value) × (slice_get (Free other generation ∷ log) at ≡ Some (Put slot held.generation found)))
     by_rest (inr (at, found, here)) = inr (suc at, found, here)
     by_rest (inl now) = by_slot (cases_eq slot other) (sym (finmap.get-remove nat_cmp_total before other slot ∙ ap (λ b. cond b None (finmap.get before slot)) (unsigned_tied slot other)) ∙ now)
       where
-        by_slot : (slot ≡ other) ⊎ (slot ≢ other) → cond (eqb slot other) None (finmap.get before slot) ≡ Some held → (finmap.get before slot ≡ Some held) ⊎ ((at found : ℕ) × (slice_get (Free other generation ∷ log) at ≡ Some (Put slot held.generation found)))
+        by_slot : (slot ≡ other) ⊎ (slot ≢ other) → cond (eqb slot other) None (finmap.get before slot) ≡ Some held → (finmap.get before slot ≡ Some held) ⊎ ((at : ℕ) × (found : Value) × (slice_get (Free other generation ∷ log) at ≡ Some (Put slot held.generation found)))
         by_slot (inl same) now = absurd (let no : ◌≡◌ {A = Option Held} None (Some held) = rw (eq-eqb slot other same) at now in cc)
         by_slot (inr differ) now = inl (rw (ne_eqb slot other differ) at now)
 
@@ -115,7 +115,7 @@ generation-from_one gens log slot held legal is = by_origin (came_from nothing l
     nothing : Contents
     nothing = finmap.empty
 
-    by_origin : (finmap.get nothing slot ≡ Some held) ⊎ ((at value : ℕ) × (slice_get log at ≡ Some (Put slot held.generation value))) → 1 ≤ held.generation
+    by_origin : (finmap.get nothing slot ≡ Some held) ⊎ ((at : ℕ) × (value : Value) × (slice_get log at ≡ Some (Put slot held.generation value))) → 1 ≤ held.generation
     by_origin (inl now) = absurd (let no : None ≡ Some held = sym (finmap.get-empty nat_cmp slot) ∙ now in cc)
     by_origin (inr (at, value, here)) = omega (arith, (legal at (Put slot held.generation value) here).1)
 

@@ -62,7 +62,7 @@ module _ (core : CoreState) (sound : HasSoundGroups core) (key : Key) where
   issued-all : bit ((shown core).is_issued key) ≡ sum_all (issued_weight key) core
   issued-all = omega (arith, issued-sum core key (at_most_once core sound key.span), sum_all-parts (issued_weight key) core, issued-shards, issued-pool)
 
-  -- the word that is shown under a key is the value that the log of its span leaves
+  -- the object that is shown under a key is the value that the log of its span leaves
   pub value-logged : (shown core).value_of key ≡ logged_by key (span_named (all_spans core) key.span)
   value-logged = code-injective _ _ (value-all ∙ value-spans key (all_spans core) (at_most_once core sound key.span))
 

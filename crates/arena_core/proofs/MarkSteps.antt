@@ -67,7 +67,7 @@ module _ (old : CoreState) (sound : IsSound old) (found : Certificate) (largest 
   marked_groups : HasSoundGroups marked
   marked_groups = HasSoundGroups-retold (with_all_flags flag old) true (Some (record { pairs = found.plan; done = 0 })) (HasSoundGroups-flagged flag old sound.groups)
 
-  owned_still : (head : SpanId) (group : GroupState) → IsOwned old head group → (now : GroupState) × IsOwned marked head now × (occupied now ≡ occupied group)
+  owned_still : (head : SpanId) (group : GroupState) → IsOwned old head group → (now : GroupState) × IsOwned marked head now × (now.head.class ≡ group.head.class) × (occupied now ≡ occupied group)
   owned_still head group is = (
     closed_as_planned found.plan group,
     record {
@@ -77,6 +77,7 @@ module _ (old : CoreState) (sound : IsSound old) (found : Certificate) (largest 
       shard_is = slice_get-map_at (closed_onto found.plan) old.shards is.number is.shard is.shard_is;
       head_of = record { here = slice_get-map_at (closed_as_planned found.plan) is.shard.groups is.index group is.head_of.here; head_is = is.head_of.head_is };
     },
+    refl,
     refl,
   )
 

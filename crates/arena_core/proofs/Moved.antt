@@ -25,7 +25,7 @@ use Rattle.arena_core.proofs.Steps.{has_span-elsewhere, has_span-here, has_span-
 -- a look-up or a free that finds the span
 
 pub has_span-Gets : (shard : ShardState) (key : Key) (answer : Found) → IsSoundShard shard → (answer ≡ found.NotHere → ⊥) → Gets shard key answer → has_span key.span shard ≡ true
-has_span-Gets shard key (found.Value value at) sound here (index, place, group, span, its, holds, word, at_is) = has_span-here shard key.span index place group span sound its
+has_span-Gets shard key (found.Value value at) sound here (index, place, group, span, its, holds, object, at_is) = has_span-here shard key.span index place group span sound its
 has_span-Gets shard key (found.Gone at) sound here (index, place, group, span, its, gone, at_is) = has_span-here shard key.span index place group span sound its
 has_span-Gets shard key found.NotHere sound here away = absurd (here refl)
 

@@ -13,19 +13,20 @@ use Rattle.groups.proofs.Lists.{find-none}
 use Rattle.abandoned.specs.Shown.{shown as shown_by_pool}
 use Rattle.abandoned.specs.State.{PoolState}
 use Rattle.groups.specs.Group.{spans_in}
+use Rattle.arena_core.proofs.Codes.{code_of_words, code_of_words-injective}
 use Rattle.arena_core.specs.State.{CoreState, has_span, shard_with, shown, shown_at}
 use Rattle.arena_core.proofs.Spans.{has_span-uncounted, is_named, span-missed, times, times-parts, times_in, times_in-found, times_in-missed, times_owned, times_owned-cons, times_pooled}
 
 -- a value as a number, none being 0
 abbrev pub code : Option Value → ℕ
 code None = 0
-code (Some value) = suc value
+code (Some value) = suc (code_of_words value)
 
 pub code-injective : (a b : Option Value) → code a ≡ code b → a ≡ b
 code-injective None None e = refl
 code-injective None (Some value) e = absurd (omega arith)
 code-injective (Some value) None e = absurd (omega arith)
-code-injective (Some value) (Some other) e = let same : value ≡ other = omega arith in ap Some same
+code-injective (Some value) (Some other) e = ap Some (code_of_words-injective value other (omega arith))
 
 abbrev pub bit : Bool → ℕ
 bit b = cond {A = ℕ} b 1 0

@@ -10,7 +10,8 @@ use Rattle.bitmap.specs.Operations.{AreDisjoint-at, AreDisjoint-by_slot}
 use Rattle.span.specs.declared.id.SpanId.{SpanId}
 use Rattle.span.specs.declared.key.Key.{Key}
 use Rattle.span.specs.Ids.{same_span}
-use Rattle.span.specs.Log.{Value as Word, live_slots}
+use Rattle.span.specs.Classes.{class_of}
+use Rattle.span.specs.Log.{Value, live_slots}
 use Rattle.span.specs.State.{SpanState}
 use Rattle.span.proofs.Slots.{live_slots-free}
 use Rattle.shard.specs.Calls.{Frees, Puts}
@@ -73,20 +74,21 @@ union_of-fewer (first ∷ spans) (suc place) span now here fewer slot live =
 
 -- the groups that a plan names
 
--- every group of the pool stays, none grows, and none without a page gets one
+-- every group of the pool stays, of its class, none grows, and none without a page gets one
 abbrev pub KeepsPooled : List PooledState → List PooledState → Type 0
 KeepsPooled old new = (index : ℕ) (group : PooledState) → slice_get old index ≡ Some group
-    → (place : ℕ) × (now : PooledState) × (slice_get new place ≡ Some now) × (now.head.id ≡ group.head.id) × IsWithin (union_of (spans_of now)) (union_of (spans_of group)) × (group.page ≡ None → now.page ≡ None)
+    → (place : ℕ) × (now : PooledState) × (slice_get new place ≡ Some now) × (now.head.id ≡ group.head.id) × (now.head.class ≡ group.head.class) × IsWithin (union_of (spans_of now)) (union_of (spans_of group)) × (group.page ≡ None → now.page ≡ None)
 
 -- the group is as it was, save that it may have lost slots
 pub record IsFewer (group now : GroupState) : Type 0 where
   pub head_is : now.head.id ≡ group.head.id
+  pub class_is : now.head.class ≡ group.head.class
   pub slots : IsWithin (occupied now) (occupied group)
   pub guests : (id : SpanId) (place : ℕ) → IsSpanAt group.guests id place → IsSpanAt now.guests id place
   pub closed_is : now.closed ≡ group.closed
 
 pub IsFewer-same : (group : GroupState) → IsFewer group group
-IsFewer-same group = record { head_is = refl; slots = λ slot e. e; guests = λ id place e. e; closed_is = refl }
+IsFewer-same group = record { head_is = refl; class_is = refl; slots = λ slot e. e; guests = λ id place e. e; closed_is = refl }
 
 -- every closed group stays, and none grows
 abbrev pub KeepsClosed : List GroupState → List GroupState → Type 0
@@ -112,7 +114,7 @@ KeepsAllClosed-set shards number before after here keeps other shard there = by_
     by_place (inr differ) = (shard, slice_get-set_other shards number other after differ ∙ there, KeepsClosed-same shard.groups)
 
 pub KeepsPooled-same : (groups : List PooledState) → KeepsPooled groups groups
-KeepsPooled-same groups index group here = (index, group, here, refl, (λ slot e. e), λ none. none)
+KeepsPooled-same groups index group here = (index, group, here, refl, refl, (λ slot e. e), λ none. none)
 
 -- a pair of the plan folds onto its owned group
 pub plans_onto-pair : (pairs : List (SpanId × SpanId)) (k : ℕ) (pair : SpanId × SpanId) → slice_get pairs k ≡ Some pair → plans_onto pairs pair.1 ≡ true
@@ -124,10 +126,10 @@ plans_onto-pair (first ∷ pairs) (suc k) pair here = ap (λ b. same_span first.
 
 -- the plan goes on
 module _ (old new : CoreState) (pooled : KeepsPooled old.pool.groups new.pool.groups) (owned : KeepsAllClosed old.shards new.shards) where
-  IsPooled-kept : (head : SpanId) (group : PooledState) → IsPooled old head group → (now : PooledState) × IsPooled new head now × IsWithin (union_of (spans_of now)) (union_of (spans_of group)) × (group.page ≡ None → now.page ≡ None)
+  IsPooled-kept : (head : SpanId) (group : PooledState) → IsPooled old head group → (now : PooledState) × IsPooled new head now × (now.head.class ≡ group.head.class) × IsWithin (union_of (spans_of now)) (union_of (spans_of group)) × (group.page ≡ None → now.page ≡ None)
   IsPooled-kept head group is =
-      let (place, now, there, head_is, fewer, no_page) = pooled is.index group is.head_of.here in
-      (now, record { index = place; head_of = record { here = there; head_is = head_is ∙ is.head_of.head_is } }, fewer, no_page)
+      let (place, now, there, head_is, class_is, fewer, no_page) = pooled is.index group is.head_of.here in
+      (now, record { index = place; head_of = record { here = there; head_is = head_is ∙ is.head_of.head_is } }, class_is, fewer, no_page)
 
   IsOwned-kept : (head : SpanId) (group : GroupState) → IsOwned old head group → group.closed ≡ true → (now : GroupState) × IsOwned new head now × IsFewer group now
   IsOwned-kept head group is closed =
@@ -138,13 +140,14 @@ module _ (old new : CoreState) (pooled : KeepsPooled old.pool.groups new.pool.gr
   module _ (plan : OpenPlan) (closed : (k : ℕ) (pair : SpanId × SpanId) → slice_get plan.pairs k ≡ Some pair → (group : GroupState) → IsOwned old pair.1 group → group.closed ≡ true) where
     IsWaiting-kept : (k : ℕ) (pair : SpanId × SpanId) → slice_get plan.pairs k ≡ Some pair → IsWaiting old pair → IsWaiting new pair
     IsWaiting-kept k pair at waits =
-        let (a, a_is, fewer_a, no_page) = IsPooled-kept pair.0 waits.abandoned waits.is_abandoned in
+        let (a, a_is, class_a, fewer_a, no_page) = IsPooled-kept pair.0 waits.abandoned waits.is_abandoned in
         let (b, b_is, fewer_b) = IsOwned-kept pair.1 waits.owned waits.is_owned (closed k pair at waits.owned waits.is_owned) in
         record {
           abandoned = a;
           owned = b;
           is_abandoned = a_is;
           is_owned = b_is;
+          class_is = class_a ∙ waits.class_is ∙ sym fewer_b.class_is;
           apart = AreDisjoint-within (union_of (spans_of waits.abandoned)) (union_of (spans_of a)) (occupied waits.owned) (occupied b) fewer_a fewer_b.slots waits.apart;
         }
 
@@ -153,7 +156,7 @@ module _ (old new : CoreState) (pooled : KeepsPooled old.pool.groups new.pool.gr
         let (b, b_is, fewer_b) = IsOwned-kept pair.1 guest.owned guest.is_owned (closed k pair at guest.owned guest.is_owned) in
         inl (record { owned = b; place = guest.place; is_owned = b_is; guest = fewer_b.guests pair.0 guest.place guest.guest })
     IsCarriedOut-kept k pair at (inr emptied) =
-        let (a, a_is, fewer_a, no_page) = IsPooled-kept pair.0 emptied.abandoned emptied.is_abandoned in
+        let (a, a_is, class_a, fewer_a, no_page) = IsPooled-kept pair.0 emptied.abandoned emptied.is_abandoned in
         inr (record { abandoned = a; is_abandoned = a_is; no_page = no_page emptied.no_page })
 
     pub IsUnderWay-kept : IsUnderWay old plan → IsUnderWay new plan
@@ -171,7 +174,7 @@ module _ (old new : CoreState) (pooled : KeepsPooled old.pool.groups new.pool.gr
 
 -- what each event keeps
 
-pub KeepsClosed-Puts : (before after : ShardState) (value : Word) (key : Key) (at : ℕ) → Puts before value key at after → KeepsClosed before.groups after.groups
+pub KeepsClosed-Puts : (before after : ShardState) (value : Value) (key : Key) (at : ℕ) → Puts before (class_of value) value key at after → KeepsClosed before.groups after.groups
 KeepsClosed-Puts before after value key at (running, inl (index, group, room, span_is, generation_is, at_is, after_is)) other there here closed = by_place (cases_eq other index)
   where
     groups_are : after.groups ≡ set before.groups index (record group { head = with_put group.head key.slot value })
@@ -180,7 +183,7 @@ KeepsClosed-Puts before after value key at (running, inl (index, group, room, sp
     by_place : (other ≡ index) ⊎ (other ≢ index) → (place : ℕ) × (now : GroupState) × (slice_get after.groups place ≡ Some now) × IsFewer there now
     by_place (inl same) =
         let is : group ≡ there = same_some (sym room.here ∙ ap (slice_get before.groups) (sym same) ∙ here) in
-        absurd (let both : true ≡ false = sym closed ∙ ap (λ (g : GroupState). g.closed) (sym is) ∙ room.slot_is.0 in cc)
+        absurd (let both : true ≡ false = sym closed ∙ ap (λ (g : GroupState). g.closed) (sym is) ∙ room.slot_is.is_open in cc)
     by_place (inr differ) = (other, there, ap (λ gs. slice_get gs other) groups_are ∙ slice_get-set_other before.groups index other _ differ ∙ here, IsFewer-same there)
 KeepsClosed-Puts before after value key at (running, inr (full, pages, spans, (shard_is, serial_is, slot_is, generation_is, at_is, (page, index, new_page, place, after_is)))) other there here closed =
     let (now, moved) = after-insert before.groups index _ other there here in
@@ -193,6 +196,10 @@ guests-with_span group (suc place) span now here same id other (guest, there, is
     let (after, at_now, id_is) = after-set (λ (a b : SpanState). b.id ≡ a.id) (λ s. refl) group.guests place span now here same other guest there in
     (after, at_now, id_is ∙ is)
 
+class-with_span : (group : GroupState) (place : ℕ) (span now : SpanState) → slice_get (spans_of group) place ≡ Some span → now.class ≡ span.class → (with_span group place now).head.class ≡ group.head.class
+class-with_span group zero span now here same = let is : group.head ≡ span = same_some here in same ∙ ap (λ (s : SpanState). s.class) (sym is)
+class-with_span group (suc place) span now here same = refl
+
 head-with_span : (group : GroupState) (place : ℕ) (span now : SpanState) → slice_get (spans_of group) place ≡ Some span → now.id ≡ span.id → (with_span group place now).head.id ≡ group.head.id
 head-with_span group zero span now here same = let is : group.head ≡ span = same_some here in same ∙ ap (λ (s : SpanState). s.id) (sym is)
 head-with_span group (suc place) span now here same = refl
@@ -204,6 +211,7 @@ closed-with_span group (suc place) now = refl
 pub IsFewer-freed : (group : GroupState) (place : ℕ) (span : SpanState) (key : Key) → slice_get (spans_of group) place ≡ Some span → IsFewer group (with_span group place (with_free span key))
 IsFewer-freed group place span key here = record {
   head_is = head-with_span group place span (with_free span key) here refl;
+  class_is = class-with_span group place span (with_free span key) here refl;
   slots = λ slot live. union_of-fewer (spans_of group) place span (with_free span key) here (live_slots-fewer span key) slot (ap (λ spans. contains (union_of spans) slot) (sym (spans_of-with_span group place (with_free span key))) ∙ live);
   guests = guests-with_span group place span (with_free span key) here refl;
   closed_is = closed-with_span group place (with_free span key);
@@ -223,24 +231,32 @@ pooled_head now group zero span after here same is =
     ap (λ (s : SpanState). s.id) head ∙ same ∙ ap (λ (s : SpanState). s.id) (sym first)
 pooled_head now group (suc place) span after here same is = let head : now.head ≡ group.head = same_some (ap (λ spans. slice_get spans 0) is) in ap (λ (s : SpanState). s.id) head
 
+pooled_class : (now group : PooledState) (place : ℕ) (span after : SpanState) → slice_get (spans_of group) place ≡ Some span → after.class ≡ span.class → spans_of now ≡ set (spans_of group) place after → now.head.class ≡ group.head.class
+pooled_class now group zero span after here same is =
+    let first : group.head ≡ span = same_some here in
+    let head : now.head ≡ after = same_some (ap (λ spans. slice_get spans 0) is) in
+    ap (λ (s : SpanState). s.class) head ∙ same ∙ ap (λ (s : SpanState). s.class) (sym first)
+pooled_class now group (suc place) span after here same is = let head : now.head ≡ group.head = same_some (ap (λ spans. slice_get spans 0) is) in ap (λ (s : SpanState). s.class) head
+
 pub KeepsPooled-Frees : (before after : PoolState) (key : Key) (at : ℕ) → IsSoundPool before → FreesPooled before key (Yes at) after → KeepsPooled before.groups after.groups
 KeepsPooled-Frees before after key at sound (index, place, group, span, here, holds, at_is, leaves) other there at_other = by_place (cases_eq other index)
   where
     changed : (now : PooledState) × (after.groups ≡ set before.groups index now) × (spans_of now ≡ set (spans_of group) place (with_free span key))
     changed = groups-Leaves before sound index place group span key (here.group_is, here.span_is) holds after leaves
 
-    by_place : (other ≡ index) ⊎ (other ≢ index) → (place : ℕ) × (now : PooledState) × (slice_get after.groups place ≡ Some now) × (now.head.id ≡ there.head.id) × IsWithin (union_of (spans_of now)) (union_of (spans_of there)) × (there.page ≡ None → now.page ≡ None)
+    by_place : (other ≡ index) ⊎ (other ≢ index) → (place : ℕ) × (now : PooledState) × (slice_get after.groups place ≡ Some now) × (now.head.id ≡ there.head.id) × (now.head.class ≡ there.head.class) × IsWithin (union_of (spans_of now)) (union_of (spans_of there)) × (there.page ≡ None → now.page ≡ None)
     by_place (inl same) =
         let is : group ≡ there = same_some (sym here.group_is ∙ ap (slice_get before.groups) (sym same) ∙ at_other) in (
           index,
           changed.0,
           ap (λ gs. slice_get gs index) changed.1 ∙ slice_get-set_same before.groups index group changed.0 here.group_is,
           pooled_head changed.0 group place span (with_free span key) here.span_is refl changed.2 ∙ ap (λ (g : PooledState). g.head.id) is,
+          pooled_class changed.0 group place span (with_free span key) here.span_is refl changed.2 ∙ ap (λ (g : PooledState). g.head.class) is,
           (λ slot live. ap (λ (g : PooledState). contains (union_of (spans_of g)) slot) (sym is)
               ∙ union_of-fewer (spans_of group) place span (with_free span key) here.span_is (live_slots-fewer span key) slot (ap (λ spans. contains (union_of spans) slot) (sym changed.2) ∙ live)),
           (λ none. absurd (has_page_if_held before sound index place group span key.slot key.generation here.group_is here.span_is holds (ap (λ (g : PooledState). g.page) is ∙ none))),
         )
-    by_place (inr differ) = (other, there, ap (λ gs. slice_get gs other) changed.1 ∙ slice_get-set_other before.groups index other changed.0 differ ∙ at_other, refl, (λ slot e. e), λ none. none)
+    by_place (inr differ) = (other, there, ap (λ gs. slice_get gs other) changed.1 ∙ slice_get-set_other before.groups index other changed.0 differ ∙ at_other, refl, refl, (λ slot e. e), λ none. none)
 
 -- the pool knows of the plan as before
 pub has_plan-Frees : (before after : PoolState) (key : Key) (at : ℕ) → IsSoundPool before → FreesPooled before key (Yes at) after → after.has_plan ≡ before.has_plan
@@ -277,7 +293,7 @@ HasStill-TakesAll (whole ∷ wholes) old new (mid, rest, takes) index group here
 pub KeepsPooled-Receives : (old new : PoolState) (before after : ShardState) → Receives old before new after → KeepsPooled old.groups new.groups
 KeepsPooled-Receives old new before after receives index group here =
     let (place, there) = HasStill-TakesAll _ (with_rooms old receives.page_room receives.span_room) new receives.moved index group here in
-    (place, group, there, refl, (λ slot e. e), λ none. none)
+    (place, group, there, refl, refl, (λ slot e. e), λ none. none)
 
 pub has_plan-TakesIn : (old new : PoolState) (whole : WholeState) → TakesIn old whole new → new.has_plan ≡ old.has_plan
 has_plan-TakesIn old new whole takes = by_case (empty_or_not (union_of (whole.head ∷ whole.guests)))

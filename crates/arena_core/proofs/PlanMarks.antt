@@ -1,5 +1,5 @@
 -- A mark's pairs wait: what it sees are groups of the pool and of the shards.
-use Rattle.std.proofs.Common.{◌≡◌, ℕ, suc, ◌<◌, ◌≤◌, Bool, true, false, cond, ◌&&◌, ◌||◌, List, [], ◌∷◌, ◌⊎◌, inl, inr, refl, sym, ap, subst, ◌∙◌, arith, Some, slice_get, map, get_or, is_some, eqb-true, map-id}
+use Rattle.std.proofs.Common.{◌≡◌, ℕ, suc, ◌<◌, ◌≤◌, Bool, true, false, cond, ◌&&◌, ◌||◌, List, [], ◌∷◌, ◌⊎◌, inl, inr, refl, sym, ap, subst, ◌∙◌, arith, Some, slice_get, map, get_or, is_some, eqb, eqb-true, map-id}
 use Rattle.std.specs.Prelude.{filter}
 use Rattle.std.specs.List.{AllByRecursion, IsDistinct, list_any}
 use Rattle.std.specs.List.Sorted.{IsPermutation}
@@ -14,11 +14,13 @@ use Rattle.bitmap.specs.Slots.{AreDisjoint}
 use Rattle.span.specs.declared.id.SpanId.{SpanId}
 use Rattle.span.specs.Ids.{same_span}
 use Rattle.span.proofs.Ids.{same_id_from_test, test_from_same_id}
+use Rattle.shard.proofs.Classes.{class_from_width}
 use Rattle.shard.specs.Group.{GroupState}
 use Rattle.groups.specs.Group.{occupied, summary}
 use Rattle.shard.specs.State.{ShardState}
 use Rattle.abandoned.specs.State.{PooledState}
 use Rattle.mesh_graph.specs.Groups.{Groups, any_compatible}
+use Rattle.span.specs.Classes.{width_of}
 use Rattle.span.specs.Entries.{are_compatible}
 use Rattle.span.specs.declared.entry.Entry.{Entry}
 use Rattle.certificate.specs.Plans.{IsPlanOf, sides_of}
@@ -81,9 +83,14 @@ tells_owned (shard ∷ shards) =
     (each-to _ (λ entry tells. (0, shard, refl, tells)) (tells_groups shard.groups))
     (each-to _ (λ entry tells. (suc tells.0, tells.1, tells.2, tells.3)) (tells_owned shards))
 
--- two groups that the test calls compatible share no slot
+-- two groups that the test calls compatible are of one class and share no slot
+class_from_test : (x y : Entry) → are_compatible x y ≡ true → x.class ≡ y.class
+class_from_test x y e = class_from_width x.class y.class (eqb-true (width_of x.class) (width_of y.class) (and_parts (eqb (width_of x.class) (width_of y.class)) (eqb (len (intersection x.occupied y.occupied)) 0) e).0)
+
 apart_from_test : (x y : Entry) → are_compatible x y ≡ true → AreDisjoint x.occupied y.occupied
-apart_from_test x y e = empty_of_len (intersection x.occupied y.occupied) (eqb-true (len (intersection x.occupied y.occupied)) 0 e)
+apart_from_test x y e =
+    empty_of_len (intersection x.occupied y.occupied)
+    (eqb-true (len (intersection x.occupied y.occupied)) 0 (and_parts (eqb (width_of x.class) (width_of y.class)) (eqb (len (intersection x.occupied y.occupied)) 0) e).1)
 
 -- a compatible pair
 
@@ -105,6 +112,7 @@ IsWaiting-seen core seen abandoned owned pair compatible =
       owned = b;
       is_abandoned = record { index = i; head_of = record { here = at_a; head_is = ap (λ (e : Entry). e.id) tells_a ∙ same_id_from_test x.id pair.0 parts.0 } };
       is_owned = record { number = n; shard = shard; index = j; shard_is = at_shard; head_of = record { here = at_b; head_is = ap (λ (e : Entry). e.id) tells_b ∙ same_id_from_test y.id pair.1 both.0 } };
+      class_is = ap (λ (e : Entry). e.class) tells_a ∙ class_from_test x y both.1 ∙ sym (ap (λ (e : Entry). e.class) tells_b);
       apart = subst (λ (e : Entry). AreDisjoint e.occupied (occupied b)) (sym tells_a) (subst (λ (e : Entry). AreDisjoint x.occupied e.occupied) (sym tells_b) (apart_from_test x y both.1));
     }
 
@@ -134,7 +142,7 @@ compatible-sides_of seen a b = refl
 
 pub IsUnderWay-marked : (old new : CoreState) (seen : Groups) (pairs : List (SpanId × SpanId)) → IsPermutation (abandoned_entries old.pool) seen.abandoned → IsPermutation (owned_entries old.shards) seen.owned → IsPlanOf seen pairs
     → ((head : SpanId) (group : PooledState) → IsPooled old head group → IsPooled new head group)
-    → ((head : SpanId) (group : GroupState) → IsOwned old head group → (now : GroupState) × IsOwned new head now × (occupied now ≡ occupied group))
+    → ((head : SpanId) (group : GroupState) → IsOwned old head group → (now : GroupState) × IsOwned new head now × (now.head.class ≡ group.head.class) × (occupied now ≡ occupied group))
     → IsUnderWay new (record { pairs = pairs; done = 0 })
 IsUnderWay-marked old new seen pairs abandoned owned plan pooled_still owned_still = record {
   within = omega arith;
@@ -150,11 +158,12 @@ IsUnderWay-marked old new seen pairs abandoned owned plan pooled_still owned_sti
         let inside = slice_get_within pairs k pair at in
         let compatible : any_compatible seen pair.0 pair.1 ≡ true = subst (λ (p : SpanId × SpanId). any_compatible seen p.0 p.1 ≡ true) (get_or_from_slice_get pairs k pair pair at) (sym (compatible-sides_of seen (get_or pairs k pair).0 (get_or pairs k pair).1) ∙ plan.compatible k pair inside) in
         let found = IsWaiting-seen old seen abandoned owned pair compatible in
-        let (now, now_is, same) = owned_still pair.1 found.owned found.is_owned in
+        let (now, now_is, same_class, same) = owned_still pair.1 found.owned found.is_owned in
         record {
           abandoned = found.abandoned;
           owned = now;
           is_abandoned = pooled_still pair.0 found.abandoned found.is_abandoned;
           is_owned = now_is;
+          class_is = found.class_is ∙ sym same_class;
           apart = subst (AreDisjoint (occupied found.abandoned)) (sym same) found.apart;
         }

@@ -5,7 +5,8 @@ use Rattle.std.proofs.lemmas.Option.{none-some}
 use Rattle.span.specs.declared.id.SpanId.{SpanId}
 use Rattle.span.specs.declared.key.Key.{Key}
 use Rattle.span.specs.Ids.{same_span}
-use Rattle.span.specs.Log.{Value as Word}
+use Rattle.span.specs.Classes.{class_of}
+use Rattle.span.specs.Log.{Value}
 use Rattle.span.specs.PlainMap.{with_put as with_key, without}
 use Rattle.span.proofs.Ids.{same_id_from_test}
 use Rattle.shard.specs.Calls.{Frees, Puts, new_group, was_freed}
@@ -111,7 +112,7 @@ unplanned-next core sound id past = by_plan core.plan refl sound.plan.under_way
 
 -- puts
 
-AreClosedAsPlanned-Puts : (plan : Option OpenPlan) (before after : ShardState) (value : Word) (key : Key) (at : ℕ) → Puts before value key at after → (before.opened ≤ key.span.serial → key.span.shard ≡ before.number → is_planned plan key.span ≡ false)
+AreClosedAsPlanned-Puts : (plan : Option OpenPlan) (before after : ShardState) (value : Value) (key : Key) (at : ℕ) → Puts before (class_of value) value key at after → (before.opened ≤ key.span.serial → key.span.shard ≡ before.number → is_planned plan key.span ≡ false)
     → AreClosedAsPlanned plan before.groups → AreClosedAsPlanned plan after.groups
 AreClosedAsPlanned-Puts plan before after value key at (running, inl (index, group, room, span_is, generation_is, at_is, after_is)) fresh all other now here =
     elim (cases-set before.groups index (record group { head = with_put group.head key.slot value }) other now (ap (λ gs. slice_get gs other) (sym (ap (λ (s : ShardState). s.groups) after_is)) ∙ here)) [
@@ -119,13 +120,13 @@ AreClosedAsPlanned-Puts plan before after value key at (running, inl (index, gro
       | inr old ↦ all other now old.1
     ]
 AreClosedAsPlanned-Puts plan before after value key at (running, inr (full, pages, spans, (shard_is, serial_is, slot_is, generation_is, at_is, (page, index, new_page, place, after_is)))) fresh all other now here =
-    elim (cases-insert before.groups index (new_group key.span before.gens page value) place.within other now (ap (λ (s : ShardState). slice_get s.groups other) (sym after_is) ∙ here)) [
+    elim (cases-insert before.groups index (new_group key.span (class_of value) before.gens page value) place.within other now (ap (λ (s : ShardState). slice_get s.groups other) (sym after_is) ∙ here)) [
       | inl low ↦ all other now low.1
       | inr (inl new) ↦ subst (λ (g : GroupState). g.closed ≡ is_planned plan g.head.id) new.1 (sym (fresh (omega (arith, serial_is)) shard_is))
       | inr (inr high) ↦ all high.0 now high.3
     ]
 
-pub HasSoundPlan-Puts : (old : CoreState) → IsSound old → (number : ℕ) (value : Word) (key : Key) (at : ℕ) (before after : ShardState) → slice_get old.shards number ≡ Some before → Puts before value key at after → HasSoundPlan (with_shard old number after)
+pub HasSoundPlan-Puts : (old : CoreState) → IsSound old → (number : ℕ) (value : Value) (key : Key) (at : ℕ) (before after : ShardState) → slice_get old.shards number ≡ Some before → Puts before (class_of value) value key at after → HasSoundPlan (with_shard old number after)
 HasSoundPlan-Puts old sound number value key at before after here puts =
     HasSoundPlan-kept old (with_shard old number after) sound.plan refl refl (KeepsPooled-same old.pool.groups) (KeepsAllClosed-set old.shards number before after here (KeepsClosed-Puts before after value key at puts))
     (AreAllClosedAsPlanned-set old.plan old.shards number after sound.plan.closed (AreClosedAsPlanned-Puts old.plan before after value key at puts fresh (sound.plan.closed number before here)))
@@ -168,7 +169,7 @@ pub HasSoundPlan-Retires : (old : CoreState) → IsSound old → (number most co
 HasSoundPlan-Retires old sound number most count before after pool here unclosed retires =
     let gone = HasGone-Retires old.pool before most count pool after retires in
     HasSoundPlan-kept old (with_pool (with_shard old number after) pool) sound.plan refl gone.has_plan_is
-    (λ index group at. let (place, there) = gone.still index group at in (place, group, there, refl, (λ slot e. e), λ none. none))
+    (λ index group at. let (place, there) = gone.still index group at in (place, group, there, refl, refl, (λ slot e. e), λ none. none))
     (KeepsAllClosed-set old.shards number before after here (λ index group at closed. absurd (let both : true ≡ false = sym closed ∙ unclosed index group at in cc)))
     (AreAllClosedAsPlanned-set old.plan old.shards number after sound.plan.closed (λ index group at. let (was, there) = gone.part index group at in sound.plan.closed number before here was group there))
 
@@ -194,7 +195,7 @@ HasSoundPlan-Adopts old sound no_plan number head before after pool here adopts 
 
 -- the steps, with the plan
 
-pub IsSoundStep-Puts : (old : CoreState) (number : ℕ) (value : Word) (key : Key) (at : ℕ) (before after : ShardState) → IsSound old → slice_get old.shards number ≡ Some before → Puts before value key at after
+pub IsSoundStep-Puts : (old : CoreState) (number : ℕ) (value : Value) (key : Key) (at : ℕ) (before after : ShardState) → IsSound old → slice_get old.shards number ≡ Some before → Puts before (class_of value) value key at after
     → (shown_by before).is_issued key ≡ false → shown_by after ≡ with_key (shown_by before) key value → IsSoundShard after
     → IsSoundStep old (Put number value) (reply.Issued key) (with_shard old number after)
 IsSoundStep-Puts old number value key at before after sound here puts fresh plain sound_after =

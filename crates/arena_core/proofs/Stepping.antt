@@ -111,9 +111,12 @@ module _ (old : CoreState) (sound : IsSound old) (plan : OpenPlan) (pair : SpanI
     no_clash (index, place, group, onto, head_a, head_b, clash) =
         let one_a : waits.abandoned ≡ group = one_head old.pool sound.groups.pool waits.is_abandoned.index index waits.abandoned group waits.is_abandoned.head_of.here head_a.here (waits.is_abandoned.head_of.head_is ∙ sym head_a.head_is) in
         let one_b : waits.owned ≡ onto = same_group before.groups sound_before.ascending pair.1 waits.is_owned.index place waits.owned onto owned_here head_b in
-        clash (subst (λ (g : GroupState). AreDisjoint (occupied g) (union_of (spans_of group))) one_b
-        (subst (λ (g : PooledState). AreDisjoint (occupied waits.owned) (union_of (spans_of g))) one_a
-        (disjoint_swap (union_of (spans_of waits.abandoned)) (occupied waits.owned) waits.apart)))
+        elim clash [
+          | inl two_classes ↦ two_classes (ap (λ (g : GroupState). g.head.class) (sym one_b) ∙ sym waits.class_is ∙ ap (λ (g : PooledState). g.head.class) one_a)
+          | inr joined ↦ joined (subst (λ (g : GroupState). AreDisjoint (occupied g) (union_of (spans_of group))) one_b
+              (subst (λ (g : PooledState). AreDisjoint (occupied waits.owned) (union_of (spans_of g))) one_a
+              (disjoint_swap (union_of (spans_of waits.abandoned)) (occupied waits.owned) waits.apart)))
+        ]
 
     folded : (after : ShardState) (pool : PoolState) → Folds old.pool before pair.0 pair.1 pool after → pool.has_plan ≡ old.pool.has_plan → IsSoundShard after → IsSoundPool pool
         → IsSoundStep old Step (Stepped pair.0 pair.1 Folded) (with_plan (with_pool (with_shard old number after) pool) (Some (with_next_done plan)))

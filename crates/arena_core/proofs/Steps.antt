@@ -4,7 +4,8 @@ use Rattle.std.specs.Prelude.{◌↔◌}
 use Rattle.std.proofs.option.Match.{None-if_not_some}
 use Rattle.span.specs.declared.id.SpanId.{SpanId}
 use Rattle.span.specs.declared.key.Key.{Key}
-use Rattle.span.specs.Log.{Value as Word}
+use Rattle.span.specs.Classes.{class_of}
+use Rattle.span.specs.Log.{Value}
 use Rattle.span.specs.PlainMap.{with_put, without}
 use Rattle.shard.specs.Calls.{Frees, IsSpent, Puts, was_freed}
 use Rattle.shard.specs.Group.{GroupState}
@@ -116,7 +117,7 @@ module _ (core : CoreState) (sound : HasSoundGroups core) where
 
 -- puts
 
-pub IsStep-Puts : (old : CoreState) (number : ℕ) (value : Word) (key : Key) (at : ℕ) (before after : ShardState) → HasSoundGroups old → slice_get old.shards number ≡ Some before → Puts before value key at after
+pub IsStep-Puts : (old : CoreState) (number : ℕ) (value : Value) (key : Key) (at : ℕ) (before after : ShardState) → HasSoundGroups old → slice_get old.shards number ≡ Some before → Puts before (class_of value) value key at after
     → (shown_by before).is_issued key ≡ false → shown_by after ≡ with_put (shown_by before) key value → IsSoundShard after
     → IsStep old (Put number value) (reply.Issued key) (with_shard old number after)
 IsStep-Puts old number value key at before after sound here puts fresh plain sound_after =
@@ -130,8 +131,8 @@ IsStep-Puts old number value key at before after sound here puts fresh plain sou
     }
 
 -- a put that its shard refuses
-pub CoreStep-refused : (old : CoreState) (number : ℕ) (value : Word) (shard : ShardState) (error : PutError) → slice_get old.shards number ≡ Some shard
-    → ((error ≡ put_error.PagesSpent) ↔ ((shard.ended ≡ false) × IsSpent shard)) → ((error ≡ put_error.Ended) ↔ (shard.ended ≡ true))
+pub CoreStep-refused : (old : CoreState) (number : ℕ) (value : Value) (shard : ShardState) (error : PutError) → slice_get old.shards number ≡ Some shard
+    → ((error ≡ put_error.PagesSpent) ↔ ((shard.ended ≡ false) × IsSpent (class_of value) shard)) → ((error ≡ put_error.Ended) ↔ (shard.ended ≡ true))
     → CoreStep old (Put number value) (reply.Refused (refusal_of error)) old
 CoreStep-refused old number value shard put_error.OutOfMemory here spent ended =
     let running = not_ended shard.ended refl in

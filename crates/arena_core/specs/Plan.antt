@@ -28,12 +28,13 @@ pub record IsPooled (core : CoreState) (head : SpanId) (group : PooledState) : T
   pub index : ℕ
   pub head_of : IsHeadOf core.pool.groups head index group
 
--- the abandoned group is in the pool and the owned one in a shard, and no slot is occupied in both
+-- the abandoned group is in the pool and the owned one in a shard, both are of one class, and no slot is occupied in both
 pub record IsWaiting (core : CoreState) (pair : SpanId × SpanId) : Type 0 where
   pub abandoned : PooledState
   pub owned : GroupState
   pub is_abandoned : IsPooled core pair.0 abandoned
   pub is_owned : IsOwned core pair.1 owned
+  pub class_is : abandoned.head.class ≡ owned.head.class
   pub apart : AreDisjoint (occupied abandoned) (occupied owned)
 
 -- the abandoned group is a guest of its partner

@@ -3,7 +3,9 @@ use Rattle.std.specs.Prelude.{◌≡◌, ◌⊎◌, ℕ, ◌<◌, ◌≤◌, Boo
 use Rattle.std.specs.List.{list_any}
 use Rattle.span.specs.declared.id.SpanId.{SpanId}
 use Rattle.span.specs.declared.key.Key.{Key}
+use Rattle.span.specs.Classes.{class_of}
 use Rattle.span.specs.Log.{Value}
+use Rattle.span.specs.declared.class.Class.{Class}
 use Rattle.shard.specs.Calls.{Puts, Frees, IsSpent}
 use Rattle.shard.specs.Group.{GroupState}
 use Rattle.shard.specs.State.{ShardState}
@@ -38,9 +40,9 @@ pub record IsRunning (core : CoreState) (number : ℕ) (shard : ShardState) : Ty
 abbrev pub HasEnded : CoreState → ℕ → Type 0
 HasEnded core number = (shard : ShardState) × (slice_get core.shards number ≡ Some shard) × (shard.ended ≡ true)
 
--- the shard of this number has not ended, and a put there needs a page that it may not have
-abbrev pub NeedsPage : CoreState → ℕ → Type 0
-NeedsPage core number = (shard : ShardState) × IsRunning core number shard × IsSpent shard
+-- the shard of this number has not ended, and a put of an object of the class there needs a page that it may not have
+abbrev pub NeedsPage : Class → CoreState → ℕ → Type 0
+NeedsPage class core number = (shard : ShardState) × IsRunning core number shard × IsSpent class shard
 
 -- the shard of this number has all the pages that it may have
 abbrev pub HasAllPages : CoreState → ℕ → Type 0
@@ -50,9 +52,9 @@ HasAllPages core number = (shard : ShardState) × (slice_get core.shards number 
 abbrev pub MayTake : CoreState → ℕ → Type 0
 MayTake core number = (shard : ShardState) → slice_get core.shards number ≡ Some shard → (shard.ended ≡ false) × (length shard.groups < shard.page_limit)
 
--- only a refused allocation refuses a put there
-abbrev pub MayPut : CoreState → ℕ → Type 0
-MayPut core number = (shard : ShardState) × IsRunning core number shard × (IsSpent shard → ⊥)
+-- only a refused allocation refuses a put of an object of the class there
+abbrev pub MayPut : Class → CoreState → ℕ → Type 0
+MayPut class core number = (shard : ShardState) × IsRunning core number shard × (IsSpent class shard → ⊥)
 
 -- one of the groups is closed
 abbrev pub HasClosed : List GroupState → Type 0
@@ -82,13 +84,13 @@ HasTooMany core = AreTooMany core.pool core.shards
 abbrev pub MayMark : CoreState → Type 0
 MayMark core = (core.plan ≡ None) × (HasTooMany core → ⊥)
 
--- the shard of this number puts the value, and all else is as it was
+-- the shard of this number puts the object, of the class that its words tell, and all else is as it was
 pub record PutsInShard (old : CoreState) (number : ℕ) (value : Value) (key : Key) (new : CoreState) : Type 0 where
   pub before : ShardState
   pub after : ShardState
   pub at : ℕ
   pub here : slice_get old.shards number ≡ Some before
-  pub puts : Puts before value key at after
+  pub puts : Puts before (class_of value) value key at after
   pub rest : new ≡ with_shard old number after
 
 -- one shard, which has the key's span, frees the key, and all else is as it was
@@ -222,8 +224,8 @@ abbrev pub CoreStep : CoreState → Event → Reply → CoreState → Type 0
 CoreStep old (Put shard value) (Issued key) new = PutsInShard old shard value key new
 CoreStep old (Put shard value) (Refused Config) new = (old.limits.shards ≤ shard) × (new ≡ old)
 CoreStep old (Put shard value) (Refused Ended) new = HasEnded old shard × (new ≡ old)
-CoreStep old (Put shard value) (Refused PagesSpent) new = NeedsPage old shard × (new ≡ old)
-CoreStep old (Put shard value) (Refused OutOfMemory) new = MayPut old shard × (new ≡ old)
+CoreStep old (Put shard value) (Refused PagesSpent) new = NeedsPage (class_of value) old shard × (new ≡ old)
+CoreStep old (Put shard value) (Refused OutOfMemory) new = MayPut (class_of value) old shard × (new ≡ old)
 CoreStep old (Get key) (Found value) new = (value ≡ (shown old).value_of key) × (new ≡ old)
 CoreStep old (Free key) (Freed freed) new = FreesKey old key freed new
 CoreStep old (Later worker key) Sent new = SendsKey old worker key new

@@ -1,11 +1,11 @@
 // What the core is asked.
-use span::Key;
+use span::{Key, Object};
 
 /// One call on the core: what it is asked.
 #[derive(Clone, Copy, PartialEq, Eq, Debug)]
 pub enum Event {
-    /// Keep the value in the shard of this number, from 0 on.
-    Put { shard: u32, value: u128 },
+    /// Keep the object in the shard of this number, from 0 on.
+    Put { shard: u32, value: Object },
     /// Look the key up.
     Get { key: Key },
     /// Free the key.

@@ -1,11 +1,11 @@
 //! The core: shards, the pool and the open plan as one value that takes events and answers replies.
 //!
-//! A [`Core`] takes [`Event`]s one after another, and answers each with one [`Reply`]. A put goes
-//! to the shard of the number that it names; a look-up and a free go to whoever has the span of the
-//! key. The end of a shard brings its groups to the pool, a retirement brings those with the fewest
-//! live keys there while the shard goes on, and an adoption moves one of them, whole, to a shard. A
-//! mark plans folds of the pool's groups onto those of the shards, as many as can be; a step carries the next of them out, and a close ends the plan. Nothing is lost where an
-//! event is refused: the core is as it was before.
+//! A [`Core`] takes [`Event`]s one after another, and answers each with one [`Reply`]. A put goes to the shard of the number
+//! that it names, and keeps there an object of 16, 64 or 256 bytes, on a page of objects of that size; a look-up and a free go to
+//! whoever has the span of the key. The end of a shard brings its groups to the pool, a retirement brings those with the fewest
+//! live keys there while the shard goes on, and an adoption moves one of them, whole, to a shard. A mark plans folds of the pool's
+//! groups onto those of the shards, as many as can be; a step carries the next of them out, and a close ends the plan. Nothing is
+//! lost where an event is refused: the core is as it was before.
 //!
 //! ```text
 //!   event     Put 0 5     End 0         Put 1 6 twice,   Mark         Step           Get 0.0/0/1
@@ -36,11 +36,11 @@
 //!
 //! ```text
 //! let mut core = Core::new(alloc, 2, 4, 4, 9)?;  // two shards of four pages, rings of four keys, nine generations
-//! let key = core.put(0, 7)?;                     // 0.0/0/1
+//! let key = core.put(0, Object::c16(7))?;        // 0.0/0/1
 //! core.step(Event::End { shard: 0 });            // its group goes to the pool
-//! core.put(1, 8)?;                               // slot 0 of shard 1's page, so no fold is planned
+//! core.put(1, Object::c16(8))?;                  // slot 0 of shard 1's page, so no fold is planned
 //! core.step(Event::Adopt { shard: 1 });          // and so shard 1 adopts the group, with its page
-//! core.get(&key);                                // Some(7), as ever
+//! core.get(&key);                                // Some([7]), as ever
 //! core.free(&key);                               // true
 //! core.get(&key);                                // None, now and for ever
 //! ```

@@ -1,7 +1,8 @@
 // The core: all shards as one value that takes events. What it does with each kind of them stands in the files below.
-ghost use Rattle.std.specs.Prelude.{◌≡◌, ◌↔◌, ◌<◌, ◌≤◌, ℕ, IfOk, OnOk, OnErr, IsErrOf, IsTrue, map};
+ghost use Rattle.std.specs.Prelude.{◌≡◌, ◌↔◌, ◌<◌, ◌≤◌, ℕ, IfOk, IfSome, OnOk, OnErr, IsErrOf, IsTrue, map, option_map};
 ghost use Rattle.std.specs.List.{range_with_len};
 ghost use Rattle.shard.specs.Sound.{IsSound as IsSoundShard};
+ghost use Rattle.span.specs.Classes.{IsObject};
 ghost use Rattle.span.specs.PlainMap.{empty_map};
 ghost use Rattle.arena_core.specs.Sound.{IsSound};
 ghost use Rattle.marks.specs.Numbers.{AreWithin, limits_of};
@@ -18,7 +19,7 @@ use crate::whereabouts::Whereabouts;
 use abandoned::Pool;
 use marks::{CurrentPlan, Limits, Totals};
 use shard::Shard;
-use span::{Kept, Log};
+use span::{Kept, Log, Object};
 use std::alloc::{AllocError, Global};
 use std::marker::Model;
 
@@ -65,7 +66,7 @@ impl<L: Log> Model for Core<L> {
 
 impl Core<Kept> {
     /// A core of `shards` new shards, numbered from 0 on, and an empty pool. A shard may have `page_limit` pages of
-    /// 256 slots, and a slot is given the generations from 1 to `gens`. From each of as many workers as shards there is a
+    /// 4,096 bytes, and a slot is given the generations from 1 to `gens`. From each of as many workers as shards there is a
     /// ring to each shard, which holds `ring_capacity` keys of deferred frees; its room is made here.
     ///
     /// [`CoreError::Config`] comes exactly where a number is out of its range, which is 1 to 64
@@ -150,8 +151,8 @@ impl<L: Log> Core<L> {
     ///
     /// A mark that is not refused plans as many folds as can be, and shows it: no plan of what stands has more pairs. Until the
     /// plan is closed, the groups that it folds onto take no put, and each step carries out its next pair.
-    // Inlined, an event and its reply stay in registers; a call passes them through memory, which
-    // costs several times the shard's own look-up.
+    // Inlined, it makes no event and no reply that its caller takes apart at once. Both have the room of the largest object,
+    // and a call passes them through memory, which costs several times the shard's own look-up.
     #[inline(always)]
     pub fn step(&mut self, event: Event) -> Reply
         ensures exact { CoreStep self.old event result self.new }
@@ -163,7 +164,7 @@ impl<L: Log> Core<L> {
                 Ok(key) => Reply::Issued(key),
                 Err(refusal) => Reply::Refused(refusal),
             },
-            Event::Get { key } => Reply::Found(self.get(&key)),
+            Event::Get { key } => Reply::Found(object_of(self.get(&key))),
             Event::Free { key } => Reply::Freed(self.free(&key)),
             Event::Later { worker, key } => match self.later(worker, key) {
                 Ok(()) => Reply::Sent,
@@ -231,6 +232,17 @@ impl<L: Log> Core<L> {
             totals.live += shard.live();
         }
         totals
+    }
+}
+
+// The object of the words that a look-up lent.
+fn object_of(found: Option<&[u128]>) -> Option<Object>
+    requires { IfSome found (λ words. IsObject words.now) }
+    ensures { result ≡ option_map (λ words. words.now) found.entry }
+{
+    match found {
+        Some(words) => Some(Object::from_words(words)),
+        None => None,
     }
 }
 

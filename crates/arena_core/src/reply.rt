@@ -7,16 +7,16 @@ use certificate::Certificate;
 use fold::Step;
 use marks::MarkError;
 use shard::PutError;
-use span::{Key, SpanId};
+use span::{Key, Object, SpanId};
 use thiserror::Error;
 
 /// What the core answers to one event.
 #[derive(Drop)]
 pub enum Reply {
-    /// The key under which a put keeps its value.
+    /// The key under which a put keeps its object.
     Issued(Key),
-    /// The value that a look-up found, or that the key is not live.
-    Found(Option<u128>),
+    /// The object that a look-up found, or that the key is not live.
+    Found(Option<Object>),
     /// Whether a free found its key live, and freed it.
     Freed(bool),
     /// The key waits to be freed.

@@ -1,5 +1,5 @@
 -- A log's changes by slot, the last one of a slot before a place, and what the slot then holds.
-use Rattle.std.proofs.Common.{zero, suc, ◌≡◌, ℕ, ◌+◌, ◌-◌, ◌<◌, ◌≤◌, true, false, List, [], ◌∷◌, ◌++◌, length, take, get_or, Option, Some, None, option_map, slice_get, sym, subst, ap, refl, ◌∙◌, inl, inr, arith, eq-eqb, ltb, ltb-true, ltb-false}
+use Rattle.std.proofs.Common.{zero, suc, ◌≡◌, cond, ℕ, ◌+◌, ◌-◌, ◌<◌, ◌≤◌, true, false, List, [], ◌∷◌, ◌++◌, length, take, get_or, Some, None, slice_get, sym, subst, ap, refl, ◌∙◌, inl, inr, arith, eq-eqb, ltb, ltb-true, ltb-false}
 use Rattle.std.specs.FinMap as map
 use Rattle.std.specs.List.{AllWithin}
 use Rattle.std.specs.List.Sorted.{IsNonDecreasingBy, IsPermutation}
@@ -9,13 +9,13 @@ use Rattle.std.proofs.lemmas.Option.{same_Some, slice_get_cases, slice_get_withi
 use Rattle.std.proofs.lemmas.List.Sorted.{Contains-permutation, IsPermutation-sym}
 use Rattle.span.specs.declared.change.Change.{Change}
 use Rattle.span.specs.declared.key.Key.{Key}
-use Rattle.span.specs.Log.{Held, replay, value_if}
+use Rattle.span.specs.Log.{replay, value_if}
 use Rattle.audit.specs.declared.slot.SlotChange.{SlotChange}
 use Rattle.audit.specs.Receipts.{value_after}
-use Rattle.audit.specs.Changes.{slot_of, left_by, parts}
+use Rattle.audit.specs.Changes.{slot_of, left_by}
 use Rattle.audit.specs.Slots.{slot_rank, change_rank, HasChanges, IsBySlot, IsQuiet, IsLast, IsSplitAt}
 use Rattle.audit.proofs.Flat.{get_left, get_right}
-use Rattle.audit.proofs.Replies.{Holding, Holding-more, held_none}
+use Rattle.audit.proofs.Replies.{get_none, get_taken}
 
 -- the first n changes, in order
 pub record AreFirst (changes : List Change) (n : ℕ) (found : List SlotChange) : Type 0 where
@@ -183,55 +183,41 @@ high_from found rank n all k x from at =
     ltb-false _ _ (ap (λ (y : SlotChange). ltb (change_rank y) rank) (sym (get_or_from_slice_get found k x x at)) ∙ all k x from (slice_get_within found k x at))
 
 -- a slot holds what it held while no change of it comes
-quiet_from : (changes : List Change) (slot from m : ℕ) (pair : Option (ℕ × ℕ)) → IsQuiet changes slot from (from + m) → from + m ≤ length changes
-    → Holding pair (map.get (replay (take from changes)) slot) → Holding pair (map.get (replay (take (from + m) changes)) slot)
-quiet_from changes slot from zero pair quiet inside holding = let e : from ≡ from + 0 = omega arith in subst (λ k. Holding pair (map.get (replay (take k changes)) slot)) e holding
-quiet_from changes slot from (suc m) pair quiet inside holding =
-    let before = quiet_from changes slot from m pair (λ q change low high. quiet q change low (omega arith)) (omega arith) holding in
-    let next : (from + m) + 1 ≡ from + suc m = omega arith in
+quiet_from : (changes : List Change) (slot from m : ℕ) → IsQuiet changes slot from (from + m) → from + m ≤ length changes
+    → map.get (replay (take (from + m) changes)) slot ≡ map.get (replay (take from changes)) slot
+quiet_from changes slot from zero quiet inside = let e : from + 0 ≡ from = omega arith in ap (λ k. map.get (replay (take k changes)) slot) e
+quiet_from changes slot from (suc m) quiet inside =
+    let before = quiet_from changes slot from m (λ q change low high. quiet q change low (omega arith)) (omega arith) in
+    let next : from + suc m ≡ (from + m) + 1 = omega arith in
     elim (slice_get_cases changes (from + m)).1 [
       | inl there ↦
-          subst (λ k. Holding pair (map.get (replay (take k changes)) slot)) next
-          (Holding-more changes (from + m) there.0 slot pair false there.2 (ne_eqb slot (slot_of there.0) (λ e. quiet (from + m) there.0 (omega arith) (omega arith) there.2 (sym e))) before)
+          ap (λ k. map.get (replay (take k changes)) slot) next
+          ∙ get_taken changes (from + m) there.0 slot there.2
+          ∙ ap (λ b. cond b (left_by there.0) (map.get (replay (take (from + m) changes)) slot)) (ne_eqb slot (slot_of there.0) (λ e. quiet (from + m) there.0 (omega arith) (omega arith) there.2 (sym e)))
+          ∙ before
       | inr past ↦ absurd (omega (arith, past.0))
     ]
 
 -- where no change of the slot stands before the place, it holds nothing
-pub holds_none : (changes : List Change) (slot at : ℕ) → IsQuiet changes slot 0 at → at ≤ length changes → Holding None (map.get (replay (take at changes)) slot)
+pub holds_none : (changes : List Change) (slot at : ℕ) → IsQuiet changes slot 0 at → at ≤ length changes → map.get (replay (take at changes)) slot ≡ None
 holds_none changes slot at quiet inside =
     let e : 0 + at ≡ at = omega arith in
-    subst (λ k. Holding None (map.get (replay (take k changes)) slot)) e
-    (quiet_from changes slot 0 at None (subst (IsQuiet changes slot 0) (sym e) quiet) (omega arith) (sym (held_none slot)))
+    ap (λ k. map.get (replay (take k changes)) slot) (sym e)
+    ∙ quiet_from changes slot 0 at (subst (IsQuiet changes slot 0) (sym e) quiet) (omega arith)
+    ∙ get_none slot
 
 -- the slot holds what the last change of it left
 pub holds_last : (changes : List Change) (slot at place : ℕ) (change : Change) → IsLast changes slot at place → at ≤ length changes → slice_get changes place ≡ Some change
-    → Holding (left_by change) (map.get (replay (take at changes)) slot)
+    → map.get (replay (take at changes)) slot ≡ left_by change
 holds_last changes slot at place change last inside at_place =
     let of_slot : slot ≡ slot_of change = sym last.here.2 ∙ ap slot_of (same_Some last.here.0 change (sym last.here.1 ∙ at_place)) in
     let before = last.before in
     let m : (place + 1) + (at - (place + 1)) ≡ at = omega arith in
-    let after : Holding (left_by change) (map.get (replay (take (place + 1) changes)) slot) =
-    Holding-more changes place change slot (option_map parts (map.get (replay (take place changes)) slot)) true at_place (eq-eqb slot (slot_of change) of_slot) refl in
-    subst (λ k. Holding (left_by change) (map.get (replay (take k changes)) slot)) m
-    (quiet_from changes slot (place + 1) (at - (place + 1)) (left_by change) (subst (IsQuiet changes slot (place + 1)) (sym m) last.quiet) (omega arith) after)
-
--- the value of a key, by what its slot holds
-pub value_none : (held : Option Held) (generation : ℕ) → Holding None held → value_if generation held ≡ None
-value_none None generation holding = refl
-value_none (Some h) generation holding = absurd cc
-
-pub value_other : (held : Option Held) (pair : ℕ × ℕ) (generation : ℕ) → Holding (Some pair) held → (pair.0 ≡ generation → ⊥) → value_if generation held ≡ None
-value_other None pair generation holding other = refl
-value_other (Some h) pair generation holding other =
-    let same : pair ≡ parts h = same_Some pair (parts h) holding in
-    rw (ne_eqb h.generation generation (λ e. other (ap (λ (p : ℕ × ℕ). p.0) same ∙ e))) refl
-
-pub value_here : (held : Option Held) (pair : ℕ × ℕ) (generation : ℕ) → Holding (Some pair) held → pair.0 ≡ generation → value_if generation held ≡ Some pair.1
-value_here None pair generation holding same = absurd cc
-value_here (Some h) pair generation holding is =
-    let same : pair ≡ parts h = same_Some pair (parts h) holding in
-    rw (eq-eqb h.generation generation (sym (ap (λ (p : ℕ × ℕ). p.0) same) ∙ is)) (ap (λ (p : ℕ × ℕ). Some p.1) (sym same))
+    ap (λ k. map.get (replay (take k changes)) slot) (sym m)
+    ∙ quiet_from changes slot (place + 1) (at - (place + 1)) (subst (IsQuiet changes slot (place + 1)) (sym m) last.quiet) (omega arith)
+    ∙ get_taken changes place change slot at_place
+    ∙ ap (λ b. cond b (left_by change) (map.get (replay (take place changes)) slot)) (eq-eqb slot (slot_of change) of_slot)
 
 -- no key has a value before the first change
 pub value_after-none : (changes : List Change) (at : ℕ) (key : Key) → at ≡ 0 → value_after (take at changes) key ≡ None
-value_after-none changes at key none = rw none (value_none (map.get (replay []) key.slot) key.generation (sym (held_none key.slot)))
+value_after-none changes at key none = rw none (ap (value_if key.generation) (get_none key.slot))

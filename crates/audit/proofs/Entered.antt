@@ -4,6 +4,7 @@ use Rattle.std.proofs.lemmas.Bool.{cases_eq}
 use Rattle.std.proofs.lemmas.List.{length-set, map-set, append-nil, append_assoc, take-append-drop}
 use Rattle.std.proofs.lemmas.Grind.{flat_map-append}
 use Rattle.std.proofs.lemmas.Option.{same_Some, slice_get_cases, slice_get_within, slice_get-get_or, slice_get_read, get_or_from_slice_get}
+use Rattle.span.specs.KeptLogs.{kept_changes}
 use Rattle.span.specs.declared.change.Change.{Change}
 use Rattle.span.specs.declared.id.SpanId.{SpanId}
 use Rattle.span.specs.declared.receipt.Receipt.{Receipt}
@@ -176,7 +177,7 @@ pub row_inside : (logs : List SpanLog) (calls : List Receipt) (rows : List (List
     → (row : List (Option ℕ)) → slice_get rows j ≡ Some row → r.at < length (log_of logs r.key.span) → r.at < length row
 row_inside logs calls rows r are j there row at_row inside =
     let is = (are.rows_are.each j there.0 row there.1 at_row).len in
-    let items : length (log_of logs r.key.span) ≡ length there.0.changes.items = ap length there.3 in
+    let items : length (log_of logs r.key.span) ≡ length (kept_changes there.0.log) = ap length there.3 in
     omega arith
 
 pub entered_by : (logs : List SpanLog) (calls : List Receipt) (rows : List (List (Option ℕ))) (b : Bool) → (b ≡ true → AreEntered logs calls rows) → (b ≡ false → MakeChanges logs calls → ⊥)
@@ -216,7 +217,7 @@ module _ {X : Type 0} (f : X → List Receipt) (xs : List X) (n : ℕ) (x : X) (
       unknown (subst (MakeChanges logs) (sym flat_more) (MakeChanges-front logs (flat_map f (take (n + 1) xs)) (flat_map f (drop (n + 1) xs)) (subst (MakeChanges logs) (sym flat_of) good)))
 
 -- nothing is entered yet
-pub IsRowOf-none : (log : SpanLog) (row : List (Option ℕ)) → length row ≡ length log.changes.items → ((at : ℕ) → get_or row at None ≡ None) → IsRowOf [] log row
+pub IsRowOf-none : (log : SpanLog) (row : List (Option ℕ)) → length row ≡ length (kept_changes log.log) → ((at : ℕ) → get_or row at None ≡ None) → IsRowOf [] log row
 IsRowOf-none log row long none = record {
   len = long;
   marked = λ k at r at_k makes. absurd cc;
@@ -242,11 +243,11 @@ module _ {X : Type 0} (f : X → List Receipt) (xs : List X) (logs : List SpanLo
     some = λ span at change is. elim (find_log logs span) [
       | inl none ↦ let e : slice_get {X = Change} [] at ≡ Some change = ap (λ l. slice_get l at) (sym none.0) ∙ is in absurd cc
       | inr found ↦
-          let at_change : slice_get found.1.0.changes.items at ≡ Some change = ap (λ l. slice_get l at) (sym found.1.3) ∙ is in
+          let at_change : slice_get (kept_changes found.1.0.log) at ≡ Some change = ap (λ l. slice_get l at) (sym found.1.3) ∙ is in
           let row : List (Option ℕ) = get_or rows found.0 [] in
           let at_row : slice_get rows found.0 ≡ Some row = slice_get-get_or rows found.0 [] (let within = slice_get_within logs found.0 found.1.0 found.1.1 in let len = are.rows_are.len in omega arith) in
           let is_row = are.rows_are.each found.0 found.1.0 row found.1.1 at_row in
-          let inside : at < length row = let within = slice_get_within found.1.0.changes.items at change at_change in let len = is_row.len in omega arith in
+          let inside : at < length row = let within = slice_get_within (kept_changes found.1.0.log) at change at_change in let len = is_row.len in omega arith in
           let there = section_at row at inside (full found.0 row at_row) in
           let made = is_row.made at there.0 there.1 in
           let r = made.1 in
@@ -296,10 +297,10 @@ module _ {X : Type 0} (f : X → List Receipt) (xs : List X) (logs : List SpanLo
               | inr found ↦
                   let same_j : found.0 ≡ j = one found.0 j found.1.0 log found.1.1 there.2 found.1.2 in
                   let same : found.1.0 ≡ log = same_Some found.1.0 log (sym found.1.1 ∙ ap (λ k. slice_get logs k) same_j ∙ there.2) in
-                  let items : log_of logs log.span ≡ log.changes.items = found.1.3 ∙ ap (λ (l : SpanLog). l.changes.items) same in
+                  let items : log_of logs log.span ≡ kept_changes log.log = found.1.3 ∙ ap (λ (l : SpanLog). kept_changes l.log) same in
                   let len = is_row.len in
-                  let change : Change = get_or log.changes.items at (Change.Free 0 0) in
-                  let at_change : slice_get log.changes.items at ≡ Some change = slice_get-get_or log.changes.items at (Change.Free 0 0) (omega arith) in
+                  let change : Change = get_or (kept_changes log.log) at (Change.Free 0 0) in
+                  let at_change : slice_get (kept_changes log.log) at ≡ Some change = slice_get-get_or (kept_changes log.log) at (Change.Free 0 0) (omega arith) in
                   let receipt = all.some log.span at change (ap (λ l. slice_get l at) items ∙ at_change) in
                   let r = receipt.2 in
                   let e : Some r.section ≡ None =

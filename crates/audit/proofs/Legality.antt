@@ -1,31 +1,34 @@
 -- A walk over a log's changes.
-use Rattle.std.proofs.Common.{◌≡◌, ℕ, ◌<◌, Bool, true, false, cond, eqb, List, [], ◌∷◌, ◌++◌, length, take, replicate, set, get_or, Option, Some, None, option_map, slice_get, sym, ap, refl, ◌∙◌, inl, inr, arith, eq-eqb, eqb-true, get_or-set_same, get_or-set_other}
+use Rattle.std.proofs.Common.{zero, suc, subst, ◌≡◌, ℕ, ◌<◌, Bool, true, false, cond, eqb, List, [], ◌∷◌, ◌++◌, length, take, replicate, set, get_or, Option, Some, None, option_map, slice_get, sym, ap, refl, ◌∙◌, inl, inr, arith, eq-eqb, eqb-true, get_or-set_same, get_or-set_other}
 use Rattle.std.specs.FinMap as map
 use Rattle.std.proofs.lemmas.Bool.{cases_lt, cases_eq, ne_eqb}
 use Rattle.std.proofs.lemmas.List.{get_or_past, get_or-replicate, length-replicate}
-use Rattle.std.proofs.lemmas.Option.{slice_get-get_or}
+use Rattle.std.proofs.lemmas.Option.{same_Some}
 use Rattle.span.specs.declared.change.Change.{Change}
-use Rattle.span.specs.Log.{replay, puts_of, IsLegal, IsLegalAfter}
+use Rattle.span.specs.declared.class.Class.{Class}
+use Rattle.span.specs.Log.{replay, puts_of, IsChangeOf, IsLegal, IsLegalAfter, IsOfClass}
 use Rattle.span.proofs.Changes.{puts_of-put_same, puts_of-put_other, puts_of-free}
 use Rattle.span.proofs.LegalLogs.{puts_of-empty}
-use Rattle.audit.specs.Changes.{AreAfter, AreIssued, slot_of, left_by, issued_by, parts}
-use Rattle.audit.proofs.Replies.{held_more, held_none}
+use Rattle.audit.specs.Changes.{AreAfter, AreIssued, slot_of, left_by, generation_of, issued_by}
+use Rattle.audit.proofs.Replies.{generation_more, get_none}
+
+pub IsOfClass-at : (class : Class) (changes : List Change) (at : ℕ) (change : Change) → IsOfClass class changes → slice_get changes at ≡ Some change → IsChangeOf class change
+IsOfClass-at class [] at change of_class is = absurd cc
+IsOfClass-at class (first ∷ changes) zero change of_class is = subst (IsChangeOf class) (same_Some first change is) of_class.0
+IsOfClass-at class (first ∷ changes) (suc at) change of_class is = IsOfClass-at class changes at change of_class.1 is
 
 pub legal_at : (gens : ℕ) (changes : List Change) (at : ℕ) (change : Change) → IsLegal gens changes → slice_get changes at ≡ Some change → IsLegalAfter gens (take at changes) change
 unfolding IsLegal
 legal_at gens changes at change legal is = legal at change is
 
-pub legal_here : (gens : ℕ) (changes : List Change) (at : ℕ) (d : Change) → at < length changes → IsLegal gens changes → IsLegalAfter gens (take at changes) (get_or changes at d)
-legal_here gens changes at d inside legal = legal_at gens changes at (get_or changes at d) legal (slice_get-get_or changes at d inside)
-
-none_held : (n slot : ℕ) → get_or (replicate {A = Option (ℕ × ℕ)} n None) slot None ≡ None
+none_held : (n slot : ℕ) → get_or (replicate {A = Option ℕ} n None) slot None ≡ None
 none_held n slot = elim (cases_lt slot n) [
   | inl low ↦ get_or-replicate n slot None None low
-  | inr past ↦ get_or_past (replicate {A = Option (ℕ × ℕ)} n None) slot None (let long : length (replicate {A = Option (ℕ × ℕ)} n None) ≡ n = length-replicate n None in omega arith)
+  | inr past ↦ get_or_past (replicate {A = Option ℕ} n None) slot None (let long : length (replicate {A = Option ℕ} n None) ≡ n = length-replicate n None in omega arith)
 ]
 
-pub after_none : (n slot : ℕ) → get_or (replicate {A = Option (ℕ × ℕ)} n None) slot None ≡ option_map parts (map.get (replay []) slot)
-after_none n slot = none_held n slot ∙ sym (held_none slot)
+pub after_none : (n slot : ℕ) → get_or (replicate {A = Option ℕ} n None) slot None ≡ option_map generation_of (map.get (replay []) slot)
+after_none n slot = none_held n slot ∙ sym (ap (option_map generation_of) (get_none slot))
 
 read_zeros : (n slot : ℕ) → get_or (replicate {A = ℕ} n 0) slot 0 ≡ 0
 read_zeros n slot = elim (cases_lt slot n) [
@@ -36,15 +39,15 @@ read_zeros n slot = elim (cases_lt slot n) [
 pub issued_none : (n slot : ℕ) → get_or (replicate n 0) slot 0 ≡ puts_of slot []
 issued_none n slot = read_zeros n slot ∙ sym (puts_of-empty slot)
 
-pub AreAfter-more : (before : List Change) (c : Change) (held : List (Option (ℕ × ℕ))) (s : ℕ) (left : Option (ℕ × ℕ)) → length held ≡ 256 → s ≡ slot_of c → left ≡ left_by c
+pub AreAfter-more : (before : List Change) (c : Change) (held : List (Option ℕ)) (s : ℕ) (left : Option ℕ) → length held ≡ 256 → s ≡ slot_of c → left ≡ option_map generation_of (left_by c)
     → AreAfter before held → AreAfter (before ++ c ∷ []) (set held s left)
 AreAfter-more before c held s left long is_slot is_left after q fits = elim (cases_eq q s) [
   | inl same ↦
       ap (λ k. get_or (set held s left) k None) same ∙ get_or-set_same held s left None (omega arith) ∙ is_left
-      ∙ sym (held_more before c q ∙ ap (λ b. cond b (left_by c) (option_map parts (map.get (replay before) q))) (eq-eqb q (slot_of c) (same ∙ is_slot)))
+      ∙ sym (generation_more before c q ∙ ap (λ b. cond b (option_map generation_of (left_by c)) (option_map generation_of (map.get (replay before) q))) (eq-eqb q (slot_of c) (same ∙ is_slot)))
   | inr other ↦
       get_or-set_other held s q left None other ∙ after q fits
-      ∙ sym (held_more before c q ∙ ap (λ b. cond b (left_by c) (option_map parts (map.get (replay before) q))) (ne_eqb q (slot_of c) (λ e. other (e ∙ sym is_slot))))
+      ∙ sym (generation_more before c q ∙ ap (λ b. cond b (option_map generation_of (left_by c)) (option_map generation_of (map.get (replay before) q))) (ne_eqb q (slot_of c) (λ e. other (e ∙ sym is_slot))))
 ]
 
 -- how many puts of a slot there are after one more change that is legal

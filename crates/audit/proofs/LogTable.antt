@@ -3,6 +3,7 @@ use Rattle.std.proofs.Common.{zero, suc, ◌≡◌, ℕ, ◌+◌, ◌<◌, Bool,
 use Rattle.std.proofs.lemmas.Bool.{cases_lt, cases_eq}
 use Rattle.std.proofs.lemmas.List.{length-set}
 use Rattle.std.proofs.lemmas.Option.{same_Some, slice_get_within, get_or_from_slice_get}
+use Rattle.span.specs.KeptLogs.{kept_changes}
 use Rattle.span.proofs.Ids.{same_id, same_id_from_test, test_from_same_id}
 use Rattle.span.specs.declared.id.SpanId.{SpanId}
 use Rattle.span.specs.Ids.{rank, same_span}
@@ -29,8 +30,8 @@ find_log (x ∷ xs) span = by_test (same_span x.span span) refl (find_log xs spa
     by_test : (b : Bool) → same_span x.span span ≡ b
         → HasNoLog xs span ⊎ ((j : ℕ) × IsLogAt xs span j)
         → HasNoLog (x ∷ xs) span ⊎ ((j : ℕ) × IsLogAt (x ∷ xs) span j)
-    by_test true is later = inr (0, (x, refl, same_id_from_test x.span span is, ap (λ b. cond b x.changes.items (log_of xs span)) is))
-    by_test false is (inl none) = inl (ap (λ b. cond b x.changes.items (log_of xs span)) is ∙ none.0, λ j. other j)
+    by_test true is later = inr (0, (x, refl, same_id_from_test x.span span is, ap (λ b. cond b (kept_changes x.log) (log_of xs span)) is))
+    by_test false is (inl none) = inl (ap (λ b. cond b (kept_changes x.log) (log_of xs span)) is ∙ none.0, λ j. other j)
       where
         other : (j : ℕ) (log : SpanLog) → slice_get (x ∷ xs) j ≡ Some log → log.span ≡ span → ⊥
         other zero log at same =
@@ -38,7 +39,7 @@ find_log (x ∷ xs) span = by_test (same_span x.span span) refl (find_log xs spa
             let e : false ≡ true = sym is ∙ test_from_same_id x.span span (ap (λ (l : SpanLog). l.span) here ∙ same) in
             cc
         other (suc j) log at same = none.1 j log at same
-    by_test false is (inr found) = inr (suc found.0, (found.1.0, found.1.1, found.1.2, ap (λ b. cond b x.changes.items (log_of xs span)) is ∙ found.1.3))
+    by_test false is (inr found) = inr (suc found.0, (found.1.0, found.1.1, found.1.2, ap (λ b. cond b (kept_changes x.log) (log_of xs span)) is ∙ found.1.3))
 
 -- what the table says of a span
 pub looked_up : (logs : List SpanLog) (table : List (Option ℕ)) (span : SpanId) (found : Option ℕ) → IsTable logs table → get_or table (rank span) None ≡ found
@@ -120,5 +121,5 @@ none_from None is = refl
 none_from (Some x) is = absurd cc
 
 -- the changes of a log that was read at an index
-pub log_items : (logs : List SpanLog) (j : ℕ) (d log : SpanLog) → slice_get logs j ≡ Some log → (get_or logs j d).changes.items ≡ log.changes.items
-log_items logs j d log at = ap (λ (l : SpanLog). l.changes.items) (get_or_from_slice_get logs j log d at)
+pub log_items : (logs : List SpanLog) (j : ℕ) (d log : SpanLog) → slice_get logs j ≡ Some log → kept_changes (get_or logs j d).log ≡ kept_changes log.log
+log_items logs j d log at = ap (λ (l : SpanLog). kept_changes l.log) (get_or_from_slice_get logs j log d at)

@@ -1,7 +1,7 @@
 -- A table of spans beside the calls that were passed: for each span the most changes that one of them left.
-use Rattle.std.proofs.Common.{◌≡◌, ℕ, ◌+◌, ◌-◌, ◌<◌, ◌≤◌, true, false, cond, List, length, set, get_or, Some, slice_get, sym, ap, subst, refl, ◌∙◌, inl, inr, arith, get_or-set_same, get_or-set_other}
+use Rattle.std.proofs.Common.{◌≡◌, ℕ, ◌+◌, ◌-◌, ◌<◌, ◌≤◌, true, false, cond, List, length, set, get_or, Some, slice_get, sym, ap, subst, ◌∙◌, inl, inr, arith, get_or-set_same, get_or-set_other}
 use Rattle.std.proofs.lemmas.Bool.{cases_lt, cases_eq}
-use Rattle.std.proofs.lemmas.Option.{same_Some, slice_get_cases, slice_get_within, slice_get_read}
+use Rattle.std.proofs.lemmas.Option.{same_Some, slice_get_cases, slice_get_within}
 use Rattle.span.specs.declared.receipt.Receipt.{Receipt}
 use Rattle.audit.proofs.LogTable.{same_rank}
 use Rattle.span.specs.Ids.{rank}
@@ -133,19 +133,9 @@ pub all_passed : (list : List Receipt) (n : ℕ) → IsInOrderBelow list n → l
 all_passed list n below past i j a b at_i at_j less = below i j a b at_i at_j less (let within = slice_get_within list j b at_j in omega arith)
 
 -- the section of a call, and that of the call before it
-module _ (list : List Receipt) (i : ℕ) (b a : Receipt) (some : 1 ≤ i) (inside : i < length list) (is_b : b ≡ get_or list i b) (is_a : a ≡ get_or list (i - 1) a) where
-  at_b : slice_get list i ≡ Some b
-  at_b = slice_get_read list (length list) i b refl inside is_b
-
-  at_a : slice_get list (i - 1) ≡ Some a
-  at_a = slice_get_read list (length list) (i - 1) a refl (omega arith) is_a
-
-  pub goes_back-when : b.section < a.section → GoesBack list i
-  goes_back-when less = (i - 1, a, b, omega arith, at_a, at_b, less)
-
-  pub when-goes_back : GoesBack list i → b.section < a.section
-  when-goes_back back =
-      let k : back.0 ≡ i - 1 = omega (arith, back.3) in
-      let same_a : back.1 ≡ a = same_Some back.1 a (sym back.4 ∙ ap (λ k. slice_get list k) k ∙ at_a) in
-      let same_b : back.2 ≡ b = same_Some back.2 b (sym back.5 ∙ at_b) in
-      rw (← same_a, ← same_b) back.6
+pub sections-GoesBack : (list : List Receipt) (i : ℕ) (b a : Receipt) → 1 ≤ i → slice_get list i ≡ Some b → slice_get list (i - 1) ≡ Some a → GoesBack list i → b.section < a.section
+sections-GoesBack list i b a some at_b at_a back =
+    let k : back.0 ≡ i - 1 = omega (arith, back.3) in
+    let same_a : back.1 ≡ a = same_Some back.1 a (sym back.4 ∙ ap (λ k. slice_get list k) k ∙ at_a) in
+    let same_b : back.2 ≡ b = same_Some back.2 b (sym back.5 ∙ at_b) in
+    rw (← same_a, ← same_b) back.6

@@ -9,7 +9,7 @@ use Rattle.span.specs.declared.id.SpanId.{SpanId}
 use Rattle.span.specs.declared.key.Key.{Key}
 use Rattle.span.specs.declared.change.Change.{Change}
 use Rattle.span.specs.declared.receipt.Call.{Call}
-use Rattle.span.specs.Log.{Held, replay, puts_of, IsLegalAfter, value_if}
+use Rattle.span.specs.Log.{Held, Value, replay, puts_of, IsLegalAfter, value_if}
 use Rattle.span.specs.PlainMap.{PlainMap, empty_map, with_put, without, same_key}
 use Rattle.audit.specs.Receipts.{value_after, is_change}
 use Rattle.audit.specs.Agreement.{CallMakes, IsAnswered}
@@ -44,7 +44,7 @@ no_value : (held : Option Held) (generation other : ℕ) → IsSomeAnd held (λ 
 no_value None generation other holds differ = absurd holds
 no_value (Some h) generation other holds differ = rw (holds, differ) refl
 
-pick : (b c : Bool) (here left before : Option ℕ) → (c ≡ true → left ≡ here) → (c ≡ false → left ≡ None) → (b ≡ true → c ≡ false → before ≡ None)
+pick : (b c : Bool) (here left before : Option Value) → (c ≡ true → left ≡ here) → (c ≡ false → left ≡ None) → (b ≡ true → c ≡ false → before ≡ None)
     → cond (b && c) here before ≡ cond b left before
 pick true true here left before equal differ gone = sym (equal refl)
 pick true false here left before equal differ gone = gone refl refl ∙ sym (differ refl)
@@ -55,7 +55,7 @@ module _ (span : SpanId) (changes : List Change) (m : PlainMap) (shows : Shows s
   same_key-is : (other : Key) → other.span ≡ span → same_key key other ≡ (eqb key.slot other.slot && eqb key.generation other.generation)
   same_key-is other same_too = rw (test_from_same_id key.span other.span (same ∙ sym same_too)) refl
 
-  shown : (change : Change) (left : Option Held) (here : Option ℕ)
+  shown : (change : Change) (left : Option Held) (here : Option Value)
       → ((q : ℕ) → map.get (replay (changes ++ change ∷ [])) q ≡ cond (eqb q key.slot) left (map.get (replay changes) q))
       → ((other : ℕ) → eqb key.generation other ≡ true → value_if other left ≡ here)
       → ((other : ℕ) → eqb key.generation other ≡ false → value_if other left ≡ None)
@@ -71,7 +71,7 @@ module _ (span : SpanId) (changes : List Change) (m : PlainMap) (shows : Shows s
   issued_before : (change : Change) (other : Key) → other.span ≡ span → m.is_issued other ≡ true → other.generation ≤ puts_of other.slot (changes ++ change ∷ [])
   issued_before change other same_too is = omega (arith, shows.issued other same_too is, puts_of-push other.slot changes change)
 
-  Shows-put : (value : ℕ) → map.get (replay changes) key.slot ≡ None → key.generation ≡ puts_of key.slot changes + 1
+  Shows-put : (value : Value) → map.get (replay changes) key.slot ≡ None → key.generation ≡ puts_of key.slot changes + 1
       → Shows span (changes ++ Change.Put key.slot key.generation value ∷ []) (with_put m key value)
   Shows-put value free next = record {
     values = shown (Change.Put key.slot key.generation value) (Some (record { generation = key.generation; value = value })) (Some value)

@@ -5,7 +5,8 @@ use Rattle.span.specs.declared.id.SpanId.{SpanId}
 use Rattle.span.specs.declared.key.Key.{Key}
 use Rattle.span.specs.declared.receipt.Call.{Call}
 use Rattle.span.specs.declared.receipt.Receipt.{Receipt}
-use Rattle.span.specs.Log.{IsLegal, Value}
+use Rattle.span.specs.KeptLogs.{kept_changes}
+use Rattle.span.specs.Log.{IsLegal, IsOfClass, Value}
 use Rattle.span.specs.declared.span_log.SpanLog.{SpanLog}
 use Rattle.audit.specs.Receipts.{IsAt, log_of, makes_change, changes_after, value_after}
 
@@ -13,10 +14,15 @@ use Rattle.audit.specs.Receipts.{IsAt, log_of, makes_change, changes_after, valu
 abbrev pub HaveOneSpanEach : List SpanLog → Type 0
 HaveOneSpanEach logs = (i j : ℕ) (a b : SpanLog) → slice_get logs i ≡ Some a → slice_get logs j ≡ Some b → a.span ≡ b.span → i ≡ j
 
--- no span has two logs, and each log is legal for the greatest generation that it names
+-- the log is legal for the greatest generation that it names, and each change is of the class that it names
+pub record IsLegalLog (log : SpanLog) : Type 0 where
+  pub legal : IsLegal log.gens (kept_changes log.log)
+  pub of_class : IsOfClass log.class (kept_changes log.log)
+
+-- no span has two logs, and each log is legal
 pub record LogsAreLegal (logs : List SpanLog) : Type 0 where
   pub one : HaveOneSpanEach logs
-  pub legal : (i : ℕ) (log : SpanLog) → slice_get logs i ≡ Some log → IsLegal log.gens log.changes.items
+  pub legal : (i : ℕ) (log : SpanLog) → slice_get logs i ≡ Some log → IsLegalLog log
 
 -- a put's receipt is of a Put and a free's of a Free, with the change's key and value
 abbrev pub CallMakes : Call → Key → Change → Type 0

@@ -12,9 +12,9 @@ abbrev pub slot_of : Change → ℕ
 slot_of (Put slot generation value) = slot
 slot_of (Free slot generation) = slot
 
--- the generation and the value that the change's slot holds after it
-abbrev pub left_by : Change → Option (ℕ × ℕ)
-left_by (Put slot generation value) = Some (generation, value)
+-- what the change's slot holds after it
+abbrev pub left_by : Change → Option Held
+left_by (Put slot generation value) = Some (record { generation = generation; value = value })
 left_by (Free slot generation) = None
 
 -- the last generation of the change's slot after it, where this was the last before it
@@ -22,13 +22,13 @@ abbrev pub issued_by : Change → ℕ → ℕ
 issued_by (Put slot generation value) last = generation
 issued_by (Free slot generation) last = last
 
--- what a slot holds, as a pair
-abbrev pub parts : Held → ℕ × ℕ
-parts held = (held.generation, held.value)
+-- the generation of what a slot holds
+abbrev pub generation_of : Held → ℕ
+generation_of held = held.generation
 
--- the list has what each slot holds after the changes
-abbrev pub AreAfter : List Change → List (Option (ℕ × ℕ)) → Type 0
-AreAfter changes held = (slot : ℕ) → slot < SLOTS → slice_index_or held slot None ≡ option_map parts (map.get (replay changes) slot)
+-- the list has the generation that each slot holds after the changes
+abbrev pub AreAfter : List Change → List (Option ℕ) → Type 0
+AreAfter changes held = (slot : ℕ) → slot < SLOTS → slice_index_or held slot None ≡ option_map generation_of (map.get (replay changes) slot)
 
 -- the list has how many puts of each slot the changes have
 abbrev pub AreIssued : List Change → List ℕ → Type 0

@@ -6,6 +6,7 @@ use Rattle.span.specs.declared.id.SpanId.{SpanId}
 use Rattle.span.specs.declared.key.Key.{Key}
 use Rattle.span.specs.declared.receipt.Call.{Call}
 use Rattle.span.specs.declared.receipt.Receipt.{Receipt}
+use Rattle.span.specs.KeptLogs.{kept_changes}
 use Rattle.span.specs.Log.{Value, value_in}
 use Rattle.span.specs.Ids.{same_span}
 use Rattle.span.specs.declared.span_log.SpanLog.{SpanLog}
@@ -31,7 +32,7 @@ IsAt lists worker index receipt = slice_get (slice_index_or lists worker []) ind
 -- the changes of a span: those of the first log that is the span's, and none where there is no such log
 abbrev pub log_of : List SpanLog → SpanId → List Change
 log_of [] span = []
-log_of (log ∷ logs) span = if same_span log.span span then log.changes.items else log_of logs span
+log_of (log ∷ logs) span = if same_span log.span span then kept_changes log.log else log_of logs span
 
 -- the value that a key has after the changes, if any
 abbrev pub value_after : List Change → Key → Option Value

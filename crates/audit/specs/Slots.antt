@@ -2,6 +2,7 @@
 use Rattle.std.specs.Prelude.{◌≡◌, ℕ, ◌+◌, ◌*◌, ◌<◌, ◌≤◌, Some, List, length, slice_get}
 use Rattle.std.specs.List.Sorted.{IsNonDecreasingBy, IsPermutation}
 use Rattle.span.specs.declared.change.Change.{Change}
+use Rattle.span.specs.KeptLogs.{kept_changes}
 use Rattle.span.specs.declared.span_log.SpanLog.{SpanLog}
 use Rattle.audit.specs.declared.slot.SlotChange.{SlotChange}
 use Rattle.audit.specs.Changes.{slot_of}
@@ -32,7 +33,7 @@ pub record IsBySlot (changes : List Change) (found : List SlotChange) : Type 0 w
 
 -- for each log its changes
 abbrev pub HaveChanges : List SpanLog → List (List SlotChange) → Type 0
-HaveChanges logs lists = (j : ℕ) (log : SpanLog) (found : List SlotChange) → slice_get logs j ≡ Some log → slice_get lists j ≡ Some found → HasChanges log.changes.items found
+HaveChanges logs lists = (j : ℕ) (log : SpanLog) (found : List SlotChange) → slice_get logs j ≡ Some log → slice_get lists j ≡ Some found → HasChanges (kept_changes log.log) found
 
 -- the same changes, in order
 pub record IsSortedFrom (old new : List SlotChange) : Type 0 where
@@ -47,7 +48,7 @@ pub record IsSplitAt (found : List SlotChange) (rank n : ℕ) : Type 0 where
 
 -- for each log its changes by slot
 abbrev pub AreBySlot : List SpanLog → List (List SlotChange) → Type 0
-AreBySlot logs orders = (j : ℕ) (log : SpanLog) (found : List SlotChange) → slice_get logs j ≡ Some log → slice_get orders j ≡ Some found → IsBySlot log.changes.items found
+AreBySlot logs orders = (j : ℕ) (log : SpanLog) (found : List SlotChange) → slice_get logs j ≡ Some log → slice_get orders j ≡ Some found → IsBySlot (kept_changes log.log) found
 
 -- no change of the slot stands from the one place up to the other
 abbrev pub IsQuiet : List Change → ℕ → ℕ → ℕ → Type 0

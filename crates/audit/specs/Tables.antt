@@ -4,6 +4,7 @@ use Rattle.span.specs.declared.change.Change.{Change}
 use Rattle.span.specs.declared.id.SpanId.{SpanId}
 use Rattle.span.specs.declared.receipt.Receipt.{Receipt}
 use Rattle.span.specs.Ids.{rank}
+use Rattle.span.specs.KeptLogs.{kept_changes}
 use Rattle.span.specs.declared.span_log.SpanLog.{SpanLog}
 use Rattle.audit.specs.Receipts.{log_of, makes_change}
 use Rattle.audit.specs.Agreement.{CallMakes}
@@ -25,12 +26,15 @@ HasNoLog logs span = (log_of logs span ≡ []) × ((j : ℕ) (log : SpanLog) →
 
 -- the log at the index is the span's
 abbrev pub IsLogAt : List SpanLog → SpanId → ℕ → Type 0
-IsLogAt logs span j = (log : SpanLog) × (slice_get logs j ≡ Some log) × (log.span ≡ span) × (log_of logs span ≡ log.changes.items)
+IsLogAt logs span j = (log : SpanLog) × (slice_get logs j ≡ Some log) × (log.span ≡ span) × (log_of logs span ≡ kept_changes log.log)
+
+-- the call makes the change at its place of these
+abbrev pub HasMade : List Change → Receipt → Type 0
+HasMade changes receipt = (change : Change) × (slice_get changes receipt.at ≡ Some change) × CallMakes receipt.call receipt.key change
 
 -- the call makes no change, or it makes the one at its place of its span's log
 abbrev pub IsKnown : List SpanLog → Receipt → Type 0
-IsKnown logs receipt = makes_change receipt ≡ true →
-    (change : Change) × (slice_get (log_of logs receipt.key.span) receipt.at ≡ Some change) × CallMakes receipt.call receipt.key change
+IsKnown logs receipt = makes_change receipt ≡ true → HasMade (log_of logs receipt.key.span) receipt
 
 -- the call makes a change of the span at this place
 pub record MakesAt (span : SpanId) (at : ℕ) (receipt : Receipt) : Type 0 where
@@ -46,7 +50,7 @@ pub record MakeChanges (logs : List SpanLog) (calls : List Receipt) : Type 0 whe
 
 -- the row has the section of the call that makes each change of the span, where one of the calls does, and nothing elsewhere
 pub record IsRowOf (calls : List Receipt) (log : SpanLog) (row : List (Option ℕ)) : Type 0 where
-  pub len : length row ≡ length log.changes.items
+  pub len : length row ≡ length (kept_changes log.log)
   pub marked : (k at : ℕ) (receipt : Receipt) → slice_get calls k ≡ Some receipt → MakesAt log.span at receipt → slice_index_or row at None ≡ Some receipt.section
   pub made : (at section : ℕ) → slice_index_or row at None ≡ Some section
       → (k : ℕ) × (receipt : Receipt) × (slice_get calls k ≡ Some receipt) × MakesAt log.span at receipt × (receipt.section ≡ section)

@@ -1,23 +1,26 @@
 // Whether the calls of each section stand after those of the sections of lower number.
 ghost use Rattle.std.specs.Prelude.{◌≡◌, ◌↔◌, IsTrue, Some, ℕ, length, slice_get, map, flat_map, vec_items};
+ghost use Rattle.span.specs.ReceiptLists.{kept_receipts};
+ghost use Rattle.span.specs.ReceiptViews.{receipt_viewed};
 ghost use Rattle.span.specs.declared.receipt.Receipt.{Receipt};
 ghost use Rattle.audit.specs.Agreement.{RepliesAreRight, SectionsAreInOrder};
 ghost use Rattle.audit.specs.Tables.{AreEntered, AreFull, IsTable, StandsBetween};
 
 use crate::log::index_of;
 use crate::section::is_between;
-use span::{Receipt, SpanLog};
+use span::{ReceiptList, ReceiptView, SpanLog};
 
 // Whether the call's section stands between those of the changes at its place.
 fn stands_between(
     logs: &[SpanLog],
     table: &[Option<usize>],
     rows: &[Vec<Option<u64>>],
-    receipt: &Receipt,
+    receipt: &ReceiptView<'_>,
 ) -> bool
     requires table { IsTable logs.now table.now }
     requires len { length rows.now ≡ length logs.now }
-    ensures { IsTrue result ↔ StandsBetween logs.now (map vec_items rows.now) receipt.now }
+    ensures { IsTrue result ↔ StandsBetween logs.now (map vec_items rows.now)
+        (receipt_viewed receipt.now) }
 {
     match index_of(logs, table, receipt.key.span) {
         Some(j) => is_between(rows[j].as_slice(), receipt.at, receipt.section),
@@ -30,15 +33,15 @@ pub fn stand_between(
     logs: &[SpanLog],
     table: &[Option<usize>],
     rows: &[Vec<Option<u64>>],
-    list: &[Receipt],
+    list: &ReceiptList,
 ) -> bool
     requires table { IsTable logs.now table.now }
     requires len { length rows.now ≡ length logs.now }
-    ensures { IsTrue result ↔ ((i : ℕ) (receipt : Receipt) → slice_get list.now i ≡ Some receipt
-        → StandsBetween logs.now (map vec_items rows.now) receipt) }
+    ensures { IsTrue result ↔ ((i : ℕ) (receipt : Receipt) → slice_get (kept_receipts list.now) i
+        ≡ Some receipt → StandsBetween logs.now (map vec_items rows.now) receipt) }
 {
-    for receipt in list {
-        if !stands_between(logs, table, rows, receipt) {
+    for i in 0..list.len() {
+        if !stands_between(logs, table, rows, &list.view(i)) {
             return false;
         }
     }
@@ -52,16 +55,17 @@ pub fn sections_are_in_order(
     logs: &[SpanLog],
     table: &[Option<usize>],
     rows: &[Vec<Option<u64>>],
-    lists: &[Vec<Receipt>],
+    lists: &[ReceiptList],
 ) -> bool
     requires table { IsTable logs.now table.now }
-    requires entered { AreEntered logs.now (flat_map vec_items lists.now) (map vec_items rows.now) }
+    requires entered { AreEntered logs.now (flat_map kept_receipts lists.now)
+        (map vec_items rows.now) }
     requires full { AreFull (map vec_items rows.now) }
-    requires replies { RepliesAreRight logs.now (map vec_items lists.now) }
-    ensures { IsTrue result ↔ SectionsAreInOrder (map vec_items lists.now) }
+    requires replies { RepliesAreRight logs.now (map kept_receipts lists.now) }
+    ensures { IsTrue result ↔ SectionsAreInOrder (map kept_receipts lists.now) }
 {
     for list in lists {
-        if !stand_between(logs, table, rows, list.as_slice()) {
+        if !stand_between(logs, table, rows, list) {
             return false;
         }
     }

@@ -1,5 +1,6 @@
 // The audit by threads.
 ghost use Rattle.std.specs.Prelude.{◌<◌, IfErr, IfOk, MatchOption, OnOk, [], length, map, slice_index_or, vec_items};
+ghost use Rattle.span.specs.ReceiptLists.{kept_receipts};
 ghost use Rattle.audit.specs.Agreement.{Agreement};
 ghost use Rattle.audit.specs.Faults.{FailsFirst, IsAuditError};
 ghost use Rattle.audit.specs.History.{HaveHistories};
@@ -12,20 +13,20 @@ use crate::legal::table_of_legal;
 use crate::records::Records;
 use crate::slot::all_by_slot_by_threads;
 use crate::verdict::{Verdict, first_cause, verdict_of};
-use span::{Receipt, SpanLog};
+use span::{ReceiptList, SpanLog};
 use std::alloc::{AllocError, Global};
 use std::thread;
 use std::thread::Threads;
 
 // What comes of the calls of the worker with this number.
-fn verdict_at(alloc: Global, records: &Records, lists: &[Vec<Receipt>], w: usize) -> Verdict
+fn verdict_at(alloc: Global, records: &Records, lists: &[ReceiptList], w: usize) -> Verdict
     requires records { AreRecords records.now.logs.now records.now.table.now
         (map vec_items records.now.sections.now) (map vec_items records.now.orders.now) }
     requires inside { w < length lists.now }
     ensures { IsVerdict records.now.logs.now (map vec_items records.now.sections.now)
-        (slice_index_or (map vec_items lists.now) w []) result }
+        (slice_index_or (map kept_receipts lists.now) w []) result }
 {
-    verdict_of(alloc, records, lists[w].as_slice())
+    verdict_of(alloc, records, &lists[w])
 }
 
 // What comes of the calls of each worker, each on a thread of its own.
@@ -33,12 +34,12 @@ fn verdicts_of<R: Threads + Sync>(
     rt: &R,
     alloc: Global,
     records: &Records,
-    lists: &[Vec<Receipt>],
+    lists: &[ReceiptList],
 ) -> Result<Vec<Verdict>, AllocError>
     requires { AreRecords records.now.logs.now records.now.table.now
         (map vec_items records.now.sections.now) (map vec_items records.now.orders.now) }
     ensures { IfOk result (λ verdicts. AreVerdicts records.now.logs.now
-        (map vec_items records.now.sections.now) (map vec_items lists.now) verdicts.items) }
+        (map vec_items records.now.sections.now) (map kept_receipts lists.now) verdicts.items) }
 {
     let verdicts = thread::map_indices(
         rt,
@@ -50,7 +51,7 @@ fn verdicts_of<R: Threads + Sync>(
                 (map vec_items records.now.orders.now) }
             ensures { IsVerdict records.entry.now.logs.now
                 (map vec_items records.entry.now.sections.now)
-                (slice_index_or (map vec_items lists.entry.now) w []) result }
+                (slice_index_or (map kept_receipts lists.entry.now) w []) result }
         { verdict_at(alloc, records, lists, w) },
     )?;
     Ok(verdicts)
@@ -61,11 +62,11 @@ fn first_fault<R: Threads + Sync>(
     rt: &R,
     alloc: Global,
     logs: &[SpanLog],
-    receipts: &[Vec<Receipt>],
+    receipts: &[ReceiptList],
 ) -> Result<Option<AuditCause>, AllocError>
     ensures { IfOk result (λ cause. MatchOption cause
-        (Agreement logs.now (map vec_items receipts.now))
-        (FailsFirst logs.now (map vec_items receipts.now))) }
+        (Agreement logs.now (map kept_receipts receipts.now))
+        (FailsFirst logs.now (map kept_receipts receipts.now))) }
 {
     let Some(table) = table_of_legal(alloc, logs)? else {
         return Ok(Some(AuditCause::Log));
@@ -99,11 +100,11 @@ pub fn audit_by_threads<R: Threads + Sync>(
     rt: &R,
     alloc: Global,
     logs: &[SpanLog],
-    receipts: &[Vec<Receipt>],
+    receipts: &[ReceiptList],
 ) -> Result<(), AuditError>
-    ensures agreed { OnOk result (Agreement logs.now (map vec_items receipts.now)) }
-    ensures histories { OnOk result (HaveHistories (map vec_items receipts.now)) }
-    ensures err { IfErr result (IsAuditError logs.now (map vec_items receipts.now)) }
+    ensures agreed { OnOk result (Agreement logs.now (map kept_receipts receipts.now)) }
+    ensures histories { OnOk result (HaveHistories (map kept_receipts receipts.now)) }
+    ensures err { IfErr result (IsAuditError logs.now (map kept_receipts receipts.now)) }
 {
     match first_fault(rt, alloc, logs, receipts) {
         Ok(None) => Ok(()),

@@ -1,12 +1,14 @@
 // What a receipt says of its call, as numbers and tests.
-ghost use Rattle.std.specs.Prelude.{◌≡◌, ◌↔◌, ◌<◌, IsTrue};
+ghost use Rattle.std.specs.Prelude.{◌≡◌, ◌↔◌, ◌<◌, IsTrue, option_map};
 ghost use Rattle.span.specs.Ids.{rank};
+ghost use Rattle.span.specs.ReceiptViews.{call_viewed, receipt_viewed};
+ghost use Rattle.span.specs.Views.{viewed};
 ghost use Rattle.audit.specs.Receipts.{changes_after, makes_change};
 ghost use Rattle.audit.specs.Agreement.{CallMakes};
-ghost use Rattle.audit.specs.Changes.{slot_of, left_by, issued_by};
+ghost use Rattle.audit.specs.Changes.{slot_of, left_by, generation_of, issued_by};
 ghost use Rattle.span.specs.declared.limits.TheConstants.{ALL_IDS};
 
-use span::{ALL_IDS, Call, Change, Key, Receipt, SpanId};
+use span::{ALL_IDS, CallView, ChangeView, Key, ReceiptView, SpanId};
 
 /// How many spans there can be.
 pub const SPANS: usize = ALL_IDS as usize;
@@ -20,19 +22,19 @@ pub fn place_of(span: SpanId) -> usize
 }
 
 /// Whether the call makes a change: a put does, and a free that was done.
-pub fn makes_change(receipt: &Receipt) -> bool
-    ensures { result ≡ makes_change receipt.now }
+pub fn makes_change(receipt: &ReceiptView<'_>) -> bool
+    ensures { result ≡ makes_change (receipt_viewed receipt.now) }
 {
     match receipt.call {
-        Call::Put { .. } | Call::Freed => true,
-        Call::Found { .. } | Call::NotFound | Call::NotFreed => false,
+        CallView::Put { .. } | CallView::Freed => true,
+        CallView::Found { .. } | CallView::NotFound | CallView::NotFreed => false,
     }
 }
 
 /// How many changes stood in the log after the call: one more than before it, where it made one.
 /// A number that holds one more than any place does.
-pub fn changes_after(receipt: &Receipt) -> u128
-    ensures { result ≡ changes_after receipt.now }
+pub fn changes_after(receipt: &ReceiptView<'_>) -> u128
+    ensures { result ≡ changes_after (receipt_viewed receipt.now) }
 {
     if makes_change(receipt) {
         receipt.at as u128 + 1
@@ -42,19 +44,19 @@ pub fn changes_after(receipt: &Receipt) -> u128
 }
 
 /// Whether the call with this key makes this change.
-pub fn call_makes(call: Call, key: Key, change: Change) -> bool
-    ensures { IsTrue result ↔ CallMakes call key change }
+pub fn call_makes(call: CallView<'_>, key: &Key, change: ChangeView<'_>) -> bool
+    ensures { IsTrue result ↔ CallMakes (call_viewed call.entry) key.now (viewed change.entry) }
 {
     match (call, change) {
         (
-            Call::Put { value },
-            Change::Put {
+            CallView::Put { words: value },
+            ChangeView::Put {
                 slot,
                 generation,
-                value: put,
+                words,
             },
-        ) => { key.slot == slot && key.generation == generation && value == put }
-        (Call::Freed, Change::Free { slot, generation }) => {
+        ) => { key.slot == slot && key.generation == generation && value == words }
+        (CallView::Freed, ChangeView::Free { slot, generation }) => {
             key.slot == slot && key.generation == generation
         }
         _ => false,
@@ -62,34 +64,30 @@ pub fn call_makes(call: Call, key: Key, change: Change) -> bool
 }
 
 /// The slot of a change.
-pub fn slot_of(change: &Change) -> u8
-    ensures { result ≡ slot_of change.now }
+pub fn slot_of(change: ChangeView<'_>) -> u8
+    ensures { result ≡ slot_of (viewed change.entry) }
 {
-    match *change {
-        Change::Put { slot, .. } | Change::Free { slot, .. } => slot,
+    match change {
+        ChangeView::Put { slot, .. } | ChangeView::Free { slot, .. } => slot,
     }
 }
 
-/// The generation and the value that the change's slot holds after it.
-pub fn left_by(change: &Change) -> Option<(u32, u128)>
-    ensures { result ≡ left_by change.now }
+/// The generation that the change's slot holds after it, if it holds anything.
+pub fn generation_left_by(change: ChangeView<'_>) -> Option<u32>
+    ensures { result ≡ option_map generation_of (left_by (viewed change.entry)) }
 {
-    match *change {
-        Change::Put {
-            generation,
-            value,
-            ..
-        } => Some((generation, value)),
-        Change::Free { .. } => None,
+    match change {
+        ChangeView::Put { generation, .. } => Some(generation),
+        ChangeView::Free { .. } => None,
     }
 }
 
 /// The last generation of the change's slot after it, where this was the last before it.
-pub fn issued_by(change: &Change, last: u32) -> u32
-    ensures { result ≡ issued_by change.now last }
+pub fn issued_by(change: ChangeView<'_>, last: u32) -> u32
+    ensures { result ≡ issued_by (viewed change.entry) last }
 {
-    match *change {
-        Change::Put { generation, .. } => generation,
-        Change::Free { .. } => last,
+    match change {
+        ChangeView::Put { generation, .. } => generation,
+        ChangeView::Free { .. } => last,
     }
 }

@@ -1,28 +1,44 @@
 // Whether each change has exactly one receipt, and each receipt of a change its change.
-ghost use Rattle.std.specs.Prelude.{◌≡◌, ◌<◌, ◌++◌, ◌∷◌, [], IfOk, IfSome, MatchOption, ℕ, List, true, length, map, flat_map, vec_len, vec_items};
+ghost use Rattle.std.specs.Prelude.{◌≡◌, ◌↔◌, ◌<◌, ◌++◌, ◌∷◌, [], IfOk, IfSome, IsTrue, MatchOption, ℕ, List, true, length, map, flat_map, vec_len, vec_items};
+ghost use Rattle.span.specs.KeptLogs.{kept_changes};
+ghost use Rattle.span.specs.ReceiptLists.{kept_receipts};
+ghost use Rattle.span.specs.ReceiptViews.{receipt_viewed};
 ghost use Rattle.span.specs.declared.receipt.Receipt.{Receipt};
 ghost use Rattle.audit.specs.Receipts.{log_of, makes_change};
 ghost use Rattle.audit.specs.Agreement.{ChangesHaveReceipts};
-ghost use Rattle.audit.specs.Tables.{AreEntered, AreFull, IsKnown, IsLogAt, IsTable, WereEntered};
+ghost use Rattle.audit.specs.Tables.{AreEntered, AreFull, HasMade, IsKnown, IsLogAt, IsTable, WereEntered};
 
 use crate::calls::{call_makes, makes_change};
 use crate::log::index_of;
 use crate::section::{are_full, empty_rows, mark};
-use span::{Receipt, SpanLog};
+use span::{Kept, Log, ReceiptList, ReceiptView, SpanLog};
 use std::alloc::{AllocError, Global};
 
+// Whether the log has a change at the call's place, and the call makes it.
+fn makes_at(log: &Kept, receipt: &ReceiptView<'_>) -> bool
+    ensures { IsTrue result ↔ HasMade (kept_changes log.now) (receipt_viewed receipt.now) }
+{
+    if log.len() <= receipt.at {
+        return false;
+    }
+    call_makes(receipt.call, &receipt.key, log.view(receipt.at))
+}
+
 // The index of the log that has the call's change, if one has.
-fn log_with_change(logs: &[SpanLog], table: &[Option<usize>], receipt: &Receipt) -> Option<usize>
+fn log_with_change(
+    logs: &[SpanLog],
+    table: &[Option<usize>],
+    receipt: &ReceiptView<'_>,
+) -> Option<usize>
     requires table { IsTable logs.now table.now }
-    requires makes { makes_change receipt.now ≡ true }
+    requires makes { makes_change (receipt_viewed receipt.now) ≡ true }
     ensures within { IfSome result (λ j. j < length logs.now) }
-    ensures known { MatchOption result (IsKnown logs.now receipt.now → ⊥) (λ j.
-        IsLogAt logs.now receipt.now.key.span j × IsKnown logs.now receipt.now
+    ensures known { MatchOption result (IsKnown logs.now (receipt_viewed receipt.now) → ⊥) (λ j.
+        IsLogAt logs.now receipt.now.key.span j × IsKnown logs.now (receipt_viewed receipt.now)
         × (receipt.now.at < length (log_of logs.now receipt.now.key.span))) }
 {
     let j = index_of(logs, table, receipt.key.span)?;
-    let changes = logs[j].changes.as_slice();
-    if receipt.at < changes.len() && call_makes(receipt.call, receipt.key, changes[receipt.at]) {
+    if makes_at(&logs[j].log, receipt) {
         Some(j)
     } else {
         None
@@ -35,14 +51,15 @@ fn enter(
     logs: &[SpanLog],
     table: &[Option<usize>],
     rows: &mut Vec<Vec<Option<u64>>>,
-    receipt: &Receipt,
+    receipt: &ReceiptView<'_>,
 ) -> bool
     requires table { IsTable logs.now table.now }
     requires len { vec_len rows.old ≡ length logs.now }
     ensures len { vec_len rows.new ≡ length logs.now }
     ensures entered { (before : List Receipt)
         → AreEntered logs.now before (map vec_items rows.old.items)
-        → WereEntered logs.now (before ++ receipt.now ∷ []) (map vec_items rows.new.items) result }
+        → WereEntered logs.now (before ++ receipt_viewed receipt.now ∷ [])
+        (map vec_items rows.new.items) result }
 {
     if !makes_change(receipt) {
         return true;
@@ -58,17 +75,18 @@ fn enter_list(
     logs: &[SpanLog],
     table: &[Option<usize>],
     rows: &mut Vec<Vec<Option<u64>>>,
-    list: &[Receipt],
+    list: &ReceiptList,
 ) -> bool
     requires table { IsTable logs.now table.now }
     requires len { vec_len rows.old ≡ length logs.now }
     ensures len { vec_len rows.new ≡ length logs.now }
     ensures entered { (before : List Receipt)
         → AreEntered logs.now before (map vec_items rows.old.items)
-        → WereEntered logs.now (before ++ list.now) (map vec_items rows.new.items) result }
+        → WereEntered logs.now (before ++ kept_receipts list.now)
+        (map vec_items rows.new.items) result }
 {
-    for receipt in list {
-        if !enter(logs, table, rows, receipt) {
+    for i in 0..list.len() {
+        if !enter(logs, table, rows, &list.view(i)) {
             return false;
         }
     }
@@ -80,17 +98,17 @@ fn enter_lists(
     logs: &[SpanLog],
     table: &[Option<usize>],
     rows: &mut Vec<Vec<Option<u64>>>,
-    lists: &[Vec<Receipt>],
+    lists: &[ReceiptList],
 ) -> bool
     requires table { IsTable logs.now table.now }
     requires len { vec_len rows.old ≡ length logs.now }
     requires rows { AreEntered logs.now [] (map vec_items rows.old.items) }
     ensures len { vec_len rows.new ≡ length logs.now }
-    ensures entered { WereEntered logs.now (flat_map vec_items lists.now)
+    ensures entered { WereEntered logs.now (flat_map kept_receipts lists.now)
         (map vec_items rows.new.items) result }
 {
     for list in lists {
-        if !enter_list(logs, table, rows, list.as_slice()) {
+        if !enter_list(logs, table, rows, list) {
             return false;
         }
     }
@@ -103,14 +121,14 @@ pub fn sections_of_changes(
     alloc: Global,
     logs: &[SpanLog],
     table: &[Option<usize>],
-    lists: &[Vec<Receipt>],
+    lists: &[ReceiptList],
 ) -> Result<Option<Vec<Vec<Option<u64>>>>, AllocError>
     requires { IsTable logs.now table.now }
     ensures len { IfOk result (λ rows. IfSome rows (λ rows. vec_len rows ≡ length logs.now)) }
     ensures entered { IfOk result (λ rows. MatchOption rows
-        (ChangesHaveReceipts logs.now (map vec_items lists.now) → ⊥)
-        (λ rows. ChangesHaveReceipts logs.now (map vec_items lists.now)
-        × AreEntered logs.now (flat_map vec_items lists.now) (map vec_items rows.items)
+        (ChangesHaveReceipts logs.now (map kept_receipts lists.now) → ⊥)
+        (λ rows. ChangesHaveReceipts logs.now (map kept_receipts lists.now)
+        × AreEntered logs.now (flat_map kept_receipts lists.now) (map vec_items rows.items)
         × AreFull (map vec_items rows.items))) }
 {
     let mut rows = empty_rows(alloc, logs)?;

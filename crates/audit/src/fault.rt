@@ -1,5 +1,6 @@
 // Whether the receipts of all workers agree with the logs of all spans.
 ghost use Rattle.std.specs.Prelude.{◌≡◌, IfOk, IfErr, OnOk, MatchOption, map, vec_items};
+ghost use Rattle.span.specs.ReceiptLists.{kept_receipts};
 ghost use Rattle.audit.specs.Agreement.{Agreement};
 ghost use Rattle.audit.specs.Faults.{FailsFirst, IsAuditError};
 ghost use Rattle.audit.specs.History.{HaveHistories};
@@ -9,7 +10,7 @@ use crate::change::sections_of_changes;
 use crate::legal::table_of_legal;
 use crate::order::workers_are_in_order;
 use crate::reply::replies_are_right;
-use span::{Receipt, SpanLog};
+use span::{ReceiptList, SpanLog};
 use std::alloc::{AllocError, Global};
 use std::fmt;
 
@@ -61,11 +62,11 @@ pub enum AuditError {
 fn first_fault(
     alloc: Global,
     logs: &[SpanLog],
-    receipts: &[Vec<Receipt>],
+    receipts: &[ReceiptList],
 ) -> Result<Option<AuditCause>, AllocError>
     ensures { IfOk result (λ cause. MatchOption cause
-        (Agreement logs.now (map vec_items receipts.now))
-        (FailsFirst logs.now (map vec_items receipts.now))) }
+        (Agreement logs.now (map kept_receipts receipts.now))
+        (FailsFirst logs.now (map kept_receipts receipts.now))) }
 {
     let Some(table) = table_of_legal(alloc, logs)? else {
         return Ok(Some(AuditCause::Log));
@@ -94,10 +95,10 @@ fn first_fault(
 ///
 /// `Fault` where the receipts do not agree with the logs, with the first part that fails, and
 /// `OutOfMemory` where a table of the audit could not be allocated.
-pub fn audit(alloc: Global, logs: &[SpanLog], receipts: &[Vec<Receipt>]) -> Result<(), AuditError>
-    ensures agreed { OnOk result (Agreement logs.now (map vec_items receipts.now)) }
-    ensures histories { OnOk result (HaveHistories (map vec_items receipts.now)) }
-    ensures err { IfErr result (IsAuditError logs.now (map vec_items receipts.now)) }
+pub fn audit(alloc: Global, logs: &[SpanLog], receipts: &[ReceiptList]) -> Result<(), AuditError>
+    ensures agreed { OnOk result (Agreement logs.now (map kept_receipts receipts.now)) }
+    ensures histories { OnOk result (HaveHistories (map kept_receipts receipts.now)) }
+    ensures err { IfErr result (IsAuditError logs.now (map kept_receipts receipts.now)) }
 {
     match first_fault(alloc, logs, receipts) {
         Ok(None) => Ok(()),

@@ -1,20 +1,22 @@
 // Whether no span has two logs and each log is legal.
 ghost use Rattle.std.specs.Prelude.{◌≡◌, ◌↔◌, ◌<◌, ◌≤◌, ◌+◌, ◌++◌, ◌∷◌, [], IsTrue, IfOk, MatchOption, List, Some, None, ℕ, slice_get};
 ghost use Rattle.span.specs.declared.change.Change.{Change};
-ghost use Rattle.span.specs.Log.{IsLegal, IsLegalAfter};
+ghost use Rattle.span.specs.KeptLogs.{kept_changes};
+ghost use Rattle.span.specs.Log.{IsChangeOf, IsLegal, IsLegalAfter, IsOfClass};
+ghost use Rattle.span.specs.Views.{viewed};
 ghost use Rattle.span.specs.declared.span_log.SpanLog.{SpanLog};
-ghost use Rattle.audit.specs.Agreement.{LogsAreLegal};
+ghost use Rattle.audit.specs.Agreement.{IsLegalLog, LogsAreLegal};
 ghost use Rattle.audit.specs.Changes.{AreAfter, AreIssued};
 ghost use Rattle.audit.specs.Tables.{IsTable};
 
-use crate::calls::{issued_by, left_by, slot_of};
+use crate::calls::{generation_left_by, issued_by, slot_of};
 use crate::log::table_of;
 use bitmap::SLOTS;
-use span::{Change, SpanLog};
+use span::{ChangeView, Class, Kept, Log, SpanLog};
 use std::alloc::{AllocError, Global};
 
 // No slot holds anything.
-fn no_contents() -> [Option<(u32, u128)>; SLOTS]
+fn no_contents() -> [Option<u32>; SLOTS]
     ensures { AreAfter [] result }
 {
     [None; SLOTS]
@@ -29,48 +31,65 @@ fn none_issued() -> [u32; SLOTS]
 
 // Whether the change may follow the changes before it.
 fn may_follow(
-    held: &[Option<(u32, u128)>; SLOTS],
+    held: &[Option<u32>; SLOTS],
     issued: &[u32; SLOTS],
     gens: u32,
-    change: &Change,
+    change: ChangeView<'_>,
 ) -> bool
     ensures { (before : List Change) → AreAfter before held.now → AreIssued before issued.now
-        → (IsTrue result ↔ IsLegalAfter gens before change.now) }
+        → (IsTrue result ↔ IsLegalAfter gens before (viewed change.entry)) }
 {
     let here = held[usize::from(slot_of(change))];
     let last = issued[usize::from(slot_of(change))];
-    match *change {
-        Change::Put { generation, .. } => here.is_none()
+    match change {
+        ChangeView::Put { generation, .. } => here.is_none()
             && 1 <= generation
             && generation - 1 == last
             && generation <= gens,
-        Change::Free { generation, .. } => match here {
-            Some((current, _)) => current == generation,
+        ChangeView::Free { generation, .. } => match here {
+            Some(current) => current == generation,
             None => false,
         },
     }
 }
 
+// Whether a put is of a slot that a page of the class has, and of an object of the class.
+fn is_of_class(class: Class, change: ChangeView<'_>) -> bool
+    ensures { IsTrue result ↔ IsChangeOf class (viewed change.entry) }
+{
+    match change {
+        ChangeView::Put { slot, words, .. } => {
+            u16::from(slot) < class.slots() && words.len() == class.words()
+        }
+        ChangeView::Free { .. } => true,
+    }
+}
+
 // Enters the change into what the slots hold and have issued.
-fn enter(held: &mut [Option<(u32, u128)>; SLOTS], issued: &mut [u32; SLOTS], change: &Change)
+fn enter(held: &mut [Option<u32>; SLOTS], issued: &mut [u32; SLOTS], change: ChangeView<'_>)
     ensures held { (before : List Change) → AreAfter before held.old
-        → AreAfter (before ++ change.now ∷ []) held.new }
+        → AreAfter (before ++ viewed change.entry ∷ []) held.new }
     ensures issued { (before : List Change) (gens : ℕ) → AreIssued before issued.old
-        → IsLegalAfter gens before change.now → AreIssued (before ++ change.now ∷ []) issued.new }
+        → IsLegalAfter gens before (viewed change.entry)
+        → AreIssued (before ++ viewed change.entry ∷ []) issued.new }
 {
     let slot = usize::from(slot_of(change));
-    held[slot] = left_by(change);
+    held[slot] = generation_left_by(change);
     issued[slot] = issued_by(change, issued[slot]);
 }
 
-// Whether the changes are legal.
-fn is_legal(gens: u32, changes: &[Change]) -> bool
-    ensures { IsTrue result ↔ IsLegal gens changes.now }
+// Whether the changes are legal, and all of the class.
+fn is_legal(class: Class, gens: u32, log: &Kept) -> bool
+    ensures { IsTrue result
+        ↔ (IsLegal gens (kept_changes log.now) × IsOfClass class (kept_changes log.now)) }
 {
     let mut held = no_contents();
     let mut issued = none_issued();
-    for i in 0..changes.len() {
-        let change = &changes[i];
+    for i in 0..log.len() {
+        let change = log.view(i);
+        if !is_of_class(class, change) {
+            return false;
+        }
         if !may_follow(&held, &issued, gens, change) {
             return false;
         }
@@ -79,13 +98,13 @@ fn is_legal(gens: u32, changes: &[Change]) -> bool
     true
 }
 
-// Whether each log is legal for the greatest generation that it names.
+// Whether each log is legal for the class and the greatest generation that it names.
 fn logs_are_legal(logs: &[SpanLog]) -> bool
     ensures { IsTrue result ↔ ((i : ℕ) (log : SpanLog) → slice_get logs.now i ≡ Some log
-        → IsLegal log.gens log.changes.items) }
+        → IsLegalLog log) }
 {
     for log in logs {
-        if !is_legal(log.gens, log.changes.as_slice()) {
+        if !is_legal(log.class, log.gens, &log.log) {
             return false;
         }
     }

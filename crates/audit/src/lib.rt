@@ -1,7 +1,7 @@
 //! The audit of a run: whether what its calls answered agrees with the logs of its spans.
 //!
 //! A worker keeps a [`Receipt`](span::Receipt) of each of its calls. When the run is over, [`audit`]
-//! holds the receipts, one list a worker, against the logs.
+//! holds the receipts, one [list](span::ReceiptList) a worker, against the logs.
 //!
 //! ```text
 //!   log of 0.0       Put 0 gen 1 = 5        Free 0 gen 1

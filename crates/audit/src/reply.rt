@@ -1,66 +1,90 @@
 // Whether each call was answered as its span's log says.
-ghost use Rattle.std.specs.Prelude.{◌≡◌, ◌↔◌, ◌≤◌, IsTrue, IfOk, Some, ℕ, length, take, slice_get, map, vec_items};
+ghost use Rattle.std.specs.Prelude.{◌≡◌, ◌↔◌, ◌≤◌, IsTrue, IfOk, Some, ℕ, length, take, slice_get, map, option_map, vec_items};
 ghost use Rattle.span.specs.declared.receipt.Receipt.{Receipt};
+ghost use Rattle.span.specs.KeptLogs.{kept_changes};
+ghost use Rattle.span.specs.Log.{value_if};
+ghost use Rattle.span.specs.ReceiptLists.{kept_receipts};
+ghost use Rattle.span.specs.ReceiptViews.{call_viewed, receipt_viewed};
+ghost use Rattle.span.specs.Views.{viewed};
+ghost use Rattle.audit.specs.Changes.{left_by};
 ghost use Rattle.audit.specs.Receipts.{value_after};
 ghost use Rattle.audit.specs.Agreement.{IsAnswered, IsRightReply, RepliesAreRight};
 ghost use Rattle.audit.specs.Slots.{AreBySlot, IsBySlot};
 ghost use Rattle.audit.specs.Tables.{IsTable};
 
-use crate::calls::left_by;
 use crate::first::Firsts;
 use crate::log::index_of;
 use crate::slot::{SlotChange, all_by_slot, last_before};
-use span::{Call, Change, Key, Receipt, SpanLog};
+use span::{CallView, ChangeView, Kept, Key, Log, ReceiptList, ReceiptView, SpanLog};
 use std::alloc::{AllocError, Global};
 
-// The value that the key has after the changes before the place.
-fn value_after(
-    changes: &[Change],
-    order: &[SlotChange],
-    guess: usize,
-    at: usize,
-    key: &Key,
-) -> Option<u128>
-    requires order { IsBySlot changes.now order.now }
-    requires inside { at ≤ length changes.now }
-    ensures { result ≡ value_after (take at changes.now) key.now }
+// The words that a key of the generation holds after the change of its slot, if any.
+fn words_after(change: ChangeView<'_>, generation: u32) -> Option<&[u128]>
+    ensures { option_map (λ words. words.now) result
+        ≡ value_if generation (left_by (viewed change.entry)) }
 {
-    let last = last_before(order, key.slot, at, guess)?;
-    match left_by(&changes[last]) {
-        Some((generation, value)) if generation == key.generation => Some(value),
+    match change {
+        ChangeView::Put {
+            generation: put,
+            words,
+            ..
+        } if put == generation => Some(words),
         _ => None,
     }
 }
 
-// Whether the call was answered as a key with this value, if any, answers it.
-fn is_answered(call: Call, value: Option<u128>) -> bool
-    ensures { IsTrue result ↔ IsAnswered call value }
+// The words that the key holds after the changes before the place, if any.
+fn value_after<'a>(
+    log: &'a Kept,
+    order: &[SlotChange],
+    guess: usize,
+    at: usize,
+    key: &Key,
+) -> Option<&'a [u128]>
+    requires order { IsBySlot (kept_changes log.now) order.now }
+    requires inside { at ≤ length (kept_changes log.now) }
+    ensures { option_map (λ words. words.now) result
+        ≡ value_after (take at (kept_changes log.now)) key.now }
+{
+    let last = last_before(order, key.slot, at, guess)?;
+    words_after(log.view(last), key.generation)
+}
+
+// Whether the call was answered as a key that holds these words, if any, answers it.
+fn is_answered(call: CallView<'_>, value: Option<&[u128]>) -> bool
+    ensures { IsTrue result ↔ IsAnswered (call_viewed call.entry)
+        (option_map (λ words. words.now) value.entry) }
 {
     match call {
-        Call::Put { .. } => true,
-        Call::Found { value: found } => value == Some(found),
-        Call::NotFound | Call::NotFreed => value.is_none(),
-        Call::Freed => value.is_some(),
+        CallView::Put { .. } => true,
+        CallView::Found { words: found } => match value {
+            Some(words) => words == found,
+            None => false,
+        },
+        CallView::NotFound | CallView::NotFreed => value.is_none(),
+        CallView::Freed => value.is_some(),
     }
 }
 
 // Whether the call was answered as the changes before the place say. What a put answers is its own key, so its value is not looked
 // for.
 fn is_answered_after(
-    changes: &[Change],
+    log: &Kept,
     order: &[SlotChange],
     guess: usize,
     at: usize,
     key: &Key,
-    call: Call,
+    call: CallView<'_>,
 ) -> bool
-    requires order { IsBySlot changes.now order.now }
-    requires inside { at ≤ length changes.now }
-    ensures { IsTrue result ↔ IsAnswered call (value_after (take at changes.now) key.now) }
+    requires order { IsBySlot (kept_changes log.now) order.now }
+    requires inside { at ≤ length (kept_changes log.now) }
+    ensures { IsTrue result
+        ↔ IsAnswered (call_viewed call.entry)
+        (value_after (take at (kept_changes log.now)) key.now) }
 {
     match call {
-        Call::Put { .. } => true,
-        _ => is_answered(call, value_after(changes, order, guess, at, key)),
+        CallView::Put { .. } => true,
+        _ => is_answered(call, value_after(log, order, guess, at, key)),
     }
 }
 
@@ -70,22 +94,22 @@ fn is_right_reply(
     table: &[Option<usize>],
     orders: &[Vec<SlotChange>],
     firsts: &Firsts,
-    receipt: &Receipt,
+    receipt: &ReceiptView<'_>,
 ) -> bool
     requires table { IsTable logs.now table.now }
     requires len { length orders.now ≡ length logs.now }
     requires orders { AreBySlot logs.now (map vec_items orders.now) }
-    ensures { IsTrue result ↔ IsRightReply logs.now receipt.now }
+    ensures { IsTrue result ↔ IsRightReply logs.now (receipt_viewed receipt.now) }
 {
     let Some(j) = index_of(logs, table, receipt.key.span) else {
         return receipt.at == 0 && is_answered(receipt.call, None);
     };
-    let changes = logs[j].changes.as_slice();
-    if changes.len() < receipt.at {
+    let log = &logs[j].log;
+    if log.len() < receipt.at {
         return false;
     }
     is_answered_after(
-        changes,
+        log,
         orders[j].as_slice(),
         firsts.guess(j, &receipt.key),
         receipt.at,
@@ -100,16 +124,16 @@ pub fn list_is_right(
     table: &[Option<usize>],
     orders: &[Vec<SlotChange>],
     firsts: &Firsts,
-    list: &[Receipt],
+    list: &ReceiptList,
 ) -> bool
     requires table { IsTable logs.now table.now }
     requires len { length orders.now ≡ length logs.now }
     requires orders { AreBySlot logs.now (map vec_items orders.now) }
-    ensures { IsTrue result ↔ ((i : ℕ) (receipt : Receipt) → slice_get list.now i ≡ Some receipt
-        → IsRightReply logs.now receipt) }
+    ensures { IsTrue result ↔ ((i : ℕ) (receipt : Receipt) → slice_get (kept_receipts list.now) i
+        ≡ Some receipt → IsRightReply logs.now receipt) }
 {
-    for receipt in list {
-        if !is_right_reply(logs, table, orders, firsts, receipt) {
+    for i in 0..list.len() {
+        if !is_right_reply(logs, table, orders, firsts, &list.view(i)) {
             return false;
         }
     }
@@ -122,15 +146,15 @@ fn lists_are_right(
     table: &[Option<usize>],
     orders: &[Vec<SlotChange>],
     firsts: &Firsts,
-    lists: &[Vec<Receipt>],
+    lists: &[ReceiptList],
 ) -> bool
     requires table { IsTable logs.now table.now }
     requires len { length orders.now ≡ length logs.now }
     requires orders { AreBySlot logs.now (map vec_items orders.now) }
-    ensures { IsTrue result ↔ RepliesAreRight logs.now (map vec_items lists.now) }
+    ensures { IsTrue result ↔ RepliesAreRight logs.now (map kept_receipts lists.now) }
 {
     for list in lists {
-        if !list_is_right(logs, table, orders, firsts, list.as_slice()) {
+        if !list_is_right(logs, table, orders, firsts, list) {
             return false;
         }
     }
@@ -142,10 +166,11 @@ pub fn replies_are_right(
     alloc: Global,
     logs: &[SpanLog],
     table: &[Option<usize>],
-    lists: &[Vec<Receipt>],
+    lists: &[ReceiptList],
 ) -> Result<bool, AllocError>
     requires { IsTable logs.now table.now }
-    ensures { IfOk result (λ yes. IsTrue yes ↔ RepliesAreRight logs.now (map vec_items lists.now)) }
+    ensures { IfOk result (λ yes. IsTrue yes
+        ↔ RepliesAreRight logs.now (map kept_receipts lists.now)) }
 {
     let orders = all_by_slot(alloc, logs)?;
     let orders = orders.as_slice();

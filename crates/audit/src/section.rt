@@ -2,7 +2,7 @@
 ghost use Rattle.std.specs.Prelude.{◌≡◌, ◌↔◌, ◌<◌, IsTrue, IfOk, [], ℕ, None, Some, false, vec_len, vec_items, map, length, slice_index_or, slice_set};
 ghost use Rattle.audit.specs.Tables.{AreRowsOf, AreFull, IsFull, IsBetween};
 
-use span::SpanLog;
+use span::{Log, SpanLog};
 use std::alloc::{AllocError, Global};
 
 // A row in which no change was seen.
@@ -20,7 +20,7 @@ pub fn empty_rows(alloc: Global, logs: &[SpanLog]) -> Result<Vec<Vec<Option<u64>
 {
     let mut rows = Vec::new(alloc);
     for log in logs {
-        rows.push(empty_row(alloc, log.changes.len())?)?;
+        rows.push(empty_row(alloc, log.log.len())?)?;
     }
     Ok(rows)
 }

@@ -1,11 +1,12 @@
 // A log's changes by slot.
 ghost use Rattle.std.specs.Prelude.{◌≡◌, ◌≤◌, ◌<◌, ◌-◌, IfOk, IsTrue, MatchOption, ℕ, List, Some, length, map, slice_get, slice_index_or, vec_len, vec_items};
 ghost use Rattle.std.specs.List.Sorted.{IsNonDecreasingBy};
+ghost use Rattle.span.specs.KeptLogs.{kept_changes};
 ghost use Rattle.span.specs.declared.change.Change.{Change};
 ghost use Rattle.audit.specs.Slots.{change_rank, slot_rank, HasChanges, HaveChanges, IsBySlot, IsSortedFrom, AreBySlot, IsQuiet, IsLast, IsSplitAt};
 
 use crate::calls::slot_of;
-use span::{Change, SpanLog};
+use span::{Kept, Log, SpanLog};
 use std::alloc::{AllocError, Global};
 use std::thread;
 use std::thread::Threads;
@@ -28,12 +29,12 @@ fn slot_rank(slot: u8, place: usize) -> u128
 }
 
 // The changes of the log, in order.
-fn slot_changes(alloc: Global, changes: &[Change]) -> Result<Vec<SlotChange>, AllocError>
-    ensures { IfOk result (λ found. HasChanges changes.now found.items) }
+fn slot_changes(alloc: Global, log: &Kept) -> Result<Vec<SlotChange>, AllocError>
+    ensures { IfOk result (λ found. HasChanges (kept_changes log.now) found.items) }
 {
-    let mut found = Vec::with_capacity(alloc, changes.len())?;
-    for place in 0..changes.len() {
-        let slot = slot_of(&changes[place]);
+    let mut found = Vec::with_capacity(alloc, log.len())?;
+    for place in 0..log.len() {
+        let slot = slot_of(log.view(place));
         found.push_reserved(SlotChange { slot, place });
     }
     Ok(found)
@@ -47,10 +48,10 @@ fn sort(found: &mut Vec<SlotChange>)
 }
 
 // The changes of the log by slot, and those of a slot in their order.
-fn by_slot(alloc: Global, changes: &[Change]) -> Result<Vec<SlotChange>, AllocError>
-    ensures { IfOk result (λ found. IsBySlot changes.now found.items) }
+fn by_slot(alloc: Global, log: &Kept) -> Result<Vec<SlotChange>, AllocError>
+    ensures { IfOk result (λ found. IsBySlot (kept_changes log.now) found.items) }
 {
-    let mut found = slot_changes(alloc, changes)?;
+    let mut found = slot_changes(alloc, log)?;
     sort(&mut found);
     Ok(found)
 }
@@ -62,7 +63,7 @@ pub fn all_by_slot(alloc: Global, logs: &[SpanLog]) -> Result<Vec<Vec<SlotChange
 {
     let mut orders = Vec::new(alloc);
     for log in logs {
-        orders.push(by_slot(alloc, log.changes.as_slice())?)?;
+        orders.push(by_slot(alloc, &log.log)?)?;
     }
     Ok(orders)
 }
@@ -74,7 +75,7 @@ fn all_slot_changes(alloc: Global, logs: &[SpanLog]) -> Result<Vec<Vec<SlotChang
 {
     let mut found = Vec::with_capacity(alloc, logs.len())?;
     for log in logs {
-        found.push(slot_changes(alloc, log.changes.as_slice())?)?;
+        found.push(slot_changes(alloc, &log.log)?)?;
     }
     Ok(found)
 }

@@ -1,5 +1,6 @@
 // What comes of the calls of one worker, where logs and changes are right.
 ghost use Rattle.std.specs.Prelude.{◌≡◌, ◌<◌, IfOk, IsTrue, ℕ, false, length, map, vec_items};
+ghost use Rattle.span.specs.ReceiptLists.{kept_receipts};
 ghost use Rattle.audit.specs.Judged.{AreRecords, HasVerdict, IsFirstCause, IsVerdict};
 ghost use Rattle.audit.specs.declared.fault.AuditCause.{AuditCause};
 
@@ -8,7 +9,7 @@ use crate::fault::AuditCause;
 use crate::order::list_is_in_order;
 use crate::records::Records;
 use crate::reply::list_is_right;
-use span::Receipt;
+use span::ReceiptList;
 use std::alloc::{AllocError, Global};
 
 /// The part of the agreement that the calls of one worker fail first, if any.
@@ -22,11 +23,11 @@ pub enum Verdict {
 }
 
 /// What comes of the calls of one worker. It needs no other list.
-pub fn verdict_of(alloc: Global, records: &Records, list: &[Receipt]) -> Verdict
+pub fn verdict_of(alloc: Global, records: &Records, list: &ReceiptList) -> Verdict
     requires { AreRecords records.now.logs.now records.now.table.now
         (map vec_items records.now.sections.now) (map vec_items records.now.orders.now) }
-    ensures { IsVerdict records.now.logs.now (map vec_items records.now.sections.now) list.now
-        result }
+    ensures { IsVerdict records.now.logs.now (map vec_items records.now.sections.now)
+        (kept_receipts list.now) result }
 {
     let (logs, table) = (records.logs, records.table);
     if !list_is_right(logs, table, records.orders, records.firsts, list) {

@@ -15,7 +15,7 @@ use Rattle.span.proofs.Ids.{same_span-flip}
 use Rattle.span.specs.declared.id.SpanId.{SpanId}
 use Rattle.span.specs.Ids.{rank, same_span}
 use Rattle.mesh_graph.proofs.Entries.{rank-apart, rank-same}
-use Rattle.mesh_graph.proofs.Building.{has_bit-set}
+use Rattle.mesh_graph.proofs.Bits.{has_bit-set}
 use Rattle.certificate.proofs.Verdicts.{tells_span}
 
 -- ids are the same where their ranks are

@@ -1,5 +1,5 @@
 -- The partners of a short set, group by group.
-use Rattle.std.proofs.Common.{◌≡◌, ℕ, ◌+◌, ◌<◌, ◌&&◌, ◌||◌, Bool, true, false, cond, List, [], ◌∷◌, ◌++◌, length, map, take, count_by, get_or, ap, refl, sym, ◌∙◌, zero, suc, inl, inr, arith}
+use Rattle.std.proofs.Common.{◌≡◌, ℕ, ◌+◌, ◌<◌, ◌==◌, ◌&&◌, ◌||◌, Bool, true, false, cond, List, [], ◌∷◌, ◌++◌, length, map, take, count_by, get_or, ap, refl, sym, ◌∙◌, zero, suc, inl, inr, arith}
 use Rattle.std.specs.List.{filter, list_any}
 use Rattle.std.proofs.lemmas.Bool.{cases_Bool}
 use Rattle.std.proofs.lemmas.List.{append-nil, length-map, map-append}
@@ -7,8 +7,11 @@ use Rattle.std.proofs.lemmas.List.Elements.{filter_more}
 use Rattle.std.proofs.lemmas.List.Sums.{sum_by-cons}
 use Rattle.span.specs.declared.id.SpanId.{SpanId}
 use Rattle.bitmap.specs.Slots.{has_bit}
+use Rattle.span.specs.Classes.{width_of}
 use Rattle.span.specs.Ids.{rank, same_span}
-use Rattle.certificate.specs.Chosen.{has_chosen}
+use Rattle.span.specs.declared.class.Class.{Class}
+use Rattle.certificate.specs.Chosen.{fits_some, has_chosen, is_member, members_in}
+use Rattle.certificate.specs.declared.partner.Members.{Members}
 use Rattle.span.specs.declared.entry.Entry.{Entry}
 use Rattle.mesh_graph.specs.Groups.{Groups, IsAscending, any_compatible, ids}
 use Rattle.span.specs.Entries.{are_compatible}
@@ -81,12 +84,24 @@ any-map : {X Y : Type 0} (test : Y → Bool) (f : X → Y) (xs : List X) → lis
 any-map test f [] = refl
 any-map test f (x ∷ xs) = ap (λ b. test (f x) || b) (any-map test f xs)
 
--- the groups that are compatible with some group whose id is in the set, where the sets of those are taken out first
-pub filter-members : (words : List ℕ) (abandoned owned : List Entry)
-    → filter (λ y. list_any (λ x. are_disjoint x y.occupied) (map (λ (x : Entry). x.occupied) (filter (λ x. has_bit words (rank x.id)) abandoned))) owned ≡ filter (λ y. has_chosen words abandoned y) owned
-filter-members words abandoned owned =
-    (λ k. filter (λ y. any-map (λ x. are_disjoint x y.occupied) (λ (x : Entry). x.occupied) (filter (λ x. has_bit words (rank x.id)) abandoned) k) owned)
-    ∙ (λ k. filter (λ y. any-filter (λ (x : Entry). has_bit words (rank x.id)) (λ x. are_compatible x y) abandoned k) owned)
+-- whether a group is compatible with some group whose id is in the set, by the sets of those of its class
+fits_some-members : (members : Members) (words : List ℕ) (abandoned : List Entry) → ((class : Class) → members_in members class ≡ map (λ x. x.occupied) (filter (is_member words class) abandoned))
+    → (y : Entry) → fits_some members y ≡ has_chosen words abandoned y
+fits_some-members members words abandoned are y =
+    ap (list_any (λ x. are_disjoint x y.occupied)) (are y.class)
+    ∙ any-map (λ x. are_disjoint x y.occupied) (λ (x : Entry). x.occupied) (filter (is_member words y.class) abandoned)
+    ∙ any-filter (is_member words y.class) (λ x. are_disjoint x.occupied y.occupied) abandoned
+    ∙ (λ k. list_any (λ x. turned (width_of x.class == width_of y.class) (has_bit words (rank x.id)) (are_disjoint x.occupied y.occupied) k) abandoned)
+  where
+    turned : (a b c : Bool) → ((a && b) && c) ≡ (b && (a && c))
+    turned true b c = refl
+    turned false true c = refl
+    turned false false c = refl
+
+-- the groups that are
+pub filter-members : (members : Members) (words : List ℕ) (abandoned owned : List Entry) → ((class : Class) → members_in members class ≡ map (λ x. x.occupied) (filter (is_member words class) abandoned))
+    → filter (fits_some members) owned ≡ filter (λ y. has_chosen words abandoned y) owned
+filter-members members words abandoned owned are k = filter (λ y. fits_some-members members words abandoned are y k) owned
 
 -- the ids of the groups that pass a test, of one more group
 module _ (test : Entry → Bool) (owned : List Entry) (n : ℕ) (y : Entry) (found : List SpanId) (low : n < length owned) (read : y ≡ get_or owned n y) (is : found ≡ map (λ (y : Entry). y.id) (filter test (take n owned))) where

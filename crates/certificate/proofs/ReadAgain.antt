@@ -1,21 +1,28 @@
 -- What is written of an item is read again.
-use Rattle.std.proofs.Common.{ℕ, ◌^◌, ◌<◌, ◌≤◌, ◌≡◌, ◌==◌, ◌||◌, not, true, List, [], ◌∷◌, ◌++◌, codes, length, get_or, Some, Ok, refl, ◌∙◌, ap, arith, rules, suc, inl, inr, nat_lt, nat_le, lt-ltb, eqb, eq-eqb}
+use Rattle.std.proofs.Common.{ℕ, ◌+◌, ◌^◌, ◌<◌, ◌≤◌, ◌≡◌, ◌==◌, ◌||◌, not, true, List, [], ◌∷◌, ◌++◌, codes, length, get_or, Bool, Some, Ok, refl, sym, ◌∙◌, ap, arith, rules, zero, suc, inl, inr, nat_lt, nat_le, lt-ltb, eqb, eq-eqb}
 use Rattle.std.specs.Char.{is_ascii_digit}
 use Rattle.std.specs.Fmt.{decimal}
-use Rattle.std.specs.List.{list_all}
+use Rattle.std.specs.FinSet.{contains}
+use Rattle.std.specs.List.{filter, list_all, range_with_len}
 use Rattle.std.specs.Str.{bytes_eq}
-use Rattle.std.proofs.lemmas.Bool.{and_from, cases_eq, ne_eqb, le-leb, or_right}
+use Rattle.std.proofs.lemmas.Bool.{and_from, and_parts, both_ways, cases_Bool, cases_eq, ltb-true, ne_eqb, le-leb, or_right}
 use Rattle.std.proofs.lemmas.Fmt.{decimal_digit, decimal_is_IsNumeral, first_decimal}
 use Rattle.std.proofs.lemmas.List.{append_assoc}
 use Rattle.std.proofs.lemmas.Str.Parse.{digit_at}
-use Rattle.bitmap.specs.HexText.{is_hex_digit, is_set_text}
-use Rattle.bitmap.specs.Slots.{SlotSet, set_text, slots_of_text}
+use Rattle.bitmap.specs.HexText.{is_hex_digit, is_set_text, text_has}
+use Rattle.bitmap.specs.Words.{IsBelow-slots_where}
+use Rattle.bitmap.specs.Slots.{IsBelow, SlotSet, members_below, set_text, slots_of_text}
 use Rattle.bitmap.proofs.HexText.{is_hex_digit-at, is_set_text-set_text, length-is_set_text}
 use Rattle.span.specs.declared.id.SpanId.{SpanId}
 use Rattle.span.specs.Texts.{id_text}
+use Rattle.span.specs.Classes.{slots_in}
+use Rattle.span.specs.declared.class.Class.{Class}
+use Rattle.span.specs.declared.class.Class.TheVariants.{C16, C64, C256}
 use Rattle.span.specs.declared.entry.Entry.{Entry}
-use Rattle.certificate.specs.Grammar.{count_in, entry_in, entry_parts, id_in, id_parts, pair_in, pair_parts}
+use Rattle.certificate.specs.declared.text.version.Version.TheVariants.{Two}
+use Rattle.certificate.specs.Grammar.{class_in, count_in, entry_in, entry_parts, id_in, id_parts, is_on_page, pair_in, pair_parts}
 use Rattle.certificate.specs.Number.{is_numeral, number_in}
+use Rattle.certificate.specs.Text.{FitsClass, class_text}
 use Rattle.certificate.specs.Words.{parts_of}
 use Rattle.certificate.proofs.Split.{lacks, lacks-append, lacks-digits, lacks-high, parts-last, parts-word}
 
@@ -77,19 +84,86 @@ lacks-set_text c slots low =
     let is : is_set_text (set_text slots) ≡ true = is_set_text-set_text slots in
     lacks-high c (set_text slots) low (λ i l. high-digit (get_or (set_text slots) i 0) (is_hex_digit-at (set_text slots) is i (omega (arith, l, length-is_set_text (set_text slots) is))))
 
+class_in-text : (class : Class) → class_in (class_text class) ≡ Ok class
+class_in-text C16 = refl
+class_in-text C64 = refl
+class_in-text C256 = refl
+
+lacks-class_text : (c : ℕ) (class : Class) → c < 48 → lacks c (class_text class) ≡ true
+lacks-class_text c class low = lacks-high c (class_text class) low (high class)
+  where
+    high : (class : Class) (i : ℕ) → i < length (class_text class) → 48 ≤ get_or (class_text class) i 0
+    high C16 zero l = omega arith
+    high C16 (suc zero) l = omega arith
+    high C16 (suc (suc i)) l = absurd (omega arith)
+    high C64 zero l = omega arith
+    high C64 (suc zero) l = omega arith
+    high C64 (suc (suc i)) l = absurd (omega arith)
+    high C256 zero l = omega arith
+    high C256 (suc zero) l = omega arith
+    high C256 (suc (suc zero)) l = omega arith
+    high C256 (suc (suc (suc i))) l = absurd (omega arith)
+
+-- what holds of the members of a filter
+all-filter : (p q : ℕ → Bool) (xs : List ℕ) → ((x : ℕ) → q x ≡ true → p x ≡ true) → list_all p (filter q xs) ≡ true
+all-filter p q [] h = refl
+all-filter p q (x ∷ xs) h = elim (cases_Bool (q x)) [
+  | inl e ↦ rw e (and_from (p x) (list_all p (filter q xs)) (h x e) (all-filter p q xs h))
+  | inr e ↦ rw e (all-filter p q xs h)
+]
+
+is_on_page-below : (class : Class) (slots : SlotSet) → IsBelow slots (slots_in class) → is_on_page class slots ≡ true
+unfolding members_below
+is_on_page-below class slots below = all-filter (λ slot. nat_lt slot (slots_in class)) (contains slots) (range_with_len 0 256) (λ slot inside. lt-ltb slot (slots_in class) (below slot inside))
+
+-- what holds of a member of a range that passes
+range-filter : (p q : ℕ → Bool) (first n x : ℕ) → list_all p (filter q (range_with_len first n)) ≡ true → first ≤ x → x < first + n → q x ≡ true → p x ≡ true
+range-filter p q first zero x all low high inside = absurd (omega arith)
+range-filter p q first (suc n) x all low high inside = elim (cases_Bool (q first)) [
+  | inl e ↦
+      let both = and_parts (p first) (list_all p (filter q (range_with_len (first + 1) n))) (rw e at all) in
+      elim (cases_eq x first) [
+        | inl same ↦ ap p same ∙ both.0
+        | inr other ↦ range-filter p q (first + 1) n x both.1 (omega arith) (omega arith) inside
+      ]
+  | inr e ↦ elim (cases_eq x first) [
+    | inl same ↦ absurd (both_ways (q first) e (ap q (sym same) ∙ inside))
+    | inr other ↦ range-filter p q (first + 1) n x (rw e at all) (omega arith) (omega arith) inside
+  ]
+]
+
+-- a set that was read has slots of its class
+pub IsBelow-is_on_page : (class : Class) (word : List ℕ) (slots : SlotSet) → slots ≡ slots_of_text word → is_on_page class slots ≡ true → IsBelow slots (slots_in class)
+unfolding members_below
+IsBelow-is_on_page class word slots is all slot inside =
+    let low : slot < 256 = IsBelow-slots_where (text_has word) 256 slot (ap (λ s. contains s slot) (sym is) ∙ inside) in
+    ltb-true slot (slots_in class) (range-filter (λ slot. nat_lt slot (slots_in class)) (contains slots) 0 256 slot all (omega arith) (omega arith) inside)
+
 -- a group's line, without its line feed
 abbrev pub entry_body : Entry → List ℕ
-entry_body x = id_text x.id ++ (codes " " ++ set_text x.occupied)
+entry_body x = id_text x.id ++ (codes " " ++ (class_text x.class ++ (codes " " ++ set_text x.occupied)))
 
-pub entry_in-body : (x : Entry) → slots_of_text (set_text x.occupied) ≡ x.occupied → entry_in (entry_body x) ≡ Ok (entry_parts x)
-entry_in-body x back =
-    let parts : parts_of 32 (entry_body x) ≡ id_text x.id ∷ set_text x.occupied ∷ [] =
-    parts-word 32 (id_text x.id) (set_text x.occupied) (lacks-id_text 32 x.id (omega arith))
-    ∙ ap (λ ps. id_text x.id ∷ ps) (parts-last 32 (set_text x.occupied) (lacks-set_text 32 x.occupied (omega arith))) in
-    rw (parts, id_in-text x.id, is_set_text-set_text x.occupied, back) refl
+pub entry_in-body : (x : Entry) → slots_of_text (set_text x.occupied) ≡ x.occupied → FitsClass x → entry_in Two (entry_body x) ≡ Ok (entry_parts x)
+entry_in-body x back fits =
+    let parts : parts_of 32 (entry_body x) ≡ id_text x.id ∷ class_text x.class ∷ set_text x.occupied ∷ [] =
+    parts-word 32 (id_text x.id) (class_text x.class ++ (codes " " ++ set_text x.occupied)) (lacks-id_text 32 x.id (omega arith))
+    ∙ ap (λ ps. id_text x.id ∷ ps) (parts-word 32 (class_text x.class) (set_text x.occupied) (lacks-class_text 32 x.class (omega arith)))
+    ∙ ap (λ ps. id_text x.id ∷ class_text x.class ∷ ps) (parts-last 32 (set_text x.occupied) (lacks-set_text 32 x.occupied (omega arith))) in
+    rw (parts, id_in-text x.id, class_in-text x.class, is_set_text-set_text x.occupied, back, is_on_page-below x.class x.occupied fits) refl
 
 pub lacks-entry_body : (x : Entry) → lacks 10 (entry_body x) ≡ true
-lacks-entry_body x = lacks-append 10 (id_text x.id) (codes " " ++ set_text x.occupied) (lacks-id_text 10 x.id (omega arith)) (lacks-append 10 (codes " ") (set_text x.occupied) refl (lacks-set_text 10 x.occupied (omega arith)))
+lacks-entry_body x =
+    lacks-append 10 (id_text x.id) (codes " " ++ (class_text x.class ++ (codes " " ++ set_text x.occupied))) (lacks-id_text 10 x.id (omega arith))
+    (lacks-append 10 (codes " ") (class_text x.class ++ (codes " " ++ set_text x.occupied)) refl
+    (lacks-append 10 (class_text x.class) (codes " " ++ set_text x.occupied) (lacks-class_text 10 x.class (omega arith))
+    (lacks-append 10 (codes " ") (set_text x.occupied) refl (lacks-set_text 10 x.occupied (omega arith)))))
+
+-- a group's line in version 1
+abbrev pub classless_body : Entry → List ℕ
+classless_body x = id_text x.id ++ (codes " " ++ set_text x.occupied)
+
+pub lacks-classless_body : (x : Entry) → lacks 10 (classless_body x) ≡ true
+lacks-classless_body x = lacks-append 10 (id_text x.id) (codes " " ++ set_text x.occupied) (lacks-id_text 10 x.id (omega arith)) (lacks-append 10 (codes " ") (set_text x.occupied) refl (lacks-set_text 10 x.occupied (omega arith)))
 
 -- a fold's line
 abbrev pub pair_body : SpanId × SpanId → List ℕ

@@ -3,7 +3,8 @@ use Rattle.std.proofs.Common.{ℕ, ◌+◌, ◌<◌, ◌≤◌, ◌≡◌, true,
 use Rattle.std.specs.Fmt.{decimal}
 use Rattle.std.specs.List.{AllByRecursion}
 use Rattle.std.proofs.lemmas.List.{append_assoc, length-append, length-map, map-id}
-use Rattle.bitmap.specs.Slots.{set_text, slots_of_text}
+use Rattle.std.proofs.lemmas.List.Elements.{recursion_from_All}
+use Rattle.bitmap.specs.Slots.{set_text}
 use Rattle.span.specs.declared.id.SpanId.{SpanId}
 use Rattle.span.specs.Ids.{rank}
 use Rattle.span.specs.Texts.{id_text}
@@ -11,11 +12,12 @@ use Rattle.span.specs.declared.entry.Entry.{Entry}
 use Rattle.mesh_graph.specs.Groups.{IsAscending, ids}
 use Rattle.certificate.specs.declared.certificate.Certificate.{Certificate}
 use Rattle.certificate.specs.declared.text.cause.Cause.{Cause}
-use Rattle.certificate.specs.Grammar.{◌>>=◌, Follows, Id, at_line, body_in, certificate_in, count_in, end_in, entry_in, entry_parts, fixed_in, id_in, id_parts, item_in, items_in, line_in, list_in, order_of, outline_of, pair_in, pair_parts}
-use Rattle.certificate.specs.Text.{IsWritable, certificate_text, entry_line, id_line, lines_text, list_text, pair_line}
+use Rattle.certificate.specs.declared.text.version.Version.TheVariants.{Two}
+use Rattle.certificate.specs.Grammar.{◌>>=◌, Follows, Id, at_line, body_in, certificate_in, count_in, end_in, entry_in, entry_parts, fixed_in, id_in, id_parts, item_in, items_in, line_in, list_in, order_of, outline_of, pair_in, pair_parts, version_in}
+use Rattle.certificate.specs.Text.{FitsClass, IsReadable, IsWritable, certificate_text, class_text, classless_line, classless_text, entry_line, id_line, lines_text, list_text, pair_line, text_with}
 use Rattle.certificate.specs.Words.{parts_of}
 use Rattle.certificate.proofs.Items.{body_in-lists}
-use Rattle.certificate.proofs.ReadAgain.{count_in-body, entry_body, entry_in-body, id_in-text, lacks-entry_body, lacks-id_text, lacks-pair_body, lacks-title_body, pair_body, pair_in-body, title_body}
+use Rattle.certificate.proofs.ReadAgain.{classless_body, count_in-body, entry_body, entry_in-body, id_in-text, lacks-classless_body, lacks-entry_body, lacks-id_text, lacks-pair_body, lacks-title_body, pair_body, pair_in-body, title_body}
 use Rattle.certificate.proofs.Split.{lacks, parts-word}
 
 -- ---- the lines of a text
@@ -37,7 +39,13 @@ parts_of-list title line body head is plain xs rest few =
     ∙ ap (λ ps. title_body title (length xs) ∷ ps) (parts_of-lines line body is plain xs rest)
 
 entry_line-body : (x : Entry) → entry_line x ≡ entry_body x ++ 10 ∷ []
-entry_line-body x = sym (append_assoc (id_text x.id) (32 ∷ set_text x.occupied) (10 ∷ []))
+entry_line-body x =
+    let rest : List ℕ = class_text x.class ++ (codes " " ++ set_text x.occupied) in
+    ap (λ t. id_text x.id ++ 32 ∷ t) (sym (append_assoc (class_text x.class) (32 ∷ set_text x.occupied) (10 ∷ [])))
+    ∙ sym (append_assoc (id_text x.id) (32 ∷ rest) (10 ∷ []))
+
+classless_line-body : (x : Entry) → classless_line x ≡ classless_body x ++ 10 ∷ []
+classless_line-body x = sym (append_assoc (id_text x.id) (32 ∷ set_text x.occupied) (10 ∷ []))
 
 pair_line-body : (p : SpanId × SpanId) → pair_line p ≡ pair_body p ++ 10 ∷ []
 pair_line-body p = sym (append_assoc (id_text p.0) (32 ∷ id_text p.1) (10 ∷ []))
@@ -52,27 +60,48 @@ fold_lines c = title_body (codes "folds") (length c.plan) ∷ (map pair_body c.p
 abbrev owned_lines : Certificate → List (List ℕ)
 owned_lines c = title_body (codes "owned") (length c.snapshot.owned) ∷ (map entry_body c.snapshot.owned ++ fold_lines c)
 
-abbrev pub all_lines : Certificate → List (List ℕ)
-all_lines c = codes "meshcert 1" ∷ (title_body (codes "abandoned") (length c.snapshot.abandoned) ∷ (map entry_body c.snapshot.abandoned ++ owned_lines c))
+-- the lines of a certificate below this first line, with such a line for each group
+abbrev pub lines_with : List ℕ → (Entry → List ℕ) → Certificate → List (List ℕ)
+lines_with opening body c =
+    opening ∷ (title_body (codes "abandoned") (length c.snapshot.abandoned) ∷ (map body c.snapshot.abandoned
+    ++ title_body (codes "owned") (length c.snapshot.owned) ∷ (map body c.snapshot.owned ++ fold_lines c)))
 
--- the lines that are written
-pub parts_of-text : (c : Certificate) → IsWritable c → parts_of 10 (certificate_text c) ≡ all_lines c
-unfolding certificate_text
-parts_of-text c w =
+abbrev pub all_lines : Certificate → List (List ℕ)
+all_lines c = lines_with (codes "meshcert 2") entry_body c
+
+-- the lines in version 1
+abbrev pub classless_lines : Certificate → List (List ℕ)
+classless_lines c = lines_with (codes "meshcert 1") classless_body c
+
+parts_of-text_with : (opening : List ℕ) (line body : Entry → List ℕ) → lacks 10 opening ≡ true → ((x : Entry) → line x ≡ body x ++ 10 ∷ []) → ((x : Entry) → lacks 10 (body x) ≡ true) → (c : Certificate) → IsWritable c
+    → parts_of 10 (text_with (opening ++ 10 ∷ []) line c) ≡ lines_with opening body c
+parts_of-text_with opening line body head is plain c w =
     let last : parts_of 10 (codes "end\n") ≡ codes "end" ∷ [] ∷ [] = refl in
     let short = list_text (codes "short") id_line c.short ++ codes "end\n" in
     let folds = list_text (codes "folds") pair_line c.plan ++ short in
-    let owned = list_text (codes "owned") entry_line c.snapshot.owned ++ folds in
-    parts-word 10 (codes "meshcert 1") (list_text (codes "abandoned") entry_line c.snapshot.abandoned ++ owned) refl
-    ∙ ap (λ ps. codes "meshcert 1" ∷ ps) (
-    parts_of-list (codes "abandoned") entry_line entry_body refl entry_line-body lacks-entry_body c.snapshot.abandoned owned w.abandoned
-    ∙ ap (λ ps. title_body (codes "abandoned") (length c.snapshot.abandoned) ∷ (map entry_body c.snapshot.abandoned ++ ps)) (
-    parts_of-list (codes "owned") entry_line entry_body refl entry_line-body lacks-entry_body c.snapshot.owned folds w.owned
-    ∙ ap (λ ps. title_body (codes "owned") (length c.snapshot.owned) ∷ (map entry_body c.snapshot.owned ++ ps)) (
+    let owned = list_text (codes "owned") line c.snapshot.owned ++ folds in
+    let all = list_text (codes "abandoned") line c.snapshot.abandoned ++ owned in
+    ap (parts_of 10) (append_assoc opening (10 ∷ []) all)
+    ∙ parts-word 10 opening all head
+    ∙ ap (λ ps. opening ∷ ps) (
+    parts_of-list (codes "abandoned") line body refl is plain c.snapshot.abandoned owned w.abandoned
+    ∙ ap (λ ps. title_body (codes "abandoned") (length c.snapshot.abandoned) ∷ (map body c.snapshot.abandoned ++ ps)) (
+    parts_of-list (codes "owned") line body refl is plain c.snapshot.owned folds w.owned
+    ∙ ap (λ ps. title_body (codes "owned") (length c.snapshot.owned) ∷ (map body c.snapshot.owned ++ ps)) (
     parts_of-list (codes "folds") pair_line pair_body refl pair_line-body lacks-pair_body c.plan short w.folds
     ∙ ap (λ ps. title_body (codes "folds") (length c.plan) ∷ (map pair_body c.plan ++ ps)) (
     parts_of-list (codes "short") id_line id_text refl (λ id. refl) (λ id. lacks-id_text 10 id (omega arith)) c.short (codes "end\n") w.short
     ∙ ap (λ ps. title_body (codes "short") (length c.short) ∷ (map id_text c.short ++ ps)) last))))
+
+-- the lines that are written
+pub parts_of-text : (c : Certificate) → IsWritable c → parts_of 10 (certificate_text c) ≡ all_lines c
+unfolding certificate_text
+parts_of-text c w = parts_of-text_with (codes "meshcert 2") entry_line entry_body refl entry_line-body lacks-entry_body c w
+
+-- those in version 1
+pub parts_of-classless_text : (c : Certificate) → IsWritable c → parts_of 10 (classless_text c) ≡ classless_lines c
+unfolding classless_text
+parts_of-classless_text c w = parts_of-text_with (codes "meshcert 1") classless_line classless_body refl classless_line-body lacks-classless_body c w
 
 -- ---- lines at their places
 
@@ -134,19 +163,18 @@ each : {Y : Type 0} {P : Y → Type 0} → ((y : Y) → P y) → (ys : List Y) �
 each h [] = tt
 each h (y ∷ ys) = (h y, each h ys)
 
-each_entry : (xs : List Entry) → AllByRecursion (λ x. slots_of_text (set_text x.occupied) ≡ x.occupied) xs → AllByRecursion (λ x. entry_in (entry_body x) ≡ Ok (entry_parts x)) xs
-each_entry [] h = tt
-each_entry (x ∷ xs) h = (entry_in-body x h.0, each_entry xs h.1)
+each_entry : (xs : List Entry) → AllByRecursion IsReadable xs → AllByRecursion FitsClass xs → AllByRecursion (λ x. entry_in Two (entry_body x) ≡ Ok (entry_parts x)) xs
+each_entry [] back fit = tt
+each_entry (x ∷ xs) back fit = (entry_in-body x back.0 fit.0, each_entry xs back.1 fit.1)
 
 -- what is written is read again
-pub certificate_in-text : (c : Certificate) → IsWritable c → IsAscending (ids c.snapshot.abandoned) → IsAscending (ids c.snapshot.owned)
-    → AllByRecursion (λ x. slots_of_text (set_text x.occupied) ≡ x.occupied) c.snapshot.abandoned → AllByRecursion (λ x. slots_of_text (set_text x.occupied) ≡ x.occupied) c.snapshot.owned
+pub certificate_in-text : (c : Certificate) → IsWritable c → IsAscending (ids c.snapshot.abandoned) → IsAscending (ids c.snapshot.owned) → AllByRecursion IsReadable c.snapshot.abandoned → AllByRecursion IsReadable c.snapshot.owned
     → certificate_in (certificate_text c) ≡ Ok (outline_of c)
 unfolding certificate_in
 certificate_in-text c w up_a up_o sets_a sets_o =
     let A = c.snapshot.abandoned in
     let O = c.snapshot.owned in
-    let front1 : List (List ℕ) = codes "meshcert 1" ∷ [] in
+    let front1 : List (List ℕ) = codes "meshcert 2" ∷ [] in
     let head_a : List (List ℕ) = title_body (codes "abandoned") (length A) ∷ map entry_body A in
     let front2 : List (List ℕ) = front1 ++ head_a in
     let head_o : List (List ℕ) = title_body (codes "owned") (length O) ∷ map entry_body O in
@@ -173,16 +201,16 @@ certificate_in-text c w up_a up_o sets_a sets_o =
     let n5 : length front5 ≡ length front4 + length head_s = length-append front4 head_s in
     let n6 : length (front5 ++ codes "end" ∷ []) ≡ length front5 + 1 = length-append front5 (codes "end" ∷ []) in
     let n7 : length ((front5 ++ codes "end" ∷ []) ++ ([] ∷ [])) ≡ length (front5 ++ codes "end" ∷ []) + 1 = length-append (front5 ++ codes "end" ∷ []) ([] ∷ []) in
-    let read_a : list_in (codes "abandoned") entry_in (λ x. x.0) (all_lines c) 1 ≡ Ok (map entry_parts A) = list_in-at entry_in (λ x. x.0) entry_parts (λ x. x.id) (λ y. refl) entry_body (codes "abandoned") A front1 (owned_lines c) refl w.abandoned (each_entry A sets_a) up_a (omega arith) in
-    let read_o : list_in (codes "owned") entry_in (λ x. x.0) (all_lines c) (length front2) ≡ Ok (map entry_parts O) = ap (λ ps. list_in (codes "owned") entry_in (λ x. x.0) ps (length front2)) whole2 ∙ list_in-at entry_in (λ x. x.0) entry_parts (λ x. x.id) (λ y. refl) entry_body (codes "owned") O front2 (fold_lines c) refl w.owned (each_entry O sets_o) up_o (omega arith) in
+    let read_a : list_in (codes "abandoned") (entry_in Two) (λ x. x.id) (all_lines c) 1 ≡ Ok (map entry_parts A) = list_in-at (entry_in Two) (λ x. x.id) entry_parts (λ x. x.id) (λ y. refl) entry_body (codes "abandoned") A front1 (owned_lines c) refl w.abandoned (each_entry A sets_a (recursion_from_All FitsClass A w.abandoned_fit)) up_a (omega arith) in
+    let read_o : list_in (codes "owned") (entry_in Two) (λ x. x.id) (all_lines c) (length front2) ≡ Ok (map entry_parts O) = ap (λ ps. list_in (codes "owned") (entry_in Two) (λ x. x.id) ps (length front2)) whole2 ∙ list_in-at (entry_in Two) (λ x. x.id) entry_parts (λ x. x.id) (λ y. refl) entry_body (codes "owned") O front2 (fold_lines c) refl w.owned (each_entry O sets_o (recursion_from_All FitsClass O w.owned_fit)) up_o (omega arith) in
     let read_f : list_in (codes "folds") pair_in (λ p. p.0) (all_lines c) (length front3) ≡ Ok (map pair_parts c.plan) = ap (λ ps. list_in (codes "folds") pair_in (λ p. p.0) ps (length front3)) whole3 ∙ list_in-at pair_in (λ p. p.0) pair_parts (λ p. p.0) (λ y. refl) pair_body (codes "folds") c.plan front3 (short_lines c) refl w.folds (each pair_in-body c.plan) w.folds_ascending (omega arith) in
     let read_s : list_in (codes "short") id_in (λ id. id) (all_lines c) (length front4) ≡ Ok (map id_parts c.short) = ap (λ ps. list_in (codes "short") id_in (λ id. id) ps (length front4)) whole4 ∙ list_in-at id_in (λ id. id) id_parts (λ id. id) (λ y. refl) id_text (codes "short") c.short front4 (codes "end" ∷ [] ∷ []) refl w.short (each id_in-text c.short) (subst IsAscending (sym (map-id c.short)) w.short_ascending) (omega arith) in
     let read_end : line_in (fixed_in (codes "end")) (all_lines c) (length front5) ≡ Ok tt = ap (λ ps. line_in (fixed_in (codes "end")) ps (length front5)) whole5 ∙ line_in-at (fixed_in (codes "end")) front5 (codes "end") ([] ∷ []) (omega arith) in
     let size : length (all_lines c) ≡ length front5 + 1 + 1 = ap length whole6 ∙ n7 ∙ ap (λ n. n + 1) n6 in
     let empty : get_or (all_lines c) (length front5 + 1) [] ≡ [] = (λ i. get_or (whole6 i) (sym n6 i) []) ∙ at-front (front5 ++ codes "end" ∷ []) [] [] [] in
     let nothing : end_in (all_lines c) (length front5 + 1) ≡ Ok tt = rw (eq-eqb (length (all_lines c)) (length front5 + 1 + 1) size, empty) refl in
-    let opening : line_in (fixed_in (codes "meshcert 1")) (all_lines c) 0 ≡ Ok tt = line_in-at (fixed_in (codes "meshcert 1")) [] (codes "meshcert 1") (head_a ++ owned_lines c) (omega arith) in
-    ap (λ ps. at_line 0 (line_in (fixed_in (codes "meshcert 1")) ps 0) >>= (λ opened. body_in ps)) (parts_of-text c w)
+    let opening : line_in version_in (all_lines c) 0 ≡ Ok Two = line_in-at version_in [] (codes "meshcert 2") (head_a ++ owned_lines c) (omega arith) in
+    ap (λ ps. at_line 0 (line_in version_in ps 0) >>= (λ version. body_in version ps)) (parts_of-text c w)
     ∙ rw opening (
-    body_in-lists (all_lines c) (map entry_parts A) (map entry_parts O) (map pair_parts c.plan) (map id_parts c.short) (length front2) (length front3) (length front4) (length front5) read_a read_o read_f read_s (omega arith) (omega arith) (omega arith) (omega arith)
+    body_in-lists Two (all_lines c) (map entry_parts A) (map entry_parts O) (map pair_parts c.plan) (map id_parts c.short) (length front2) (length front3) (length front4) (length front5) read_a read_o read_f read_s (omega arith) (omega arith) (omega arith) (omega arith)
     ∙ rw (read_end, nothing) refl)

@@ -1,14 +1,15 @@
 -- A text that the grammar accepts is spelled in one way: as the certificate that it says is written.
-use Rattle.std.proofs.Common.{ℕ, ◌+◌, ◌^◌, ◌<◌, ◌≤◌, ◌≡◌, ◌==◌, ◌&&◌, ◌||◌, cond, not, Bool, true, false, List, [], ◌∷◌, ◌++◌, codes, length, map, get_or, drop, Option, Some, None, Result, Ok, Err, refl, sym, ◌∙◌, ap, arith, zero, suc, inl, inr, nat_lt, nat_le, nat_eq, eqb-true}
+use Rattle.std.proofs.Common.{ℕ, ◌+◌, ◌^◌, ◌<◌, ◌≤◌, ◌≡◌, ◌==◌, ◌&&◌, ◌||◌, cond, not, Bool, true, false, List, [], ◌∷◌, ◌++◌, codes, length, map, get_or, drop, Option, Some, None, Result, Ok, Err, refl, sym, subst, ◌∙◌, ap, arith, zero, suc, inl, inr, nat_lt, nat_le, nat_eq, eqb-true}
 use Rattle.std.specs.Char.{is_ascii_digit}
 use Rattle.std.specs.Fmt.{decimal}
-use Rattle.std.specs.List.{join_with_byte, list_all}
+use Rattle.std.specs.List.{AllByRecursion, join_with_byte, list_all}
 use Rattle.std.specs.Prelude.{IfOk}
 use Rattle.std.specs.Str.{bytes_eq}
 use Rattle.std.specs.Str.Parse.{AllDigits, digits_value}
-use Rattle.std.proofs.lemmas.Bool.{and_parts, false≢true, leb-true, ltb-true, or_cases}
+use Rattle.std.proofs.lemmas.Bool.{and_parts, cases_Bool, false≢true, leb-true, ltb-true, or_cases}
 use Rattle.std.proofs.lemmas.Fmt.{decimal-digits_value}
 use Rattle.std.proofs.lemmas.List.{append_assoc, drop_more, length-drop, length-map, nil_from_length}
+use Rattle.std.proofs.lemmas.List.Elements.{All-from_recursion}
 use Rattle.std.proofs.lemmas.List.Splits.{join_with_byte-slice_split}
 use Rattle.std.proofs.lemmas.Slice.Eq.{bytes_eq-Decides}
 use Rattle.std.proofs.lemmas.Str.Parse.{IsNumeralModel}
@@ -16,18 +17,23 @@ use Rattle.bitmap.specs.HexText.{is_set_text}
 use Rattle.bitmap.specs.Slots.{SlotSet, set_text, slots_of_text}
 use Rattle.bitmap.proofs.HexText.{set_text-slots_of_text}
 use Rattle.span.specs.Texts.{id_text}
+use Rattle.span.specs.declared.class.Class.{Class}
+use Rattle.span.specs.declared.class.Class.TheVariants.{C16, C64, C256}
+use Rattle.span.specs.declared.entry.Entry.{Entry}
 use Rattle.certificate.specs.declared.certificate.Certificate.{Certificate}
 use Rattle.certificate.specs.declared.text.cause.Cause.{Cause}
 use Rattle.certificate.specs.declared.text.cause.Cause.TheVariants.{Cut, Form, Limit, Set, Tail}
 use Rattle.certificate.specs.declared.text.cause.ReadError.{ReadError}
 use Rattle.certificate.specs.declared.text.cause.ReadError.TheVariants.{BadCertificate, OutOfMemory}
-use Rattle.certificate.specs.Grammar.{◌>>=◌, Id, Outline, Reads, at_line, body_in, both_ids, certificate_in, count_in, count_of_number, count_of_words, end_in, entry_in, entry_of_words, entry_parts, fixed_in, id_in, id_of_numbers, id_of_parts, id_parts, item_in, items_in, line_in, list_in, order_of, outline_of, pair_in, pair_of_words, pair_parts, set_in}
+use Rattle.certificate.specs.declared.text.version.Version.{Version}
+use Rattle.certificate.specs.declared.text.version.Version.TheVariants.{One, Two}
+use Rattle.certificate.specs.Grammar.{◌>>=◌, Id, Listed, Outline, Reads, at_line, body_in, both, certificate_in, class_in, class_of_number, count_in, count_of_number, count_of_words, end_in, entry_in, entry_of, entry_of_words, entry_parts, fixed_in, id_in, id_of_numbers, id_of_parts, id_parts, is_on_page, item_in, items_in, line_in, list_in, order_of, outline_of, pair_in, pair_of_words, pair_parts, set_in, version_in}
 use Rattle.certificate.specs.Number.{is_numeral, number_in}
-use Rattle.certificate.specs.Text.{IsWritable, certificate_text}
+use Rattle.certificate.specs.Text.{IsTextOf, IsWritable, certificate_text, class_text, classless_text}
 use Rattle.certificate.specs.Words.{parts_of}
 use Rattle.certificate.proofs.Digits.{AllDigits-from_test}
-use Rattle.certificate.proofs.ReadAgain.{entry_body, pair_body, title_body}
-use Rattle.certificate.proofs.Rereading.{all_lines, parts_of-text}
+use Rattle.certificate.proofs.ReadAgain.{classless_body, entry_body, pair_body, title_body}
+use Rattle.certificate.proofs.Rereading.{lines_with, parts_of-classless_text, parts_of-text}
 
 -- ---- steps that were taken
 
@@ -103,10 +109,36 @@ word-id word i h =
     ∙ ap (join_with_byte 46) (id_of_parts-ok (parts_of 46 word) i h)
     ∙ sym (append_assoc (decimal i.0) (codes ".") (decimal i.1))
 
-word-set : (word : List ℕ) (slots : SlotSet) → set_in word ≡ Ok slots → word ≡ set_text slots
-word-set word slots h =
-    let p = if-ok (is_set_text word) (slots_of_text word) slots Set h in
-    sym (set_text-slots_of_text word p.0) ∙ ap set_text p.1
+class_of_number-ok : (number : Option ℕ) (class : Class) → class_of_number number ≡ Ok class → number ≡ number_in (class_text class)
+class_of_number-ok None class h = cc
+class_of_number-ok (Some n) class h = elim (cases_Bool (nat_eq n 16)) [
+  | inl e ↦ let same : C16 ≡ class = cc (rw e at h) in ap Some (eqb-true n 16 e) ∙ ap (λ c. number_in (class_text c)) same
+  | inr no16 ↦ elim (cases_Bool (nat_eq n 64)) [
+    | inl e ↦ let same : C64 ≡ class = cc (rw (no16, e) at h) in ap Some (eqb-true n 64 e) ∙ ap (λ c. number_in (class_text c)) same
+    | inr no64 ↦ elim (cases_Bool (nat_eq n 256)) [
+      | inl e ↦ let same : C256 ≡ class = cc (rw (no16, no64, e) at h) in ap Some (eqb-true n 256 e) ∙ ap (λ c. number_in (class_text c)) same
+      | inr none ↦ let refused : Err Limit ≡ Ok class = rw (no16, no64, none) at h in cc
+    ]
+  ]
+]
+
+-- what is one number is spelled in one way
+word-same : (word other : List ℕ) (n : ℕ) → number_in word ≡ Some n → number_in other ≡ Some n → n < 2 ^ 64 → word ≡ other
+word-same word other n is is_other fits = word-number word n is fits ∙ sym (word-number other n is_other fits)
+
+word-class : (word : List ℕ) (class : Class) → class_in word ≡ Ok class → word ≡ class_text class
+word-class word class h = spelled class (class_of_number-ok (number_in word) class h)
+  where
+    spelled : (class : Class) → number_in word ≡ number_in (class_text class) → word ≡ class_text class
+    spelled C16 e = word-same word (codes "16") 16 e refl (omega arith)
+    spelled C64 e = word-same word (codes "64") 64 e refl (omega arith)
+    spelled C256 e = word-same word (codes "256") 256 e refl (omega arith)
+
+word-set : (class : Class) (word : List ℕ) (slots : SlotSet) → set_in class word ≡ Ok slots → word ≡ set_text slots
+word-set class word slots h =
+    let p = if-ok (is_set_text word && is_on_page class (slots_of_text word)) (slots_of_text word) slots Set h in
+    let both = and_parts (is_set_text word) (is_on_page class (slots_of_text word)) p.0 in
+    sym (set_text-slots_of_text word both.0) ∙ ap set_text p.1
 
 -- ---- lines
 
@@ -117,31 +149,65 @@ Spells {X} parse spelled = (line : List ℕ) (x : X) → parse line ≡ Ok x →
 two_words : (line first second : List ℕ) → parts_of 32 line ≡ first ∷ second ∷ [] → line ≡ first ++ (codes " " ++ second)
 two_words line first second h = sym (join_with_byte-slice_split 32 line) ∙ ap (join_with_byte 32) h
 
-abbrev entry_words : Id × SlotSet → List ℕ
-entry_words x = id_word x.0 ++ (codes " " ++ set_text x.1)
+-- a group's line in each version
+abbrev entry_words : Version → Listed → List ℕ
+entry_words One x = id_word x.id ++ (codes " " ++ set_text x.occupied)
+entry_words Two x = id_word x.id ++ (codes " " ++ (class_text x.class ++ (codes " " ++ set_text x.occupied)))
 
-entry_of_words-ok : (words : List (List ℕ)) (x : Id × SlotSet) → entry_of_words words ≡ Ok x → words ≡ id_word x.0 ∷ set_text x.1 ∷ []
-entry_of_words-ok [] x h = cc
-entry_of_words-ok (id ∷ []) x h = cc
-entry_of_words-ok (id ∷ set ∷ []) x h =
-    let p = >>=-ok (id_in id) (λ i. set_in set >>= (λ slots. Ok (i, slots))) x h in
-    let q = >>=-ok (set_in set) (λ slots. Ok (p.0, slots)) x p.2 in
-    let same : (p.0, q.0) ≡ x = cc q.2 in
-    let first : id ≡ id_word x.0 = word-id id p.0 p.1 ∙ ap (λ (y : Id × SlotSet). id_word y.0) same in
-    let second : set ≡ set_text x.1 = word-set set q.0 q.1 ∙ ap (λ (y : Id × SlotSet). set_text y.1) same in
-    (λ k. first k ∷ second k ∷ [])
-entry_of_words-ok (id ∷ set ∷ more ∷ rest) x h = cc
+three_words : (line first second third : List ℕ) → parts_of 32 line ≡ first ∷ second ∷ third ∷ [] → line ≡ first ++ (codes " " ++ (second ++ (codes " " ++ third)))
+three_words line first second third h = sym (join_with_byte-slice_split 32 line) ∙ ap (join_with_byte 32) h
 
-entry_in-spells : Spells entry_in entry_words
-entry_in-spells line x h = two_words line (id_word x.0) (set_text x.1) (entry_of_words-ok (parts_of 32 line) x h)
-
-both_ids-ok : (a b : Result Id Cause) (p : Id × Id) → both_ids a b ≡ Ok p → (a ≡ Ok p.0) × (b ≡ Ok p.1)
-both_ids-ok (Ok a) (Ok b) p h =
+both-ok : {A B : Type 0} (a : Result A Cause) (b : Result B Cause) (p : A × B) → both a b ≡ Ok p → (a ≡ Ok p.0) × (b ≡ Ok p.1)
+both-ok {A} {B} (Ok a) (Ok b) p h =
     let same : (a, b) ≡ p = cc h in
-    (ap (λ (y : Id × Id). Ok y.0) same, ap (λ (y : Id × Id). Ok y.1) same)
-both_ids-ok (Err Form) b p h = cc
-both_ids-ok a (Err Form) p h = cc
-both_ids-ok a b p h = cc
+    (ap (λ (y : A × B). Ok y.0) same, ap (λ (y : A × B). Ok y.1) same)
+both-ok (Err Form) b p h = cc
+both-ok a (Err Form) p h = cc
+both-ok a b p h = cc
+
+-- the words of a group
+entry_of-ok : (id : Result Id Cause) (class : Result Class Cause) (set : List ℕ) (x : Listed) → entry_of id class set ≡ Ok x → (id ≡ Ok x.id) × (class ≡ Ok x.class) × (set ≡ set_text x.occupied)
+entry_of-ok id class set x h =
+    let p = >>=-ok (both id class) (λ named. set_in named.1 set >>= (λ slots. Ok (record { id = named.0; class = named.1; occupied = slots }))) x h in
+    let q = >>=-ok (set_in p.0.1 set) (λ slots. Ok (record { id = p.0.0; class = p.0.1; occupied = slots })) x p.2 in
+    let same : record { id = p.0.0; class = p.0.1; occupied = q.0 } ≡ x = cc q.2 in
+    let named = both-ok id class p.0 p.1 in (
+      named.0 ∙ ap (λ (y : Listed). Ok y.id) same,
+      named.1 ∙ ap (λ (y : Listed). Ok y.class) same,
+      word-set p.0.1 set q.0 q.1 ∙ ap (λ (y : Listed). set_text y.occupied) same,
+    )
+
+entry_in-spells : (version : Version) → Spells (entry_in version) (entry_words version)
+entry_in-spells version line x h = spelled version (parts_of 32 line) refl h
+  where
+    spelled : (version : Version) (words : List (List ℕ)) → parts_of 32 line ≡ words → entry_of_words version words ≡ Ok x → line ≡ entry_words version x
+    spelled One [] e h = cc
+    spelled One (id ∷ []) e h = cc
+    spelled One (id ∷ set ∷ []) e h =
+        let p = entry_of-ok (id_in id) (Ok C16) set x h in
+        two_words line (id_word x.id) (set_text x.occupied) (e ∙ (λ k. word-id id x.id p.0 k ∷ p.2 k ∷ []))
+    spelled One (id ∷ set ∷ more ∷ rest) e h = cc
+    spelled Two [] e h = cc
+    spelled Two (id ∷ []) e h = cc
+    spelled Two (id ∷ class ∷ []) e h = cc
+    spelled Two (id ∷ class ∷ set ∷ []) e h =
+        let p = entry_of-ok (id_in id) (class_in class) set x h in
+        three_words line (id_word x.id) (class_text x.class) (set_text x.occupied) (e ∙ (λ k. word-id id x.id p.0 k ∷ word-class class x.class p.1 k ∷ p.2 k ∷ []))
+    spelled Two (id ∷ class ∷ set ∷ more ∷ rest) e h = cc
+
+-- in version 1 a group is of 16 bytes a slot
+abbrev IsOfVersion : Version → Listed → Type 0
+IsOfVersion version x = version ≡ One → x.class ≡ C16
+
+entry_in-version : (version : Version) (line : List ℕ) (x : Listed) → entry_in version line ≡ Ok x → IsOfVersion version x
+entry_in-version Two line x h is = cc
+entry_in-version One line x h is = named (parts_of 32 line) h
+  where
+    named : (words : List (List ℕ)) → entry_of_words One words ≡ Ok x → x.class ≡ C16
+    named [] h = cc
+    named (id ∷ []) h = cc
+    named (id ∷ set ∷ []) h = let p = entry_of-ok (id_in id) (Ok C16) set x h in cc p.1
+    named (id ∷ set ∷ more ∷ rest) h = cc
 
 abbrev pair_words : Id × Id → List ℕ
 pair_words p = id_word p.0 ++ (codes " " ++ id_word p.1)
@@ -150,7 +216,7 @@ pair_of_words-ok : (words : List (List ℕ)) (p : Id × Id) → pair_of_words wo
 pair_of_words-ok [] p h = cc
 pair_of_words-ok (a ∷ []) p h = cc
 pair_of_words-ok (a ∷ b ∷ []) p h =
-    let q = both_ids-ok (id_in a) (id_in b) p h in
+    let q = both-ok (id_in a) (id_in b) p h in
     let first : a ≡ id_word p.0 = word-id a p.0 q.0 in
     let second : b ≡ id_word p.1 = word-id b p.1 q.1 in
     (λ k. first k ∷ second k ∷ [])
@@ -237,6 +303,32 @@ module _ {X : Type 0} (parse : List ℕ → Result X Cause) (spelled : X → Lis
       ∙ (λ k. title_body title (sym rest.1 k) ∷ drop (at + 1) parts)
       ∙ ap (λ ys. title_body title (length xs) ∷ ys) (rest.0 ∙ (λ k. map spelled xs ++ drop (at + 1 + sym rest.1 k) parts))
 
+-- what holds of each item that is read holds of those of a list
+module _ {X : Type 0} (parse : List ℕ → Result X Cause) (id_of : X → Id) (P : X → Type 0) (has : (line : List ℕ) (x : X) → parse line ≡ Ok x → P x) (parts : List (List ℕ)) where
+  item_in-has : (last : Option Id) (line : List ℕ) (x : X) → item_in parse id_of last line ≡ Ok x → P x
+  item_in-has last line x h =
+      let p = >>=-ok (parse line) (λ x. order_of last (id_of x) >>= (λ fine. Ok x)) x h in
+      let q = >>=-ok (order_of last (id_of p.0)) (λ fine. Ok p.0) x p.2 in
+      let same : p.0 ≡ x = cc q.2 in
+      subst P same (has line p.0 p.1)
+
+  items_in-have : (last : Option Id) (at n : ℕ) (xs : List X) → items_in parse id_of parts last at n ≡ Ok xs → AllByRecursion P xs
+  items_in-have last at zero xs h =
+      let none : [] ≡ xs = cc h in
+      subst (AllByRecursion P) none tt
+  items_in-have last at (suc n) xs h =
+      let p = >>=-ok (at_line at (line_in (item_in parse id_of last) parts at)) (λ x. items_in parse id_of parts (Some (id_of x)) (at + 1) n >>= (λ more. Ok (x ∷ more))) xs h in
+      let q = >>=-ok (items_in parse id_of parts (Some (id_of p.0)) (at + 1) n) (λ more. Ok (p.0 ∷ more)) xs p.2 in
+      let same : p.0 ∷ q.0 ≡ xs = cc q.2 in
+      let line = line_in-ok (item_in parse id_of last) parts at p.0 (at_line-ok at (line_in (item_in parse id_of last) parts at) p.0 p.1) in
+      subst (AllByRecursion P) same (item_in-has last (get_or parts at []) p.0 line.1, items_in-have (Some (id_of p.0)) (at + 1) n q.0 q.1)
+
+  list_in-have : (title : List ℕ) (at : ℕ) (xs : List X) → list_in title parse id_of parts at ≡ Ok xs → AllByRecursion P xs
+  unfolding list_in
+  list_in-have title at xs h =
+      let p = >>=-ok (at_line at (line_in (count_in title) parts at)) (items_in parse id_of parts None (at + 1)) xs h in
+      items_in-have None (at + 1) p.0 xs p.2
+
 -- the end is one empty line
 pub end_in-ok : (parts : List (List ℕ)) (at : ℕ) (done : Unit {0}) → at_line at (end_in parts at) ≡ Ok done → drop at parts ≡ [] ∷ []
 end_in-ok parts at done h =
@@ -250,11 +342,11 @@ end_in-ok parts at done h =
 
 -- ---- certificates
 
--- the lines of what a certificate says
-abbrev outline_lines : Outline → List (List ℕ)
-outline_lines o =
-    title_body (codes "abandoned") (length o.abandoned) ∷ (map entry_words o.abandoned
-    ++ title_body (codes "owned") (length o.owned) ∷ (map entry_words o.owned
+-- the lines of what a certificate says, below the first
+abbrev outline_lines : Version → Outline → List (List ℕ)
+outline_lines version o =
+    title_body (codes "abandoned") (length o.abandoned) ∷ (map (entry_words version) o.abandoned
+    ++ title_body (codes "owned") (length o.owned) ∷ (map (entry_words version) o.owned
     ++ title_body (codes "folds") (length o.folds) ∷ (map pair_words o.folds
     ++ title_body (codes "short") (length o.short) ∷ (map id_word o.short
     ++ codes "end" ∷ [] ∷ []))))
@@ -271,8 +363,9 @@ fifth_place a o f s = omega arith
 sixth_place : (a o f s : ℕ) → 5 + a + o + f + s + 1 ≡ 6 + a + o + f + s
 sixth_place a o f s = omega arith
 
-body_in-spells : (parts : List (List ℕ)) (o : Outline) → body_in parts ≡ Ok o → drop 1 parts ≡ outline_lines o
-body_in-spells parts o h =
+body_in-spells : (version : Version) (parts : List (List ℕ)) (o : Outline) → body_in version parts ≡ Ok o
+    → (drop 1 parts ≡ outline_lines version o) × AllByRecursion (IsOfVersion version) o.abandoned × AllByRecursion (IsOfVersion version) o.owned
+body_in-spells version parts o h =
     let a = >>=-ok _ _ o h in
     let w = >>=-ok _ _ o a.2 in
     let f = >>=-ok _ _ o w.2 in
@@ -296,49 +389,79 @@ body_in-spells parts o h =
     ∙ ap (λ ps. title_body (codes "short") (length s.0) ∷ (map id_word s.0 ++ ps)) (ap (λ at. drop at parts) to_fifth ∙ ends) in
     let folds : drop third parts ≡ title_body (codes "folds") (length f.0) ∷ (map pair_words f.0 ++ title_body (codes "short") (length s.0) ∷ (map id_word s.0 ++ codes "end" ∷ [] ∷ [])) =
     list_in-spells pair_in pair_words (λ p. p.0) pair_in-spells parts (codes "folds") third f.0 f.1
-    ∙ ap (λ ps. title_body (codes "folds") (length f.0) ∷ (map pair_words f.0 ++ ps)) (ap (λ at. drop at parts) to_fourth ∙ shorts) in
-    list_in-spells entry_in entry_words (λ x. x.0) entry_in-spells parts (codes "abandoned") 1 a.0 a.1
-    ∙ ap (λ ps. title_body (codes "abandoned") (length a.0) ∷ (map entry_words a.0 ++ ps)) (
-    list_in-spells entry_in entry_words (λ x. x.0) entry_in-spells parts (codes "owned") second w.0 w.1
-    ∙ ap (λ ps. title_body (codes "owned") (length w.0) ∷ (map entry_words w.0 ++ ps)) (ap (λ at. drop at parts) to_third ∙ folds))
-    ∙ ap outline_lines same
+    ∙ ap (λ ps. title_body (codes "folds") (length f.0) ∷ (map pair_words f.0 ++ ps)) (ap (λ at. drop at parts) to_fourth ∙ shorts) in (
+      list_in-spells (entry_in version) (entry_words version) (λ x. x.id) (entry_in-spells version) parts (codes "abandoned") 1 a.0 a.1
+          ∙ ap (λ ps. title_body (codes "abandoned") (length a.0) ∷ (map (entry_words version) a.0 ++ ps)) (
+          list_in-spells (entry_in version) (entry_words version) (λ x. x.id) (entry_in-spells version) parts (codes "owned") second w.0 w.1
+          ∙ ap (λ ps. title_body (codes "owned") (length w.0) ∷ (map (entry_words version) w.0 ++ ps)) (ap (λ at. drop at parts) to_third ∙ folds))
+          ∙ ap (outline_lines version) same,
+      subst (λ (o : Outline). AllByRecursion (IsOfVersion version) o.abandoned) same (list_in-have (entry_in version) (λ x. x.id) (IsOfVersion version) (entry_in-version version) parts (codes "abandoned") 1 a.0 a.1),
+      subst (λ (o : Outline). AllByRecursion (IsOfVersion version) o.owned) same (list_in-have (entry_in version) (λ x. x.id) (IsOfVersion version) (entry_in-version version) parts (codes "owned") second w.0 w.1),
+    )
 
-certificate_in-spells : (text : List ℕ) (o : Outline) → certificate_in text ≡ Ok o → parts_of 10 text ≡ codes "meshcert 1" ∷ outline_lines o
-unfolding certificate_in
-certificate_in-spells text o h =
-    let p = >>=-ok (at_line 0 (line_in (fixed_in (codes "meshcert 1")) (parts_of 10 text) 0)) (λ opened. body_in (parts_of 10 text)) o h in
-    line_in-spells (fixed_in (codes "meshcert 1")) (λ done. codes "meshcert 1") (parts_of 10 text) 0 p.0 (fixed_in-spells (codes "meshcert 1")) p.1
-    ∙ ap (λ ps. codes "meshcert 1" ∷ ps) (body_in-spells (parts_of 10 text) o p.2)
+-- the first line of a version
+abbrev opening_of : Version → List ℕ
+opening_of One = codes "meshcert 1"
+opening_of Two = codes "meshcert 2"
+
+version_in-spells : Spells version_in opening_of
+version_in-spells line version h = elim (bytes_eq line (codes "meshcert 1")) as (λ b. bytes_eq line (codes "meshcert 1") ≡ b → cond b (Ok One) (cond (bytes_eq line (codes "meshcert 2")) (Ok Two) (Err Form)) ≡ Ok version → line ≡ opening_of version) [
+  | true ↦ λ first said.
+      let named : One ≡ version = cc said in
+      same_bytes line (codes "meshcert 1") first ∙ ap opening_of named
+  | false ↦ λ first said.
+      let p = if-ok (bytes_eq line (codes "meshcert 2")) Two version Form said in
+      same_bytes line (codes "meshcert 2") p.0 ∙ ap opening_of p.1
+] refl h
 
 same_map : {X Y Z : Type 0} (g : Y → Z) (f : X → Y) (xs : List X) → map g (map f xs) ≡ map (λ x. g (f x)) xs
 same_map g f [] = refl
 same_map g f (x ∷ xs) = ap (λ ys. g (f x) ∷ ys) (same_map g f xs)
 
+classes-version : (xs : List Entry) → AllByRecursion (IsOfVersion One) (map entry_parts xs) → AllByRecursion (λ (x : Entry). x.class ≡ C16) xs
+classes-version [] h = tt
+classes-version (x ∷ xs) h = (h.0 refl, classes-version xs h.1)
+
 -- the lines that are said are those that are written
-outline_lines-outline_of : (c : Certificate) → codes "meshcert 1" ∷ outline_lines (outline_of c) ≡ all_lines c
-outline_lines-outline_of c =
+outline_lines-outline_of : (version : Version) (body : Entry → List ℕ) → ((x : Entry) → entry_words version (entry_parts x) ≡ body x) → (c : Certificate) → opening_of version ∷ outline_lines version (outline_of c) ≡ lines_with (opening_of version) body c
+outline_lines-outline_of version body same c =
     let A = c.snapshot.abandoned in
     let O = c.snapshot.owned in
-    let a : map entry_words (map entry_parts A) ≡ map entry_body A = same_map entry_words entry_parts A in
-    let o : map entry_words (map entry_parts O) ≡ map entry_body O = same_map entry_words entry_parts O in
+    let bodies : (xs : List Entry) → map (entry_words version) (map entry_parts xs) ≡ map body xs = λ xs. same_map (entry_words version) entry_parts xs ∙ (λ k. map (λ x. same x k) xs) in
+    let a : map (entry_words version) (map entry_parts A) ≡ map body A = bodies A in
+    let o : map (entry_words version) (map entry_parts O) ≡ map body O = bodies O in
     let f : map pair_words (map pair_parts c.plan) ≡ map pair_body c.plan = same_map pair_words pair_parts c.plan in
     let s : map id_word (map id_parts c.short) ≡ map id_text c.short = same_map id_word id_parts c.short in
-    (λ k. codes "meshcert 1"
+    (λ k. opening_of version
     ∷ title_body (codes "abandoned") (length-map A entry_parts k) ∷ (a k
     ++ title_body (codes "owned") (length-map O entry_parts k) ∷ (o k
     ++ title_body (codes "folds") (length-map c.plan pair_parts k) ∷ (f k
     ++ title_body (codes "short") (length-map c.short id_parts k) ∷ (s k
     ++ codes "end" ∷ [] ∷ [])))))
 
--- an accepted text is the text of what was read
-pub text-certificate_in : (c : Certificate) (text : List ℕ) → IsWritable c → certificate_in text ≡ Ok (outline_of c) → text ≡ certificate_text c
-text-certificate_in c text w h =
-    sym (join_with_byte-slice_split 10 text)
-    ∙ ap (join_with_byte 10) (certificate_in-spells text (outline_of c) h ∙ outline_lines-outline_of c ∙ sym (parts_of-text c w))
-    ∙ join_with_byte-slice_split 10 (certificate_text c)
+-- a text of which all lines are those of another is that text
+same_text : (text other : List ℕ) → parts_of 10 text ≡ parts_of 10 other → text ≡ other
+same_text text other same = sym (join_with_byte-slice_split 10 text) ∙ ap (join_with_byte 10) same ∙ join_with_byte-slice_split 10 other
+
+-- an accepted text is a text of what was read
+pub IsTextOf-certificate_in : (c : Certificate) (text : List ℕ) → IsWritable c → certificate_in text ≡ Ok (outline_of c) → IsTextOf c text
+unfolding certificate_in
+IsTextOf-certificate_in c text w h =
+    let p = >>=-ok (at_line 0 (line_in version_in (parts_of 10 text) 0)) (λ version. body_in version (parts_of 10 text)) (outline_of c) h in
+    let body = body_in-spells p.0 (parts_of 10 text) (outline_of c) p.2 in
+    named p.0 (line_in-spells version_in opening_of (parts_of 10 text) 0 p.0 version_in-spells p.1 ∙ ap (λ ps. opening_of p.0 ∷ ps) body.0) body.1 body.2
+  where
+    named : (version : Version) → parts_of 10 text ≡ opening_of version ∷ outline_lines version (outline_of c) → AllByRecursion (IsOfVersion version) (map entry_parts c.snapshot.abandoned)
+        → AllByRecursion (IsOfVersion version) (map entry_parts c.snapshot.owned) → IsTextOf c text
+    named One lines abandoned owned = inr (
+      same_text text (classless_text c) (lines ∙ outline_lines-outline_of One classless_body (λ x. refl) c ∙ sym (parts_of-classless_text c w)),
+      All-from_recursion (λ (x : Entry). x.class ≡ C16) c.snapshot.abandoned (classes-version c.snapshot.abandoned abandoned),
+      All-from_recursion (λ (x : Entry). x.class ≡ C16) c.snapshot.owned (classes-version c.snapshot.owned owned),
+    )
+    named Two lines abandoned owned = inl (same_text text (certificate_text c) (lines ∙ outline_lines-outline_of Two entry_body (λ x. refl) c ∙ sym (parts_of-text c w)))
 
 -- the same, of whatever reading answered
-pub text-Reads : (answer : Result Certificate ReadError) (text : List ℕ) → Reads outline_of answer (certificate_in text) → IfOk answer IsWritable → IfOk answer (λ c. text ≡ certificate_text c)
-text-Reads (Ok c) text said writable = text-certificate_in c text writable said
-text-Reads (Err OutOfMemory) text said writable = tt
-text-Reads (Err (BadCertificate line cause)) text said writable = tt
+pub IsTextOf-Reads : (answer : Result Certificate ReadError) (text : List ℕ) → Reads outline_of answer (certificate_in text) → IfOk answer IsWritable → IfOk answer (λ c. IsTextOf c text)
+IsTextOf-Reads (Ok c) text said writable = IsTextOf-certificate_in c text writable said
+IsTextOf-Reads (Err OutOfMemory) text said writable = tt
+IsTextOf-Reads (Err (BadCertificate line cause)) text said writable = tt

@@ -1,9 +1,13 @@
--- The texts that are certificates of version 1, line by line; and, of another text, the first line at fault and its first cause. A text
--- is what its line feeds (10) part, so that a line stands whole where a part follows it.
+-- The texts that are certificates of version 1 or 2, line by line; and, of another text, the first line at fault and its first cause. A
+-- text is what its line feeds (10) part, so that a line stands whole where a part follows it.
 use Rattle.std.specs.Prelude.{◌+◌, ◌*◌, ◌&&◌, ◌<◌, ◌≡◌, ℕ, Bool, nat_eq, nat_lt, nat_le, List, [], ◌∷◌, length, map, Option, Some, None, Result, Ok, Err, slice_index_or, codes, zero, suc, if◌then◌else◌}
+use Rattle.std.specs.List.{list_all}
 use Rattle.std.specs.Str.{bytes_eq}
 use Rattle.bitmap.specs.HexText.{is_set_text}
-use Rattle.bitmap.specs.Slots.{SlotSet, slots_of_text}
+use Rattle.bitmap.specs.Slots.{SlotSet, ascending, slots_of_text}
+use Rattle.span.specs.Classes.{slots_in}
+use Rattle.span.specs.declared.class.Class.{Class}
+use Rattle.span.specs.declared.class.Class.TheVariants.{C16, C64, C256}
 use Rattle.span.specs.declared.id.SpanId.{SpanId}
 use Rattle.span.specs.Ids.{rank}
 use Rattle.span.specs.declared.entry.Entry.{Entry}
@@ -13,6 +17,8 @@ use Rattle.certificate.specs.declared.text.cause.Cause.{Cause}
 use Rattle.certificate.specs.declared.text.cause.Cause.TheVariants.{Cut, Form, Limit, Set, Order, Tail}
 use Rattle.certificate.specs.declared.text.cause.ReadError.{ReadError}
 use Rattle.certificate.specs.declared.text.cause.ReadError.TheVariants.{BadCertificate, OutOfMemory}
+use Rattle.certificate.specs.declared.text.version.Version.{Version}
+use Rattle.certificate.specs.declared.text.version.Version.TheVariants.{One, Two}
 use Rattle.certificate.specs.declared.certificate.Certificate.{Certificate}
 use Rattle.mesh_graph.specs.declared.build.TheConstants.{MOST_GROUPS}
 use Rattle.span.specs.declared.limits.TheConstants.{MOST_SHARDS, MOST_SPANS}
@@ -47,33 +53,58 @@ id_of_parts _ = Err Form
 abbrev pub id_in : List ℕ → Result Id Cause
 id_in word = id_of_parts (parts_of 46 word)
 
--- a word as a set
-abbrev pub set_in : List ℕ → Result SlotSet Cause
-set_in word = if is_set_text word then Ok (slots_of_text word) else Err Set
+-- a number as a class, by the bytes of a slot
+abbrev pub class_of_number : Option ℕ → Result Class Cause
+class_of_number None = Err Form
+class_of_number (Some n) = if nat_eq n 16 then Ok C16 else if nat_eq n 64 then Ok C64 else if nat_eq n 256 then Ok C256 else Err Limit
+
+-- a word as a class
+abbrev pub class_in : List ℕ → Result Class Cause
+class_in word = class_of_number (number_in word)
+
+-- whether a page of the class has each slot of the set
+abbrev pub is_on_page : Class → SlotSet → Bool
+is_on_page class slots = list_all (λ slot. nat_lt slot (slots_in class)) (ascending slots)
+
+-- a word as a set of slots that a page of the class has
+abbrev pub set_in : Class → List ℕ → Result SlotSet Cause
+set_in class word = if is_set_text word && is_on_page class (slots_of_text word) then Ok (slots_of_text word) else Err Set
+
+-- two words; the form of both is asked before the range of either
+abbrev pub both : {A B : Type 0} → Result A Cause → Result B Cause → Result (A × B) Cause
+both (Ok a) (Ok b) = Ok (a, b)
+both (Err Form) _ = Err Form
+both _ (Err Form) = Err Form
+both _ _ = Err Limit
 
 -- ---- lines, by the words that spaces (32) part
 
--- a group: its id and its set
-abbrev pub entry_of : List ℕ → List ℕ → Result (Id × SlotSet) Cause
-entry_of id set = id_in id >>= (λ i. set_in set >>= (λ slots. Ok (i, slots)))
+-- the first line, which names the version
+abbrev pub version_in : List ℕ → Result Version Cause
+version_in line = if bytes_eq line (codes "meshcert 1") then Ok One else if bytes_eq line (codes "meshcert 2") then Ok Two else Err Form
 
-abbrev pub entry_of_words : List (List ℕ) → Result (Id × SlotSet) Cause
-entry_of_words (id ∷ set ∷ []) = entry_of id set
-entry_of_words _ = Err Form
+-- a group of a side
+pub record Listed : Type 0 where
+  pub id : Id
+  pub class : Class
+  pub occupied : SlotSet
 
-abbrev pub entry_in : List ℕ → Result (Id × SlotSet) Cause
-entry_in line = entry_of_words (parts_of 32 line)
+-- a group's id and class, and the word of its set
+abbrev pub entry_of : Result Id Cause → Result Class Cause → List ℕ → Result Listed Cause
+entry_of id class set = both id class >>= (λ named. set_in named.1 set >>= (λ slots. Ok (record { id = named.0; class = named.1; occupied = slots })))
 
--- two ids; the form of both is asked before the range of either
-abbrev pub both_ids : Result Id Cause → Result Id Cause → Result (Id × Id) Cause
-both_ids (Ok a) (Ok b) = Ok (a, b)
-both_ids (Err Form) _ = Err Form
-both_ids _ (Err Form) = Err Form
-both_ids _ _ = Err Limit
+-- a group: its id, its class and its set; in version 1 it has no class, and is of 16 bytes a slot
+abbrev pub entry_of_words : Version → List (List ℕ) → Result Listed Cause
+entry_of_words One (id ∷ set ∷ []) = entry_of (id_in id) (Ok C16) set
+entry_of_words Two (id ∷ class ∷ set ∷ []) = entry_of (id_in id) (class_in class) set
+entry_of_words version _ = Err Form
+
+abbrev pub entry_in : Version → List ℕ → Result Listed Cause
+entry_in version line = entry_of_words version (parts_of 32 line)
 
 -- a fold: an abandoned id and an owned one
 abbrev pub pair_of_words : List (List ℕ) → Result (Id × Id) Cause
-pair_of_words (abandoned ∷ owned ∷ []) = both_ids (id_in abandoned) (id_in owned)
+pair_of_words (abandoned ∷ owned ∷ []) = both (id_in abandoned) (id_in owned)
 pair_of_words _ = Err Form
 
 abbrev pub pair_in : List ℕ → Result (Id × Id) Cause
@@ -138,16 +169,16 @@ end_in parts at = if nat_eq (length parts) (at + 1) && nat_eq (length (slice_ind
 
 -- what a certificate says: its ids by their numbers
 pub record Outline : Type 0 where
-  pub abandoned : List (Id × SlotSet)
-  pub owned : List (Id × SlotSet)
+  pub abandoned : List Listed
+  pub owned : List Listed
   pub folds : List (Id × Id)
   pub short : List Id
 
 -- the lists and the last line, below the first line
-abbrev pub body_in : List (List ℕ) → Result Outline ReadError
-body_in parts = do
-  abandoned ← list_in (codes "abandoned") entry_in (λ x. x.0) parts 1
-  owned ← list_in (codes "owned") entry_in (λ x. x.0) parts (2 + length abandoned)
+abbrev pub body_in : Version → List (List ℕ) → Result Outline ReadError
+body_in version parts = do
+  abandoned ← list_in (codes "abandoned") (entry_in version) (λ x. x.id) parts 1
+  owned ← list_in (codes "owned") (entry_in version) (λ x. x.id) parts (2 + length abandoned)
   folds ← list_in (codes "folds") pair_in (λ p. p.0) parts (3 + length abandoned + length owned)
   short ← list_in (codes "short") id_in (λ id. id) parts (4 + length abandoned + length owned + length folds)
   ended ← at_line (5 + length abandoned + length owned + length folds + length short) (line_in (fixed_in (codes "end")) parts (5 + length abandoned + length owned + length folds + length short))
@@ -156,15 +187,15 @@ body_in parts = do
 
 -- what the text says, where it is a certificate, or else its first line at fault and that line's first cause
 unfoldable pub certificate_in : List ℕ → Result Outline ReadError
-certificate_in text = at_line 0 (line_in (fixed_in (codes "meshcert 1")) (parts_of 10 text) 0) >>= (λ opened. body_in (parts_of 10 text))
+certificate_in text = at_line 0 (line_in version_in (parts_of 10 text) 0) >>= (λ version. body_in version (parts_of 10 text))
 
 -- ---- what is read
 
 abbrev pub id_parts : SpanId → Id
 id_parts id = (id.shard, id.serial)
 
-abbrev pub entry_parts : Entry → Id × SlotSet
-entry_parts x = (id_parts x.id, x.occupied)
+abbrev pub entry_parts : Entry → Listed
+entry_parts x = record { id = id_parts x.id; class = x.class; occupied = x.occupied }
 
 abbrev pub pair_parts : SpanId × SpanId → Id × Id
 pair_parts p = (id_parts p.0, id_parts p.1)

@@ -19,7 +19,8 @@
 //! planned as it has partners, so every plan leaves out all the others.
 //!
 //! A [`Certificate`] has snapshot, plan and short set together. [`write()`] gives it as text, and
-//! [`read`] reads that text again; of a text that is none it names the first line at fault.
+//! [`read`] reads that text again, and texts of version 1, which name no classes; of a text that is
+//! none it names the first line at fault.
 //!
 //! # Examples
 //!

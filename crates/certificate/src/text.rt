@@ -1,4 +1,4 @@
-//! Certificates as texts of version 1.
+//! Certificates as texts: both versions are read, and version 2 is written.
 
 mod cause;
 mod items;
@@ -6,6 +6,7 @@ mod lines;
 mod numeral;
 mod parts;
 mod reading;
+mod version;
 mod words;
 mod writing;
 

@@ -16,6 +16,7 @@ use Rattle.shard.specs.Shown.{shown as shown_by_shard}
 use Rattle.shard.specs.Sound.{IsSound as IsSoundShard}
 use Rattle.shard.specs.State.{ShardState}
 use Rattle.groups.proofs.GroupSpans.{times}
+use Rattle.shard.proofs.Classes.{cases_class}
 use Rattle.shard.proofs.HeadsHere.{head_among-here}
 use Rattle.groups.proofs.Logged.{logged, nothing_pending}
 use Rattle.shard.proofs.ShownLogs.{shown-logged as shown-logged_shard}
@@ -47,10 +48,16 @@ module _ (pool : PoolState) (sound : IsSound pool) (shard : ShardState) (a b : S
         by_page None e = absurd (may.paged (may.present, (index, group, from, e)))
         by_page (Some page) e = (page, e)
 
+    same_class : onto.1.head.class ≡ group.head.class
+    same_class = elim (cases_class onto.1.head.class group.head.class) [
+      | inl same ↦ same
+      | inr differ ↦ absurd (may.apart (may.present, may.paged, (index, onto.0, group, onto.1, from, onto.2, inl differ)))
+    ]
+
     apart : AreDisjoint (occupied onto.1) (union_of (spans_of group))
     apart = elim (empty_or_not (intersection (occupied onto.1) (union_of (spans_of group)))) [
       | inl none ↦ none
-      | inr some ↦ absurd (may.apart (may.present, may.paged, (index, onto.0, group, onto.1, from, onto.2, some)))
+      | inr some ↦ absurd (may.apart (may.present, may.paged, (index, onto.0, group, onto.1, from, onto.2, inr some)))
     ]
 
   -- the room that is made is for the spans that come
@@ -76,7 +83,7 @@ module _ (pool : PoolState) (sound : IsSound pool) (shard : ShardState) (a b : S
         | inl below ↦ below
         | inr past ↦ absurd (may.present (inr (inr (index, group, from, (at, span, ap (λ xs. slice_get xs at) (sym spans_are) ∙ there, inl (mine, past))))))
       ];
-      apart = (onto.0, onto.1, onto.2, subst (λ xs. AreDisjoint (occupied onto.1) (union_of xs)) (sym spans_are) (apart index group from));
+      apart = (onto.0, onto.1, onto.2, same_class index group from ∙ ap (λ (w : WholeState). w.head.class) (sym whole_is), subst (λ xs. AreDisjoint (occupied onto.1) (union_of xs)) (sym spans_are) (apart index group from));
       onto = refl;
       span_room = omega arith;
     })

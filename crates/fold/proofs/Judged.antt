@@ -1,5 +1,5 @@
 -- Which answer two groups get.
-use Rattle.std.proofs.Common.{◌≡◌, ℕ, true, false, is_some, ◌∙◌, ap, sym, subst, inl, inr}
+use Rattle.std.proofs.Common.{◌≡◌, ◌⊎◌, ℕ, true, false, is_some, ◌∙◌, ap, sym, subst, inl, inr}
 use Rattle.std.proofs.option.Match.{None-if_not_some}
 use Rattle.bitmap.specs.Slots.{AreDisjoint, SlotSet}
 use Rattle.span.specs.declared.id.SpanId.{SpanId}
@@ -37,15 +37,18 @@ module _ (pool : PoolState) (sound : IsSound pool) (shard : ShardState) (sound_s
         let e : true ≡ false = sym has_page ∙ ap (λ (x : PooledState). is_some x.page) (sym (same_from other g its)) ∙ ap is_some none in
         cc
 
-    pub IsClash-here : (AreDisjoint (occupied onto) (union_of (spans_of group)) → ⊥) → IsClash pool shard a b
-    IsClash-here both = (present, paged, (index, place, group, onto, from, to, both))
+    pub IsClash-here : (onto.head.class ≡ group.head.class → ⊥) ⊎ (AreDisjoint (occupied onto) (union_of (spans_of group)) → ⊥) → IsClash pool shard a b
+    IsClash-here clash = (present, paged, (index, place, group, onto, from, to, clash))
 
-    pub MayFold-here : AreDisjoint (occupied onto) (union_of (spans_of group)) → MayFold pool shard a b
-    MayFold-here apart = record {
+    pub MayFold-here : onto.head.class ≡ group.head.class → AreDisjoint (occupied onto) (union_of (spans_of group)) → MayFold pool shard a b
+    MayFold-here same apart = record {
       present = present;
       paged = paged;
-      apart = λ (there, some, (i, j, g, h, its, others, both)).
-          both (subst (λ (x : GroupState). AreDisjoint (occupied x) (union_of (spans_of g))) (sym (same_onto j h others)) (subst (λ (x : PooledState). AreDisjoint (occupied onto) (union_of (spans_of x))) (sym (same_from i g its)) apart));
+      apart = λ (there, some, (i, j, g, h, its, others, clash)). elim clash [
+        | inl differ ↦ differ (ap (λ (x : GroupState). x.head.class) (same_onto j h others) ∙ same ∙ ap (λ (x : PooledState). x.head.class) (sym (same_from i g its)))
+        | inr both ↦
+            both (subst (λ (x : GroupState). AreDisjoint (occupied x) (union_of (spans_of g))) (sym (same_onto j h others)) (subst (λ (x : PooledState). AreDisjoint (occupied onto) (union_of (spans_of x))) (sym (same_from i g its)) apart))
+      ];
     }
 
 -- sets that are equal are disjoint alike

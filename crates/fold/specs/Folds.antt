@@ -21,13 +21,13 @@ IsAbsent pool shard a b = HasNoHead pool.groups a ⊎ (HasNoHead shard.groups b 
 abbrev pub IsEmptied : PoolState → ShardState → SpanId → SpanId → Type 0
 IsEmptied pool shard a b = (IsAbsent pool shard a b → ⊥) × ((index : ℕ) × (group : PooledState) × IsHeadOf pool.groups a index group × (group.page ≡ None))
 
--- a slot is live in both groups
+-- the groups are of two classes, or a slot is live in both
 abbrev pub AreClashing : PoolState → ShardState → SpanId → SpanId → Type 0
 AreClashing pool shard a b =
     (index place : ℕ) × (group : PooledState) × (onto : GroupState) × IsHeadOf pool.groups a index group × IsHeadOf shard.groups b place onto
-    × (AreDisjoint (occupied onto) (union_of (spans_of group)) → ⊥)
+    × ((onto.head.class ≡ group.head.class → ⊥) ⊎ (AreDisjoint (occupied onto) (union_of (spans_of group)) → ⊥))
 
--- neither group is absent, both have a page, and a slot is live in both
+-- neither group is absent, both have a page, and they are of two classes or a slot is live in both
 abbrev pub IsClash : PoolState → ShardState → SpanId → SpanId → Type 0
 IsClash pool shard a b = (IsAbsent pool shard a b → ⊥) × (IsEmptied pool shard a b → ⊥) × AreClashing pool shard a b
 

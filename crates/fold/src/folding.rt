@@ -14,13 +14,13 @@ use span::{Log, SpanId};
 use std::alloc::AllocError;
 
 /// Folds the pool's group of head `a` onto the shard's group of head `b`, where that can be, and tells what came of
-/// it. By a fold the spans of `a` become the last guests of `b`, their live words stand at the same slots of the page
-/// of `b`, and the page of `a` goes. Each key keeps its value.
+/// it. By a fold the spans of `a` become the last guests of `b`, their live objects stand at the same slots of the page
+/// of `b`, and the page of `a` goes. Each key keeps its object.
 ///
 /// The answer is the first of these that holds, exactly: [`Step::Absent`] where `a` heads no group of the pool, or `b`
 /// no group of the shard, or a span of `a`'s group is in the shard already, or one that it may yet open; [`Step::Emptied`]
-/// where `a`'s group has no page; [`Step::Clash`] where a slot is live in both groups; and else [`Step::Folded`], which
-/// alone changes anything.
+/// where `a`'s group has no page; [`Step::Clash`] where the groups are of two classes, or a slot is live in both; and
+/// else [`Step::Folded`], which alone changes anything.
 ///
 /// # Errors
 ///
@@ -90,6 +90,9 @@ fn spans_to_fold<L: Log>(
     }
     if !from.paged {
         return Err(Step::Emptied);
+    }
+    if onto.class != from.class {
+        return Err(Step::Clash);
     }
     if onto.occupied.is_disjoint(&from.occupied) {
         Ok(from.spans)

@@ -1,8 +1,8 @@
 //! A fold: the group of a shard that has ended moves onto the page of a group that another shard owns, and its own
 //! page goes.
 //!
-//! Two groups are compatible where no slot is live in both. Then the words of one fit onto the page of the other, each
-//! at the slot where it stands, and no key has to change (Mesh's meshing). [`fold_one`] takes a group of the pool by
+//! Two groups are compatible where they are of one class and no slot is live in both. Then the objects of one fit onto
+//! the page of the other, each at the slot where it stands, and no key has to change (Mesh's meshing). [`fold_one`] takes a group of the pool by
 //! its head, and a group of a shard by its head, and tells by a [`Step`] what came of it.
 //!
 //! ```text
@@ -28,9 +28,9 @@
 //! # Examples
 //!
 //! ```
-//! // The pool's group of head `a` onto the shard's group of head `b`, where no slot is live in both.
+//! // The pool's group of head `a` onto the shard's group of head `b`, of one class and with no slot that is live in both.
 //! match fold_one(&mut pool, &mut shard, a, b)? {
-//!     Step::Folded => {} // one page less, and each key finds its value as before
+//!     Step::Folded => {} // one page less, and each key finds its object as before
 //!     Step::Emptied => {} // the group has no live slot any more, and so no page
 //!     Step::Clash | Step::Absent => {} // nothing has changed
 //! }

@@ -7,7 +7,7 @@ pub enum Step {
     Absent,
     /// The first group has no page, since none of its slots is live.
     Emptied,
-    /// A slot is live in both groups.
+    /// The groups are of two classes, or a slot is live in both.
     Clash,
     /// The spans of the first group are guests of the second, and its page is gone.
     Folded,

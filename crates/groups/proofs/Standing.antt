@@ -1,8 +1,17 @@
 -- A group where one span is replaced.
-use Rattle.std.proofs.Common.{zero, suc, ◌≡◌, ℕ, set, refl}
+use Rattle.std.proofs.Common.{zero, suc, ◌≡◌, ℕ, set, slice_get, ap, sym, subst, ◌∙◌, refl, inl, inr}
+use Rattle.span.proofs.OfClass.{IsOfClass-push}
 use Rattle.span.specs.State.{SpanState}
+use Rattle.span.specs.declared.change.Change.TheVariants.{Free}
+use Rattle.span.specs.declared.class.Class.{Class}
 use Rattle.span.specs.declared.id.SpanId.{SpanId}
+use Rattle.span.specs.declared.key.Key.{Key}
 use Rattle.groups.specs.Group.{Group, spans_of, with_span}
+use Rattle.groups.specs.Spans.{AreSpansOf, IsSpanOf, with_free}
+use Rattle.groups.proofs.Lists.{cases-set}
+
+pub IsSpanOf-with_free : (class : Class) (span : SpanState) (key : Key) → IsSpanOf class span → IsSpanOf class (with_free span key)
+IsSpanOf-with_free class span key its = record { class_is = its.class_is; of_class = IsOfClass-push class span.log (Free key.slot key.generation) its.of_class tt }
 
 module _ {Page Closed : Type 0} where
   abbrev pub head_id : Group Page Closed → SpanId
@@ -15,3 +24,14 @@ module _ {Page Closed : Type 0} where
   pub spans_of-with_span : (group : Group Page Closed) (place : ℕ) (span : SpanState) → spans_of (with_span group place span) ≡ set (spans_of group) place span
   spans_of-with_span group zero span = refl
   spans_of-with_span group (suc place) span = refl
+
+  class-with_span : (group : Group Page Closed) (place : ℕ) (span : SpanState) → span.class ≡ group.head.class → (with_span group place span).head.class ≡ group.head.class
+  class-with_span group zero span same = same
+  class-with_span group (suc place) span same = refl
+
+  -- the spans stay of the class of the head
+  pub AreSpansOf-with_span : (group : Group Page Closed) (place : ℕ) (span : SpanState) → AreSpansOf group.head.class (spans_of group) → IsSpanOf group.head.class span → AreSpansOf (with_span group place span).head.class (spans_of (with_span group place span))
+  AreSpansOf-with_span group place span are its at other there = subst (λ c. IsSpanOf c other) (sym (class-with_span group place span its.class_is)) (elim (cases-set (spans_of group) place span at other (ap (λ spans. slice_get spans at) (sym (spans_of-with_span group place span)) ∙ there)) [
+    | inl this ↦ subst (IsSpanOf group.head.class) this.1 its
+    | inr that ↦ are at other that.1
+  ])

@@ -3,6 +3,7 @@ ghost use Rattle.std.specs.Prelude.{[], ◌∷◌, ◌++◌, ◌≡◌, ◌<◌,
 ghost use Rattle.std.specs.Bool.{OnTrue, OnFalse};
 ghost use Rattle.std.specs.FinSet as set;
 ghost use Rattle.bitmap.specs.Slots.{AreDisjoint, HasAllBelow, IsLowestOutside};
+ghost use Rattle.span.specs.Classes.{slots_in, width_of};
 ghost use Rattle.span.specs.Log.{live_slots, puts_of, Holds};
 ghost use Rattle.span.specs.SpanLogs.{AreLegal, room_for_logs, span_of_log};
 ghost use Rattle.span.specs.State.{SpanState};
@@ -10,7 +11,7 @@ ghost use Rattle.groups.specs.Spans.{all_spans, taken, union_of, IsSpanAt, HasNo
 ghost use Rattle.bitmap.specs.declared.bits.TheConstants.{SLOTS};
 
 use bitmap::Bits256;
-use span::{Entry, Kept, Key, Log, Span, SpanId, SpanLog};
+use span::{Class, Entry, Kept, Key, Log, Span, SpanId, SpanLog};
 use std::alloc::{AllocError, Global};
 use std::marker::Model;
 use std::mem::swap;
@@ -113,16 +114,25 @@ impl<L: Log> Spans<L> {
         self.occupied
     }
 
-    /// The group as a plan sees it: the id of its head, and the slots that are live in one of its spans.
+    /// The class of the head's objects.
+    pub fn class(&self) -> Class
+        ensures { result ≡ self.now.head.class }
+    {
+        self.head.class()
+    }
+
+    /// The group as a plan sees it: the id and the class of its head, and the slots that are live in one of its spans.
     pub fn entry(&self) -> Entry
         ensures { result ≡ record {
           id = self.now.head.id;
+          class = self.now.head.class;
           occupied = union_of
               (all_spans self.now);
         } }
     {
         Entry {
             id: self.head_id(),
+            class: self.class(),
             occupied: self.occupied,
         }
     }
@@ -147,53 +157,68 @@ impl<L: Log> Spans<L> {
         }
     }
 
-    /// Puts the value at the lowest slot that is live in no span, and not worn in the head, which gives out the key.
-    /// `None` where there is no such slot. The spans are then as they were.
+    /// Puts an object of the head's class, given by its words, at the lowest slot of the page that is live in no span, and not
+    /// worn in the head, which gives out the key. `None` where there is no such slot. The spans are then as they were.
     ///
     /// # Errors
     ///
     /// `AllocError` where there is such a slot, and the head's log could not grow. The spans are then as they were.
-    pub fn put(&mut self, value: u128) -> Result<Option<Key>, AllocError>
-        ensures slot { IfOk result (λ made. MatchOption made (HasAllBelow (taken self.old) SLOTS)
-            (λ key. (key.slot < SLOTS) × IsLowestOutside (taken self.old) key.slot)) }
+    #[inline(always)]
+    pub fn put(&mut self, words: &[u128]) -> Result<Option<Key>, AllocError>
+        requires { length words.now ≡ width_of self.old.head.class }
+        ensures slot { IfOk result (λ made. MatchOption made
+            (HasAllBelow (taken self.old) (slots_in self.old.head.class))
+            (λ key. (key.slot < slots_in self.old.head.class)
+            × IsLowestOutside (taken self.old) key.slot)) }
         ensures key { IfOk result (λ made. IfSome made (λ key. (key.span ≡ self.old.head.id)
             × (key.generation ≡ puts_of key.slot self.old.head.log + 1))) }
         ensures ok { IfOk result (λ made. MatchOption made (self.new ≡ self.old)
             (λ key. self.new ≡ record self.old {
               head = with_put self.old.head key.slot
-                  value;
+                  words.now;
             })) }
-        ensures room { OnErr result (HasAllBelow (taken self.old) SLOTS → ⊥) }
+        ensures room { OnErr result
+            (HasAllBelow (taken self.old) (slots_in self.old.head.class) → ⊥) }
         ensures err { OnErr result (self.new ≡ self.old) }
     {
         let Some(slot) = self.lowest_usable() else {
             return Ok(None);
         };
-        let key = self.put_at(slot, value)?;
+        let key = self.put_at(slot, words)?;
         Ok(Some(key))
     }
 
-    // The lowest slot that the head may be put at: it is live in no span, and not worn in the head.
+    // The lowest slot that the head may be put at: it is live in no span, and not worn in the head. Each slot of a set is
+    // one of class `C16`, the most frequent.
+    #[inline(always)]
     fn lowest_usable(&self) -> Option<u8>
-        ensures lowest { MatchOption result (HasAllBelow (taken self.now) SLOTS)
-            (λ slot. (slot < SLOTS) × IsLowestOutside (taken self.now) slot) }
-        ensures in_range { IfSome result (λ slot. slot < SLOTS) }
+        ensures lowest { MatchOption result
+            (HasAllBelow (taken self.now) (slots_in self.now.head.class))
+            (λ slot. (slot < slots_in self.now.head.class)
+            × IsLowestOutside (taken self.now) slot) }
     {
-        self.occupied.union(&self.head.worn()).lowest_outside()
+        let taken = self.occupied.union(&self.head.worn());
+        match self.head.class() {
+            Class::C16 => taken.lowest_outside(),
+            class => taken.lowest_outside_below(class.slots()),
+        }
     }
 
-    // Puts the value at a slot that is live in no span, and not worn in the head.
-    fn put_at(&mut self, slot: u8, value: u128) -> Result<Key, AllocError>
-        requires { set.contains (taken self.old) slot ≡ false }
+    // Puts an object at a slot of the page that is live in no span, and not worn in the head.
+    #[inline(always)]
+    fn put_at(&mut self, slot: u8, words: &[u128]) -> Result<Key, AllocError>
+        requires on_page { slot < slots_in self.old.head.class }
+        requires width { length words.now ≡ width_of self.old.head.class }
+        requires free { set.contains (taken self.old) slot ≡ false }
         ensures key { IfOk result (λ key. (key.span ≡ self.old.head.id) × (key.slot ≡ slot)
             × (key.generation ≡ puts_of slot self.old.head.log + 1)) }
         ensures ok { OnOk result (self.new ≡ record self.old {
           head = with_put self.old.head slot
-              value;
+              words.now;
         }) }
         ensures err { OnErr result (self.new ≡ self.old) }
     {
-        let key = self.head.put_at(slot, value)?;
+        let key = self.head.put_at(slot, words)?;
         self.occupied.insert(slot);
         Ok(key)
     }

@@ -1,5 +1,6 @@
 -- A plan has no more pairs than there are groups.
 use Rattle.std.proofs.Common.{◌≡◌, ◌≤◌, true, List, length, map, arith, inl, inr}
+use Rattle.std.specs.List.{All}
 use Rattle.std.proofs.lemmas.Bool.{cases_lt}
 use Rattle.std.proofs.lemmas.List.{length-map}
 use Rattle.std.proofs.lemmas.List.Elements.{recursion_from_All}
@@ -13,7 +14,7 @@ use Rattle.mesh_graph.specs.Groups.{Groups, IsAscending, ids}
 use Rattle.certificate.specs.declared.certificate.Certificate.{Certificate}
 use Rattle.certificate.specs.Plans.{IsCertificateOf, IsPlanOf, sides_of}
 use Rattle.certificate.specs.Sides.{IsChoice, among}
-use Rattle.certificate.specs.Text.{IsWritable}
+use Rattle.certificate.specs.Text.{FitsClass, IsWritable}
 use Rattle.certificate.proofs.Members.{length-le_from_distinct}
 use Rattle.certificate.proofs.Verdicts.{tells_span}
 use Rattle.marks.specs.Seen.{AreTooMany, IsSeen, abandoned_entries, owned_entries}
@@ -50,14 +51,16 @@ few_short : (groups : Groups) (pairs : List (SpanId × SpanId)) (short : List Sp
 unfolding sides_of
 few_short groups pairs short certificate few = few_chosen groups short certificate.chosen few
 
--- what shows a plan best can be written, where a side has few groups and the ids ascend
+-- what shows a plan best can be written, where a side has few groups, each with slots of its class, and the ids ascend
 pub IsWritable-few : (found : Certificate) → IsCertificateOf found.snapshot found.plan found.short → (length found.snapshot.abandoned ≤ 4096) × (length found.snapshot.owned ≤ 4096)
-    → IsAscending (map (λ (pair : SpanId × SpanId). pair.0) found.plan) → IsAscending found.short → IsWritable found
-IsWritable-few found certificate few folds_ascending short_ascending = record {
+    → All FitsClass found.snapshot.abandoned × All FitsClass found.snapshot.owned → IsAscending (map (λ (pair : SpanId × SpanId). pair.0) found.plan) → IsAscending found.short → IsWritable found
+IsWritable-few found certificate few fit folds_ascending short_ascending = record {
   abandoned = few.0;
   owned = few.1;
   folds = few_pairs found.snapshot found.plan certificate.plan few.0;
   short = few_short found.snapshot found.plan found.short certificate few.0;
+  abandoned_fit = fit.0;
+  owned_fit = fit.1;
   folds_ascending = folds_ascending;
   short_ascending = short_ascending;
 }

@@ -58,6 +58,7 @@ module _ (closed : GroupState → Bool) where
         subst (IsSoundGroup Some shard.table) is (record {
           apart = fine.apart;
           legal = fine.legal;
+          classes = fine.classes;
           page = fine.page;
         });
     once = λ id. subst (λ spans. count_by (λ (s : SpanState). same_span s.id id) spans ≤ 1) (sym (spans_in-flagged shard.groups)) (sound.once id);

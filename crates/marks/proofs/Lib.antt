@@ -3,4 +3,5 @@ pub mod Flagged
 pub mod Closings
 pub mod Entries
 pub mod Few
+pub mod Fitting
 pub mod OneShard

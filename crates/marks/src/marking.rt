@@ -1,10 +1,11 @@
 // What a mark sees, and the largest plan of it.
 ghost use Rattle.std.specs.Prelude.{◌≡◌, ◌≢◌, ◌↔◌, ◌+◌, ◌-◌, ◌^◌, ◌≤◌, ◌++◌, Err, IfOk, IsTrue, MatchResult, OnErr, OnOk, false, length, map, min, sum_by, true};
+ghost use Rattle.std.specs.List.{All};
 ghost use Rattle.shard.specs.Sound.{IsSound as IsSoundShard};
 ghost use Rattle.groups.specs.Group.{summary};
 ghost use Rattle.abandoned.specs.Sound.{IsSound as IsSoundPool};
 ghost use Rattle.certificate.specs.Plans.{IsBestPlanOf, IsCertificateOf, IsShortOf};
-ghost use Rattle.certificate.specs.Text.{IsWritable};
+ghost use Rattle.certificate.specs.Text.{FitsClass, IsWritable};
 ghost use Rattle.marks.specs.Closings.{closing};
 ghost use Rattle.marks.specs.Seen.{AreDistinct, AreSound, AreTooMany, IsLargest, IsSeen, with_plan_told, owned_entries};
 ghost use Rattle.mesh_graph.specs.Groups.{IsAscending};
@@ -79,9 +80,11 @@ pub(crate) fn has_too_many<H: LendsShard>(pool: &Pool<H::Log>, shards: &[H]) -> 
 
 // A plan with the most pairs, with what it is of and what shows it.
 fn largest_plan(alloc: Global, snapshot: Snapshot, pieces: usize) -> Result<Certificate, AllocError>
-    // The snapshot is not too large.
+    // The snapshot is not too large, and no group has a slot that its class lacks.
     requires abandoned { length snapshot.abandoned ≤ MOST_GROUPS }
     requires owned { length snapshot.owned ≤ MOST_GROUPS }
+    requires abandoned_fit { All FitsClass snapshot.abandoned }
+    requires owned_fit { All FitsClass snapshot.owned }
     requires pieces { 1 ≤ pieces }
 
     // Its largest plan, with what shows it.
@@ -111,6 +114,7 @@ pub(crate) fn snapshot_of<H: LendsShard>(
     ensures doubled { IfOk result
         (λ told. OnErr told (AreDistinct pool.now (map H.lent shards.now) → ⊥)) }
     ensures sound { OnOk result (AreSound (map H.lent shards.now)) }
+    ensures sound_pool { OnOk result (IsSoundPool pool.now) }
 {
     let abandoned = pool.groups()?;
     let owned = list_owned(alloc, shards)?;

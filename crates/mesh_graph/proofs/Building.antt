@@ -1,45 +1,32 @@
 -- Rows of bits, one after another.
-use Rattle.std.proofs.Common.{ℕ, suc, ◌+◌, ◌/◌, ◌%◌, ◌^◌, ◌||◌, ◌*◌, ◌<◌, ◌≤◌, ◌≡◌, true, false, List, [], ◌∷◌, ◌++◌, length, map, drop, refl, sym, subst, ◌∙◌, ap, arith, get_or, inl, inr, Option, Some, None, eqb, eq-eqb, set, bit_or, w64, IfSome, length-append}
+use Rattle.std.proofs.Common.{ℕ, suc, ◌+◌, ◌/◌, ◌*◌, ◌<◌, ◌≤◌, ◌≡◌, true, false, List, [], ◌∷◌, ◌++◌, length, map, drop, refl, sym, subst, ◌∙◌, ap, arith, get_or, inl, inr, Option, Some, None, IfSome, length-append}
 use Rattle.std.specs.List.{slice_get}
+use Rattle.std.specs.Prelude.{MatchOption}
 use Rattle.std.proofs.Math.Nat.{mul-le-mul_left, mul-suc}
-use Rattle.std.proofs.lemmas.Bool.{both_ways, cases_eq, cases_lt, ne_eqb}
-use Rattle.std.proofs.lemmas.Nat.Bits.{bit_at_set_same, bit_at_set_other}
-use Rattle.bitmap.proofs.Edits.{other_bit, same_bit}
+use Rattle.std.proofs.lemmas.Bool.{both_ways, cases_eq, cases_lt}
 use Rattle.std.proofs.lemmas.List.{get_or_default, length-drop, length-map, length-take-le}
-use Rattle.std.specs.Prelude.{option_map}
-use Rattle.std.proofs.lemmas.Option.{slice_get-get_or, slice_get-map, slice_get_past}
+use Rattle.std.proofs.lemmas.Option.{slice_get-get_or, slice_get_past}
 use Rattle.bitmap.specs.Slots.{SlotSet, has_bit}
-use Rattle.lane_kernels.specs.Disjoint.{fits}
 use Rattle.lane_kernels.specs.Rows.{row_at, width_of}
 use Rattle.lane_kernels.proofs.Rows.{row_at-earlier, row_at-last}
 use Rattle.span.specs.declared.entry.Entry.{Entry}
-use Rattle.mesh_graph.specs.Groups.{Groups, are_partners, compatible_at, has_partner}
-use Rattle.mesh_graph.specs.Rows.{AreRows, HaveRows}
-
-module _ (words : List ℕ) (slot : ℕ) (within : slot / 64 < length words) where
-  abbrev changed : ℕ → List ℕ
-  changed word = set words (slot / 64) word
-
-  -- a word with one bit more
-  pub has_bit-set : (q : ℕ) → has_bit (changed (bit_or (get_or words (slot / 64) 0) (1 * 2 ^ (slot % 64) % 2 ^ 64))) q ≡ (eqb q slot || has_bit words q)
-  has_bit-set q =
-      let word : ℕ = bit_or (get_or words (slot / 64) 0) (1 * 2 ^ (slot % 64) % 2 ^ 64) in
-      elim (cases_eq q slot) as (λ _. has_bit (changed word) q ≡ (eqb q slot || has_bit words q)) [
-        | inl same ↦ rw (same, same_bit words slot within word, bit_at_set_same w64 (get_or words (slot / 64) 0) (slot % 64) (omega arith), eq-eqb slot slot refl) refl
-        | inr other ↦ rw (ne_eqb q slot other) (other_bit words slot within word q other (λ i small apart. bit_at_set_other w64 (get_or words (slot / 64) 0) (slot % 64) (omega arith) i apart))
-      ]
+use Rattle.mesh_graph.specs.Groups.{Groups, are_partners, compatible_at}
+use Rattle.mesh_graph.specs.Masked.{AreMasks, AreOfOneClass}
+use Rattle.mesh_graph.specs.Rows.{AreRows, HaveRows, row_bit}
+use Rattle.mesh_graph.specs.declared.by_class.Masks.{Masks}
+use Rattle.mesh_graph.proofs.OfClass.{has_partner-kept}
 
 -- one more row
-pub rows-more : (abandoned : List Entry) (sets : List SlotSet) (n : ℕ) (y : Entry) (words row : List ℕ) → HaveRows abandoned sets n words → n < length abandoned → y ≡ get_or abandoned n y
-    → length row ≡ width_of (length sets) → ((j : ℕ) → has_bit row j ≡ fits y.occupied (slice_get sets j)) → HaveRows abandoned sets (n + 1) (words ++ row)
-rows-more abandoned sets n y words row have low read long bits = record {
+pub rows-more : (abandoned : List Entry) (sets : List SlotSet) (masks : Option Masks) (n : ℕ) (y : Entry) (words row : List ℕ) → HaveRows abandoned sets masks n words → n < length abandoned → y ≡ get_or abandoned n y
+    → length row ≡ width_of (length sets) → ((j : ℕ) → has_bit row j ≡ row_bit sets masks y j) → HaveRows abandoned sets masks (n + 1) (words ++ row)
+rows-more abandoned sets masks n y words row have low read long bits = record {
   size = let more = mul-suc (width_of (length sets)) n in omega (arith, length-append words row, have.size, long, more);
   bits = λ i j x below. elim (cases_eq i n) [
     | inl at ↦
         let here : get_or abandoned i x ≡ y = ap (λ k. get_or abandoned k x) at ∙ get_or_default abandoned n x y low ∙ sym read in
         ap (λ k. has_bit (row_at (width_of (length sets)) (words ++ row) k) j) at
         ∙ ap (λ l. has_bit l j) (row_at-last (width_of (length sets)) words row n have.size long)
-        ∙ bits j ∙ ap (λ (e : Entry). fits e.occupied (slice_get sets j)) (sym here)
+        ∙ bits j ∙ ap (λ (e : Entry). row_bit sets masks e j) (sym here)
     | inr other ↦
         let before : i < n = omega arith in
         ap (λ l. has_bit l j) (row_at-earlier (width_of (length sets)) words row n have.size long i before) ∙ have.bits i j x before
@@ -47,21 +34,17 @@ rows-more abandoned sets n y words row have low read long bits = record {
 }
 
 -- no row yet
-pub rows-none : (abandoned : List Entry) (sets : List SlotSet) (words : List ℕ) → words ≡ [] → HaveRows abandoned sets 0 words
-rows-none abandoned sets words none = record {
+pub rows-none : (abandoned : List Entry) (sets : List SlotSet) (masks : Option Masks) (words : List ℕ) → words ≡ [] → HaveRows abandoned sets masks 0 words
+rows-none abandoned sets masks words none = record {
   size = let at : width_of (length sets) * 0 ≡ 0 = omega arith in rw none (sym at);
   bits = λ i j x below. absurd (omega arith);
 }
 
-partner_is : (x : Entry) (o : Option Entry) → fits x.occupied (option_map (λ (y : Entry). y.occupied) o) ≡ has_partner x o
-partner_is x None = refl
-partner_is x (Some y) = refl
-
 -- the rows of all groups are those of the snapshot
-pub AreRows-from_rows : (s : Groups) (sets : List SlotSet) (words : List ℕ) → length s.abandoned ≤ 4096 → length s.owned ≤ 4096 → sets ≡ map (λ y. y.occupied) s.owned
-    → HaveRows s.abandoned sets (length s.abandoned) words → AreRows s words
+pub AreRows-from_rows : (s : Groups) (sets : List SlotSet) (masks : Option Masks) (words : List ℕ) → length s.abandoned ≤ 4096 → length s.owned ≤ 4096 → sets ≡ map (λ y. y.occupied) s.owned
+    → MatchOption masks (AreOfOneClass s.abandoned s.owned) (AreMasks s.owned) → HaveRows s.abandoned sets masks (length s.abandoned) words → AreRows s words
 unfolding compatible_at
-AreRows-from_rows s sets words few_a few_o are have =
+AreRows-from_rows s sets masks words few_a few_o are told have =
     let long : length sets ≡ length s.owned = ap length are ∙ length-map s.owned (λ (y : Entry). y.occupied) in
     record {
       abandoned_at_most = few_a;
@@ -69,16 +52,17 @@ AreRows-from_rows s sets words few_a few_o are have =
       size = have.size ∙ ap (λ n. width_of n * length s.abandoned) long;
       bits = λ i j low.
           ap (λ n. has_bit (row_at (width_of n) words i) j) (sym long)
-          ∙ bit s.abandoned i j low (λ x. have.bits i j x low);
+          ∙ bit s.abandoned told i j low (λ x. have.bits i j x low);
     }
   where
-    bit : (abandoned : List Entry) (i j : ℕ) → i < length abandoned → ((x : Entry) → has_bit (row_at (width_of (length sets)) words i) j ≡ fits (get_or abandoned i x).occupied (slice_get sets j))
+    bit : (abandoned : List Entry) → MatchOption masks (AreOfOneClass abandoned s.owned) (AreMasks s.owned) → (i j : ℕ) → i < length abandoned
+        → ((x : Entry) → has_bit (row_at (width_of (length sets)) words i) j ≡ row_bit sets masks (get_or abandoned i x) j)
         → has_bit (row_at (width_of (length sets)) words i) j ≡ are_partners (slice_get abandoned i) (slice_get s.owned j)
-    bit [] i j low is = absurd (omega arith)
-    bit (x ∷ abandoned) i j low is =
+    bit [] told i j low is = absurd (omega arith)
+    bit (x ∷ abandoned) told i j low is =
+        let y = get_or (x ∷ abandoned) i x in
         is x
-        ∙ ap (fits (get_or (x ∷ abandoned) i x).occupied) (ap (λ l. slice_get l j) are ∙ slice_get-map (λ (y : Entry). y.occupied) s.owned j)
-        ∙ partner_is (get_or (x ∷ abandoned) i x) (slice_get s.owned j)
+        ∙ has_partner-kept (x ∷ abandoned) s.owned sets masks i y told are low (get_or_default (x ∷ abandoned) i x y low) j
         ∙ ap (λ o. are_partners o (slice_get s.owned j)) (sym (slice_get-get_or (x ∷ abandoned) i x low))
 
 module _ (s t : Groups) (words : List ℕ) (w i : ℕ) (is : s ≡ t) (are : AreRows s words) (low : i < length t.abandoned) (wide : w ≡ length t.owned) where

@@ -1,17 +1,23 @@
 -- The rows of bits of a graph. No public clause cites this module.
-use Rattle.std.specs.Prelude.{ℕ, ◌≡◌, ◌<◌, ◌≤◌, ◌*◌, List, length, slice_index_or}
+use Rattle.std.specs.Prelude.{ℕ, ◌≡◌, ◌<◌, ◌≤◌, ◌*◌, ◌&&◌, Bool, List, Option, length, slice_index_or}
 use Rattle.std.specs.List.{slice_get}
 use Rattle.bitmap.specs.Slots.{SlotSet, has_bit}
 use Rattle.lane_kernels.specs.Disjoint.{fits}
 use Rattle.lane_kernels.specs.Rows.{row_at, width_of}
 use Rattle.span.specs.declared.entry.Entry.{Entry}
 use Rattle.mesh_graph.specs.Groups.{Groups, compatible_at}
+use Rattle.mesh_graph.specs.Masked.{is_kept}
+use Rattle.mesh_graph.specs.declared.by_class.Masks.{Masks}
 use Rattle.mesh_graph.specs.declared.build.TheConstants.{MOST_GROUPS}
 
--- the rows of the first n groups: bit j of a row is set exactly where the group's set shares no slot with set j
-pub record HaveRows (abandoned : List Entry) (sets : List SlotSet) (n : ℕ) (words : List ℕ) : Type 0 where
+-- bit j of a group's row: its set shares no slot with set j, and set j is of its class
+abbrev pub row_bit : List SlotSet → Option Masks → Entry → ℕ → Bool
+row_bit sets masks x j = is_kept masks x.class j && fits x.occupied (slice_get sets j)
+
+-- the rows of the first n groups
+pub record HaveRows (abandoned : List Entry) (sets : List SlotSet) (masks : Option Masks) (n : ℕ) (words : List ℕ) : Type 0 where
   pub size : length words ≡ width_of (length sets) * n
-  pub bits : (i j : ℕ) (x : Entry) → i < n → has_bit (row_at (width_of (length sets)) words i) j ≡ fits (slice_index_or abandoned i x).occupied (slice_get sets j)
+  pub bits : (i j : ℕ) (x : Entry) → i < n → has_bit (row_at (width_of (length sets)) words i) j ≡ row_bit sets masks (slice_index_or abandoned i x) j
 
 -- a row for each abandoned group, of which there are at most 4,096 on a side: bit j of row i says whether groups i and j are compatible
 pub record AreRows (s : Groups) (words : List ℕ) : Type 0 where

@@ -1,9 +1,12 @@
 // Builds the graph of a snapshot.
-ghost use Rattle.std.specs.Prelude.{◌≡◌, ◌↔◌, ◌<◌, ◌≤◌, ◌⊎◌, Err, length, map, IfOk};
-ghost use Rattle.mesh_graph.specs.Rows.{HaveRows};
+ghost use Rattle.std.specs.Prelude.{◌≡◌, ◌↔◌, ◌+◌, ◌/◌, ◌<◌, ◌≤◌, ◌⊎◌, ℕ, Err, length, map, IfOk};
+ghost use Rattle.bitmap.specs.Slots.{has_bit};
+ghost use Rattle.mesh_graph.specs.Masked.{AreAsWide};
+ghost use Rattle.mesh_graph.specs.Rows.{HaveRows, row_bit};
 ghost use Rattle.mesh_graph.specs.declared.build.BuildError.TheVariants.{OutOfMemory, TooMany};
 ghost use Rattle.mesh_graph.specs.declared.build.TheConstants.{MOST_GROUPS};
 
+use crate::by_class::{Masks, keep_class};
 use crate::graph::Graph;
 use crate::snapshot::Snapshot;
 use lane_kernels::{Planes, SlotRows};
@@ -54,7 +57,8 @@ impl<'a> Graph<'a> {
         }
         let planes = planes_of(alloc, snapshot.owned())?;
         let sets = SlotRows::of(alloc, planes, snapshot.abandoned().len())?;
-        let rows = rows_of(alloc, snapshot.abandoned(), &sets)?;
+        let masks = Masks::of(alloc, snapshot.abandoned(), snapshot.owned())?;
+        let rows = rows_of(alloc, snapshot.abandoned(), &sets, &masks)?;
         Ok(Graph { snapshot, rows })
     }
 }
@@ -71,18 +75,35 @@ fn planes_of(alloc: Global, groups: &[Entry]) -> Result<Planes, AllocError>
 }
 
 // The rows of the groups, one after another.
-fn rows_of(alloc: Global, abandoned: &[Entry], sets: &SlotRows) -> Result<Vec<u64>, AllocError>
+fn rows_of(
+    alloc: Global,
+    abandoned: &[Entry],
+    sets: &SlotRows,
+    masks: &Option<Masks>,
+) -> Result<Vec<u64>, AllocError>
     requires abandoned { length abandoned.now ≤ MOST_GROUPS }
     requires sets { length sets.now ≤ MOST_GROUPS }
-    ensures { IfOk result (λ rows. HaveRows abandoned.now sets.now (length abandoned.now)
+    requires masks { AreAsWide masks.now ((length sets.now + 63) / 64) }
+    ensures { IfOk result (λ rows. HaveRows abandoned.now sets.now masks.now (length abandoned.now)
         rows.items) }
 {
     let words = sets.row_words();
     let mut rows = Vec::with_capacity(alloc, words * abandoned.len())?;
     let mut row = vec![in alloc; 0; words]?;
     for entry in abandoned {
-        sets.disjoint_row(&entry.occupied, &mut row);
+        write_row(entry, sets, masks, &mut row);
         rows.extend_from_slice(&row)?;
     }
     Ok(rows)
+}
+
+// The row of a group: the sets that share no slot with it, of its class.
+fn write_row(entry: &Entry, sets: &SlotRows, masks: &Option<Masks>, row: &mut [u64])
+    requires row { length row.old ≡ (length sets.now + 63) / 64 }
+    requires masks { AreAsWide masks.now (length row.old) }
+    ensures len { length row.new ≡ length row.old }
+    ensures bits { (j : ℕ) → has_bit row.new j ≡ row_bit sets.now masks.now entry.now j }
+{
+    sets.disjoint_row(&entry.occupied, row);
+    keep_class(masks, entry.class, row);
 }

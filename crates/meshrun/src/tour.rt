@@ -6,24 +6,24 @@ use bitmap::Bits256;
 use certificate::check;
 use mesh_graph::{Entry, Graph, Snapshot};
 use shard::{Found, Freed, Shard};
-use span::{Key, SpanId};
+use span::{Class, Key, Object, SpanId};
 use std::process::Abort;
 use std::test::Fail;
 use trace_runner::{Memory, replay_serial};
 
 // The lines that need a shard alone; its two keys.
 fn puts_and_frees(rt: &impl Abort, shard: &mut Shard) -> Result<(Key, Key), Fail> {
-    let (key, _) = shard.put(7)?; // 0.0/0/1
-    assert_eq!(rt; shard.get(&key), Found::Value(7, 1));
+    let (key, _) = shard.put(Object::c16(7))?; // 0.0/0/1
+    assert_eq!(rt; shard.get(&key), Found::Value(&[7], 1));
     assert_eq!(rt; shard.free(&key), Freed::Yes(1));
-    let (again, _) = shard.put(8)?; // 0.0/0/2: the same slot, the next generation
+    let (again, _) = shard.put(Object::c16(8))?; // 0.0/0/2: the same slot, the next generation
     assert_eq!(rt; shard.get(&key), Found::Gone(3));
     Ok((key, again))
 }
 
 // What the shard that adopted them answers of the two keys.
 fn finds(rt: &impl Abort, other: &Shard, key: Key, again: Key) {
-    assert_eq!(rt; other.get(&again), Found::Value(8, 3));
+    assert_eq!(rt; other.get(&again), Found::Value(&[8], 3));
     assert_eq!(rt; other.get(&key), Found::Gone(3));
 }
 
@@ -46,7 +46,10 @@ fn moves_a_group_whole(rt: HostRuntime) -> Result<(), Fail> {
 
 // The lines that need a core.
 fn folds(rt: &impl Abort, core: &mut Core) -> Result<(), Fail> {
-    let put = |shard, value| Event::Put { shard, value };
+    let put = |shard, word| Event::Put {
+        shard,
+        value: Object::c16(word),
+    };
     let Reply::Issued(first) = core.step(put(0, 10)) else {
         return Err("no key".into());
     };
@@ -60,8 +63,8 @@ fn folds(rt: &impl Abort, core: &mut Core) -> Result<(), Fail> {
     core.step(Event::Mark); // plans one fold: 0.0 onto 1.0
     core.step(Event::Step); // carries it out: one page less
     core.step(Event::Close);
-    let found = core.step(Event::Get { key }); // the key finds its value, at the same offset
-    assert!(rt; matches!(found, Reply::Found(Some(11))));
+    let found = core.step(Event::Get { key }); // the key finds its object, at the same offset
+    assert!(rt; matches!(found, Reply::Found(Some(object)) if object == Object::c16(11)));
     assert_eq!(rt; core.totals().pages, 1);
     Ok(())
 }
@@ -81,7 +84,11 @@ fn entry(shard: u32, slots: &[u8]) -> Option<Entry> {
         occupied.insert(*slot);
     }
     let id = SpanId::new(shard, 0)?;
-    Some(Entry { id, occupied })
+    Some(Entry {
+        id,
+        class: Class::C16,
+        occupied,
+    })
 }
 
 #[test]

@@ -1,4 +1,4 @@
-//! A certificate that is read, accepted and written again. Where an allocation is refused, what was refused is asked again.
+//! Certificates that are read, accepted and written again. Where an allocation is refused, what was refused is asked again.
 //! Which texts are rejected, and what is said of those that are no certificates, is tested with the program.
 ghost use Rattle.std.specs.Prelude.{IfOk};
 ghost use Rattle.certificate.specs.Text.{IsWritable};
@@ -7,8 +7,8 @@ use certificate::{Cause, Certificate, ReadError, Short, check, partners, read, w
 use mesh_graph::Snapshot;
 use std::alloc::Global;
 
-// Three groups compete for one place.
-const COMPETING: &str = "meshcert 1
+// Three groups compete for one place: in version 1, and as that is written.
+const CLASSLESS: &str = "meshcert 1
 abandoned 3
 0.0 0100000000000000000000000000000000000000000000000000000000000000
 1.0 0100000000000000000000000000000000000000000000000000000000000000
@@ -24,7 +24,41 @@ short 3
 end
 ";
 
-const NONE: &str = "meshcert 1
+const COMPETING: &str = "meshcert 2
+abandoned 3
+0.0 16 0100000000000000000000000000000000000000000000000000000000000000
+1.0 16 0100000000000000000000000000000000000000000000000000000000000000
+2.0 16 0100000000000000000000000000000000000000000000000000000000000000
+owned 1
+3.0 16 0200000000000000000000000000000000000000000000000000000000000000
+folds 1
+0.0 3.0
+short 3
+0.0
+1.0
+2.0
+end
+";
+
+// Two groups compete for a place of their class, and another group has no place of its own.
+const CLASSES: &str = "meshcert 2
+abandoned 3
+0.0 16 0100000000000000000000000000000000000000000000000000000000000000
+0.1 64 0100000000000000000000000000000000000000000000000000000000000000
+0.2 64 0100000000000000000000000000000000000000000000000000000000000000
+owned 2
+1.0 64 0200000000000000000000000000000000000000000000000000000000000000
+1.1 256 0200000000000000000000000000000000000000000000000000000000000000
+folds 1
+0.1 1.0
+short 3
+0.0
+0.1
+0.2
+end
+";
+
+const NONE: &str = "meshcert 2
 abandoned 0
 owned 0
 folds 0
@@ -33,7 +67,7 @@ end
 ";
 
 // The short set has a group twice.
-const FAULTY: &str = "meshcert 1
+const FAULTY: &str = "meshcert 2
 abandoned 0
 owned 0
 folds 0
@@ -73,8 +107,7 @@ fn partner_count(alloc: Global, snapshot: &Snapshot, short: &Short) -> Option<us
     Some(found.ok()?.len())
 }
 
-// How many pairs, members of the short set and partners of those the certificate has, if it is accepted, and its text
-// is the one that is written.
+// How many pairs, members of the short set and partners of those the certificate has, if it is accepted.
 fn sizes(alloc: Global, certificate: &Certificate) -> Option<(usize, usize, usize)> {
     let Certificate {
         snapshot,
@@ -88,9 +121,10 @@ fn sizes(alloc: Global, certificate: &Certificate) -> Option<(usize, usize, usiz
     Some((plan.pairs().len(), short.ids().len(), partners))
 }
 
-fn accepted(alloc: Global, text: &str) -> Option<(usize, usize, usize)> {
+// The sizes of the certificate that the text is, if this text is written of it.
+fn accepted(alloc: Global, text: &str, written: &str) -> Option<(usize, usize, usize)> {
     let certificate = read_again(alloc, text).ok()?;
-    if is_written(alloc, &certificate, text) {
+    if is_written(alloc, &certificate, written) {
         sizes(alloc, &certificate)
     } else {
         None
@@ -100,9 +134,22 @@ fn accepted(alloc: Global, text: &str) -> Option<(usize, usize, usize)> {
 #[test]
 fn a_certificate_is_accepted(rt: HostRuntime) {
     assert_eq!(rt;
-        (accepted(rt.alloc(), COMPETING), accepted(rt.alloc(), NONE)),
+        (
+            accepted(rt.alloc(), COMPETING, COMPETING),
+            accepted(rt.alloc(), NONE, NONE)
+        ),
         (Some((1, 3, 1)), Some((0, 0, 0)))
     );
+}
+
+#[test]
+fn a_certificate_of_two_classes_is_accepted(rt: HostRuntime) {
+    assert_eq!(rt; accepted(rt.alloc(), CLASSES, CLASSES), Some((1, 3, 1)));
+}
+
+#[test]
+fn version_1_is_read_and_version_2_is_written(rt: HostRuntime) {
+    assert_eq!(rt; accepted(rt.alloc(), CLASSLESS, COMPETING), Some((1, 3, 1)));
 }
 
 fn fault(alloc: Global, text: &str) -> Option<ReadError> {

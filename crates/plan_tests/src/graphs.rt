@@ -3,17 +3,21 @@ ghost use Rattle.std.specs.Prelude.{◌≤◌};
 
 use bitmap::Bits256;
 use mesh_graph::{BuildError, Entry, Graph, Snapshot};
-use span::SpanId;
+use span::{Class, SpanId};
 use std::alloc::Global;
 
 // The group of the id `shard.serial` with these slots.
-fn entry(shard: u32, serial: u32, slots: &[u8]) -> Option<Entry> {
+fn entry(shard: u32, serial: u32, class: Class, slots: &[u8]) -> Option<Entry> {
     let id = SpanId::new(shard, serial)?;
     let mut occupied = Bits256::empty();
     for slot in slots {
         occupied.insert(*slot);
     }
-    Some(Entry { id, occupied })
+    Some(Entry {
+        id,
+        class,
+        occupied,
+    })
 }
 
 // A list of these groups. Where the first allocation was refused, it is made the second time.
@@ -34,25 +38,33 @@ fn build_again(alloc: Global, snapshot: &Snapshot, pieces: usize) -> Result<Grap
     }
 }
 
-// Groups that fit and groups that clash.
-fn small(alloc: Global) -> Option<Snapshot> {
-    let abandoned = [entry(0, 1, &[1])?, entry(0, 0, &[0])?];
-    let owned = [entry(4, 0, &[])?, entry(3, 1, &[0])?, entry(3, 0, &[1])?];
+// Groups that fit and groups that clash. The abandoned ones are of the first class, and the last owned one of the second.
+fn small(alloc: Global, class: Class, last: Class) -> Option<Snapshot> {
+    let abandoned = [entry(0, 1, class, &[1])?, entry(0, 0, class, &[0])?];
+    let owned = [
+        entry(4, 0, last, &[])?,
+        entry(3, 1, class, &[0])?,
+        entry(3, 0, class, &[1])?,
+    ];
     Snapshot::new(list(alloc, &abandoned)?, list(alloc, &owned)?).ok()
 }
 
 // The first word of a row, and its first partner from place 1 on.
-fn word_and_partner(graph: &Graph, i: usize) -> Option<(u64, usize)> {
+fn word_and_partner(graph: &Graph, i: usize) -> Option<(u64, Option<usize>)> {
     if i >= graph.abandoned() {
         return None;
     }
-    Some((*graph.row(i).first()?, graph.next_partner(i, 1)?))
+    Some((*graph.row(i).first()?, graph.next_partner(i, 1)))
 }
 
-fn words_and_partners(alloc: Global, pieces: usize) -> Option<[Option<(u64, usize)>; 2]>
+fn words_and_partners(
+    alloc: Global,
+    pieces: usize,
+    last: Class,
+) -> Option<[Option<(u64, Option<usize>)>; 2]>
     requires { 1 ≤ pieces }
 {
-    let snapshot = small(alloc)?;
+    let snapshot = small(alloc, Class::C64, last)?;
     let graph = build_again(alloc, &snapshot, pieces).ok()?;
     Some([word_and_partner(&graph, 0), word_and_partner(&graph, 1)])
 }
@@ -61,17 +73,27 @@ fn words_and_partners(alloc: Global, pieces: usize) -> Option<[Option<(u64, usiz
 fn a_row_has_a_bit_for_each_partner(rt: HostRuntime) {
     for pieces in 1..4 {
         assert_eq!(rt;
-            words_and_partners(rt.alloc(), pieces),
-            Some([Some((0b101, 2)), Some((0b110, 1))])
+            words_and_partners(rt.alloc(), pieces, Class::C64),
+            Some([Some((0b101, Some(2))), Some((0b110, Some(1)))])
         );
     }
+}
+
+#[test]
+fn a_row_has_no_bit_between_two_classes(rt: HostRuntime) {
+    assert_eq!(rt;
+        words_and_partners(rt.alloc(), 1, Class::C256),
+        Some([Some((0b001, None)), Some((0b010, Some(1)))])
+    );
 }
 
 // As many groups without slots.
 fn empty_groups(alloc: Global, count: u32) -> Option<Vec<Entry>> {
     let mut groups = Vec::new(alloc);
     for k in 0..count {
-        groups.push(entry(k / 1024, k % 1024, &[])?).ok()?;
+        groups
+            .push(entry(k / 1024, k % 1024, Class::C16, &[])?)
+            .ok()?;
     }
     Some(groups)
 }

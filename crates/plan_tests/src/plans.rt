@@ -3,7 +3,7 @@ use augment::{plan, plan_counted};
 use bitmap::Bits256;
 use certificate::{Plan, Short, check};
 use mesh_graph::{BuildError, Entry, Graph, Snapshot};
-use span::SpanId;
+use span::{Class, SpanId};
 use std::alloc::{AllocError, Global};
 
 // Two owned groups with which an abandoned one is compatible, or one that is told twice, by their serials.
@@ -77,7 +77,11 @@ fn only(slot: u8) -> Bits256 {
 
 fn entry(shard: u32, serial: u8, occupied: Bits256) -> Option<Entry> {
     let id = SpanId::new(shard, u32::from(serial))?;
-    Some(Entry { id, occupied })
+    Some(Entry {
+        id,
+        class: Class::C16,
+        occupied,
+    })
 }
 
 // Adds a group for each number up to the last one to both sides.

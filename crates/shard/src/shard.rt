@@ -7,21 +7,25 @@ ghost use Rattle.span.specs.State.{SpanState};
 ghost use Rattle.span.specs.PlainMap as plain;
 ghost use Rattle.shard.specs.Group.{GroupState};
 ghost use Rattle.groups.specs.Group.{Ascend, HasNoHead, IsElsewhere, IsHeadOf, IsHere, live_in, summary};
-ghost use Rattle.shard.specs.Rooms.{HasRooms, PutsFirst};
+ghost use Rattle.shard.specs.Rooms.{HasRooms, PutsFirst, rooms_of};
+ghost use Rattle.span.specs.Classes.{class_of, width_of};
+ghost use Rattle.span.specs.declared.class.Class.{Class};
 ghost use Rattle.shard.specs.Shown.{shown};
 ghost use Rattle.shard.specs.Sound.{IsSound};
 ghost use Rattle.groups.specs.Tables.{no_pages};
 ghost use Rattle.page_table.specs.State.{HasPage};
-ghost use Rattle.shard.specs.Calls.{Frees, Gets, IsFull, IsSpent, Puts, PutsHere, PutsInNew, value_found, was_freed};
+ghost use Rattle.shard.specs.Calls.{FindsObject, Frees, Gets, IsFull, IsSpent, Puts, PutsHere, PutsInNew, value_found, was_freed};
 ghost use Rattle.bitmap.specs.declared.bits.TheConstants.{SLOTS};
 ghost use Rattle.span.specs.declared.limits.TheConstants.{MOST_PAGES, MOST_SHARDS, MOST_SPANS};
 
+use crate::class_rooms::ClassRooms;
 use crate::error::{Config, PutError};
 use crate::group::Group;
-use crate::rooms::Rooms;
 use groups::{Directory, Place, Spans};
 use page_table::Table;
-use span::{Entry, Kept, Key, Log, MOST_PAGES, MOST_SHARDS, MOST_SPANS, Span, SpanId};
+use span::{
+    Class, Entry, Kept, Key, Log, MOST_PAGES, MOST_SHARDS, MOST_SPANS, Object, Span, SpanId,
+};
 use std::alloc::{AllocError, Global};
 use std::marker::Model;
 
@@ -34,9 +38,9 @@ pub use retiring::LiveGroup;
 
 /// What a look-up finds. A `usize` is the number of changes in the log of the key's span.
 #[derive(Clone, Copy, PartialEq, Eq, Debug)]
-pub enum Found {
-    /// The key is live, and this is the word at its slot of its span's page.
-    Value(u128, usize),
+pub enum Found<'a> {
+    /// The key is live, and these are the words of its object, at its slot of its span's page.
+    Value(&'a [u128], usize),
     /// The span is here, and the key is not live.
     Gone(usize),
     /// The shard has no such span.
@@ -66,7 +70,7 @@ pub struct Shard<L: Log = Kept> {
     opened: u32,
     ended: bool,
     groups: Vec<Group<L>>,
-    rooms: Rooms,
+    rooms: ClassRooms,
     directory: Directory,
     table: Table,
     onto: Option<SpanId>,
@@ -145,7 +149,7 @@ impl<L: Log> Shard<L> {
             opened: 0,
             ended: false,
             groups: Vec::new(alloc),
-            rooms: Rooms::empty(),
+            rooms: ClassRooms::empty(),
             directory: Directory::new(alloc),
             table: Table::new(alloc),
             onto: None,
@@ -178,7 +182,7 @@ impl<L: Log> Shard<L> {
     /// How many spans it has opened: their serials are the numbers below.
     pub fn opened(&self) -> u32
         ensures opened { result ≡ self.now.opened }
-        ensures at_most { result ≤ MOST_PAGES }
+        ensures at_most { result ≤ MOST_SPANS }
     {
         self.opened
     }
@@ -215,11 +219,12 @@ impl<L: Log> Shard<L> {
             .collect(self.alloc)
     }
 
-    /// The word of the key, where it is live here. It is read in the page, which all spans of a group share.
-    // Inlined, what is found stays in registers: a call passes it through memory, in five words.
+    /// The words of the key's object, where it is live here. They are lent from the page, which all spans of a group share.
+    // Inlined, what is found stays in registers: a call passes it through memory.
     #[inline(always)]
-    pub fn get(&self, key: &Key) -> Found
+    pub fn get(&self, key: &Key) -> Found<'_>
         ensures found { Gets self.now key.now result }
+        ensures width { FindsObject result }
         ensures plain { value_found result ≡ (shown self.now).value_of key.now }
         ensures sound { IsSound self.now }
     {
@@ -230,7 +235,9 @@ impl<L: Log> Shard<L> {
         let span = group.span_at(place);
         let at = span.changes();
         if span.holds(key.slot, key.generation) {
-            Found::Value(self.table.value_at(group.page(), key.slot), at)
+            let class = span.class();
+            let words = self.table.value_at(group.page(), class, key.slot);
+            Found::Value(words, at)
         } else {
             Found::Gone(at)
         }
@@ -253,7 +260,8 @@ impl<L: Log> Shard<L> {
         if !group.free(place, key.slot, key.generation) {
             return Freed::No(at);
         }
-        self.rooms.insert(index);
+        let class = group.class();
+        self.rooms.insert(class, index);
         Freed::Yes(at)
     }
 
@@ -269,76 +277,105 @@ impl<L: Log> Shard<L> {
         self.groups[index].span_at(place).first_from(slot)
     }
 
-    /// Keeps the value at the lowest usable slot of the open group of lowest head that has one, and where there
+    /// Keeps the object at the lowest usable slot of the open group of its class of lowest head that has one, and where there
     /// is none, at slot 0 of a span that it opens on a new page. It gives the key, which the group's head gives
     /// out, and the number of changes that the head's log had before.
     ///
     /// It is refused with `Ended` exactly after the shard's end, and with `PagesSpent` exactly where it has not
     /// ended, no open group has a usable slot, and it has all its pages or has opened 1,024 spans. With
     /// `OutOfMemory` an allocation was refused; each stands before the first change.
-    pub fn put(&mut self, value: u128) -> Result<(Key, usize), PutError>
-        ensures ok { IfOk result (λ made. Puts self.old value made.0 made.1 self.new) }
+    pub fn put(&mut self, object: Object) -> Result<(Key, usize), PutError>
+        ensures ok { IfOk result (λ made.
+            Puts self.old (class_of object) object made.0 made.1 self.new) }
         ensures fresh { IfOk result (λ made. (shown self.old).is_issued made.0 ≡ false) }
         ensures plain { IfOk result (λ made. shown self.new
-            ≡ plain.with_put (shown self.old) made.0 value) }
+            ≡ plain.with_put (shown self.old) made.0 object) }
         ensures sound { IsSound self.new }
         ensures spent { (result ≡ Err PutError.PagesSpent)
-            ↔ ((self.old.ended ≡ false) × IsSpent self.old) }
+            ↔ ((self.old.ended ≡ false) × IsSpent (class_of object) self.old) }
+        ensures ended { (result ≡ Err PutError.Ended) ↔ (self.old.ended ≡ true) }
+        ensures err { OnErr result (self.new ≡ self.old) }
+    {
+        self.put_words(object.class(), object.words())
+    }
+
+    /// What [`Shard::put`] does with the object of these words, which are as many as the class has: they are copied to the
+    /// page from where they stand, and no object is made.
+    // Inlined, a caller's class is a constant in it, and what it answers stays in registers.
+    #[inline(always)]
+    pub fn put_words(&mut self, class: Class, words: &[u128]) -> Result<(Key, usize), PutError>
+        requires { length words.now ≡ width_of class }
+        ensures ok { IfOk result (λ made. Puts self.old class words.now made.0 made.1 self.new) }
+        ensures fresh { IfOk result (λ made. (shown self.old).is_issued made.0 ≡ false) }
+        ensures plain { IfOk result (λ made. shown self.new
+            ≡ plain.with_put (shown self.old) made.0 words.now) }
+        ensures sound { IsSound self.new }
+        ensures spent { (result ≡ Err PutError.PagesSpent)
+            ↔ ((self.old.ended ≡ false) × IsSpent class self.old) }
         ensures ended { (result ≡ Err PutError.Ended) ↔ (self.old.ended ≡ true) }
         ensures err { OnErr result (self.new ≡ self.old) }
     {
         if self.ended {
             return Err(PutError::Ended);
         }
-        if let Some(made) = self.put_here(value)? {
+        if let Some(made) = self.put_here(class, words)? {
             return Ok(made);
         }
         if self.groups.len() >= self.page_limit || self.opened >= MOST_SPANS {
             return Err(PutError::PagesSpent);
         }
-        self.put_in_new(value)
+        self.put_in_new(class, words)
     }
 
     // Puts the value at the lowest usable slot of the lowest group that has one, if one has. Its log grows first.
-    fn put_here(&mut self, value: u128) -> Result<Option<(Key, usize)>, PutError>
+    #[inline(always)]
+    fn put_here(&mut self, class: Class, words: &[u128]) -> Result<Option<(Key, usize)>, PutError>
+        requires { length words.now ≡ width_of class }
         ensures ok { IfOk result (λ found. MatchOption found
-            (IsFull self.old.groups × (self.new ≡ self.old))
-            (λ made. PutsHere self.old value made.0 made.1 self.new)) }
+            (IsFull class self.old.groups × (self.new ≡ self.old))
+            (λ made. PutsHere self.old class words.now made.0 made.1 self.new)) }
         ensures only { IsOkUnless result PutError.OutOfMemory }
-        ensures room { OnErr result (IsFull self.old.groups → ⊥) }
+        ensures room { OnErr result (IsFull class self.old.groups → ⊥) }
         ensures err { OnErr result (self.new ≡ self.old) }
     {
-        let made = put_first(&mut self.groups, &mut self.rooms, &mut self.table, value)?;
+        let made = put_first(
+            &mut self.groups,
+            &mut self.rooms,
+            &mut self.table,
+            class,
+            words,
+        )?;
         Ok(made)
     }
 
     // Opens a span on a new page, with the value at its first slot. The new head, the list of groups and the
     // table grow before the shard changes. No other group has room, so its own is the only one that may have.
-    fn put_in_new(&mut self, value: u128) -> Result<(Key, usize), PutError>
-        requires full { IsFull self.old.groups }
+    #[inline(never)]
+    fn put_in_new(&mut self, class: Class, words: &[u128]) -> Result<(Key, usize), PutError>
+        requires width { length words.now ≡ width_of class }
+        requires full { IsFull class self.old.groups }
         requires pages { length self.old.groups < self.old.page_limit }
         requires opened { self.old.opened < MOST_SPANS }
         requires running { self.old.ended ≡ false }
-        ensures ok { IfOk result (λ made. PutsInNew self.old value made.0 made.1 self.new) }
+        ensures ok { IfOk result (λ made. PutsInNew self.old class words.now made.0 made.1 self.new) }
         ensures only { IsOkUnless result PutError.OutOfMemory }
         ensures err { OnErr result (self.new ≡ self.old) }
     {
         let Some(id) = SpanId::new(self.number, self.opened) else {
             unreachable!();
         };
-        let mut head = Span::with_log(self.alloc, id, self.gens);
-        let key = head.put_at(0, value)?;
+        let mut head = Span::with_log(self.alloc, id, class, self.gens);
+        let key = head.put_at(0, words)?;
         self.groups.reserve(1)?;
         let page = self.table.open(id)?;
-        self.table.set_at(page, 0, value);
+        self.table.set_at(page, class, 0, words);
         let index = lower_heads(self.groups.as_slice(), id);
         insert_reserved(
             &mut self.groups,
             index,
             Group::of(Spans::of(self.alloc, head), page),
         );
-        self.rooms = Rooms::empty();
-        self.rooms.insert(index);
+        self.rooms.note_opened(class, index, self.groups.len());
         self.opened += 1;
         self.onto = None;
         Ok((key, 0))
@@ -437,33 +474,38 @@ fn lower_heads<L: Log>(groups: &[Group<L>], id: SpanId) -> usize
 
 // Puts the value at the lowest usable slot of the first open group that has one, and into its page. It gives the key, and
 // how many changes the head's log had before. Groups that have no usable slot leave the set.
+#[inline(always)]
 fn put_first<L: Log>(
     groups: &mut Vec<Group<L>>,
-    rooms: &mut Rooms,
+    rooms: &mut ClassRooms,
     table: &mut Table,
-    value: u128,
+    class: Class,
+    words: &[u128],
 ) -> Result<Option<(Key, usize)>, AllocError>
-    requires rooms { HasRooms groups.old.items rooms.old }
+    requires width { length words.now ≡ width_of class }
+    requires rooms { (other : Class) → HasRooms other groups.old.items
+        (rooms_of rooms.old other) }
     requires many { length groups.old.items ≤ MOST_PAGES }
     requires pages { (index : ℕ) (group : GroupState)
         → slice_get groups.old.items index ≡ Some group → HasPage table.old group.page }
     ensures ok { IfOk result (λ found. MatchOption found
-        (IsFull groups.old.items × (groups.new.items ≡ groups.old.items) × (table.new ≡ table.old))
-        (λ made. PutsFirst groups.old.items table.old value made.0 made.1 groups.new.items
+        (IsFull class groups.old.items × (groups.new.items ≡ groups.old.items) × (table.new ≡ table.old))
+        (λ made. PutsFirst class groups.old.items table.old words.now made.0 made.1 groups.new.items
         table.new)) }
-    ensures room { OnErr result (IsFull groups.old.items → ⊥) }
+    ensures room { OnErr result (IsFull class groups.old.items → ⊥) }
     ensures err { OnErr result ((groups.new.items ≡ groups.old.items) × (table.new ≡ table.old)) }
-    ensures rooms { HasRooms groups.new.items rooms.new }
+    ensures rooms { (other : Class) → HasRooms other groups.new.items
+        (rooms_of rooms.new other) }
     ensures capacity { vec_capacity groups.new ≡ vec_capacity groups.old }
 {
-    while let Some(index) = rooms.lowest() {
+    while let Some(index) = rooms.lowest(class) {
         let group = &mut groups[index];
         let at = group.span_at(0).changes();
-        if let Some(key) = group.put(value)? {
-            table.set_at(group.page(), key.slot, value);
+        if let Some(key) = group.put(class, words)? {
+            table.set_at(group.page(), class, key.slot, words);
             return Ok(Some((key, at)));
         }
-        rooms.remove(index);
+        rooms.remove(class, index);
     }
     Ok(None)
 }

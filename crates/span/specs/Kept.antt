@@ -1,11 +1,13 @@
 -- What a span keeps beside its log, and the log's room. No public clause cites this module.
-use Rattle.std.specs.Prelude.{◌≡◌, ℕ, ◌+◌, ◌*◌, ◌^◌, ◌<◌, ◌≤◌, List, Vec, length, slice_index, vec_len}
+use Rattle.std.specs.Prelude.{◌≡◌, ℕ, ◌+◌, ◌*◌, ◌^◌, ◌<◌, ◌≤◌, List, length, slice_index}
 use Rattle.std.specs.FinSet as set
-use Rattle.std.specs.declared.alloc.Global.{Global}
 use Rattle.bitmap.specs.Slots.{SlotSet}
 use Rattle.bitmap.specs.declared.bits.TheConstants.{SLOTS}
+use Rattle.span.specs.declared.class.Class.{Class}
 use Rattle.span.specs.declared.change.Change.{Change}
-use Rattle.span.specs.Log.{IsLegal, puts_of, all_puts, live_slots, worn_slots}
+use Rattle.span.specs.declared.generations.Generations.{Generations}
+use Rattle.span.specs.LastGiven.{HasAllOrNone, last_given}
+use Rattle.span.specs.Log.{IsLegal, IsOfClass, puts_of, all_puts, live_slots, worn_slots}
 
 -- the log is legal, and the sets and the last generations are those of the log, a missing generation being 0
 pub record Follows (gens : ℕ) (log : List Change) (live worn : SlotSet) (generations : List ℕ) : Type 0 where
@@ -14,11 +16,12 @@ pub record Follows (gens : ℕ) (log : List Change) (live worn : SlotSet) (gener
   pub worn_is : worn ≡ worn_slots gens log
   pub generation_is : (slot : ℕ) → slot < SLOTS → slice_index generations slot ≡ puts_of slot log
 
--- beside this, at most one generation a slot is kept, each put that is not live was freed once, and the log has room for a free of each live slot
-pub record IsKept (gens : ℕ) (live worn : SlotSet) (generations : Vec ℕ Global) (log : List Change) (room : ℕ) : Type 0 where
+-- beside this, a generation is kept for each slot of the class or for none, each put that is not live was freed once, and the log has room for a free of each live slot
+pub record IsKept (class : Class) (gens : ℕ) (live worn : SlotSet) (generations : Generations) (log : List Change) (room : ℕ) : Type 0 where
   pub some_generation : 1 ≤ gens
   pub gens_fit : gens < 2 ^ 32
-  pub follows : Follows gens log live worn generations.items
-  pub at_most_all : vec_len generations ≤ SLOTS
+  pub of_class : IsOfClass class log
+  pub follows : Follows gens log live worn (last_given generations)
+  pub all_or_none : HasAllOrNone class generations
   pub freed_once : length log + set.len live ≡ 2 * all_puts log
   pub room_for_frees : set.len live ≤ room

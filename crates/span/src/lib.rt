@@ -24,25 +24,27 @@
 //!
 //! A log that is [`Kept`] takes 32 bytes a change for as long as its span lives. A span that works for
 //! ever and whose log nobody reads is a `Span<Counted>`: it keeps the number of changes alone, so a put
-//! and its free leave memory as it was. Its contracts are the same, since they speak of the log as a
-//! list that proofs alone carry along; only `log` is missing.
+//! and its free leave memory as it was, but once in a span's life: generations take a byte each until a
+//! slot passes 255, and 4 bytes each from then on. Its contracts are the same, since they speak of the
+//! log as a list that proofs alone carry along; only `log` is missing.
 //!
 //! # Examples
 //!
 //! ```
 //! // The first span of shard 0. Each slot is put at most nine times.
 //! let id = SpanId::new(0, 0)?;
-//! let mut span = Span::new(alloc, id, 9);
-//! let key = span.put_at(3, 7)?; // 0.0/3/1
+//! let mut span = Span::new(alloc, id, Class::C16, 9);
+//! let key = span.put_at(3, &[7])?; // 0.0/3/1
 //! assert!(rt; span.find(&key));
 //! assert!(rt; span.free(&key));
 //! assert!(rt; !span.find(&key)); // now and for ever
-//! let next = span.put_at(3, 8)?; // 0.0/3/2: the same slot, the next generation
+//! let next = span.put_at(3, &[8])?; // 0.0/3/2: the same slot, the next generation
 //! assert_eq!(rt; span.log().len(), 3);
 //! ```
 #![tactic(auto)]
 
 mod change;
+mod class;
 mod entry;
 mod generations;
 mod history;
@@ -50,16 +52,28 @@ mod id;
 mod key;
 mod limits;
 mod log;
+mod object;
 mod receipt;
+mod receipt_list;
+mod receipt_view;
 mod span;
 mod span_log;
+mod stored;
+mod stored_receipt;
+mod view;
+mod words;
 
 pub use change::Change;
+pub use class::Class;
 pub use entry::Entry;
 pub use id::SpanId;
 pub use key::Key;
 pub use limits::{ALL_IDS, MOST_PAGES, MOST_RING_KEYS, MOST_SHARDS, MOST_SPANS};
 pub use log::{Counted, Kept, Log};
+pub use object::Object;
 pub use receipt::{Call, Receipt};
+pub use receipt_list::ReceiptList;
+pub use receipt_view::{CallView, ReceiptView};
 pub use span::Span;
 pub use span_log::SpanLog;
+pub use view::ChangeView;

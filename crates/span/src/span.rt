@@ -5,9 +5,10 @@ ghost use Rattle.std.specs.Bool.{OnTrue, OnFalse};
 ghost use Rattle.std.specs.FinSet as set;
 ghost use Rattle.bitmap.specs.declared.bits.TheConstants.{SLOTS};
 ghost use Rattle.span.specs.Order.{HasNoMemberFrom, IsLowestFrom};
+ghost use Rattle.span.specs.declared.change.Change.TheVariants as Change;
 
-use crate::change::Change;
-use crate::generations::{generation_of, give_next, reserve_all};
+use crate::class::Class;
+use crate::generations::Generations;
 use crate::id::SpanId;
 use crate::key::Key;
 use crate::log::{Kept, Log};
@@ -16,18 +17,20 @@ use bitmap::{Bits256, SLOTS};
 use std::alloc::{AllocError, Global};
 use std::marker::Model;
 
-/// 256 slots: which are live, at which generation, and the log of all that was done to them.
+/// The slots of a class: which are live, at which generation, and the log of all that was done to them.
 ///
 /// A span is moved whenever a list of spans grows, so the generations stand outside of the struct,
-/// and come with the first put. The log has room for the free of each live slot at all times, so a
-/// free takes no memory. A log that is only [`Counted`](crate::Counted) takes none at all.
+/// and come with the first put: a byte each, and 4 bytes each once one passes 255. The log has room for
+/// the free of each live slot at all times, so a free takes no memory. A log that is only
+/// [`Counted`](crate::Counted) takes none at all.
 #[derive(Drop)]
 pub struct Span<L: Log = Kept> {
-    // A look-up reads these first three, which stand side by side.
+    // A look-up reads these first five, which stand side by side.
     id: SpanId,
-    live: Bits256,
-    generations: Vec<u32>,
     gens: u32,
+    class: Class,
+    live: Bits256,
+    generations: Generations,
     worn: Bits256,
     log: L,
 }
@@ -37,39 +40,44 @@ impl<L: Log> Model for Span<L> {
 
     ghost Value = { SpanState };
 
-    ghost view = { λ s. record { id = s.id; gens = s.gens; log = L.changes s.log } };
+    ghost view = { λ s. record { id = s.id; class = s.class; gens = s.gens; log = L.changes s.log } };
 
     ghost use Rattle.span.specs.Kept.{IsKept};
 
     ghost invariant = { λ s.
-        IsKept s.gens s.live s.worn s.generations (L.changes s.log) (L.room s.log) };
+        IsKept s.class s.gens s.live s.worn s.generations (L.changes s.log) (L.room s.log) };
 }
 
 impl<L: Log> Span<L> {
-    ghost use Rattle.span.specs.Log.{IsLegal, live_slots, worn_slots, puts_of, Holds, was_issued};
+    ghost use Rattle.span.specs.Classes.{slots_in, width_of};
+    ghost use Rattle.span.specs.Log.{IsLegal, IsOfClass, live_slots, worn_slots, puts_of, Holds, was_issued};
     ghost use Rattle.span.specs.Order.{HoldsNoneFrom, IsFirstHeld};
 
     /// A span to which nothing was done yet, whose log is kept or counted as its type says: as [`Span::new`]. Takes
     /// no memory.
-    pub fn with_log(alloc: Global, id: SpanId, gens: u32) -> Self
+    pub fn with_log(alloc: Global, id: SpanId, class: Class, gens: u32) -> Self
         requires { 1 ≤ gens }
-        ensures { result ≡ record { id = id; gens = gens; log = [] } }
+        ensures { result ≡ record { id = id; class = class; gens = gens; log = [] } }
     {
         Span {
             id,
             gens,
+            class,
             live: Bits256::empty(),
             worn: Bits256::empty(),
-            generations: Vec::new(alloc),
+            generations: Generations::new(alloc),
             log: L::new(alloc),
         }
     }
 
-    /// Puts a value at a slot that is neither live nor worn, and answers its key, which was never
-    /// given out before. It grows a log that is kept for this put and for the frees of all live slots, and, at
-    /// the first put, the list of generations. `Err` comes where memory runs out, and then the span
-    /// is as before.
-    pub fn put_at(&mut self, slot: u8, value: u128) -> Result<Key, AllocError>
+    /// Puts an object, given by its words, at a slot that is neither live nor worn, and answers its key, which was never
+    /// given out before. It grows a log that is kept for this put and for the frees of all live slots, and the
+    /// list of generations at the first put and where a slot is the first to pass generation 255. `Err` comes
+    /// where memory runs out, and then the span is as before.
+    #[inline(always)]
+    pub fn put_at(&mut self, slot: u8, words: &[u128]) -> Result<Key, AllocError>
+        requires on_page { slot < slots_in self.old.class }
+        requires width { length words.now ≡ width_of self.old.class }
         requires not_live { set.contains (live_slots self.old.log) slot ≡ false }
         requires not_worn { set.contains (worn_slots self.old.gens self.old.log) slot ≡ false }
 
@@ -82,19 +90,17 @@ impl<L: Log> Span<L> {
 
         // The span.
         ensures ok { OnOk result (self.new ≡ record self.old {
-          log = self.old.log ++ Change.Put slot (puts_of slot self.old.log + 1) value ∷ [];
+          log = self.old.log ++ Change.Put slot (puts_of slot self.old.log + 1) words.now ∷ [];
         }) }
         ensures err { OnErr result (self.new ≡ self.old) }
         ensures legal { IsLegal self.new.gens self.new.log }
+        ensures of_class { IsOfClass self.new.class self.new.log }
     {
-        self.log.reserve(self.live.count() as usize + 2)?;
-        reserve_all(&mut self.generations)?;
-        let generation = give_next(&mut self.generations, slot);
-        self.log.push_reserved(Change::Put {
-            slot,
-            generation,
-            value,
-        });
+        self.log
+            .reserve(self.live.count() as usize + 2, words.len())?;
+        self.generations.reserve_all(self.class, slot)?;
+        let generation = self.generations.give_next(slot);
+        self.log.push_put(slot, generation, self.class, words);
         self.live.insert(slot);
         if generation == self.gens {
             self.worn.insert(slot);
@@ -116,9 +122,10 @@ impl<L: Log> Span<L> {
 
     /// Whether the slot is live at the generation: as [`Span::find`], for a caller that found the span by its id.
     pub fn holds(&self, slot: u8, generation: u32) -> bool
-        ensures { IsTrue result ↔ Holds self.now.log slot generation }
+        ensures live { IsTrue result ↔ Holds self.now.log slot generation }
+        ensures on_page { OnTrue result (slot < slots_in self.now.class) }
     {
-        self.live.contains(slot) && generation_of(&self.generations, slot) == generation
+        self.live.contains(slot) && self.generations.generation_of(slot) == generation
     }
 
     /// The key of the lowest live slot from this one on, if one is live. Takes no memory.
@@ -131,7 +138,7 @@ impl<L: Log> Span<L> {
             return None;
         };
         let span = self.id;
-        let generation = generation_of(&self.generations, slot);
+        let generation = self.generations.generation_of(slot);
         Some(Key {
             span,
             slot,
@@ -183,7 +190,7 @@ impl<L: Log> Span<L> {
         } }
         ensures legal { IsLegal self.new.gens self.new.log }
     {
-        self.log.push_reserved(Change::Free { slot, generation });
+        self.log.push_free(slot, generation);
         self.live.remove(slot);
     }
 
@@ -200,6 +207,14 @@ impl<L: Log> Span<L> {
         ensures { result ≡ worn_slots self.now.gens self.now.log }
     {
         self.worn
+    }
+
+    /// The class of its objects.
+    pub fn class(&self) -> Class
+        ensures class { result ≡ self.now.class }
+        ensures of_class { IsOfClass self.now.class self.now.log }
+    {
+        self.class
     }
 
     /// The span's name.
@@ -244,35 +259,43 @@ fn lowest_from(slots: &Bits256, from: u32) -> Option<u8>
 
 impl Span<Kept> {
     ghost use Rattle.span.specs.Log.{IsLegal};
+    ghost use Rattle.span.specs.KeptLogs.{kept_changes};
     ghost use Rattle.span.specs.SpanLogs.{span_of_log};
 
     /// A span to which nothing was done yet. A slot is put at most `gens` times. Takes no memory.
-    pub fn new(alloc: Global, id: SpanId, gens: u32) -> Self
+    pub fn new(alloc: Global, id: SpanId, class: Class, gens: u32) -> Self
         requires { 1 ≤ gens }
-        ensures { result ≡ record { id = id; gens = gens; log = [] } }
+        ensures { result ≡ record { id = id; class = class; gens = gens; log = [] } }
     {
-        Span::with_log(alloc, id, gens)
+        Span::with_log(alloc, id, class, gens)
     }
 
     /// All changes, in order, of which none is ever dropped. A log that is only counted has no such list.
-    pub fn log(&self) -> &[Change]
-        ensures changes { result.now ≡ self.now.log }
+    pub fn log(&self) -> &Kept
+        ensures changes { kept_changes result.now ≡ self.now.log }
         ensures legal { IsLegal self.now.gens self.now.log }
     {
-        self.log.as_slice()
+        &self.log
     }
 
     /// Its id, its greatest generation and all its changes, which are handed out by move, when its run is over. Takes
     /// no memory.
     pub fn into_log(self) -> SpanLog
         ensures log { span_of_log result ≡ self }
-        ensures legal { IsLegal result.gens result.changes.items }
+        ensures legal { IsLegal result.gens (kept_changes result.log) }
     {
-        let Span { id, gens, log, .. } = self;
+        let Span {
+            id,
+            gens,
+            class,
+            log,
+            ..
+        } = self;
         SpanLog {
             span: id,
+            class,
             gens,
-            changes: log.into_changes(),
+            log,
         }
     }
 }
@@ -292,10 +315,11 @@ mod tests {
 
     // The slot and the generation of the key that a put gives.
     fn put_once<L: Log>(span: &mut Span<L>, slot: u8, value: u128) -> Option<(u8, u32)> {
-        if span.live().contains(slot) || span.worn().contains(slot) {
+        let taken = span.live().contains(slot) || span.worn().contains(slot);
+        if taken || span.class() != Class::C16 {
             return None;
         }
-        let key = span.put_at(slot, value).ok()?;
+        let key = span.put_at(slot, &[value]).ok()?;
         Some((key.slot, key.generation))
     }
 
@@ -323,7 +347,7 @@ mod tests {
 
     #[test]
     fn gives_each_generation_once(rt: HostRuntime) {
-        let mut span = Span::new(rt.alloc(), id(), 2);
+        let mut span = Span::new(rt.alloc(), id(), Class::C16, 2);
         let first = (
             put(&mut span, 255, 7),
             frees(&mut span, 255, 1),
@@ -345,9 +369,41 @@ mod tests {
         );
     }
 
+    // Puts the slot and frees it again, so many times; the last generation that it was given.
+    fn wear<L: Log>(span: &mut Span<L>, slot: u8, times: u32) -> Option<u32> {
+        let mut last = None;
+        for _ in 0..times {
+            let (_, generation) = put(span, slot, 7)?;
+            frees(span, slot, generation)?;
+            last = Some(generation);
+        }
+        last
+    }
+
+    #[test]
+    fn goes_on_past_a_byte(rt: HostRuntime) {
+        let mut span: Span<Counted> = Span::with_log(rt.alloc(), id(), Class::C16, u32::MAX);
+        let others = (put(&mut span, 9, 8), wear(&mut span, 8, 255));
+        let worn = (wear(&mut span, 255, 300), put(&mut span, 255, 7));
+        let found = (
+            frees(&mut span, 255, 45),
+            frees(&mut span, 255, 301),
+            frees(&mut span, 9, 1),
+        );
+        assert_eq!(rt;
+            (others, worn, found, put(&mut span, 8, 7)),
+            (
+                (Some((9, 1)), Some(255)),
+                (Some(300), Some((255, 301))),
+                (Some((false, false)), Some((true, true)), Some((true, true))),
+                Some((8, 256)),
+            )
+        );
+    }
+
     #[test]
     fn needs_no_log(rt: HostRuntime) {
-        let mut span: Span<Counted> = Span::with_log(rt.alloc(), id(), 2);
+        let mut span: Span<Counted> = Span::with_log(rt.alloc(), id(), Class::C16, 2);
         let first = (put(&mut span, 255, 7), frees(&mut span, 255, 1));
         let second = (put(&mut span, 255, 8), frees(&mut span, 255, 1));
         assert_eq!(rt;

@@ -2,9 +2,10 @@
 use arena_core::{Core, CoreError, Event, Refusal, Reply};
 use fold::Step;
 use marks::Totals;
-use span::{Counted, Key, Log, SpanId};
+use span::{Counted, Key, Log, Object, SpanId};
 use std::alloc::Global;
 
+mod classes;
 mod plans;
 mod retiring;
 
@@ -12,8 +13,12 @@ fn key(shard: u32, serial: u32, slot: u8, generation: u32) -> Option<Key> {
     Key::new(SpanId::new(shard, serial)?, slot, generation)
 }
 
-fn put(shard: u32, value: u128) -> Event {
-    Event::Put { shard, value }
+// A put of an object of one word.
+fn put(shard: u32, word: u128) -> Event {
+    Event::Put {
+        shard,
+        value: Object::c16(word),
+    }
 }
 
 // A core of that many shards and pages, asked for again where an allocation was refused.
@@ -28,7 +33,7 @@ fn new_core(alloc: Global, shards: u32, pages: usize) -> Option<Core> {
 #[derive(Clone, Copy, PartialEq, Eq)]
 enum Told {
     Issued(Key),
-    Found(Option<u128>),
+    Found(Option<Object>),
     Freed(bool),
     Sent,
     Settled(Option<Key>),
@@ -41,6 +46,11 @@ enum Told {
     Closed,
     NoPlan,
     Refused(Refusal),
+}
+
+// What a look-up of an object of one word is told.
+fn found(word: u128) -> Told {
+    Told::Found(Some(Object::c16(word)))
 }
 
 fn tell(reply: &Reply) -> Told {
@@ -63,23 +73,23 @@ fn tell(reply: &Reply) -> Told {
 }
 
 // What the core answers. Where an allocation was refused, the totals are as they were, and the event is asked again.
-fn answer<L: Log>(core: &mut Core<L>, event: Event) -> Option<Told> {
+fn answer<L: Log>(core: &mut Core<L>, event: &Event) -> Option<Told> {
     let before = core.totals();
-    let first = tell(&core.step(event));
+    let first = tell(&core.step(*event));
     if first != Told::Refused(Refusal::OutOfMemory) {
         return Some(first);
     }
     if core.totals() != before {
         return None;
     }
-    Some(tell(&core.step(event)))
+    Some(tell(&core.step(*event)))
 }
 
 // Whether both cores answer each event, and alike, and have the same totals in the end.
 fn answer_alike(kept: &mut Core, counted: &mut Core<Counted>, events: &[Event]) -> bool {
     for event in events {
-        let wanted = answer(kept, *event);
-        if wanted.is_none() || answer(counted, *event) != wanted {
+        let wanted = answer(kept, event);
+        if wanted.is_none() || answer(counted, event) != wanted {
             return false;
         }
     }
@@ -89,7 +99,7 @@ fn answer_alike(kept: &mut Core, counted: &mut Core<Counted>, events: &[Event]) 
 // Whether each event is answered as wanted, one after another.
 fn are_answered(core: &mut Core, table: &[(Event, Told)]) -> bool {
     for (event, wanted) in table {
-        if answer(core, *event) != Some(*wanted) {
+        if answer(core, event) != Some(*wanted) {
             return false;
         }
     }
@@ -143,7 +153,7 @@ fn are_run(core: &mut Core, replies: &mut Vec<Reply>) -> Option<bool> {
         Event::Get { key: first },
     ];
     let wanted = [
-        Told::Found(Some(5)),
+        found(5),
         Told::Freed(true),
         Told::Found(None),
         Told::Issued(second),
@@ -179,14 +189,14 @@ fn totals_after_moves(alloc: Global) -> Option<Totals> {
     let table = [
         (put(0, 5), Told::Issued(first)),
         (Event::End { shard: 0 }, Told::ShardEnded),
-        (Event::Get { key: first }, Told::Found(Some(5))),
+        (Event::Get { key: first }, found(5)),
         (Event::Adopt { shard: 1 }, Told::Adopted(head)),
-        (Event::Get { key: first }, Told::Found(Some(5))),
+        (Event::Get { key: first }, found(5)),
         (put(1, 6), Told::Issued(second)),
         (Event::Free { key: first }, Told::Freed(true)),
         (Event::End { shard: 1 }, Told::ShardEnded),
         (Event::Adopt { shard: 2 }, Told::Adopted(head)),
-        (Event::Get { key: second }, Told::Found(Some(6))),
+        (Event::Get { key: second }, found(6)),
         (Event::Get { key: first }, Told::Found(None)),
         (Event::Free { key: first }, Told::Freed(false)),
     ];
@@ -228,7 +238,7 @@ fn totals_after_settling(alloc: Global) -> Option<Totals> {
         (free_later(1, second), Told::Refused(Refusal::RingFull)),
         (free_later(0, second), Told::Sent),
         (free_later(2, first), Told::Refused(Refusal::Config)),
-        (Event::Get { key: first }, Told::Found(Some(5))),
+        (Event::Get { key: first }, found(5)),
         (Event::End { shard: 0 }, Told::ShardEnded),
         (settle(1, 0), Told::Settled(Some(first))),
         (Event::Get { key: first }, Told::Found(None)),
@@ -237,7 +247,7 @@ fn totals_after_settling(alloc: Global) -> Option<Totals> {
         (settle(1, 0), Told::Settled(Some(first))),
         (settle(0, 1), Told::Settled(None)),
         (settle(0, 2), Told::Refused(Refusal::Config)),
-        (Event::Get { key: second }, Told::Found(Some(6))),
+        (Event::Get { key: second }, found(6)),
         (settle(0, 0), Told::Settled(Some(second))),
     ];
     let mut core = new_core_of_short_rings(alloc)?;
@@ -286,7 +296,7 @@ fn totals_after_refusals(alloc: Global) -> Option<Totals> {
         (Event::Adopt { shard: 0 }, Told::Refused(Refusal::Ended)),
         (Event::Get { key: nowhere }, Told::Found(None)),
         (Event::Free { key: nowhere }, Told::Freed(false)),
-        (Event::Get { key: here }, Told::Found(Some(5))),
+        (Event::Get { key: here }, found(5)),
         (Event::Free { key: here }, Told::Freed(true)),
     ];
     totals_after(alloc, 3, 1, table.as_slice())

@@ -1,8 +1,9 @@
 //! Folds from a pool onto a shard.
+use crate::objects::{Sought, object};
 use abandoned::Pool;
 use fold::{Step, fold_one};
-use shard::{Found, PutError, Shard};
-use span::{Key, SpanId};
+use shard::{PutError, Shard};
+use span::{Class, Key, Object, SpanId};
 use std::alloc::Global;
 
 // What is seen of pool and shard: their pages, their live keys, and what both find of a key of the pool's group, and
@@ -11,7 +12,7 @@ use std::alloc::Global;
 struct Seen {
     pages: [usize; 2],
     live: [usize; 2],
-    found: [Found; 4],
+    found: [Sought; 4],
 }
 
 fn key(shard: u32, slot: u8) -> Option<Key> {
@@ -24,16 +25,16 @@ fn look(pool: &Pool, shard: &Shard) -> Option<Seen> {
         pages: [pool.pages(), shard.pages()],
         live: [pool.live(), shard.live()],
         found: [
-            pool.get(&pooled),
-            shard.get(&pooled),
-            pool.get(&owned),
-            shard.get(&owned),
+            Sought::of(pool.get(&pooled)),
+            Sought::of(shard.get(&pooled)),
+            Sought::of(pool.get(&owned)),
+            Sought::of(shard.get(&owned)),
         ],
     })
 }
 
-// Puts the value, and asks again where memory was refused.
-fn put(shard: &mut Shard, value: u128) -> Option<Key> {
+// Puts the object, and asks again where memory was refused.
+fn put(shard: &mut Shard, value: Object) -> Option<Key> {
     let made = match shard.put(value) {
         Err(PutError::OutOfMemory) => shard.put(value),
         made => made,
@@ -41,20 +42,20 @@ fn put(shard: &mut Shard, value: u128) -> Option<Key> {
     Some(made.ok()?.0)
 }
 
-// Gives the pool the group of this shard, in which 7 is live at slot 0.
-fn abandon(pool: &mut Pool, shard: &mut Shard) -> Option<()> {
-    put(shard, 7)?;
+// Gives the pool the group of this shard, in which an object of the class is live at slot 0.
+fn abandon(pool: &mut Pool, shard: &mut Shard, class: Class) -> Option<()> {
+    put(shard, object(class, 7))?;
     if pool.receive(shard).is_err() {
         pool.receive(shard).ok()?;
     }
     Some(())
 }
 
-// Opens that many groups, each closed so that the next put opens another. In each, 8 is live at slot 1.
-fn open_groups(shard: &mut Shard, groups: u32) -> Option<()> {
+// Opens that many groups of the class, each closed so that the next put opens another. In each, an object is live at slot 1.
+fn open_groups(shard: &mut Shard, class: Class, groups: u32) -> Option<()> {
     for _ in 0..groups {
-        let first = put(shard, 5)?;
-        put(shard, 8)?;
+        let first = put(shard, object(class, 5))?;
+        put(shard, object(class, 8))?;
         shard.close(first.span);
         shard.free(&first);
     }
@@ -73,42 +74,70 @@ fn fold(pool: &mut Pool, shard: &mut Shard, onto: u32) -> Option<Step> {
     }
 }
 
-// What is seen after a fold onto the first of that many groups.
+// What is seen after a fold of a group of one class onto the first of that many groups of another, or of the same.
 fn seen_after(
     pool: &mut Pool,
     ended: &mut Shard,
     shard: &mut Shard,
+    classes: [Class; 2],
     groups: u32,
 ) -> Option<(Step, Seen)> {
-    abandon(pool, ended)?;
-    open_groups(shard, groups)?;
+    let [from, onto] = classes;
+    abandon(pool, ended, from)?;
+    open_groups(shard, onto, groups)?;
     let step = fold(pool, shard, 1)?;
     Some((step, look(pool, shard)?))
 }
 
-fn folded(alloc: Global, groups: u32) -> Option<(Step, Seen)> {
+fn folded(alloc: Global, classes: [Class; 2], groups: u32) -> Option<(Step, Seen)> {
     let mut ended = Shard::new(alloc, 0, 4, 2).ok()?;
     let mut shard = Shard::new(alloc, 1, 4, 2).ok()?;
     let mut pool = Pool::new(alloc);
-    seen_after(&mut pool, &mut ended, &mut shard, groups)
+    seen_after(&mut pool, &mut ended, &mut shard, classes, groups)
 }
 
-// The shard's maps are full at three groups, and its lists at four.
+// The shard's maps are full at three groups, and its lists at four: a fold needs no place on these.
 #[test]
 fn folds_two_groups(rt: HostRuntime) {
-    for (groups, pages, live) in [(1, 1, 2), (3, 3, 4), (4, 4, 5)] {
+    for (class, groups, pages, live) in [
+        (Class::C16, 1, 1, 2),
+        (Class::C16, 3, 3, 4),
+        (Class::C16, 4, 4, 5),
+        (Class::C64, 1, 1, 2),
+        (Class::C256, 1, 1, 2),
+    ] {
         let wanted = Seen {
             pages: [0, pages],
             live: [0, live],
             found: [
-                Found::NotHere,
-                Found::Value(7, 1),
-                Found::NotHere,
-                Found::Value(8, 3),
+                Sought::NotHere,
+                Sought::Value(object(class, 7), 1),
+                Sought::NotHere,
+                Sought::Value(object(class, 8), 3),
             ],
         };
-        assert_eq!(rt; folded(rt.alloc(), groups), Some((Step::Folded, wanted)));
+        assert_eq!(rt;
+            folded(rt.alloc(), [class, class], groups),
+            Some((Step::Folded, wanted))
+        );
     }
+}
+
+// No slot is live in both, and each key finds its object where it was.
+#[test]
+fn leaves_two_classes_apart(rt: HostRuntime) {
+    let wanted = Seen {
+        pages: [1, 1],
+        live: [1, 1],
+        found: [
+            Sought::Value(object(Class::C256, 7), 1),
+            Sought::NotHere,
+            Sought::NotHere,
+            Sought::Value(object(Class::C64, 8), 3),
+        ],
+    };
+    let classes = [Class::C256, Class::C64];
+    assert_eq!(rt; folded(rt.alloc(), classes, 1), Some((Step::Clash, wanted)));
 }
 
 // The steps onto a group that clashes, onto one that is not there, and then of a group without a page.
@@ -117,8 +146,8 @@ fn steps_without_a_fold(
     ended: &mut Shard,
     shard: &mut Shard,
 ) -> Option<[Step; 3]> {
-    abandon(pool, ended)?;
-    put(shard, 5)?;
+    abandon(pool, ended, Class::C16)?;
+    put(shard, Object::c16(5))?;
     let onto = shard.number();
     let clash = fold(pool, shard, onto)?;
     let absent = fold(pool, shard, 2)?;

@@ -16,6 +16,8 @@ mod cores;
 #[cfg(test)]
 mod folds;
 #[cfg(test)]
+mod objects;
+#[cfg(test)]
 mod pools;
 #[cfg(test)]
 mod shards;

@@ -5,9 +5,10 @@
 //! shard are as before.
 ghost use Rattle.std.specs.Prelude.{◌<◌};
 
+use crate::objects::{Sought, wide, widest};
 use abandoned::{AdoptError, Pool, ReceiveError};
-use shard::{Found, Freed, PutError, Shard};
-use span::{Key, SpanId};
+use shard::{Freed, PutError, Shard};
+use span::{Key, Object, SpanId};
 use std::alloc::Global;
 
 // The first span that a shard of this number opens.
@@ -30,7 +31,7 @@ fn key(shard: u32) -> Key
     key
 }
 
-fn put_once(shard: &mut Shard, value: u128) -> bool {
+fn put_once(shard: &mut Shard, value: Object) -> bool {
     shard.put(value) != Err(PutError::OutOfMemory)
 }
 
@@ -44,8 +45,8 @@ fn shard(alloc: Global, number: u32) -> Shard
     }
 }
 
-// The same, with the value under its first key.
-fn shard_with(alloc: Global, number: u32, value: u128) -> Shard
+// The same, with the object under its first key.
+fn shard_with(alloc: Global, number: u32, value: Object) -> Shard
     requires { number < 64 }
 {
     let mut shard = shard(alloc, number);
@@ -61,11 +62,11 @@ fn counts(pool: &Pool, shard: &Shard) -> (usize, usize, usize, usize) {
 }
 
 // What pool and shard have under the key.
-fn found(pool: &Pool, shard: &Shard, key: &Key) -> (Found, Found) {
-    (pool.get(key), shard.get(key))
+fn found(pool: &Pool, shard: &Shard, key: &Key) -> (Sought, Sought) {
+    (Sought::of(pool.get(key)), Sought::of(shard.get(key)))
 }
 
-type Sight = ((usize, usize, usize, usize), bool, (Found, Found));
+type Sight = ((usize, usize, usize, usize), bool, (Sought, Sought));
 
 fn look_at(pool: &Pool, shard: &Shard, key: &Key) -> Sight {
     (counts(pool, shard), shard.ended(), found(pool, shard, key))
@@ -127,8 +128,8 @@ fn listed(pool: &Pool, index: usize) -> Option<(SpanId, u32)> {
 fn refuses_a_span_that_is_here(rt: HostRuntime) {
     let key = key(0);
     let mut pool = Pool::new(rt.alloc());
-    let mut first = shard_with(rt.alloc(), 0, 7);
-    let mut second = shard_with(rt.alloc(), 0, 8);
+    let mut first = shard_with(rt.alloc(), 0, Object::c16(7));
+    let mut second = shard_with(rt.alloc(), 0, wide(8));
     let answers = (
         end(&mut pool, &mut first, &key),
         reserves(&mut pool, &first, &key),
@@ -152,8 +153,8 @@ fn refuses_a_span_that_is_here(rt: HostRuntime) {
 fn keeps_a_key_until_it_is_freed(rt: HostRuntime) {
     let (key, other) = (key(1), key(2));
     let mut pool = Pool::new(rt.alloc());
-    let mut ending = shard_with(rt.alloc(), 1, 5);
-    let mut next = shard_with(rt.alloc(), 2, 6);
+    let mut ending = shard_with(rt.alloc(), 1, wide(4));
+    let mut next = shard_with(rt.alloc(), 2, Object::c16(6));
     let ended = (end(&mut pool, &mut ending, &key), found(&pool, &next, &key));
     let adopted = (
         take_over(&mut pool, &mut next, &key),
@@ -168,8 +169,8 @@ fn keeps_a_key_until_it_is_freed(rt: HostRuntime) {
     assert_eq!(rt;
         (ended, adopted, both),
         (
-            (Ok(()), (Found::Value(5, 1), Found::NotHere)),
-            (Ok(key.span), (Found::NotHere, Found::Value(5, 1))),
+            (Ok(()), (Sought::Value(wide(4), 1), Sought::NotHere)),
+            (Ok(key.span), (Sought::NotHere, Sought::Value(wide(4), 1))),
             (
                 Ok(()),
                 (2, 2, 0, 0),
@@ -184,7 +185,7 @@ fn keeps_a_key_until_it_is_freed(rt: HostRuntime) {
 fn gives_up_the_page_of_an_emptied_group(rt: HostRuntime) {
     let key = key(1);
     let mut pool = Pool::new(rt.alloc());
-    let mut ending = shard_with(rt.alloc(), 1, 5);
+    let mut ending = shard_with(rt.alloc(), 1, widest(5));
     let mut next = shard(rt.alloc(), 2);
     let answers = (
         end(&mut pool, &mut ending, &key),
@@ -197,7 +198,7 @@ fn gives_up_the_page_of_an_emptied_group(rt: HostRuntime) {
         (
             Ok(()),
             Freed::Yes(1),
-            ((0, 0, 0, 0), false, (Found::Gone(2), Found::NotHere)),
+            ((0, 0, 0, 0), false, (Sought::Gone(2), Sought::NotHere)),
             Err(AdoptError::NothingToAdopt),
         )
     );

@@ -11,7 +11,7 @@ use arena::{Arena, Gate, NoGate, OpenError, Seat, Stepped, Steward, finish};
 use fold::Step;
 use marks::{MarkError, Totals};
 use shard::PutError;
-use span::{Call, Counted, Kept, Key, Log, Receipt, SpanId};
+use span::{CallView, Counted, Kept, Key, Log, Object, ReceiptList, SpanId};
 use std::alloc::Global;
 use std::sync::Wait;
 use std::sync::atomic::AtomicU64;
@@ -61,13 +61,14 @@ fn put<G: Gate, L: Log, R: Wait>(
     rt: &R,
     arena: &Arena<G, L>,
     seat: &mut Seat,
-    value: u128,
+    word: u128,
 ) -> Option<Key>
     requires { seat.old.limits ≡ arena.now.limits }
     ensures { seat.new.limits ≡ seat.old.limits }
 {
-    let put = match seat.put(rt, arena, value) {
-        Err(PutError::OutOfMemory) => seat.put(rt, arena, value),
+    let object = Object::c16(word);
+    let put = match seat.put(rt, arena, object) {
+        Err(PutError::OutOfMemory) => seat.put(rt, arena, object),
         put => put,
     };
     match put {
@@ -151,7 +152,7 @@ fn get<G: Gate, L: Log, R: Wait>(
     arena: &Arena<G, L>,
     seat: &mut Seat,
     key: &Key,
-) -> (Option<u128>, usize)
+) -> (Option<Object>, usize)
     requires { seat.old.limits ≡ arena.now.limits }
     ensures { seat.new.limits ≡ seat.old.limits }
 {
@@ -211,7 +212,7 @@ fn is_folded<G: Gate, L: Log, R: Wait>(
             && closed
             && none == Some(Stepped::NoPlan)
             && more.span == own.span
-            && found == (Some(11), 3)
+            && found == (Some(Object::c16(11)), 3)
             && totals == (Totals { pages: 1, live: 3 })
             && anew == Ok(0),
     )
@@ -265,14 +266,14 @@ fn is_retired<G: Gate, L: Log, R: Wait>(
     Some(
         freed == (true, 2)
             && retired == Ok(1)
-            && pooled == (Some(11), 3)
+            && pooled == (Some(Object::c16(11)), 3)
             && before == (Totals { pages: 2, live: 2 })
             && planned == Ok(1)
             && refused == Err(ReceiveError::PlanOpen)
             && stepped == Some(Stepped::Taken(kept.span, own.span, Step::Folded))
             && closed
             && after == (Totals { pages: 1, live: 2 })
-            && home == (Some(11), 3)
+            && home == (Some(Object::c16(11)), 3)
             && few == Ok(0)
             && ended
             && late == Err(ReceiveError::Ended),
@@ -330,14 +331,14 @@ fn is_followed<G: Gate, L: Log, R: Wait>(
     Some(
         none == (None, 0)
             && missed == (false, 0)
-            && shared == (Some(5), 2)
+            && shared == (Some(Object::c16(5)), 2)
             && ended
             && again
             && refused.is_none()
-            && pooled == (Some(5), 2)
+            && pooled == (Some(Object::c16(5)), 2)
             && freed == (true, 2)
             && head == Ok(key.span)
-            && adopted == (Some(5), 3)
+            && adopted == (Some(Object::c16(5)), 3)
             && empty == Err(AdoptError::NothingToAdopt)
             && last == (true, 3)
             && totals == (Totals { pages: 1, live: 0 }),
@@ -381,7 +382,7 @@ fn tend<G: Gate, L: Log, R: Wait>(
     rt: &R,
     arena: &Arena<G, L>,
     seat: &mut Seat,
-    receipts: &mut Vec<Receipt>,
+    receipts: &mut ReceiptList,
 ) -> Option<usize>
     requires { seat.old.limits ≡ arena.now.limits }
     ensures { seat.new.limits ≡ seat.old.limits }
@@ -393,10 +394,11 @@ fn tend<G: Gate, L: Log, R: Wait>(
 }
 
 // How many of the receipts are those of frees by the worker that were done.
-fn done_by(receipts: &[Receipt], worker: u32) -> usize {
+fn done_by(receipts: &ReceiptList, worker: u32) -> usize {
     let mut done = 0usize;
-    for receipt in receipts {
-        if receipt.worker == worker && receipt.call == Call::Freed {
+    for place in 0..receipts.len() {
+        let receipt = receipts.view(place);
+        if receipt.worker == worker && matches!(receipt.call, CallView::Freed) {
             done = done.saturating_add(1);
         }
     }
@@ -410,7 +412,7 @@ fn is_freed_once<G: Gate, L: Log, R: Wait>(
     arena: &Arena<G, L>,
     first: &mut Seat,
     second: &mut Seat,
-    receipts: &mut Vec<Receipt>,
+    receipts: &mut ReceiptList,
 ) -> Option<bool>
     requires first { first.old.limits ≡ arena.now.limits }
     requires second { second.old.limits ≡ arena.now.limits }
@@ -432,7 +434,7 @@ fn is_freed_once<G: Gate, L: Log, R: Wait>(
         own && sent
             && last
             && !full
-            && live == (Some(5), 2)
+            && live == (Some(Object::c16(5)), 2)
             && none == Some(0)
             && taken == Some(5)
             && gone == (None, 4)
@@ -448,7 +450,7 @@ fn is_freed_where_it_is<G: Gate, L: Log, R: Wait>(
     arena: &Arena<G, L>,
     first: &mut Seat,
     second: &mut Seat,
-    receipts: &mut Vec<Receipt>,
+    receipts: &mut ReceiptList,
 ) -> Option<bool>
     requires first { first.old.limits ≡ arena.now.limits }
     requires second { second.old.limits ≡ arena.now.limits }
@@ -487,7 +489,7 @@ fn frees_later(rt: HostRuntime) -> Result<(), Fail> {
         mut second,
         ..
     } = two;
-    let mut receipts = Vec::new(rt.alloc());
+    let mut receipts = ReceiptList::new(rt.alloc());
     let once = is_freed_once(&rt, &arena, &mut first, &mut second, &mut receipts);
     let there = is_freed_where_it_is(&rt, &arena, &mut first, &mut second, &mut receipts);
     assert_eq!(rt; (once, there), (Some(true), Some(true)));
@@ -517,7 +519,7 @@ fn is_seen_in_time<G: Gate, L: Log, R: Wait>(
     arena: &Arena<G, L>,
     first: &mut Seat,
     second: Seat,
-    receipts: &mut Vec<Receipt>,
+    receipts: &mut ReceiptList,
 ) -> Option<[usize; 5]>
     requires first { first.old.limits ≡ arena.now.limits }
     requires second { second.limits ≡ arena.now.limits }
@@ -554,7 +556,7 @@ fn sees_a_key_in_time(rt: HostRuntime) -> Result<(), Fail> {
         second,
         ..
     } = two;
-    let mut receipts = Vec::new(rt.alloc());
+    let mut receipts = ReceiptList::new(rt.alloc());
     let seen = is_seen_in_time(&rt, &arena, &mut first, second, &mut receipts);
     assert_eq!(rt; seen, Some([0, 1, 1, 1, 1]));
     Ok(())
@@ -616,7 +618,7 @@ fn is_set_in_time(word: &AtomicU64) -> bool {
 fn put_once<G: Gate, R: Wait>(rt: &R, arena: &Arena<G>, seat: &mut Seat) -> bool
     requires { seat.old.limits ≡ arena.now.limits }
 {
-    seat.put(rt, arena, 1).is_ok()
+    seat.put(rt, arena, Object::c16(1)).is_ok()
 }
 
 // A put that begins once another thread is held in its shard, and whether it answered.
@@ -670,7 +672,7 @@ fn puts_beside_a_thread_that_is_held(rt: HostRuntime) -> Result<(), Fail> {
     Ok(())
 }
 
-// The first of two seats puts a value, and the second leaves its key to the first one's thread. Says whether it came to that.
+// The first of two seats puts an object, and the second leaves its key to the first one's thread. Says whether it came to that.
 fn leaves_one<R: Wait>(rt: &R, arena: &Arena<NoGate>, seats: &mut [Seat]) -> bool
     requires two { length seats.old ≡ 2 }
     requires seats { AreSeatsOf arena.now.limits arena.now.table seats.old }
@@ -680,7 +682,7 @@ fn leaves_one<R: Wait>(rt: &R, arena: &Arena<NoGate>, seats: &mut [Seat]) -> boo
     if !seats[0].fits(arena) {
         return false;
     }
-    let Ok((key, _)) = seats[0].put(rt, arena, 5) else {
+    let Ok((key, _)) = seats[0].put(rt, arena, Object::c16(5)) else {
         return false;
     };
     if !seats[1].has_shard_of(&key) {
@@ -701,10 +703,10 @@ fn settled_at_the_end<R: Wait>(rt: &R, alloc: Global) -> Option<(usize, usize, u
     if !leaves_one(rt, &arena, seats.as_mut_slice()) {
         return None;
     }
-    let mut receipts = vec![in alloc; Vec::new(alloc), Vec::new(alloc)].ok()?;
+    let mut receipts = vec![in alloc; ReceiptList::new(alloc), ReceiptList::new(alloc)].ok()?;
     let finished = finish(arena, seats, receipts.as_mut_slice()).ok()?;
     let count = *finished.counts.first()?.get(1)?;
-    let changes = finished.logs.first()?.changes.len();
+    let changes = finished.logs.first()?.log.len();
     Some((count, receipts.first()?.len(), changes))
 }
 

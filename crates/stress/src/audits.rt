@@ -1,25 +1,42 @@
-//! Receipts that agree with a log, and lists that differ from them in one thing.
+//! Receipts that agree with a log, and lists that differ from them in one thing, over objects of all classes.
+ghost use Rattle.std.specs.Prelude.{◌≡◌, ◌≤◌, OnOk};
+
 use audit::{AuditCause, AuditError, audit, audit_by_threads};
-use span::{Call, Change, Key, Receipt, SpanId, SpanLog};
-use std::alloc::Global;
+use span::{Call, Change, Class, Kept, Key, Log, Object, Receipt, ReceiptList, SpanId, SpanLog};
+use std::alloc::{AllocError, Global};
 use std::test::Fail;
 use std::thread::Threads;
 
-const PUT: Change = Change::Put {
-    slot: 0,
-    generation: 1,
-    value: 5,
-};
+// A put of the object at the slot, at generation 1.
+fn put_of(slot: u8, value: Object) -> Change {
+    Change::Put {
+        slot,
+        generation: 1,
+        value,
+    }
+}
 
 const FREE: Change = Change::Free {
     slot: 0,
     generation: 1,
 };
 
-// The key of slot 0 of span 0.0 at generation 1.
-fn some_key() -> Result<Key, Fail> {
+// An object of each class.
+fn objects() -> Result<[Object; 3], Fail> {
+    let four = Object::new(&[5, 6, 7, 8]).ok_or("4 words are an object's")?;
+    let sixteen = Object::new(&[5; 16]).ok_or("16 words are an object's")?;
+    Ok([Object::c16(5), four, sixteen])
+}
+
+// An object that differs from that of four words in the last of them.
+fn other_four() -> Result<Object, Fail> {
+    Ok(Object::new(&[5, 6, 7, 9]).ok_or("4 words are an object's")?)
+}
+
+// The key of the slot of span 0.0 at generation 1.
+fn key_of(slot: u8) -> Result<Key, Fail> {
     let id = SpanId::new(0, 0).ok_or("there are 64 shards")?;
-    Ok(Key::new(id, 0, 1).ok_or("generations count from 1")?)
+    Ok(Key::new(id, slot, 1).ok_or("generations count from 1")?)
 }
 
 fn receipt(key: Key, section: u64, at: usize, call: Call) -> Receipt {
@@ -32,11 +49,11 @@ fn receipt(key: Key, section: u64, at: usize, call: Call) -> Receipt {
     }
 }
 
-fn put(key: Key, section: u64, at: usize) -> Receipt {
-    receipt(key, section, at, Call::Put { value: 5 })
+fn put(key: Key, section: u64, at: usize, value: Object) -> Receipt {
+    receipt(key, section, at, Call::Put { value })
 }
 
-fn get(key: Key, section: u64, at: usize, found: Option<u128>) -> Receipt {
+fn get(key: Key, section: u64, at: usize, found: Option<Object>) -> Receipt {
     receipt(key, section, at, Call::look_up(found))
 }
 
@@ -44,25 +61,69 @@ fn free(key: Key, section: u64, at: usize, done: bool) -> Receipt {
     receipt(key, section, at, Call::free(done))
 }
 
-// A log of span 0.0 with these changes, and asks again where memory was refused.
-fn log_of(alloc: Global, changes: &[Change]) -> Result<SpanLog, Fail> {
-    let changes = match Vec::from_slice(alloc, changes) {
-        Ok(changes) => changes,
-        Err(_) => Vec::from_slice(alloc, changes)?,
-    };
+// Makes room for a change, and asks again where memory was refused.
+fn make_room<L: Log>(log: &mut L, words: usize) -> Result<(), AllocError>
+    ensures changes { L.changes log.new ≡ L.changes log.old }
+    ensures room { OnOk result (1 ≤ L.room log.new) }
+    ensures words { OnOk result (words ≤ L.word_room log.new) }
+{
+    match log.reserve(1, words) {
+        Ok(()) => Ok(()),
+        Err(_) => log.reserve(1, words),
+    }
+}
+
+// Adds a change to a log, which has a few.
+fn add_change<L: Log>(log: &mut L, change: &Change) -> Result<(), Fail> {
+    if log.len() > 9 {
+        return Err("a log of a few changes".into());
+    }
+    match change {
+        Change::Put {
+            slot,
+            generation,
+            value,
+        } => {
+            make_room(log, value.words().len())?;
+            log.push_put(*slot, *generation, value.class(), value.words());
+        }
+        Change::Free { slot, generation } => {
+            make_room(log, 0)?;
+            log.push_free(*slot, *generation);
+        }
+    }
+    Ok(())
+}
+
+// A log of span 0.0, which is of the class, with these changes.
+fn log_of(alloc: Global, class: Class, changes: &[Change]) -> Result<SpanLog, Fail> {
+    let mut log = Kept::new(alloc);
+    for change in changes {
+        add_change(&mut log, change)?;
+    }
     Ok(SpanLog {
-        span: some_key()?.span,
+        span: key_of(0)?.span,
+        class,
         gens: 9,
-        changes,
+        log,
     })
 }
 
-// A worker's list, and asks again where memory was refused.
-fn list_of(alloc: Global, receipts: &[Receipt]) -> Result<Vec<Receipt>, Fail> {
-    match Vec::from_slice(alloc, receipts) {
-        Ok(list) => Ok(list),
-        Err(_) => Ok(Vec::from_slice(alloc, receipts)?),
+// Adds a receipt to a list, and asks again where memory was refused.
+fn add(list: &mut ReceiptList, receipt: &Receipt) -> Result<(), AllocError> {
+    match list.push(receipt) {
+        Ok(()) => Ok(()),
+        Err(_) => list.push(receipt),
     }
+}
+
+// A worker's list.
+fn list_of(alloc: Global, receipts: &[Receipt]) -> Result<ReceiptList, Fail> {
+    let mut list = ReceiptList::new(alloc);
+    for receipt in receipts {
+        add(&mut list, receipt)?;
+    }
+    Ok(list)
 }
 
 // Why the audit is not passed, if it is not. It asks again where memory was refused.
@@ -84,69 +145,76 @@ fn told(
     }
 }
 
-// The same of one span with these changes.
+// The same of one span of the class with these changes.
 fn cause(
     alloc: Global,
+    class: Class,
     changes: &[Change],
     first: &[Receipt],
     second: &[Receipt],
 ) -> Result<Option<AuditCause>, Fail> {
-    told(alloc, &[log_of(alloc, changes)?], first, second)
+    told(alloc, &[log_of(alloc, class, changes)?], first, second)
 }
 
 // The same of a span with two logs.
-fn cause_of_two(alloc: Global, receipts: &[Receipt]) -> Result<Option<AuditCause>, Fail> {
-    let log = [PUT, FREE];
-    let logs = [log_of(alloc, &log)?, log_of(alloc, &log)?];
+fn cause_of_two(
+    alloc: Global,
+    class: Class,
+    changes: &[Change],
+    receipts: &[Receipt],
+) -> Result<Option<AuditCause>, Fail> {
+    let logs = [
+        log_of(alloc, class, changes)?,
+        log_of(alloc, class, changes)?,
+    ];
     told(alloc, &logs, receipts, &[])
 }
 
-// The answers to honest receipts, and to lists that differ from them in one thing.
-fn causes(alloc: Global) -> Result<[Option<AuditCause>; 8], Fail> {
-    let key = some_key()?;
-    let log = [PUT, FREE];
+// The answers to honest receipts of the object, and to lists that differ from them in one thing.
+fn causes(alloc: Global, object: &Object) -> Result<[Option<AuditCause>; 8], Fail> {
+    let (key, class, found) = (key_of(0)?, object.class(), Some(*object));
+    let log = [put_of(0, *object), FREE];
     let (put_0, get_1, free_1, get_2) = (
-        put(key, 0, 0),
-        get(key, 0, 1, Some(5)),
+        put(key, 0, 0, *object),
+        get(key, 0, 1, found),
         free(key, 0, 1, true),
         get(key, 0, 2, None),
     );
     let honest = [put_0, get_1, free_1, get_2];
     let later = [
-        put(key, 1, 0),
-        get(key, 1, 1, Some(5)),
+        put(key, 1, 0, *object),
+        get(key, 1, 1, found),
         free(key, 1, 1, true),
         get(key, 1, 2, None),
     ];
+    let twice = [put_0, get_1, put(key, 0, 1, *object), get_2];
+    let unseen = [put_0, get(key, 0, 1, None), free_1, get_2];
     Ok([
-        cause(alloc, &log, &honest, &[])?,
-        cause(alloc, &[FREE, PUT], &honest, &[])?,
-        cause(alloc, &log, &[put_0, get_1, get_2], &[])?,
-        cause(alloc, &log, &[put_0, get_1, put(key, 0, 1), get_2], &[])?,
-        cause(
-            alloc,
-            &log,
-            &[put_0, get(key, 0, 1, None), free_1, get_2],
-            &[],
-        )?,
-        cause(alloc, &log, &[put_0, get_1, get_2, free_1], &[])?,
-        cause(alloc, &log, &honest, &[get(key, 1, 0, None)])?,
-        cause(alloc, &log, &later, &[get(key, 0, 1, Some(5))])?,
+        cause(alloc, class, &log, &honest, &[])?,
+        cause(alloc, class, &[FREE, log[0]], &honest, &[])?,
+        cause(alloc, class, &log, &[put_0, get_1, get_2], &[])?,
+        cause(alloc, class, &log, &twice, &[])?,
+        cause(alloc, class, &log, &unseen, &[])?,
+        cause(alloc, class, &log, &[put_0, get_1, get_2, free_1], &[])?,
+        cause(alloc, class, &log, &honest, &[get(key, 1, 0, None)])?,
+        cause(alloc, class, &log, &later, &[get(key, 0, 1, found)])?,
     ])
 }
 
 // The answers to a span with two logs, a generation that is used twice, a change with two receipts, a look-up that
 // answers what the span held when it was opened, and a span that was never opened.
 fn other_causes(alloc: Global) -> Result<[Option<AuditCause>; 6], Fail> {
-    let key = some_key()?;
-    let log = [PUT, FREE];
-    let honest = [put(key, 0, 0), free(key, 0, 1, true)];
+    let (key, object, class) = (key_of(0)?, Object::c16(5), Class::C16);
+    let log = [put_of(0, object), FREE];
+    let honest = [put(key, 0, 0, object), free(key, 0, 1, true)];
+    let again = [log[0], FREE, log[0]];
     Ok([
-        cause_of_two(alloc, &honest)?,
-        cause(alloc, &[PUT, FREE, PUT], &honest, &[put(key, 0, 2)])?,
-        cause(alloc, &log, &honest, &[put(key, 0, 0)])?,
+        cause_of_two(alloc, class, &log, &honest)?,
+        cause(alloc, class, &again, &honest, &[put(key, 0, 2, object)])?,
+        cause(alloc, class, &log, &honest, &[put(key, 0, 0, object)])?,
         cause(
             alloc,
+            class,
             &log,
             &honest,
             &[get(key, 0, 2, None), get(key, 0, 0, None)],
@@ -158,6 +226,45 @@ fn other_causes(alloc: Global) -> Result<[Option<AuditCause>; 6], Fail> {
             &[],
         )?,
         told(alloc, &[], &[get(key, 0, 1, None)], &[])?,
+    ])
+}
+
+// The answers to an object that differs in its last word, or is of another class, in a look-up and in a put.
+fn causes_of_others(alloc: Global) -> Result<[Option<AuditCause>; 4], Fail> {
+    let ([one, four, _], other) = (objects()?, other_four()?);
+    let (key, class, log) = (key_of(0)?, Class::C64, [put_of(0, four)]);
+    let put_0 = put(key, 0, 0, four);
+    Ok([
+        cause(alloc, class, &log, &[put_0], &[get(key, 0, 1, Some(other))])?,
+        cause(alloc, class, &log, &[put_0], &[get(key, 0, 1, Some(one))])?,
+        cause(alloc, class, &log, &[put(key, 0, 0, other)], &[])?,
+        cause(alloc, class, &log, &[put(key, 0, 0, one)], &[])?,
+    ])
+}
+
+// The answer to a log of one put of the object at the slot, in a span of the class.
+fn cause_at(
+    alloc: Global,
+    class: Class,
+    slot: u8,
+    object: Object,
+) -> Result<Option<AuditCause>, Fail> {
+    let receipts = [put(key_of(slot)?, 0, 0, object)];
+    cause(alloc, class, &[put_of(slot, object)], &receipts, &[])
+}
+
+// The answers to an object of another class than its span's, to the last slot of a page of each class, and to the slot
+// after it.
+fn causes_by_class(alloc: Global) -> Result<[Option<AuditCause>; 7], Fail> {
+    let [one, four, sixteen] = objects()?;
+    Ok([
+        cause_at(alloc, Class::C64, 0, one)?,
+        cause_at(alloc, Class::C16, 0, four)?,
+        cause_at(alloc, Class::C16, 255, one)?,
+        cause_at(alloc, Class::C64, 63, four)?,
+        cause_at(alloc, Class::C64, 64, four)?,
+        cause_at(alloc, Class::C256, 15, sixteen)?,
+        cause_at(alloc, Class::C256, 16, sixteen)?,
     ])
 }
 
@@ -173,7 +280,9 @@ fn names_the_first_part_that_fails(rt: HostRuntime) -> Result<(), Fail> {
         Some(AuditCause::Barrier),
         Some(AuditCause::Barrier),
     ];
-    assert_eq!(rt; causes(rt.alloc())?, wanted);
+    for object in objects()? {
+        assert_eq!(rt; causes(rt.alloc(), &object)?, wanted);
+    }
     Ok(())
 }
 
@@ -191,14 +300,37 @@ fn looks_at_each_part(rt: HostRuntime) -> Result<(), Fail> {
     Ok(())
 }
 
+#[test]
+fn compares_all_words(rt: HostRuntime) -> Result<(), Fail> {
+    let wanted = [
+        Some(AuditCause::Reply),
+        Some(AuditCause::Reply),
+        Some(AuditCause::Change),
+        Some(AuditCause::Change),
+    ];
+    assert_eq!(rt; causes_of_others(rt.alloc())?, wanted);
+    Ok(())
+}
+
+#[test]
+fn asks_each_log_for_its_class(rt: HostRuntime) -> Result<(), Fail> {
+    let log = Some(AuditCause::Log);
+    assert_eq!(rt;
+        causes_by_class(rt.alloc())?,
+        [log, log, None, None, log, None, log]
+    );
+    Ok(())
+}
+
 // Why the audit of the two lists, each on a thread of its own, is not passed, if it is not.
 fn told_by_threads<R: Threads + Sync>(
     rt: &R,
     alloc: Global,
+    object: Object,
     first: &[Receipt],
     second: &[Receipt],
 ) -> Result<Option<AuditCause>, Fail> {
-    let logs = [log_of(alloc, &[PUT, FREE])?];
+    let logs = [log_of(alloc, object.class(), &[put_of(0, object), FREE])?];
     let lists = [list_of(alloc, first)?, list_of(alloc, second)?];
     let mut answer = audit_by_threads(rt, alloc, &logs, &lists);
     if answer == Err(AuditError::OutOfMemory) {
@@ -217,12 +349,14 @@ fn causes_by_threads<R: Threads + Sync>(
     rt: &R,
     alloc: Global,
 ) -> Result<[Option<AuditCause>; 2], Fail> {
-    let key = some_key()?;
-    let (put_0, free_1) = (put(key, 0, 0), free(key, 0, 1, true));
-    let turned = [free_1, put_0];
+    let [_, _, object] = objects()?;
+    let key = key_of(0)?;
+    let (put_0, free_1) = (put(key, 0, 0, object), free(key, 0, 1, true));
+    let (honest, turned) = ([put_0, free_1], [free_1, put_0]);
+    let found = get(key, 0, 1, Some(object));
     Ok([
-        told_by_threads(rt, alloc, &[put_0, free_1], &[get(key, 0, 1, Some(5))])?,
-        told_by_threads(rt, alloc, &turned, &[get(key, 0, 1, None)])?,
+        told_by_threads(rt, alloc, object, &honest, &[found])?,
+        told_by_threads(rt, alloc, object, &turned, &[get(key, 0, 1, None)])?,
     ])
 }
 

@@ -2,7 +2,7 @@
 ghost use Rattle.std.specs.Prelude.{◌≡◌};
 
 use arena::{Arena, Dropped, Gate, Seat};
-use span::{Counted, Key};
+use span::{Counted, Key, Object};
 use std::alloc::Global;
 use std::sync::Wait;
 use std::sync::atomic::AtomicU64;
@@ -66,7 +66,7 @@ fn put<G: Gate, R: Wait>(rt: &R, arena: &Arena<G, Counted>, seat: &mut Seat) -> 
     requires { seat.old.limits ≡ arena.now.limits }
     ensures { seat.new.limits ≡ seat.old.limits }
 {
-    match seat.put(rt, arena, 7) {
+    match seat.put(rt, arena, Object::c16(7)) {
         Ok((key, _)) => Some(key),
         Err(_) => None,
     }
@@ -76,7 +76,7 @@ fn get<G: Gate, R: Wait>(rt: &R, arena: &Arena<G, Counted>, seat: &mut Seat, key
     requires { seat.old.limits ≡ arena.now.limits }
     ensures { seat.new.limits ≡ seat.old.limits }
 {
-    seat.get(rt, arena, key).0 == Some(7)
+    seat.get(rt, arena, key).0 == Some(Object::c16(7))
 }
 
 fn free<G: Gate, R: Wait>(rt: &R, arena: &Arena<G, Counted>, seat: &mut Seat, key: &Key) -> bool

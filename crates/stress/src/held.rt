@@ -2,7 +2,7 @@
 ghost use Rattle.std.specs.Prelude.{◌≡◌};
 
 use arena::{Arena, Dropped, Gate, Seat, Steward};
-use span::{Counted, Key, SpanId};
+use span::{Counted, Key, Object, SpanId};
 use std::alloc::Global;
 use std::sync::Wait;
 use std::sync::atomic::AtomicU64;
@@ -110,7 +110,7 @@ fn put<R: Wait>(rt: &R, arena: &Arena<Holding<'_>, Counted>, seat: &mut Seat) ->
     requires { seat.old.limits ≡ arena.now.limits }
     ensures { seat.new.limits ≡ seat.old.limits }
 {
-    match seat.put(rt, arena, 7) {
+    match seat.put(rt, arena, Object::c16(7)) {
         Ok((key, _)) => Some(key),
         Err(_) => None,
     }
@@ -120,7 +120,7 @@ fn get<R: Wait>(rt: &R, arena: &Arena<Holding<'_>, Counted>, seat: &mut Seat, ke
     requires { seat.old.limits ≡ arena.now.limits }
     ensures { seat.new.limits ≡ seat.old.limits }
 {
-    seat.get(rt, arena, key).0 == Some(7)
+    seat.get(rt, arena, key).0 == Some(Object::c16(7))
 }
 
 fn free<R: Wait>(rt: &R, arena: &Arena<Holding<'_>, Counted>, seat: &mut Seat, key: &Key) -> bool

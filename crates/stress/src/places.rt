@@ -6,7 +6,7 @@ ghost use Rattle.arena.specs.Seats.{AreSeatsOf};
 use arena::{Arena, Finished, NoGate, Seat, Stepped, Steward, Unfinished, finish};
 use fold::Step;
 use marks::Totals;
-use span::{Call, Key, Receipt};
+use span::{CallView, Key, Log, Object, ReceiptList};
 use std::alloc::Global;
 use std::sync::Wait;
 use std::test::Fail;
@@ -29,7 +29,7 @@ fn put<R: Wait>(
     arena: &Arena<NoGate>,
     seats: &mut [Seat],
     worker: usize,
-    value: u128,
+    word: u128,
 ) -> Option<Key>
     requires { AreSeatsOf arena.now.limits arena.now.table seats.old }
     ensures len { length seats.new ≡ length seats.old }
@@ -38,7 +38,7 @@ fn put<R: Wait>(
     if worker >= seats.len() || !seats[worker].fits(arena) {
         return None;
     }
-    match seats[worker].put(rt, arena, value) {
+    match seats[worker].put(rt, arena, Object::c16(word)) {
         Ok((key, _)) => Some(key),
         Err(_) => None,
     }
@@ -164,21 +164,21 @@ fn spread<R: Wait>(
 }
 
 // A list of receipts for each of four workers, made anew where memory was refused.
-fn four_lists(alloc: Global) -> Option<Vec<Vec<Receipt>>> {
+fn four_lists(alloc: Global) -> Option<Vec<ReceiptList>> {
     let lists = vec![in alloc;
-        Vec::new(alloc),
-        Vec::new(alloc),
-        Vec::new(alloc),
-        Vec::new(alloc),
+        ReceiptList::new(alloc),
+        ReceiptList::new(alloc),
+        ReceiptList::new(alloc),
+        ReceiptList::new(alloc),
     ];
     match lists {
         Ok(lists) => Some(lists),
         Err(_) => {
             vec![in alloc;
-                Vec::new(alloc),
-                Vec::new(alloc),
-                Vec::new(alloc),
-                Vec::new(alloc),
+                ReceiptList::new(alloc),
+                ReceiptList::new(alloc),
+                ReceiptList::new(alloc),
+                ReceiptList::new(alloc),
             ]
             .ok()
         }
@@ -186,13 +186,22 @@ fn four_lists(alloc: Global) -> Option<Vec<Vec<Receipt>>> {
 }
 
 // How many receipts of frees that were done each worker has.
-fn done_of(lists: &[Vec<Receipt>]) -> [usize; 4] {
+fn done_of(lists: &[ReceiptList]) -> [usize; 4] {
     let mut done = [0usize; 4];
     for (worker, list) in lists.iter().enumerate() {
-        for receipt in list {
-            if receipt.call == Call::Freed && worker < 4 {
-                done[worker] = done[worker].saturating_add(1);
-            }
+        if worker < 4 {
+            done[worker] = done_in(list);
+        }
+    }
+    done
+}
+
+// How many of the receipts are of frees that were done.
+pub(crate) fn done_in(list: &ReceiptList) -> usize {
+    let mut done = 0usize;
+    for place in 0..list.len() {
+        if matches!(list.view(place).call, CallView::Freed) {
+            done = done.saturating_add(1);
         }
     }
     done
@@ -204,7 +213,7 @@ fn found_of<R: Wait>(
     arena: &Arena<NoGate>,
     seats: &mut [Seat],
     places: &Places,
-) -> Option<[Option<u128>; 4]> {
+) -> Option<[Option<Object>; 4]> {
     let Some(seat) = seats.last_mut() else {
         return None;
     };
@@ -224,7 +233,7 @@ fn settle<R: Wait>(
     rt: &R,
     arena: &Arena<NoGate>,
     seats: &mut [Seat],
-    lists: &mut [Vec<Receipt>],
+    lists: &mut [ReceiptList],
 ) -> Option<usize>
     requires seats { AreSeatsOf arena.now.limits arena.now.table seats.old }
     requires lists { length lists.old ≡ length seats.old }
@@ -252,7 +261,13 @@ pub(crate) fn total(counts: &[Vec<usize>]) -> usize {
 
 // What came of settling: the totals before, how many keys were settled, how many of each shard were freed, what is found of
 // each afterwards, and the totals then.
-type Settled = (Totals, usize, [usize; 4], Option<[Option<u128>; 4]>, Totals);
+type Settled = (
+    Totals,
+    usize,
+    [usize; 4],
+    Option<[Option<Object>; 4]>,
+    Totals,
+);
 
 fn settled<R: Wait>(rt: &R, alloc: Global) -> Option<Settled> {
     let Ok((arena, mut seats, mut steward)) = Arena::open(alloc, 4, 4, 4, 9, NoGate) else {
@@ -277,7 +292,7 @@ fn settles_wherever_a_span_is(rt: HostRuntime) -> Result<(), Fail> {
         Totals { pages: 3, live: 4 },
         3,
         [1, 0, 1, 1],
-        Some([None, Some(12), None, None]),
+        Some([None, Some(Object::c16(12)), None, None]),
         Totals { pages: 2, live: 1 },
     );
     // Once more where memory was refused.
@@ -293,7 +308,7 @@ fn settles_wherever_a_span_is(rt: HostRuntime) -> Result<(), Fail> {
 fn finish_again(
     arena: Arena<NoGate>,
     seats: Vec<Seat>,
-    lists: &mut [Vec<Receipt>],
+    lists: &mut [ReceiptList],
 ) -> Option<Finished>
     requires seats { AreSeatsOf arena.limits arena.table seats.items }
     requires lists { length lists.old ≡ vec_len seats }
@@ -322,7 +337,7 @@ fn left<R: Wait>(rt: &R, alloc: Global) -> Option<(usize, [usize; 4], usize, usi
     let finished = finish_again(arena, seats, lists.as_mut_slice())?;
     let mut changes = 0usize;
     for log in &finished.logs {
-        changes = changes.saturating_add(log.changes.len());
+        changes = changes.saturating_add(log.log.len());
     }
     let count = total(finished.counts.as_slice());
     Some((
@@ -362,14 +377,14 @@ fn logs_left<R: Wait>(rt: &R, alloc: Global) -> Option<(usize, usize)> {
         return None;
     };
     let emptied = empties_one(rt, &arena, seats.as_mut_slice())?;
-    let mut lists = vec![in alloc; Vec::new(alloc), Vec::new(alloc)].ok()?;
+    let mut lists = vec![in alloc; ReceiptList::new(alloc), ReceiptList::new(alloc)].ok()?;
     if !emptied || lists.len() != seats.len() {
         return None;
     }
     let finished = finish_again(arena, seats, lists.as_mut_slice())?;
     let mut changes = 0usize;
     for log in &finished.logs {
-        changes = changes.saturating_add(log.changes.len());
+        changes = changes.saturating_add(log.log.len());
     }
     Some((finished.logs.len(), changes))
 }

@@ -4,7 +4,7 @@ ghost use Rattle.std.specs.Prelude.{◌≡◌};
 use arena::{Arena, NoGate, Seat};
 use marks::Totals;
 use shard::PutError;
-use span::Key;
+use span::{Key, Object};
 use std::alloc::Global;
 use std::sync::Wait;
 use std::test::Fail;
@@ -22,7 +22,7 @@ fn fill<R: Wait>(
     let mut count = 0usize;
     let mut first = None;
     for _ in 0..2000 {
-        match seat.put(rt, arena, 7) {
+        match seat.put(rt, arena, Object::c16(7)) {
             Ok((key, _)) => {
                 count = count.saturating_add(1);
                 first = first.or(Some(key));

@@ -6,7 +6,7 @@ use crate::steward::{Keeper, Marks};
 use crate::worker::{Trouble, Worker};
 use arena::{Arena, NoGate, Seat, finish};
 use audit::{AuditError, audit};
-use span::{Key, Receipt};
+use span::{Key, ReceiptList};
 use std::alloc::{AllocError, Global};
 use std::sync::Wait;
 use std::thread;
@@ -166,7 +166,7 @@ fn moves_of(workers: &[Worker<'_>]) -> (usize, usize, usize) {
 fn taken_apart(
     alloc: Global,
     workers: Vec<Worker<'_>>,
-) -> Result<(Vec<Seat>, Vec<Vec<Receipt>>), AllocError>
+) -> Result<(Vec<Seat>, Vec<ReceiptList>), AllocError>
     ensures { IfOk result (λ apart. map (λ seat. seat.table) apart.0.items
         ≡ map (λ worker. worker.seat.table) workers.entry.items) }
 {

@@ -2,7 +2,7 @@
 use abandoned::Pool;
 use arena::sections::{free_in, free_pool, get_in, get_pool, put_in};
 use shard::Shard;
-use span::{Call, Key, Receipt};
+use span::{Call, Key, Object, Receipt};
 use std::test::Fail;
 
 // The receipt of such a call of worker 3 in section 2.
@@ -18,11 +18,11 @@ fn receipt(key: &Key, at: usize, call: Call) -> Receipt {
 
 // Puts, looks up and frees in the shard, which the pool then receives, and looks up and frees there.
 fn are_told(shard: &mut Shard, pool: &mut Pool) -> Result<bool, Fail> {
-    let put = put_in(shard, 3, 2, 5)?;
+    let put = put_in(shard, 3, 2, Object::c16(5))?;
     let key = put.key;
     let elsewhere = get_pool(pool, 3, 2, &key);
     let here = get_in(shard, 3, 2, &key);
-    let kept = put_in(shard, 3, 2, 6)?;
+    let kept = put_in(shard, 3, 2, Object::c16(6))?;
     let freed = free_in(shard, 3, 2, &key);
     pool.receive(shard)?;
     let gone = get_in(shard, 3, 2, &key);
@@ -31,7 +31,7 @@ fn are_told(shard: &mut Shard, pool: &mut Pool) -> Result<bool, Fail> {
     Ok(
         (put.at, kept.at) == (0, 1)
             && elsewhere.is_none()
-            && here == Some(receipt(&key, 1, Call::look_up(Some(5))))
+            && here == Some(receipt(&key, 1, Call::look_up(Some(Object::c16(5)))))
             && freed == Some(receipt(&key, 2, Call::free(true)))
             && gone.is_none()
             && again == Some(receipt(&key, 3, Call::free(false)))

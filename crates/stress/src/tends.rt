@@ -1,8 +1,9 @@
 //! How much room a tend asks for: a receipt for each key that waits, whatever the rings hold.
-ghost use Rattle.std.specs.Prelude.{◌≡◌, ◌-◌, vec_capacity, vec_len};
+ghost use Rattle.std.specs.Prelude.{◌≡◌};
+ghost use Rattle.span.specs.ReceiptLists.{kept_receipts, receipt_room};
 
 use arena::{Arena, NoGate, Receipts, Seat};
-use span::{Key, Receipt};
+use span::{Key, Object, Receipt, ReceiptList};
 use std::alloc::{AllocError, Global};
 use std::sync::Wait;
 use std::test::Fail;
@@ -10,40 +11,40 @@ use std::test::Fail;
 // A list of receipts, and for how many room was asked last.
 #[derive(Drop)]
 struct Asked {
-    receipts: Vec<Receipt>,
+    receipts: ReceiptList,
     last: usize,
 }
 
 impl Receipts for Asked {
-    ghost told = { λ asked. asked.receipts.items };
+    ghost told = { λ asked. kept_receipts asked.receipts };
 
-    ghost room = { λ asked. vec_capacity asked.receipts - vec_len asked.receipts };
+    ghost room = { λ asked. receipt_room asked.receipts };
 
     fn make_room(&mut self, more: usize) -> Result<(), AllocError> {
         self.last = more;
-        self.receipts.reserve(more)
+        self.receipts.make_room(more)
     }
 
     fn tell(&mut self, receipt: Receipt) {
-        self.receipts.push_reserved(receipt);
+        self.receipts.tell(receipt);
     }
 }
 
-// Puts a value, and does so again where memory was refused.
+// Puts an object, and does so again where memory was refused.
 fn put<R: Wait>(rt: &R, arena: &Arena<NoGate>, seat: &mut Seat) -> Option<Key>
     requires { seat.old.limits ≡ arena.now.limits }
     ensures { seat.new.limits ≡ seat.old.limits }
 {
-    match seat.put(rt, arena, 5) {
+    match seat.put(rt, arena, Object::c16(5)) {
         Ok((key, _)) => Some(key),
-        Err(_) => match seat.put(rt, arena, 5) {
+        Err(_) => match seat.put(rt, arena, Object::c16(5)) {
             Ok((key, _)) => Some(key),
             Err(_) => None,
         },
     }
 }
 
-// The first worker puts a value, and the second leaves its key to the first one's thread. Says whether it came to that.
+// The first worker puts an object, and the second leaves its key to the first one's thread. Says whether it came to that.
 fn leave_one<R: Wait>(rt: &R, arena: &Arena<NoGate>, first: &mut Seat, second: &mut Seat) -> bool
     requires { first.old.limits ≡ arena.now.limits }
     ensures { first.new.limits ≡ first.old.limits }
@@ -83,7 +84,7 @@ fn asked_for<R: Wait>(rt: &R, alloc: Global) -> Option<(usize, usize, usize)> {
     }
     second.hand_over();
     let mut asked = Asked {
-        receipts: Vec::new(alloc),
+        receipts: ReceiptList::new(alloc),
         last: 0,
     };
     let count = tend(rt, &arena, &mut first, &mut asked)?;

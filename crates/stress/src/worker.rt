@@ -6,7 +6,7 @@ use arena::{Arena, NoGate, Seat};
 use rand_core::utils::NextWord;
 use rand_pcg::Pcg32;
 use shard::PutError;
-use span::{Key, Receipt};
+use span::{Class, Key, Object, ReceiptList};
 use std::alloc::{AllocError, Global};
 use std::sync::Wait;
 
@@ -37,7 +37,7 @@ pub struct Worker<'a> {
     /// The keys that it was given in this section, and has not freed itself.
     pub keys: Vec<Key>,
     /// The receipts of all its calls, in order.
-    pub receipts: Vec<Receipt>,
+    pub receipts: ReceiptList,
     /// Whether it ended its shard.
     pub has_ended: bool,
     /// How many groups it adopted.
@@ -67,7 +67,7 @@ impl<'a> Worker<'a> {
             seat,
             random,
             keys: Vec::new(alloc),
-            receipts: Vec::new(alloc),
+            receipts: ReceiptList::new(alloc),
             has_ended: false,
             adopted: 0,
             retired: 0,
@@ -143,11 +143,10 @@ impl<'a> Worker<'a> {
         ensures { self.new.seat.table ≡ self.old.seat.table }
     {
         self.keys.reserve(1)?;
-        self.receipts.reserve(1)?;
-        match self.seat.put(rt, self.arena, word as u128) {
+        match self.seat.put(rt, self.arena, object_of(word)) {
             Ok((key, receipt)) => {
                 self.keys.push_reserved(key);
-                self.receipts.push_reserved(receipt);
+                self.receipts.push(&receipt)?;
                 Ok(())
             }
             Err(PutError::OutOfMemory) => Err(Trouble::OutOfMemory),
@@ -168,9 +167,8 @@ impl<'a> Worker<'a> {
         let Some(key) = key else {
             return Ok(());
         };
-        self.receipts.reserve(1)?;
         let (_, receipt) = self.seat.get(rt, self.arena, &key);
-        self.receipts.push_reserved(receipt);
+        self.receipts.push(&receipt)?;
         Ok(())
     }
 
@@ -190,9 +188,8 @@ impl<'a> Worker<'a> {
             self.sent = self.sent.saturating_add(1);
             return Ok(());
         }
-        self.receipts.reserve(1)?;
         let (_, receipt) = self.seat.free(rt, self.arena, &key);
-        self.receipts.push_reserved(receipt);
+        self.receipts.push(&receipt)?;
         Ok(())
     }
 
@@ -245,6 +242,17 @@ impl<'a> Worker<'a> {
                 Ok(())
             }
         }
+    }
+}
+
+// An object of the class that the number tells: of 16 numbers 12 are of one word, and one of sixteen words, so that a section's
+// puts of each class take about a page.
+fn object_of(number: u32) -> Object {
+    let word = u128::from(number);
+    match number / 16 % 16 {
+        0 => Object::of(Class::C256, &[word; 16]),
+        1..=3 => Object::of(Class::C64, &[word, word + 1, word + 2, word + 3]),
+        _ => Object::c16(word),
     }
 }
 

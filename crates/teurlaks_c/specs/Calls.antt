@@ -1,6 +1,7 @@
 -- What the calls do.
-use Rattle.std.specs.Prelude.{◌≡◌, ◌⊎◌, ◌<◌, ◌++◌, ℕ, List, Option, Some, None, MatchOption, true, false, drop, length}
+use Rattle.std.specs.Prelude.{◌≡◌, ◌⊎◌, ◌<◌, ◌≤◌, ◌++◌, ◌∷◌, [], ℕ, List, Option, Some, None, MatchOption, true, false, drop, length}
 use Rattle.span.specs.declared.key.Key.{Key}
+use Rattle.span.specs.Classes.{IsObject}
 use Rattle.span.specs.Log.{Value}
 use Rattle.span.specs.Order.{HasNoneBeyond, IsNextLive}
 use Rattle.certificate.specs.declared.certificate.Certificate.{Certificate}
@@ -21,6 +22,7 @@ use Rattle.teurlaks_c.specs.declared.replies.RawKey.{RawKey}
 use Rattle.teurlaks_c.specs.declared.replies.RawWord.{RawWord}
 use Rattle.teurlaks_c.specs.declared.replies.PutReply.{PutReply}
 use Rattle.teurlaks_c.specs.declared.replies.GetReply.{GetReply}
+use Rattle.teurlaks_c.specs.declared.replies.WordsReply.{WordsReply}
 use Rattle.teurlaks_c.specs.declared.replies.NextReply.{NextReply}
 use Rattle.teurlaks_c.specs.declared.replies.RetireReply.{RetireReply}
 use Rattle.teurlaks_c.specs.declared.replies.AdoptReply.{AdoptReply}
@@ -29,8 +31,8 @@ use Rattle.teurlaks_c.specs.declared.replies.StepReply.{StepReply}
 use Rattle.teurlaks_c.specs.declared.replies.CertificateReply.{CertificateReply}
 use Rattle.teurlaks_c.specs.declared.replies.TotalsReply.{TotalsReply}
 use Rattle.teurlaks_c.specs.Keys.{IsKeyOf, IsNoKey, IsSpanOf}
-use Rattle.teurlaks_c.specs.Status.{done, none, out_of_memory, emptied, no_pair_left, no_plan, too_small, refusal_status}
-use Rattle.teurlaks_c.specs.Words.{word_of}
+use Rattle.teurlaks_c.specs.Status.{done, none, out_of_memory, config, emptied, no_pair_left, no_plan, too_small, refusal_status}
+use Rattle.teurlaks_c.specs.Words.{word_of, words_of}
 
 -- a new core of these numbers, and no certificate
 pub record HasNew (limits : Limits) (new : Option Held) : Type 0 where
@@ -60,26 +62,46 @@ SaysPut says (Issued key) = (says.status ≡ done) × IsKeyOf says.key key
 SaysPut says (Refused refusal) = says.status ≡ refusal_status refusal
 SaysPut says reply = ⊥
 
--- the word is put, or the put is refused
-abbrev pub Puts : Option Held → ℕ → RawWord → PutReply → Option Held → Type 0
-Puts old shard value says new = (reply : Reply) × Steps old (Put shard (word_of value)) reply new × SaysPut says reply
+-- the object is put, or the put is refused
+abbrev pub Puts : Option Held → ℕ → Value → PutReply → Option Held → Type 0
+Puts old shard value says new = (reply : Reply) × Steps old (Put shard value) reply new × SaysPut says reply
 
--- what C reads of a look-up
+-- words that are no object are refused, and nothing changes; others are put, or their put is refused
+abbrev pub PutsWords : Option Held → ℕ → List ℕ → PutReply → Option Held → Type 0
+PutsWords old shard words says new = (IsObject words × Puts old shard words says new)
+    ⊎ ((IsObject words → ⊥) × (says.status ≡ config) × (new ≡ old))
+
+-- what C reads of a look-up of one word: a wider object is not told
 abbrev pub SaysGot : GetReply → Option Value → Type 0
-SaysGot says (Some value) = (says.status ≡ done) × (word_of says.value ≡ value)
+SaysGot says (Some value) =
+    ((length value ≡ 1) × (says.status ≡ done) × (word_of says.value ∷ [] ≡ value))
+    ⊎ ((1 < length value) × (says.status ≡ too_small) × (word_of says.value ≡ 0))
 SaysGot says None = (says.status ≡ none) × (word_of says.value ≡ 0)
 
--- the value of the key in the map that the core shows; nothing changes
-pub record GetsKey (old : Option Held) (key : Key) (found : Option Value) (new : Option Held) : Type 0 where
+-- what C reads of a look-up, and what it leaves in the room: the object's words, where there is room for them
+abbrev pub SaysWords : List RawWord → WordsReply → List RawWord → Option Value → Type 0
+SaysWords room says room_new (Some value) =
+    (says.len ≡ length value)
+    × (((length value ≤ length room) × (says.status ≡ done) × (words_of room_new ≡ value ++ drop (length value) (words_of room)))
+    ⊎ ((length room < length value) × (says.status ≡ too_small) × (room_new ≡ room)))
+SaysWords room says room_new None = (says.len ≡ 0) × (says.status ≡ none) × (room_new ≡ room)
+
+-- this is told of the value of the key in the map that the core shows; nothing changes
+pub record GetsKey (old : Option Held) (key : Key) (Tells : Option Value → Type 0) (new : Option Held) : Type 0 where
   pub held : Held
   pub is : old ≡ Some held
   pub same : new ≡ old
-  pub value : found ≡ (shown held.core).value_of key
+  pub told : Tells ((shown held.core).value_of key)
 
 -- the word of the key with these numbers, if it is live; nothing changes
 abbrev pub Gets : Option Held → RawKey → GetReply → Option Held → Type 0
 Gets old raw says new = (IsNoKey raw × SaysGot says None × (new ≡ old))
-    ⊎ ((key : Key) × (found : Option Value) × IsKeyOf raw key × GetsKey old key found new × SaysGot says found)
+    ⊎ ((key : Key) × IsKeyOf raw key × GetsKey old key (SaysGot says) new)
+
+-- the words of the key with these numbers, if it is live; nothing changes but the room
+abbrev pub GetsWords : Option Held → RawKey → List RawWord → WordsReply → List RawWord → Option Held → Type 0
+GetsWords old raw room says room_new new = (IsNoKey raw × SaysWords room says room_new None × (new ≡ old))
+    ⊎ ((key : Key) × IsKeyOf raw key × GetsKey old key (SaysWords room says room_new) new)
 
 -- what C reads of a step of a walk
 abbrev pub SaysNext : NextReply → Option Key → Type 0

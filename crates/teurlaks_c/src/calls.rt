@@ -1,24 +1,26 @@
 // A core from its beginning to its end, and the calls on keys.
-ghost use Rattle.std.specs.Prelude.{◌≡◌, ◌↔◌, IsSome, None, Option, Some};
+ghost use Rattle.std.specs.Prelude.{◌≡◌, ◌↔◌, ◌∷◌, [], IfSome, IsSome, None, Option, Some, length, option_map};
+ghost use Rattle.span.specs.Classes.{IsObject, width_of};
 ghost use Rattle.marks.specs.Numbers.{AreWithin, limits_of};
 ghost use Rattle.arena_core.specs.State.{new_core};
 ghost use Rattle.arena_core.specs.declared.event.Event.TheVariants as event;
 ghost use Rattle.arena_core.specs.declared.reply.Reply.TheVariants as reply;
-ghost use Rattle.teurlaks_c.specs.Calls.{Counts, Frees, Gets, GetsKey, HasNew, Nexts, NextsKey, Puts, SaysGot, SaysNext, Steps};
+ghost use Rattle.teurlaks_c.specs.Calls.{Counts, Frees, Gets, GetsKey, GetsWords, HasNew, Nexts, NextsKey, Puts, PutsWords, SaysGot, SaysNext, SaysWords, Steps};
+ghost use Rattle.teurlaks_c.specs.Words.{word_of, words_of};
 ghost use Rattle.teurlaks_c.specs.Status.{config, out_of_memory, refusal_status};
 
 use crate::handle::Handle;
 use crate::held::Held;
 use crate::keys::{key_of, raw_of};
-use crate::replies::{GetReply, NextReply, PutReply, RawKey, RawWord, TotalsReply};
-use crate::status::{CONFIG, NONE, OK, OUT_OF_MEMORY, status_of};
-use crate::words::{raw_word, value_of};
+use crate::replies::{GetReply, NextReply, PutReply, RawKey, RawWord, TotalsReply, WordsReply};
+use crate::status::{CONFIG, NONE, OK, OUT_OF_MEMORY, TOO_SMALL, status_of};
+use crate::words::{class_for, join_all, raw_word, value_of, write_words};
 use arena_core::{Core, CoreError};
-use span::Key;
+use span::{Class, Key};
 use std::alloc::Global;
 use std::mem::replace;
 
-/// Leaves a new core to the handle, which has none yet: of `shards` shards, 1 to 64, each of up to `page_limit` pages of 256 slots,
+/// Leaves a new core to the handle, which has none yet: of `shards` shards, 1 to 64, each of up to `page_limit` pages of 4,096 bytes,
 /// 1 to 1,024, with rings of `ring_capacity` keys, 1 to 1,024, each slot of which is given the generations from 1 to `gens`, at least 1.
 ///
 /// `CONFIG` comes exactly where a number is out of its range, and `OUT_OF_MEMORY` only where each is within it. Where the status
@@ -66,8 +68,8 @@ pub extern "C" fn teurlaks_drop(alloc: Global, handle: &mut Handle)
     drop(replace(handle, Handle::none()).into_box(alloc));
 }
 
-/// Keeps the word in the shard, and answers its key, which was never given out before. Refused with `PAGES_SPENT`, `ENDED`, `CONFIG` or
-/// `OUT_OF_MEMORY` as [`Core::put`] is; nothing has changed then.
+/// Keeps an object of one word in the shard, and answers its key, which was never given out before. Refused with `PAGES_SPENT`,
+/// `ENDED`, `CONFIG` or `OUT_OF_MEMORY` as [`Core::put`] is; nothing has changed then.
 #[unsafe(no_mangle)]
 pub extern "C" fn teurlaks_put(
     alloc: Global,
@@ -76,24 +78,37 @@ pub extern "C" fn teurlaks_put(
     value: RawWord,
 ) -> PutReply
     requires live { IsSome handle.old.held }
-    ensures { Puts handle.old.held shard value result handle.new.held }
+    ensures { Puts handle.old.held shard (word_of value ∷ []) result handle.new.held }
 {
-    let mut held = replace(handle, Handle::none()).into_box(alloc);
-    let put = held.core.put(shard, value_of(value));
-    *handle = Handle::of(held);
-    match put {
-        Ok(key) => PutReply {
-            status: OK,
-            key: raw_of(key),
-        },
-        Err(refusal) => PutReply {
-            status: status_of(refusal),
-            key: no_key(),
-        },
-    }
+    put(alloc, handle, shard, Class::C16, &[value_of(value)])
 }
 
-/// The word of the key, where it is live, and else `NONE`. Nothing changes.
+/// Keeps an object of 1, 4 or 16 words in the shard, as [`teurlaks_put`] does with one word. Where the words are of another number,
+/// it answers `CONFIG`, and nothing has changed.
+#[unsafe(no_mangle)]
+pub extern "C" fn teurlaks_put_words(
+    alloc: Global,
+    handle: &mut Handle,
+    shard: u32,
+    words: &[RawWord],
+) -> PutReply
+    requires live { IsSome handle.old.held }
+    ensures { PutsWords handle.old.held shard (words_of words.now) result handle.new.held }
+{
+    let Some(class) = class_for(words) else {
+        return PutReply {
+            status: CONFIG,
+            key: no_key(),
+        };
+    };
+    let mut room = [0; 16];
+    let values = &mut room[..words.len()];
+    join_all(values, words);
+    put(alloc, handle, shard, class, values)
+}
+
+/// The word of the key, where it is live and has an object of one word. `NONE` where it is not live, and `TOO_SMALL` where its object
+/// has more words. Nothing changes.
 #[unsafe(no_mangle)]
 pub extern "C" fn teurlaks_get(alloc: Global, handle: &mut Handle, key: RawKey) -> GetReply
     requires live { IsSome handle.old.held }
@@ -102,7 +117,25 @@ pub extern "C" fn teurlaks_get(alloc: Global, handle: &mut Handle, key: RawKey) 
     let Some(key) = key_of(key) else {
         return got(None);
     };
-    got(get(alloc, handle, &key))
+    get(alloc, handle, &key)
+}
+
+/// Writes the words of the key's object, where it is live, into `words`, from its first on, and answers how many they are. `NONE` where
+/// it is not live, and `TOO_SMALL` where there is no room for that many: nothing was written then. The core stays as it is.
+#[unsafe(no_mangle)]
+pub extern "C" fn teurlaks_get_words(
+    alloc: Global,
+    handle: &mut Handle,
+    key: RawKey,
+    words: &mut [RawWord],
+) -> WordsReply
+    requires live { IsSome handle.old.held }
+    ensures { GetsWords handle.old.held key words.old result words.new handle.new.held }
+{
+    let Some(key) = key_of(key) else {
+        return tell(None, words);
+    };
+    get_words(alloc, handle, &key, words)
 }
 
 /// Frees the key, where it is live, which `OK` says; else it answers `NONE`, and nothing changes. It takes no memory.
@@ -142,16 +175,55 @@ pub extern "C" fn teurlaks_totals(alloc: Global, handle: &mut Handle) -> TotalsR
     }
 }
 
-// The core looks the key up.
+// The core keeps the object of these words.
 #[inline(always)]
-fn get(alloc: Global, handle: &mut Handle, key: &Key) -> Option<u128>
+fn put(
+    alloc: Global,
+    handle: &mut Handle,
+    shard: u32,
+    class: Class,
+    words: &[u128],
+) -> PutReply
     requires live { IsSome handle.old.held }
-    ensures { GetsKey handle.old.held key.now result handle.new.held }
+    requires width { length words.now ≡ width_of class }
+    ensures { Puts handle.old.held shard words.now result handle.new.held }
+{
+    let mut held = replace(handle, Handle::none()).into_box(alloc);
+    let put = held.core.put_words(shard, class, words);
+    *handle = Handle::of(held);
+    match put {
+        Ok(key) => PutReply {
+            status: OK,
+            key: raw_of(key),
+        },
+        Err(refusal) => PutReply {
+            status: status_of(refusal),
+            key: no_key(),
+        },
+    }
+}
+
+// The core looks the key up, for its word.
+#[inline(always)]
+fn get(alloc: Global, handle: &mut Handle, key: &Key) -> GetReply
+    requires live { IsSome handle.old.held }
+    ensures { GetsKey handle.old.held key.now (SaysGot result) handle.new.held }
 {
     let held = replace(handle, Handle::none()).into_box(alloc);
-    let found = held.core.get(key);
+    let says = got(held.core.get(key));
     *handle = Handle::of(held);
-    found
+    says
+}
+
+// The core looks the key up, and its words are written into the room.
+fn get_words(alloc: Global, handle: &mut Handle, key: &Key, room: &mut [RawWord]) -> WordsReply
+    requires live { IsSome handle.old.held }
+    ensures { GetsKey handle.old.held key.now (SaysWords room.old result room.new) handle.new.held }
+{
+    let held = replace(handle, Handle::none()).into_box(alloc);
+    let says = tell(held.core.get(key), room);
+    *handle = Handle::of(held);
+    says
 }
 
 // The core frees the key.
@@ -193,21 +265,42 @@ fn next_reply(found: Option<Key>) -> NextReply
     }
 }
 
-// What was found, as C has it.
+// What was found, as C has it where it wants one word.
 #[inline(always)]
-fn got(found: Option<u128>) -> GetReply
-    ensures { SaysGot result found }
+fn got(found: Option<&[u128]>) -> GetReply
+    requires { IfSome found (λ words. IsObject words.now) }
+    ensures { SaysGot result (option_map (λ words. words.now) found.entry) }
 {
-    match found {
-        Some(value) => GetReply {
-            value: raw_word(value),
-            status: OK,
-        },
-        None => GetReply {
-            value: raw_word(0),
-            status: NONE,
-        },
+    let (value, status) = match found {
+        Some([word]) => (*word, OK),
+        Some(_) => (0, TOO_SMALL),
+        None => (0, NONE),
+    };
+    GetReply {
+        value: raw_word(value),
+        status,
     }
+}
+
+// What was found, as C has it, with its words in the room where there is enough.
+fn tell(found: Option<&[u128]>, room: &mut [RawWord]) -> WordsReply
+    ensures { SaysWords room.old result room.new (option_map (λ words. words.now) found.entry) }
+{
+    let Some(words) = found else {
+        return WordsReply {
+            status: NONE,
+            len: 0,
+        };
+    };
+    let len = words.len();
+    if len > room.len() {
+        return WordsReply {
+            status: TOO_SMALL,
+            len,
+        };
+    }
+    write_words(room, words);
+    WordsReply { status: OK, len }
 }
 
 // What stands for a key where there is none: generation 0 is never given out.

@@ -43,6 +43,14 @@ pub struct GetReply {
     pub status: u32,
 }
 
+/// What a look-up answers that writes words: how many words the object has, where the status is `OK` or `TOO_SMALL`; else 0.
+#[repr(C)]
+#[derive(Clone, Copy)]
+pub struct WordsReply {
+    pub status: u32,
+    pub len: usize,
+}
+
 /// What a step of a walk answers: the key that comes next where the status is `OK`.
 #[repr(C)]
 #[derive(Clone, Copy)]
@@ -96,7 +104,7 @@ pub struct CertificateReply {
     pub len: usize,
 }
 
-/// How many pages of 256 slots there are, and how many keys are live.
+/// How many pages of 4,096 bytes there are, and how many keys are live.
 #[repr(C)]
 #[derive(Clone, Copy)]
 pub struct TotalsReply {

@@ -40,7 +40,7 @@ pub(crate) const NO_PAIR_LEFT: u32 = 10;
 /// No plan is open.
 pub(crate) const NO_PLAN: u32 = 11;
 
-/// The text takes more bytes than there is room for, and nothing was written.
+/// The text or the object takes more than there is room for, and nothing was written.
 pub(crate) const TOO_SMALL: u32 = 12;
 
 /// Refused: a ring holds as many keys as it may. No call here frees a key later, so none answers it.

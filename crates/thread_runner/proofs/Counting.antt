@@ -13,7 +13,7 @@ use Rattle.trace_text.specs.declared.line.Line.{Line}
 use Rattle.trace_text.specs.declared.line.Line.TheVariants as line
 use Rattle.thread_runner.specs.Grown.{AreDiaries, IsDiaryOf}
 use Rattle.thread_runner.specs.declared.diary.Diary.{Diary}
-use Rattle.thread_runner.specs.Asked.{asked_by, is_line_of, places_from, places_of, replies_at, replies_in, replies_on}
+use Rattle.thread_runner.specs.Asked.{GivenKeys, is_line_of, places_from, places_of, replies_at, replies_by as replies_by_call, replies_in, replies_on}
 
 -- how many replies the lines of one thread have
 replies_by : ℕ → List Line → ℕ
@@ -43,6 +43,15 @@ below-add : (f g : ℕ → ℕ) (n : ℕ) → below (λ k. f k + g k) n ≡ belo
 unfolding below
 below-add f g zero = refl
 below-add f g (suc n) = omega (arith, below-add f g n)
+
+below-nothing : (f : ℕ → ℕ) (n : ℕ) → ((k : ℕ) → f k ≡ 0) → below f n ≡ 0
+unfolding below
+below-nothing f zero none = refl
+below-nothing f (suc n) none = omega (arith, below-nothing f n none, none n)
+
+nothing-either : (b : Bool) → let nothing : ℕ = 0 in (if b then nothing else nothing) ≡ nothing
+nothing-either true = refl
+nothing-either false = refl
 
 below-none : (n : ℕ) → below (λ k. 0) n ≡ 0
 unfolding below
@@ -78,8 +87,8 @@ AreBelow n lines = (place thread : ℕ) (call : Call) → slice_get lines place 
 -- the replies of one line, thread by thread
 line-below : (n : ℕ) (l : Line) → ((thread : ℕ) (call : Call) → l ≡ line.Call thread call → thread < n) → below (λ thread. if is_line_of thread l then replies_at l else 0) n ≡ replies_at l
 line-below n line.Silent of = below-none n
-line-below n (line.Call caller call) of = below-one caller (length (asked_by call)) n (of caller call refl)
-line-below n (line.Adopt shard) of = below-none n
+line-below n (line.Call caller call) of = below-one caller (replies_by_call call) n (of caller call refl)
+line-below n (line.Adopt shard) of = below-nothing (λ thread. if shard == thread then 0 else 0) n (λ thread. nothing-either (shard == thread))
 line-below n line.Mark of = below-none n
 
 -- the replies of all lines
@@ -104,21 +113,21 @@ AreBelow-sound header lines sound place thread call here =
     let e : nat_le header.shards thread ≡ false = (all_fine header (take place lines) (line.Call thread call) (sound place (line.Call thread call) here)).thread in grind (arith, nat_tests)
 
 -- the diaries of all threads count the replies of all lines
-pub AreDiaries-counted : (lines : List Line) (shown : Bool) (threads : ℕ) (diaries : List Diary) → AreBelow threads lines → AreDiaries lines shown threads diaries → sum_by (λ (diary : Diary). diary.calls) diaries ≡ replies_in lines
-AreDiaries-counted lines shown threads diaries of are =
+pub AreDiaries-counted : (lines : List Line) (shown : Bool) (given : GivenKeys) (threads : ℕ) (diaries : List Diary) → AreBelow threads lines → AreDiaries lines shown given threads diaries → sum_by (λ (diary : Diary). diary.calls) diaries ≡ replies_in lines
+AreDiaries-counted lines shown given threads diaries of are =
     diaries-below (λ thread. replies_by thread lines) diaries (λ thread diary at. (are.follow thread diary at).counted ∙ sum-places thread lines)
     ∙ ap (below (λ thread. replies_by thread lines)) are.each_thread ∙ lines-below threads lines of
 
 -- all that stands in a list at its place, after one more of these
-each_at-push : {X : Type 0} (P : ℕ → X → Type 0) (xs : List X) (x : X) → ((at : ℕ) (y : X) → slice_get xs at ≡ Some y → P at y) → P (length xs) x → (at : ℕ) (y : X) → slice_get (xs ++ x ∷ []) at ≡ Some y → P at y
+pub each_at-push : {X : Type 0} (P : ℕ → X → Type 0) (xs : List X) (x : X) → ((at : ℕ) (y : X) → slice_get xs at ≡ Some y → P at y) → P (length xs) x → (at : ℕ) (y : X) → slice_get (xs ++ x ∷ []) at ≡ Some y → P at y
 each_at-push P [] x each it zero y there = let same : x ≡ y = cc in subst (P 0) same it
 each_at-push P [] x each it (suc at) y there = absurd cc
 each_at-push P (z ∷ xs) x each it zero y there = each 0 y there
 each_at-push P (z ∷ xs) x each it (suc at) y there = each_at-push (λ k. P (suc k)) xs x (λ k w. each (suc k) w) it at y there
 
 -- the diary of the next thread
-pub AreDiaries-push : (lines : List Line) (shown : Bool) (threads : ℕ) (diaries : List Diary) (diary : Diary) → AreDiaries lines shown threads diaries → IsDiaryOf lines shown threads diary → AreDiaries lines shown (threads + 1) (diaries ++ diary ∷ [])
-AreDiaries-push lines shown threads diaries diary are is = record {
+pub AreDiaries-push : (lines : List Line) (shown : Bool) (given : GivenKeys) (threads : ℕ) (diaries : List Diary) (diary : Diary) → AreDiaries lines shown given threads diaries → IsDiaryOf lines shown given threads diary → AreDiaries lines shown given (threads + 1) (diaries ++ diary ∷ [])
+AreDiaries-push lines shown given threads diaries diary are is = record {
   each_thread = length-append diaries (diary ∷ []) ∙ ap (λ n. n + 1) are.each_thread;
-  follow = each_at-push (IsDiaryOf lines shown) diaries diary are.follow (subst (λ n. IsDiaryOf lines shown n diary) (sym are.each_thread) is);
+  follow = each_at-push (IsDiaryOf lines shown given) diaries diary are.follow (subst (λ n. IsDiaryOf lines shown given n diary) (sym are.each_thread) is);
 }

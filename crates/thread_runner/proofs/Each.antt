@@ -1,6 +1,8 @@
 -- What holds of each of a list, by recursion and by number.
-use Rattle.std.proofs.Common.{List, [], ◌∷◌, arith, suc, zero}
+use Rattle.std.proofs.Common.{◌≡◌, ℕ, List, [], ◌∷◌, ap, arith, map, suc, zero}
 use Rattle.std.specs.List.{All, AllByRecursion}
+use Rattle.arena.specs.Seats.{SeatState, Standing, first_standing, standing}
+use Rattle.marks.specs.Numbers.{Limits}
 
 pub All-each : {X : Type 0} (P : X → Type 0) (xs : List X) → AllByRecursion P xs → All P xs
 All-each P [] each k d within = absurd (omega arith)
@@ -10,3 +12,18 @@ All-each P (x ∷ xs) each (suc k) d within = All-each P xs each.1 k d (omega ar
 pub each-All : {X : Type 0} (P : X → Type 0) (xs : List X) → All P xs → AllByRecursion P xs
 each-All P [] all = tt
 each-All P (x ∷ xs) all = (all 0 x (omega arith), each-All P xs (λ k d within. all (suc k) d (omega arith)))
+
+-- what holds of each still holds where what holds of it is less
+pub each-weaker : {X : Type 0} (P Q : X → Type 0) (xs : List X) → ((x : X) → P x → Q x) → AllByRecursion P xs → AllByRecursion Q xs
+each-weaker P Q [] less each = tt
+each-weaker P Q (x ∷ xs) less each = (less x each.0, each-weaker P Q xs less each.1)
+
+-- seats that stand in the first section, each beside what else holds of it
+pub each-first : (limits : Limits) (P : SeatState → Type 0) (seats : List SeatState) (ns : List ℕ) → map standing seats ≡ map (first_standing limits) ns → AllByRecursion P seats
+    → AllByRecursion (λ seat. P seat × (seat.section ≡ 0)) seats
+each-first limits P [] ns same each = tt
+each-first limits P (seat ∷ seats) [] same each = absurd cc
+each-first limits P (seat ∷ seats) (n ∷ ns) same each =
+    let here : standing seat ≡ first_standing limits n = cc in
+    let rest : map standing seats ≡ map (first_standing limits) ns = cc in
+    ((each.0, ap (λ (s : Standing). s.section) here), each-first limits P seats ns rest each.1)

@@ -1,41 +1,82 @@
 -- What a thread was told follows its lines, line after line.
-use Rattle.std.proofs.Common.{add-zero, ◌≡◌, ◌∙◌, ◌+◌, ◌++◌, ◌≤◌, ℕ, Bool, List, [], ◌∷◌, Some, ap, append-nil, length, refl, slice_get, subst, sym, take}
-use Rattle.std.specs.List.{flat_map, sum_by}
+use Rattle.trace_text.specs.Objects.{counted_from}
+use Rattle.span.specs.ReceiptLists.{kept_receipts}
+use Rattle.std.proofs.Common.{add-zero, ◌≡◌, ◌∙◌, ◌+◌, ◌-◌, ◌++◌, ◌≤◌, ℕ, Bool, true, false, List, [], ◌∷◌, Some, ap, append-nil, length, refl, slice_get, subst, sym, take}
+use Rattle.std.specs.List.{flat_map, range_with_len, sum_by}
 use Rattle.std.specs.Option.{option_map_or}
 use Rattle.std.proofs.lemmas.Grind.{flat_map-append}
-use Rattle.std.proofs.lemmas.List.{take_all}
+use Rattle.std.proofs.lemmas.List.{length-map, take_all}
+use Rattle.std.proofs.lemmas.List.FromFn.{length-range_with_len}
 use Rattle.std.proofs.lemmas.List.Sums.{sum_by_push}
 use Rattle.std.proofs.Math.Logic.{∥∥₁_map}
+use Rattle.arena.specs.Seats.{SeatState, Table}
+use Rattle.trace_text.specs.Causes.{is_adopt, keys_in, marks}
+use Rattle.trace_text.specs.Places.{first_of}
 use Rattle.trace_text.specs.declared.line.Call.{Call}
+use Rattle.trace_text.specs.declared.line.Call.TheVariants.{Put, Fill, Get, Free, Sweep, Later, Tend, End}
 use Rattle.trace_text.specs.declared.line.Line.{Line}
 use Rattle.trace_text.specs.declared.line.Line.TheVariants as line
-use Rattle.thread_runner.specs.Asked.{asked_by, places_of, replies_at, replies_on}
-use Rattle.thread_runner.specs.Followed.{AtBarrier, AtLine, Follows, IsPassage, Passage, entries_in, places_in, receipts_in}
-use Rattle.thread_runner.specs.Grown.{Grows, IsDiaryOf, IsEmptyDiary, TakesIn, Tells, Tracks}
+use Rattle.thread_runner.specs.Asked.{AreAnswers, Frees, GivenKeys, Outcome, Puts, Said, asked_at, asked_by, is_adoption, is_line_of, places_of, replies_at, replies_by, replies_on}
+use Rattle.thread_runner.specs.Followed.{AnswersLine, ArePassages, AtBarrier, AtLine, Follows, IsPassage, Passage, barriers_after, entries_in, entries_on, places_in, receipts_from, receipts_in}
+use Rattle.thread_runner.specs.Grown.{Grows, IsDiaryOf, IsEmptyDiary, Rests, TakesIn, Tells, TellsAdoption, Tracks}
 use Rattle.thread_runner.specs.Told.{voice_of}
 use Rattle.thread_runner.specs.declared.diary.Diary.{Diary}
 use Rattle.thread_runner.specs.declared.diary.Entry.TheVariants as entry
-use Rattle.arena_core.proofs.Lists.{each-append}
+use Rattle.thread_runner.specs.declared.diary.Other.{Other}
 use Rattle.audit.proofs.Replies.{take_more}
 
 -- a thread that was told nothing
-pub Follows-none : (lines : List Line) (thread : ℕ) (shown : Bool) (diary : Diary) → IsEmptyDiary shown diary → Follows lines thread [] shown (voice_of diary)
-Follows-none lines thread shown diary empty = record {
+pub Follows-none : (lines : List Line) (given : GivenKeys) (thread : ℕ) (shown : Bool) (diary : Diary) → IsEmptyDiary shown diary → Follows lines given thread [] 0 shown (voice_of diary)
+Follows-none lines given thread shown diary empty = record {
   passages = [];
   in_order = refl;
-  each = tt;
+  each = refl;
   receipts_are = empty.receipts_are;
   entries_are = λ is. empty.entries_are;
 }
 
+-- one passage more leads on from where the others led
+ArePassages-push : (lines : List Line) (given : GivenKeys) (thread from to : ℕ) (passages : List Passage) (passage : Passage) → ArePassages lines given thread from to passages → IsPassage lines given thread to passage
+    → ArePassages lines given thread from (barriers_after to passage) (passages ++ passage ∷ [])
+ArePassages-push lines given thread from to [] passage are is = (subst (λ n. IsPassage lines given thread n passage) (sym are) is, ap (λ n. barriers_after n passage) are)
+ArePassages-push lines given thread from to (first ∷ passages) passage are is = (are.0, ArePassages-push lines given thread (barriers_after from first) to passages passage are.1 is)
+
+-- what came of a line that is no adoption
+AnswersLine-call : (lines : List Line) (given : GivenKeys) (thread section place : ℕ) (l : Line) (outcomes : List Outcome) → slice_get lines place ≡ Some l → is_line_of thread l ≡ true → is_adopt l ≡ false
+    → section ≡ marks (take place lines) → AreAnswers given section thread (asked_at (take place lines) l) outcomes → AnswersLine lines given thread section place outcomes
+AnswersLine-call lines given thread section place line.Silent outcomes here own is its answered = absurd cc
+AnswersLine-call lines given thread section place (line.Call caller call) outcomes here own is its answered = record {
+  line = line.Call caller call;
+  here = here;
+  of_thread = own;
+  after_barriers = its;
+  answered = subst (λ n. AreAnswers given n thread (asked_by (take place lines) call) outcomes) its answered;
+}
+AnswersLine-call lines given thread section place (line.Adopt shard) outcomes here own is its answered = absurd cc
+AnswersLine-call lines given thread section place line.Mark outcomes here own is its answered = absurd cc
+
+-- what came of an adoption
+AnswersLine-adopt : (lines : List Line) (given : GivenKeys) (thread section place : ℕ) (l : Line) (what : Other) → slice_get lines place ≡ Some l → is_line_of thread l ≡ true → is_adopt l ≡ true
+    → section ≡ marks (take place lines) → is_adoption what ≡ true → AnswersLine lines given thread (section + 1) place (Said what ∷ [])
+AnswersLine-adopt lines given thread section place line.Silent what here own is its answered = absurd cc
+AnswersLine-adopt lines given thread section place (line.Call caller call) what here own is its answered = absurd cc
+AnswersLine-adopt lines given thread section place (line.Adopt shard) what here own is its answered = record {
+  line = line.Adopt shard;
+  here = here;
+  of_thread = own;
+  after_barriers = ap (λ n. n + 1) its;
+  answered = (answered, tt);
+}
+AnswersLine-adopt lines given thread section place line.Mark what here own is its answered = absurd cc
+
 -- one passage more
-module _ (lines : List Line) (thread : ℕ) (places : List ℕ) (shown : Bool) (old new : Diary) (before : Follows lines thread places shown (voice_of old)) (keeps : old.replies ≡ shown) where
-  Follows-passage : (passage : Passage) (replies : ℕ) → IsPassage lines thread passage → Grows (entries_in passage) (receipts_in passage) replies old new
-      → Follows lines thread (places ++ places_in passage) shown (voice_of new)
+module _ (lines : List Line) (given : GivenKeys) (thread : ℕ) (places : List ℕ) (barriers : ℕ) (shown : Bool) (old new : Diary) (before : Follows lines given thread places barriers shown (voice_of old)) (keeps : old.replies ≡ shown) where
+  Follows-passage : (passage : Passage) (replies : ℕ) → IsPassage lines given thread barriers passage → Grows (entries_in passage) (receipts_in passage) replies old new
+      → Follows lines given thread (places ++ places_in passage) (barriers_after barriers passage) shown (voice_of new)
   Follows-passage passage replies is grows = record {
     passages = before.passages ++ passage ∷ [];
     in_order = flat_map-append places_in before.passages (passage ∷ []) ∙ ap (λ ps. ps ++ flat_map places_in (passage ∷ [])) before.in_order ∙ ap (λ ps. places ++ ps) (append-nil (places_in passage));
-    each = each-append (IsPassage lines thread) before.passages (passage ∷ []) before.each (is, tt);
+    each = ArePassages-push lines given thread 0 barriers before.passages passage before.each is;
     receipts_are = grows.receipts_are ∙ ap (λ rs. rs ++ receipts_in passage) before.receipts_are ∙ ap (λ rs. flat_map receipts_in before.passages ++ rs) (sym (append-nil (receipts_in passage)))
         ∙ sym (flat_map-append receipts_in before.passages (passage ∷ []));
     entries_are = λ is_shown. grows.entries_are (keeps ∙ is_shown) ∙ ap (λ es. es ++ entries_in passage) (before.entries_are is_shown) ∙ ap (λ es. flat_map entries_in before.passages ++ es) (sym (append-nil (entries_in passage)))
@@ -43,22 +84,23 @@ module _ (lines : List Line) (thread : ℕ) (places : List ℕ) (shown : Bool) (
   }
 
   -- a line of the thread
-  pub Follows-line : (place : ℕ) (call : Call) → slice_get lines place ≡ Some (line.Call thread call) → Tells thread (place + 6) (asked_by call) old new → Follows lines thread (places ++ place ∷ []) shown (voice_of new)
-  Follows-line place call here tells = Follows-passage (AtLine place tells.outcomes) _ (record { call = call; here = here; answered = tells.answered }) tells.grows
+  pub Follows-line : (place : ℕ) (outcomes : List Outcome) (replies : ℕ) → AnswersLine lines given thread barriers place outcomes
+      → Grows (flat_map (entries_on (place + 6)) outcomes) (flat_map receipts_from outcomes) replies old new → Follows lines given thread (places ++ place ∷ []) barriers shown (voice_of new)
+  Follows-line place outcomes replies answers grows = Follows-passage (AtLine place outcomes) replies answers grows
 
   -- the barrier
-  pub Follows-barrier : (count : ℕ) → TakesIn thread count old new → Follows lines thread places shown (voice_of new)
+  pub Follows-barrier : (count : ℕ) → TakesIn barriers thread count old new → Follows lines given thread places (barriers + 1) shown (voice_of new)
   Follows-barrier count takes =
-      subst (λ ps. Follows lines thread ps shown (voice_of new)) (append-nil places)
+      subst (λ ps. Follows lines given thread ps (barriers + 1) shown (voice_of new)) (append-nil places)
       (Follows-passage (AtBarrier takes.receipts) 0 takes.are_frees (subst (λ n. Grows (entry.Incoming n ∷ []) takes.receipts 0 old new) takes.count_is takes.grows))
 
   -- nothing was told
-  pub Follows-kept : Grows [] [] 0 old new → Follows lines thread places shown (voice_of new)
+  pub Follows-kept : Grows [] [] 0 old new → Follows lines given thread places barriers shown (voice_of new)
   Follows-kept grows = record {
     passages = before.passages;
     in_order = before.in_order;
     each = before.each;
-    receipts_are = grows.receipts_are ∙ append-nil old.receipts.items ∙ before.receipts_are;
+    receipts_are = grows.receipts_are ∙ append-nil (kept_receipts old.receipts) ∙ before.receipts_are;
     entries_are = λ is_shown. grows.entries_are (keeps ∙ is_shown) ∙ append-nil old.entries.items ∙ before.entries_are is_shown;
   }
 
@@ -66,53 +108,109 @@ module _ (lines : List Line) (thread : ℕ) (places : List ℕ) (shown : Bool) (
 pub take-place : (places : List ℕ) (done place : ℕ) → slice_get places done ≡ Some place → take (done + 1) places ≡ take done places ++ place ∷ []
 take-place places done place next = take_more places done place next
 
--- its replies are counted
-pub sum-place : (lines : List Line) (thread place : ℕ) (places : List ℕ) (call : Call) → slice_get lines place ≡ Some (line.Call thread call)
-    → sum_by (replies_on lines) (places ++ place ∷ []) ≡ sum_by (replies_on lines) places + length (asked_by call)
-sum-place lines thread place places call here = sum_by_push (replies_on lines) places place ∙ ap (λ l. sum_by (replies_on lines) places + option_map_or replies_at l 0) here
+-- as many things are asked for as there are replies
+length-asked_by : (above : List Line) (call : Call) → length (asked_by above call) ≡ replies_by call
+length-asked_by above (Put name class value) = refl
+length-asked_by above (Fill name class count value) = length-map (range_with_len 0 count) (λ i. Puts (keys_in above + i) (counted_from class (value + i))) ∙ length-range_with_len 0 count
+length-asked_by above (Get key) = refl
+length-asked_by above (Free key) = refl
+length-asked_by above (Sweep name from to) = length-map (range_with_len from (to - from)) (λ i. Frees (first_of above name + i)) ∙ length-range_with_len from (to - from)
+length-asked_by above (Later key) = refl
+length-asked_by above Tend = refl
+length-asked_by above End = refl
+
+length-asked_at : (above : List Line) (l : Line) → is_adopt l ≡ false → length (asked_at above l) ≡ replies_at l
+length-asked_at above line.Silent is = refl
+length-asked_at above (line.Call thread call) is = length-asked_by above call
+length-asked_at above (line.Adopt shard) is = absurd cc
+length-asked_at above line.Mark is = refl
+
+-- an adoption has no reply that is counted
+replies_at-adopt : (l : Line) → is_adopt l ≡ true → replies_at l ≡ 0
+replies_at-adopt line.Silent is = refl
+replies_at-adopt (line.Call thread call) is = absurd cc
+replies_at-adopt (line.Adopt shard) is = refl
+replies_at-adopt line.Mark is = refl
+
+-- the replies of a line are counted
+sum-place : (lines : List Line) (place : ℕ) (places : List ℕ) (l : Line) → slice_get lines place ≡ Some l → sum_by (replies_on lines) (places ++ place ∷ []) ≡ sum_by (replies_on lines) places + replies_at l
+sum-place lines place places l here = sum_by_push (replies_on lines) places place ∙ ap (λ o. sum_by (replies_on lines) places + option_map_or replies_at o 0) here
 
 -- the same number of the thread
-Tracks-same : (lines : List Line) (shown : Bool) (old new done : ℕ) (diary : Diary) → new ≡ old → Tracks lines shown old done diary → Tracks lines shown new done diary
-Tracks-same lines shown old new done diary same tracks = subst (λ t. Tracks lines shown t done diary) (sym same) tracks
+Tracks-same : (lines : List Line) (shown : Bool) (knows : GivenKeys → Type 0) (old new done barriers : ℕ) (diary : Diary) → new ≡ old → Tracks lines shown knows old done barriers diary → Tracks lines shown knows new done barriers diary
+Tracks-same lines shown knows old new done barriers diary same tracks = subst (λ t. Tracks lines shown knows t done barriers diary) (sym same) tracks
+
+-- no less is known of the keys
+pub Tracks-known : (lines : List Line) (shown : Bool) (knew knows : GivenKeys → Type 0) (thread done barriers : ℕ) (diary : Diary) → ((given : GivenKeys) → knows given → knew given)
+    → Tracks lines shown knew thread done barriers diary → Tracks lines shown knows thread done barriers diary
+Tracks-known lines shown knew knows thread done barriers diary known tracks = record { shown_is = tracks.shown_is; follows = λ given is. tracks.follows given (known given is); counted = tracks.counted }
 
 -- a thread that has run no line
-pub Tracks-none : (lines : List Line) (shown : Bool) (thread : ℕ) (diary : Diary) → IsEmptyDiary shown diary → Tracks lines shown thread 0 diary
-Tracks-none lines shown thread diary empty = record {
+pub Tracks-none : (lines : List Line) (shown : Bool) (knows : GivenKeys → Type 0) (thread : ℕ) (diary : Diary) → IsEmptyDiary shown diary → Tracks lines shown knows thread 0 0 diary
+Tracks-none lines shown knows thread diary empty = record {
   shown_is = empty.shown_is;
-  follows = ∣ Follows-none lines thread shown diary empty ∣₁;
+  follows = λ given is. ∣ Follows-none lines given thread shown diary empty ∣₁;
   counted = empty.calls_is;
 }
 
 -- one that has run one line more, which is its next
-pub Tracks-line : (lines : List Line) (shown : Bool) (thread same done place : ℕ) (call : Call) (old new : Diary) → same ≡ thread → slice_get (places_of thread lines) done ≡ Some place
-    → slice_get lines place ≡ Some (line.Call thread call) → Tells thread (place + 6) (asked_by call) old new → Tracks lines shown thread done old → Tracks lines shown same (done + 1) new
-Tracks-line lines shown thread same done place call old new is next here tells tracks = Tracks-same lines shown thread same (done + 1) new is (record {
+pub Tracks-line : (lines : List Line) (shown : Bool) (knew knows : GivenKeys → Type 0) (section thread same done place : ℕ) (l : Line) (old new : Diary) → same ≡ thread → section ≡ marks (take place lines)
+    → slice_get (places_of thread lines) done ≡ Some place → slice_get lines place ≡ Some l → is_line_of thread l ≡ true → is_adopt l ≡ false
+    → Tells section thread (place + 6) (asked_at (take place lines) l) knew knows old new → Tracks lines shown knew thread done section old → Tracks lines shown knows same (done + 1) section new
+Tracks-line lines shown knew knows section thread same done place l old new is its next here own call tells tracks = Tracks-same lines shown knows thread same (done + 1) section new is (record {
   shown_is = tells.grows.shown_is ∙ tracks.shown_is;
-  follows = rw (take-place (places_of thread lines) done place next) (∥∥₁_map tracks.follows (λ follows. Follows-line lines thread _ shown old new follows tracks.shown_is place call here tells));
-  counted = rw (take-place (places_of thread lines) done place next, sum-place lines thread place (take done (places_of thread lines)) call here) (tells.grows.calls_is ∙ ap (λ n. n + length (asked_by call)) tracks.counted);
+  follows = λ given known. rw (take-place (places_of thread lines) done place next) (∥∥₁_map (tracks.follows given (tells.known given known)) (λ follows. Follows-line lines given thread _ section shown old new follows tracks.shown_is
+      place tells.outcomes _ (AnswersLine-call lines given thread section place l tells.outcomes here own call its (tells.answered given known)) tells.grows));
+  counted = rw (take-place (places_of thread lines) done place next, sum-place lines place (take done (places_of thread lines)) l here)
+      (tells.grows.calls_is ∙ ap (λ n. old.calls + n) (length-asked_at (take place lines) l call) ∙ ap (λ n. n + replies_at l) tracks.counted);
 })
 
--- one at a barrier
-pub Tracks-barrier : (lines : List Line) (shown : Bool) (thread same done count : ℕ) (old new : Diary) → same ≡ thread → TakesIn thread count old new → Tracks lines shown thread done old → Tracks lines shown same done new
-Tracks-barrier lines shown thread same done count old new is takes tracks = Tracks-same lines shown thread same done new is (record {
+-- one whose shard was to adopt, as its next line asks, at the barrier that ends a section
+pub Tracks-adoption : (lines : List Line) (shown : Bool) (knows : GivenKeys → Type 0) (section thread same done place : ℕ) (l : Line) (old new : Diary) → same ≡ thread → section ≡ marks (take place lines)
+    → slice_get (places_of thread lines) done ≡ Some place → slice_get lines place ≡ Some l → is_line_of thread l ≡ true → is_adopt l ≡ true → TellsAdoption (place + 6) old new
+    → Tracks lines shown knows thread done (section + 1) old → Tracks lines shown knows same (done + 1) (section + 1) new
+Tracks-adoption lines shown knows section thread same done place l old new is its next here own adopts tells tracks = Tracks-same lines shown knows thread same (done + 1) (section + 1) new is (record {
+  shown_is = tells.grows.shown_is ∙ tracks.shown_is;
+  follows = λ given known. rw (take-place (places_of thread lines) done place next) (∥∥₁_map (tracks.follows given known) (λ follows. Follows-line lines given thread _ (section + 1) shown old new follows tracks.shown_is
+      place (Said tells.what ∷ []) 0 (AnswersLine-adopt lines given thread section place l tells.what here own adopts its tells.adoption) tells.grows));
+  counted = rw (take-place (places_of thread lines) done place next, sum-place lines place (take done (places_of thread lines)) l here)
+      (tells.grows.calls_is ∙ ap (λ n. old.calls + n) (sym (replies_at-adopt l adopts)) ∙ ap (λ n. n + replies_at l) tracks.counted);
+})
+
+-- one at the barrier that ends a section
+pub Tracks-barrier : (lines : List Line) (shown : Bool) (knows : GivenKeys → Type 0) (section thread same done count : ℕ) (old new : Diary) → same ≡ thread → TakesIn section thread count old new
+    → Tracks lines shown knows thread done section old → Tracks lines shown knows same done (section + 1) new
+Tracks-barrier lines shown knows section thread same done count old new is takes tracks = Tracks-same lines shown knows thread same done (section + 1) new is (record {
   shown_is = takes.grows.shown_is ∙ tracks.shown_is;
-  follows = ∥∥₁_map tracks.follows (λ follows. Follows-barrier lines thread _ shown old new follows tracks.shown_is count takes);
+  follows = λ given known. ∥∥₁_map (tracks.follows given known) (λ follows. Follows-barrier lines given thread _ section shown old new follows tracks.shown_is count takes);
   counted = takes.grows.calls_is ∙ add-zero old.calls ∙ tracks.counted;
 })
 
 -- one that was told nothing
-pub Tracks-kept : (lines : List Line) (shown : Bool) (thread same done : ℕ) (old new : Diary) → same ≡ thread → Grows [] [] 0 old new → Tracks lines shown thread done old → Tracks lines shown same done new
-Tracks-kept lines shown thread same done old new is grows tracks = Tracks-same lines shown thread same done new is (record {
+pub Tracks-kept : (lines : List Line) (shown : Bool) (knows : GivenKeys → Type 0) (thread same done barriers : ℕ) (old new : Diary) → same ≡ thread → Grows [] [] 0 old new
+    → Tracks lines shown knows thread done barriers old → Tracks lines shown knows same done barriers new
+Tracks-kept lines shown knows thread same done barriers old new is grows tracks = Tracks-same lines shown knows thread same done barriers new is (record {
   shown_is = grows.shown_is ∙ tracks.shown_is;
-  follows = ∥∥₁_map tracks.follows (λ follows. Follows-kept lines thread _ shown old new follows tracks.shown_is grows);
+  follows = λ given known. ∥∥₁_map (tracks.follows given known) (λ follows. Follows-kept lines given thread _ barriers shown old new follows tracks.shown_is grows);
   counted = grows.calls_is ∙ add-zero old.calls ∙ tracks.counted;
 })
 
--- one that has run all its lines
-pub IsDiaryOf-tracked : (lines : List Line) (shown : Bool) (thread done : ℕ) (diary : Diary) → length (places_of thread lines) ≤ done → Tracks lines shown thread done diary → IsDiaryOf lines shown thread diary
-IsDiaryOf-tracked lines shown thread done diary all tracks =
+-- between two sections no less is known of the keys
+pub Rests-known : (lines : List Line) (shown : Bool) (table : Table) (knew knows : GivenKeys → Type 0) (section : ℕ) (seat : SeatState) (done : ℕ) (diary : Diary) → ((given : GivenKeys) → knows given → knew given)
+    → Rests lines shown table knew section seat done diary → Rests lines shown table knows section seat done diary
+Rests-known lines shown table knew knows section seat done diary known rests = record {
+  rows_are = rests.rows_are;
+  columns_are = rests.columns_are;
+  section_is = rests.section_is;
+  tracks = Tracks-known lines shown knew knows seat.worker done section diary known rests.tracks;
+}
+
+-- one that has run all its lines and come to all barriers
+pub IsDiaryOf-tracked : (lines : List Line) (shown : Bool) (knows : GivenKeys → Type 0) (given : GivenKeys) (thread done section : ℕ) (diary : Diary) → length (places_of thread lines) ≤ done → section ≡ marks lines + 1
+    → knows given → Tracks lines shown knows thread done section diary → IsDiaryOf lines shown given thread diary
+IsDiaryOf-tracked lines shown knows given thread done section diary all last known tracks =
     let whole = take_all done (places_of thread lines) all in
     record {
-      follows = rw whole at tracks.follows;
+      follows = rw (whole, last) at (tracks.follows given known);
       counted = rw whole at tracks.counted;
     }

@@ -1,9 +1,10 @@
 -- How a diary goes on, call after call.
+use Rattle.span.specs.ReceiptLists.{kept_receipts}
 use Rattle.std.proofs.Common.{◌≡◌, ◌∙◌, ◌+◌, ◌++◌, ℕ, List, [], ◌∷◌, ap, append-nil, append_assoc, arith, length, length-append, refl, subst, sym, suc}
 use Rattle.std.specs.List.{flat_map}
 use Rattle.std.proofs.lemmas.Grind.{flat_map-append}
 use Rattle.span.specs.declared.receipt.Receipt.{Receipt}
-use Rattle.thread_runner.specs.Asked.{Answers, AreAnswers, Asked, Outcome, Tends, Took}
+use Rattle.thread_runner.specs.Asked.{Answers, AreAnswers, Asked, GivenKeys, Outcome, Tends, Took}
 use Rattle.thread_runner.specs.Followed.{entries_on, receipts_from}
 use Rattle.thread_runner.specs.Grown.{Grows, TakesIn, Tells}
 use Rattle.thread_runner.specs.declared.diary.Diary.{Diary}
@@ -14,7 +15,7 @@ use Rattle.thread_runner.specs.declared.diary.Other.TheVariants as other
 pub Grows-none : (diary : Diary) → Grows [] [] 0 diary diary
 Grows-none diary = record {
   shown_is = refl;
-  receipts_are = sym (append-nil diary.receipts.items);
+  receipts_are = sym (append-nil (kept_receipts diary.receipts));
   entries_are = λ shown. sym (append-nil diary.entries.items);
   calls_is = omega arith;
 }
@@ -23,52 +24,52 @@ module _ (first second : List Entry) (some more : List Receipt) (n m : ℕ) (old
   pub Grows-append : Grows (first ++ second) (some ++ more) (n + m) old new
   Grows-append = record {
     shown_is = after.shown_is ∙ before.shown_is;
-    receipts_are = after.receipts_are ∙ ap (λ receipts. receipts ++ more) before.receipts_are ∙ append_assoc old.receipts.items some more;
+    receipts_are = after.receipts_are ∙ ap (λ receipts. receipts ++ more) before.receipts_are ∙ append_assoc (kept_receipts old.receipts) some more;
     entries_are = λ shown. after.entries_are (before.shown_is ∙ shown) ∙ ap (λ entries. entries ++ second) (before.entries_are shown) ∙ append_assoc old.entries.items first second;
     calls_is = omega (arith, before.calls_is, after.calls_is);
   }
 
-AreAnswers-append : (thread : ℕ) (first second : List Asked) (some more : List Outcome) → AreAnswers thread first some → AreAnswers thread second more → AreAnswers thread (first ++ second) (some ++ more)
-AreAnswers-append thread [] second [] more before after = after
-AreAnswers-append thread [] second (outcome ∷ some) more before after = absurd before
-AreAnswers-append thread (asked ∷ first) second [] more before after = absurd before
-AreAnswers-append thread (asked ∷ first) second (outcome ∷ some) more before after = (before.0, AreAnswers-append thread first second some more before.1 after)
-
-pub length-AreAnswers : (thread : ℕ) (asked : List Asked) (outcomes : List Outcome) → AreAnswers thread asked outcomes → length outcomes ≡ length asked
-length-AreAnswers thread [] [] are = refl
-length-AreAnswers thread [] (outcome ∷ outcomes) are = absurd are
-length-AreAnswers thread (asked ∷ more) [] are = absurd are
-length-AreAnswers thread (asked ∷ more) (outcome ∷ outcomes) are = ap suc (length-AreAnswers thread more outcomes are.1)
+AreAnswers-append : (given : GivenKeys) (section thread : ℕ) (first second : List Asked) (some more : List Outcome) → AreAnswers given section thread first some → AreAnswers given section thread second more
+    → AreAnswers given section thread (first ++ second) (some ++ more)
+AreAnswers-append given section thread [] second [] more before after = after
+AreAnswers-append given section thread [] second (outcome ∷ some) more before after = absurd before
+AreAnswers-append given section thread (asked ∷ first) second [] more before after = absurd before
+AreAnswers-append given section thread (asked ∷ first) second (outcome ∷ some) more before after = (before.0, AreAnswers-append given section thread first second some more before.1 after)
 
 -- nothing was asked
-pub Tells-none : (thread number : ℕ) (diary : Diary) → Tells thread number [] diary diary
-Tells-none thread number diary = record { outcomes = []; answered = tt; grows = Grows-none diary }
+pub Tells-none : (section thread number : ℕ) (knows : GivenKeys → Type 0) (diary : Diary) → Tells section thread number [] knows knows diary diary
+Tells-none section thread number knows diary = record { outcomes = []; answered = λ given known. tt; known = λ given known. known; grows = Grows-none diary }
 
 -- one thing was asked, and this came of it
-pub Tells-one : (thread number : ℕ) (asked : Asked) (outcome : Outcome) (old new : Diary) → Answers thread asked outcome → Grows (entries_on number outcome) (receipts_from outcome) 1 old new → Tells thread number (asked ∷ []) old new
-Tells-one thread number asked outcome old new answers grows = record {
+pub Tells-one : (section thread number : ℕ) (asked : Asked) (outcome : Outcome) (knew knows : GivenKeys → Type 0) (old new : Diary) → ((given : GivenKeys) → knows given → Answers given section thread asked outcome)
+    → ((given : GivenKeys) → knows given → knew given) → Grows (entries_on number outcome) (receipts_from outcome) 1 old new → Tells section thread number (asked ∷ []) knew knows old new
+Tells-one section thread number asked outcome knew knows old new answers known grows = record {
   outcomes = outcome ∷ [];
-  answered = (answers, tt);
+  answered = λ given is. (answers given is, tt);
+  known = known;
   grows = subst (λ (e : List Entry). Grows e (flat_map receipts_from (outcome ∷ [])) 1 old new) (sym (append-nil (entries_on number outcome)))
       (subst (λ (r : List Receipt). Grows (entries_on number outcome) r 1 old new) (sym (append-nil (receipts_from outcome))) grows);
 }
 
 -- first some things, and then others
-module _ (thread number : ℕ) (first second : List Asked) (old mid new : Diary) (before : Tells thread number first old mid) (after : Tells thread number second mid new) where
-  pub Tells-append : Tells thread number (first ++ second) old new
+module _ (section thread number : ℕ) (first second : List Asked) (knew meanwhile knows : GivenKeys → Type 0) (old mid new : Diary) (before : Tells section thread number first knew meanwhile old mid)
+    (after : Tells section thread number second meanwhile knows mid new) where
+  pub Tells-append : Tells section thread number (first ++ second) knew knows old new
   Tells-append =
       let entries = flat_map-append (entries_on number) before.outcomes after.outcomes in
       let receipts = flat_map-append receipts_from before.outcomes after.outcomes in
       let both = Grows-append _ _ _ _ (length first) (length second) old mid new before.grows after.grows in
       record {
         outcomes = before.outcomes ++ after.outcomes;
-        answered = AreAnswers-append thread first second before.outcomes after.outcomes before.answered after.answered;
+        answered = λ given is. AreAnswers-append given section thread first second before.outcomes after.outcomes (before.answered given (after.known given is)) (after.answered given is);
+        known = λ given is. before.known given (after.known given is);
         grows = rw (entries, receipts, length-append) both;
       }
 
 -- the rings were tended
-pub Tells-tended : (thread number count : ℕ) (old mid new : Diary) → TakesIn thread count old mid
-    → Grows (entry.Said (record { line = number; other = other.Settled count }) ∷ []) [] 1 mid new → Tells thread number (Tends ∷ []) old new
-Tells-tended thread number count old mid new takes grows =
+pub Tells-tended : (section thread number count : ℕ) (knows : GivenKeys → Type 0) (old mid new : Diary) → TakesIn section thread count old mid
+    → Grows (entry.Said (record { line = number; other = other.Settled count }) ∷ []) [] 1 mid new → Tells section thread number (Tends ∷ []) knows knows old new
+Tells-tended section thread number count knows old mid new takes grows =
     let both = Grows-append _ _ takes.receipts [] 0 1 old mid new takes.grows grows in
-    Tells-one thread number Tends (Took takes.receipts) old new takes.are_frees (rw (← takes.count_is) (subst (λ (r : List Receipt). Grows (entry.Incoming count ∷ entry.Said (record { line = number; other = other.Settled count }) ∷ []) r 1 old new) (append-nil takes.receipts) both))
+    Tells-one section thread number Tends (Took takes.receipts) knows knows old new (λ given is. takes.are_frees) (λ given is. is)
+    (rw (← takes.count_is) (subst (λ (r : List Receipt). Grows (entry.Incoming count ∷ entry.Said (record { line = number; other = other.Settled count }) ∷ []) r 1 old new) (append-nil takes.receipts) both))

@@ -6,3 +6,6 @@ mod Taking
 mod Following
 mod Counting
 mod Each
+mod Knowing
+mod Numbering
+mod Lists

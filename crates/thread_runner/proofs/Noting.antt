@@ -1,5 +1,5 @@
 -- How the notes of a run go on.
-use Rattle.std.proofs.Common.{◌≡◌, ◌∙◌, ◌++◌, ◌+◌, ◌<◌, ◌≤◌, ℕ, Bool, true, false, cond, List, [], ◌∷◌, Option, None, Some, ap, arith, drop, length, map, option_map, refl, slice_get, suc, subst, sym, take, zero}
+use Rattle.std.proofs.Common.{◌≡◌, ◌∙◌, ◌++◌, ◌+◌, ◌-◌, ◌<◌, ◌≤◌, ℕ, Bool, true, false, cond, List, [], ◌∷◌, Option, None, Some, ap, arith, drop, length, map, option_map, refl, slice_get, suc, subst, sym, take, zero}
 use Rattle.std.specs.Prelude.{filter, is_some, not}
 use Rattle.std.specs.List.{flat_map, range_with_len, take_while}
 use Rattle.std.specs.Option.{option_map_or}
@@ -19,6 +19,7 @@ use Rattle.groups.proofs.MappedSpans.{drop_step}
 use Rattle.marks.specs.Plans.{OpenPlan, next_pair, with_next_done}
 use Rattle.span.specs.declared.id.SpanId.{SpanId}
 use Rattle.trace_text.specs.declared.line.Line.{Line}
+use Rattle.trace_text.specs.declared.line.Line.TheVariants as line
 use Rattle.trace_runner.specs.Barrier.{is_barrier}
 use Rattle.trace_runner.specs.declared.report.PlanNews.TheVariants.{Marked, TooMany, Closed}
 use Rattle.trace_runner.specs.declared.report.TakenStep.{TakenStep}
@@ -26,6 +27,7 @@ use Rattle.thread_runner.specs.Marked.{AreNotesTo, IsCarriedOut, IsMarkMade, IsS
 use Rattle.thread_runner.specs.Noted.{HaveCome, pairs_done, pairs_left, plan_pairs}
 use Rattle.thread_runner.specs.declared.body.Note.{Note}
 use Rattle.thread_runner.specs.declared.minutes.Minutes.{Minutes}
+use Rattle.thread_runner.proofs.Lists.{slice_get-drop}
 
 -- ---- the steps of a plan
 
@@ -221,6 +223,32 @@ module _ (lines : List Line) (place : ℕ) (line : Line) (here : slice_get lines
 pub barrier_from-end : (lines : List Line) → barrier_from lines (length lines) ≡ length lines
 barrier_from-end lines =
     let none : length (take_while (λ l. not (is_barrier l)) (drop (length lines) lines)) ≡ 0 = ap (λ ls. length (take_while (λ l. not (is_barrier l)) ls)) (drop_all (length lines) lines (omega arith)) in
+    omega arith
+
+-- where an element fails the test, no more than those before it are taken
+take_while-stop : {X : Type 0} (test : X → Bool) (xs : List X) (k : ℕ) (x : X) → slice_get xs k ≡ Some x → test x ≡ false → length (take_while test xs) ≤ k
+take_while-stop test [] k x here stops = absurd cc
+take_while-stop test (y ∷ xs) zero x here stops =
+    let same : y ≡ x = cc in
+    let none : length (take_while test (y ∷ xs)) ≡ 0 = ap length (take_while-cons test y xs ∙ ap (λ b. cond b (y ∷ take_while test xs) []) (ap test same ∙ stops)) in
+    omega arith
+take_while-stop test (y ∷ xs) (suc k) x here stops = rw (take_while-cons test y xs) (by_test (test y) (take_while-stop test xs k x here stops))
+  where
+    by_test : (b : Bool) → length (take_while test xs) ≤ k → length (cond b (y ∷ take_while test xs) []) ≤ suc k
+    by_test true rest = omega (arith, rest)
+    by_test false rest = omega arith
+
+is_barrier-mark : (l : Line) → is_mark l ≡ true → is_barrier l ≡ true
+is_barrier-mark line.Silent is = absurd cc
+is_barrier-mark (line.Call thread call) is = absurd cc
+is_barrier-mark (line.Adopt shard) is = refl
+is_barrier-mark line.Mark is = refl
+
+-- no barrier begins below the next mark
+pub barrier_from-mark : (lines : List Line) (from place : ℕ) (l : Line) → slice_get lines place ≡ Some l → is_mark l ≡ true → from ≤ place → barrier_from lines from ≤ place
+barrier_from-mark lines from place l here is within =
+    let there : slice_get lines (from + (place - from)) ≡ Some l = subst (λ n. slice_get lines n ≡ Some l) (omega arith) here in
+    let few = take_while-stop (λ m. not (is_barrier m)) (drop from lines) (place - from) l (slice_get-drop lines from (place - from) l there) (ap not (is_barrier-mark l is)) in
     omega arith
 
 -- whether a mark stands at the place of a line

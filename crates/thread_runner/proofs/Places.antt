@@ -1,14 +1,11 @@
 -- Where the lines of a thread stand.
 use Rattle.std.proofs.Common.{◌≡◌, ◌∙◌, ◌+◌, ◌++◌, ◌==◌, ◌<◌, ℕ, Bool, true, false, List, [], ◌∷◌, Some, ap, suc, zero, inl, inr, ◌≤◌, set, get_or, vec_items, Vec, append-nil, arith, length, map, refl, subst, sym, add-zero, slice_get}
 use Rattle.std.specs.Prelude.{if◌then◌else◌}
-use Rattle.std.proofs.lemmas.Bool.{eqb-true}
 use Rattle.std.proofs.lemmas.Bool.Decides.{eqb_tells}
 use Rattle.std.proofs.lemmas.Option.{slice_get_read, slice_get_within}
-use Rattle.abandoned.proofs.GroupPlaces.{each-push}
+use Rattle.groups.proofs.Lists.{in_either, same_some}
 use Rattle.marks.proofs.Lists.{slice_get-map_at, slice_get-set_other, slice_get-set_same}
-use Rattle.trace_text.specs.declared.line.Call.{Call}
 use Rattle.trace_text.specs.declared.line.Line.{Line}
-use Rattle.trace_text.specs.declared.line.Line.TheVariants as line
 use Rattle.thread_runner.specs.Asked.{is_line_of, places_from, places_of}
 use Rattle.thread_runner.specs.Laid.{AddsAt, AreLaid}
 
@@ -22,38 +19,37 @@ pub places_of-push : (thread : ℕ) (above : List Line) (l : Line) → places_of
 places_of-push thread above l = grind (arith, places_from-append thread 0 above (l ∷ []))
 
 -- the thread's list has a line more
-pub AreLaid-call : (above : List Line) (place thread : ℕ) (call : Call) (old new : List (List ℕ)) → length above ≡ place → AreLaid above old → AddsAt thread place old new → AreLaid (above ++ line.Call thread call ∷ []) new
-AreLaid-call above place thread call old new long laid adds at listed is =
+pub AreLaid-own : (above : List Line) (place thread : ℕ) (l : Line) (old new : List (List ℕ)) → ((at : ℕ) → is_line_of at l ≡ (thread == at)) → length above ≡ place → AreLaid above old → AddsAt thread place old new
+    → AreLaid (above ++ l ∷ []) new
+AreLaid-own above place thread l old new own long laid adds at listed is =
     let (before, was, now) = adds at listed is in
     now ∙ ap (λ places. places ++ (if thread == at then place ∷ [] else [])) (laid at before was)
     ∙ ap (λ (p : ℕ). places_of at above ++ (if thread == at then p ∷ [] else [])) (sym long)
-    ∙ sym (places_of-push at above (line.Call thread call))
+    ∙ ap (λ (b : Bool). places_of at above ++ (if b then length above ∷ [] else [])) (sym (own at))
+    ∙ sym (places_of-push at above l)
 
 -- a line that is no thread's
 pub AreLaid-other : (above : List Line) (l : Line) (places : List (List ℕ)) → ((thread : ℕ) → is_line_of thread l ≡ false) → AreLaid above places → AreLaid (above ++ l ∷ []) places
 AreLaid-other above l places none laid at listed is =
     laid at listed is ∙ sym (append-nil (places_of at above)) ∙ ap (λ (b : Bool). places_of at above ++ (if b then length above ∷ [] else [])) (sym (none at)) ∙ sym (places_of-push at above l)
 
--- at a place of a thread's lines stands a call of it, by the line that is the first
+-- at a place of a thread's lines stands one of them, by the line that is the first
 line_from-place : (thread from : ℕ) (lines : List Line) (done place : ℕ) → slice_get (places_from thread from lines) done ≡ Some place
-    → (k : ℕ) × (place ≡ from + k) × ((call : Call) × (slice_get lines k ≡ Some (line.Call thread call)))
+    → (k : ℕ) × (place ≡ from + k) × ((l : Line) × (slice_get lines k ≡ Some l) × (is_line_of thread l ≡ true))
 line_from-place thread from [] done place is = absurd cc
-line_from-place thread from (line.Silent ∷ lines) done place is = let (k, at, there) = line_from-place thread (from + 1) lines done place is in (suc k, omega arith, there)
-line_from-place thread from (line.Adopt shard ∷ lines) done place is = let (k, at, there) = line_from-place thread (from + 1) lines done place is in (suc k, omega arith, there)
-line_from-place thread from (line.Mark ∷ lines) done place is = let (k, at, there) = line_from-place thread (from + 1) lines done place is in (suc k, omega arith, there)
-line_from-place thread from (line.Call caller call ∷ lines) done place is = by_test (caller == thread) refl done is (line_from-place thread (from + 1) lines)
+line_from-place thread from (first ∷ lines) done place is = by_test (is_line_of thread first) refl done is (line_from-place thread (from + 1) lines)
   where
-    by_test : (b : Bool) → (caller == thread) ≡ b → (done : ℕ) → slice_get (if b then from ∷ places_from thread (from + 1) lines else places_from thread (from + 1) lines) done ≡ Some place
-        → ((done place : ℕ) → slice_get (places_from thread (from + 1) lines) done ≡ Some place → (k : ℕ) × (place ≡ from + 1 + k) × ((call : Call) × (slice_get lines k ≡ Some (line.Call thread call))))
-        → (k : ℕ) × (place ≡ from + k) × ((other : Call) × (slice_get (line.Call caller call ∷ lines) k ≡ Some (line.Call thread other)))
-    by_test true same zero is below = (0, let here : from ≡ place = cc in omega (arith, here), (call, ap (λ t. Some (line.Call t call)) (eqb-true caller thread same)))
-    by_test true same (suc done) is below = let (k, at, there) = below done place is in (suc k, omega arith, there)
+    by_test : (b : Bool) → is_line_of thread first ≡ b → (done : ℕ) → slice_get (if b then from ∷ places_from thread (from + 1) lines else places_from thread (from + 1) lines) done ≡ Some place
+        → ((done place : ℕ) → slice_get (places_from thread (from + 1) lines) done ≡ Some place → (k : ℕ) × (place ≡ from + 1 + k) × ((l : Line) × (slice_get lines k ≡ Some l) × (is_line_of thread l ≡ true)))
+        → (k : ℕ) × (place ≡ from + k) × ((l : Line) × (slice_get (first ∷ lines) k ≡ Some l) × (is_line_of thread l ≡ true))
+    by_test true own zero is below = (0, let here : from ≡ place = cc in omega (arith, here), (first, refl, own))
+    by_test true own (suc done) is below = let (k, at, there) = below done place is in (suc k, omega arith, there)
     by_test false other done is below = let (k, at, there) = below done place is in (suc k, omega arith, there)
 
-pub line_at-place : (thread : ℕ) (lines : List Line) (done place : ℕ) → slice_get (places_of thread lines) done ≡ Some place → (call : Call) × (slice_get lines place ≡ Some (line.Call thread call))
+pub line_at-place : (thread : ℕ) (lines : List Line) (done place : ℕ) → slice_get (places_of thread lines) done ≡ Some place → (l : Line) × (slice_get lines place ≡ Some l) × (is_line_of thread l ≡ true)
 line_at-place thread lines done place is =
-    let (k, at, (call, there)) = line_from-place thread 0 lines done place is in
-    (call, subst (λ p. slice_get lines p ≡ Some (line.Call thread call)) (let same : k ≡ place = omega arith in same) there)
+    let (k, at, (l, there, own)) = line_from-place thread 0 lines done place is in
+    (l, subst (λ p. slice_get lines p ≡ Some l) (let same : k ≡ place = omega arith in same) there, own)
 
 -- a list that is written at the thread's place
 pub AddsAt-set : (thread place : ℕ) (old : List (List ℕ)) (before now : List ℕ) → slice_get old thread ≡ Some before → now ≡ before ++ place ∷ [] → AddsAt thread place old (set old thread now)
@@ -65,6 +61,17 @@ AddsAt-set thread place old before now here is at listed there = elim (eqb_tells
   )
   | inr (fails, differ) ↦ (listed, sym (slice_get-set_other old thread at now (λ e. differ (sym e))) ∙ there, sym (append-nil listed) ∙ ap (λ (b : Bool). listed ++ (if b then place ∷ [] else [])) (sym fails))
 ]
+
+-- all that stands in a list after one more of these
+each-push : {X : Type 0} (P : X → Type 0) (xs : List X) (x : X) → ((at : ℕ) (y : X) → slice_get xs at ≡ Some y → P y) → P x → (at : ℕ) (y : X) → slice_get (xs ++ x ∷ []) at ≡ Some y → P y
+each-push P xs x each it at y there = elim (in_either xs (x ∷ []) at y there) [
+  | inl early ↦ each at y early
+  | inr late ↦ last late.0 late.1
+]
+  where
+    last : (later : ℕ) → slice_get (x ∷ []) later ≡ Some y → P y
+    last zero is = subst P (same_some is) it
+    last (suc later) is = absurd cc
 
 -- one more empty list
 pub AreLaid-none : (lists : List (List ℕ)) → AreLaid [] lists → AreLaid [] (lists ++ [] ∷ [])

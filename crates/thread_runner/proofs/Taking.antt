@@ -1,4 +1,5 @@
 -- What a diary keeps of the keys that were taken from rings.
+use Rattle.span.specs.ReceiptLists.{kept_receipts}
 use Rattle.std.proofs.Common.{◌≡◌, ◌∙◌, ◌++◌, ℕ, Bool, true, false, List, [], ◌∷◌, ap, append-nil, arith, length, refl, sym, suc, ◌+◌}
 use Rattle.std.specs.List.{All, AllByRecursion}
 use Rattle.std.proofs.lemmas.List.{length-map}
@@ -13,28 +14,28 @@ use Rattle.thread_runner.specs.Told.{is_free}
 use Rattle.thread_runner.specs.declared.diary.Diary.{Diary}
 use Rattle.thread_runner.specs.declared.diary.Entry.TheVariants as entry
 
-is_free-free : (done : Bool) → is_free (free done) ≡ true
+pub is_free-free : (done : Bool) → is_free (free done) ≡ true
 is_free-free true = refl
 is_free-free false = refl
 
 -- the receipt of a free of a key is one of a free
-pub IsFreeBy-key : (worker section : ℕ) (receipt : Receipt) → IsKeyFreeBy worker section receipt.key receipt → IsFreeBy worker receipt
-IsFreeBy-key worker section receipt is = record { by = ap (λ (r : Receipt). r.worker) is; frees = ap (λ (r : Receipt). is_free r.call) is ∙ is_free-free (done_by receipt.call) }
+pub IsFreeBy-key : (worker section : ℕ) (receipt : Receipt) → IsKeyFreeBy worker section receipt.key receipt → IsFreeBy section worker receipt
+IsFreeBy-key worker section receipt is = record { by = ap (λ (r : Receipt). r.worker) is; in_section = ap (λ (r : Receipt). r.section) is; frees = ap (λ (r : Receipt). is_free r.call) is ∙ is_free-free (done_by receipt.call) }
 
-frees-each : (worker section : ℕ) (receipts : List Receipt) → All (λ receipt. IsKeyFreeBy worker section receipt.key receipt) receipts → AllByRecursion (IsFreeBy worker) receipts
+frees-each : (worker section : ℕ) (receipts : List Receipt) → All (λ receipt. IsKeyFreeBy worker section receipt.key receipt) receipts → AllByRecursion (IsFreeBy section worker) receipts
 frees-each worker section [] all = tt
 frees-each worker section (receipt ∷ receipts) all = (IsFreeBy-key worker section receipt (all 0 receipt (omega arith)), frees-each worker section receipts (λ k d within. all (suc k) d (omega arith)))
 
 -- a diary goes on by what a seat took
-pub TakesIn-tended : (most count : ℕ) (before after : SeatState) (old mid new : Diary) → mid ≡ record old { receipts = mid.receipts } → IsTended most before after old.receipts.items mid.receipts.items count
-    → Grows (entry.Incoming count ∷ []) [] 0 mid new → TakesIn before.worker count old new
+pub TakesIn-tended : (most count : ℕ) (before after : SeatState) (old mid new : Diary) → mid ≡ record old { receipts = mid.receipts } → IsTended most before after (kept_receipts old.receipts) (kept_receipts mid.receipts) count
+    → Grows (entry.Incoming count ∷ []) [] 0 mid new → TakesIn before.section before.worker count old new
 TakesIn-tended most count before after old mid new is tended grows = record {
   receipts = tended.freed.added;
   count_is = tended.total_is ∙ sym (ap length tended.freed.of_keys) ∙ length-map tended.freed.added (λ receipt. receipt.key);
   are_frees = frees-each before.worker before.section tended.freed.added tended.freed.are_frees;
   grows = record {
     shown_is = grows.shown_is ∙ ap (λ (d : Diary). d.replies) is;
-    receipts_are = grows.receipts_are ∙ append-nil mid.receipts.items ∙ tended.freed.appended;
+    receipts_are = grows.receipts_are ∙ append-nil (kept_receipts mid.receipts) ∙ tended.freed.appended;
     entries_are = λ shown. grows.entries_are (ap (λ (d : Diary). d.replies) is ∙ shown) ∙ ap (λ (d : Diary). d.entries.items ++ entry.Incoming count ∷ []) is;
     calls_is = grows.calls_is ∙ ap (λ (d : Diary). d.calls + 0) is;
   };

@@ -1,5 +1,6 @@
 -- What diaries say, and the report that follows.
-use Rattle.std.proofs.Common.{◌≡◌, ◌∙◌, ◌++◌, ◌&&◌, ℕ, Bool, List, [], ◌∷◌, None, Option, Some, ap, arith, map, not, refl, slice_get, subst, sym}
+use Rattle.span.specs.ReceiptLists.{kept_receipts}
+use Rattle.std.proofs.Common.{◌≡◌, ◌∙◌, ◌+◌, ◌++◌, ◌&&◌, ℕ, Bool, List, [], ◌∷◌, None, Option, Some, ap, arith, map, not, refl, slice_get, subst, sym}
 use Rattle.std.specs.Prelude.{◌==◌, codes, filter, option_map}
 use Rattle.std.specs.List.{flat_map}
 use Rattle.std.specs.List.Sorted.{IsNonDecreasingBy, IsPermutation, IsStableByKey, ties}
@@ -7,6 +8,7 @@ use Rattle.std.specs.Ordering.{is_lt, nat_cmp}
 use Rattle.std.proofs.lemmas.Bool.Decides.{nat_tests}
 use Rattle.std.proofs.lemmas.List.{length-map}
 use Rattle.std.proofs.lemmas.Option.{same_Some, slice_get-map}
+use Rattle.trace_text.specs.Causes.{marks}
 use Rattle.trace_text.specs.declared.line.Line.{Line}
 use Rattle.trace_text.specs.Trace.{IsTrace}
 use Rattle.trace_text.specs.declared.trace.Trace.{Trace}
@@ -19,7 +21,7 @@ use Rattle.span.specs.SpanLogs.{span_of_log}
 use Rattle.groups.specs.Spans.{live_count}
 use Rattle.audit.specs.Agreement.{Agreement}
 use Rattle.audit.specs.History.{HaveHistories}
-use Rattle.thread_runner.specs.Asked.{places_of, replies_in}
+use Rattle.thread_runner.specs.Asked.{GivenKeys, places_of, replies_in}
 use Rattle.thread_runner.specs.Followed.{AreVoices, Follows}
 use Rattle.thread_runner.specs.Grown.{AreDiaries, IsDiaryOf}
 use Rattle.thread_runner.specs.Marked.{AreNotesOf}
@@ -27,7 +29,6 @@ use Rattle.thread_runner.specs.Threaded.{AreByLine, IsAuditStop, IsRunStop, IsTh
 use Rattle.thread_runner.specs.Told.{Voice, diary_lines, voice_lines, voice_of}
 use Rattle.thread_runner.specs.declared.body.Note.{Note}
 use Rattle.thread_runner.specs.declared.diary.Diary.{Diary}
-use Rattle.thread_runner.specs.declared.diary.OtherLine.{OtherLine}
 use Rattle.thread_runner.specs.declared.error.ThreadsError.{ThreadsError}
 use Rattle.thread_runner.specs.declared.error.ThreadsError.TheVariants.{OutOfMemory, BadTrace, Doubled, AuditFault, SinkFailed}
 
@@ -54,37 +55,37 @@ flat_map-voices [] = refl
 flat_map-voices (diary ∷ diaries) = ap (λ replies. diary_lines diary ++ replies) (flat_map-voices diaries)
 
 -- the receipts of what diaries have are those of the diaries
-pub map-voices : (diaries : List Diary) → map (λ (voice : Voice). voice.receipts) (map voice_of diaries) ≡ map (λ (diary : Diary). diary.receipts.items) diaries
+pub map-voices : (diaries : List Diary) → map (λ (voice : Voice). voice.receipts) (map voice_of diaries) ≡ map (λ (diary : Diary). (kept_receipts diary.receipts)) diaries
 map-voices [] = refl
-map-voices (diary ∷ diaries) = ap (λ lists. diary.receipts.items ∷ lists) (map-voices diaries)
+map-voices (diary ∷ diaries) = ap (λ lists. (kept_receipts diary.receipts) ∷ lists) (map-voices diaries)
 
 -- what stands in diaries stands in what they have
-AreVoices-at : (lines : List Line) (shown : Bool) (thread : ℕ) (voice : Voice) (diary : Option Diary) → ((d : Diary) → diary ≡ Some d → IsDiaryOf lines shown thread d) → option_map voice_of diary ≡ Some voice
-    → ∥ Follows lines thread (places_of thread lines) shown voice ∥₁
-AreVoices-at lines shown thread voice None each at = absurd cc
-AreVoices-at lines shown thread voice (Some diary) each at =
+AreVoices-at : (lines : List Line) (shown : Bool) (given : GivenKeys) (thread : ℕ) (voice : Voice) (diary : Option Diary) → ((d : Diary) → diary ≡ Some d → IsDiaryOf lines shown given thread d)
+    → option_map voice_of diary ≡ Some voice → ∥ Follows lines given thread (places_of thread lines) (marks lines + 1) shown voice ∥₁
+AreVoices-at lines shown given thread voice None each at = absurd cc
+AreVoices-at lines shown given thread voice (Some diary) each at =
     let same : voice_of diary ≡ voice = same_Some _ _ at in
-    subst (λ v. ∥ Follows lines thread (places_of thread lines) shown v ∥₁) same (each diary refl).follows
+    subst (λ v. ∥ Follows lines given thread (places_of thread lines) (marks lines + 1) shown v ∥₁) same (each diary refl).follows
 
 -- what the diaries of all threads have follows their lines
-pub AreVoices-diaries : (trace : Trace) (shown : Bool) (diaries : List Diary) → AreDiaries trace.lines.items shown trace.header.shards diaries → AreVoices trace shown (map voice_of diaries)
-AreVoices-diaries trace shown diaries are = record {
+pub AreVoices-diaries : (trace : Trace) (shown : Bool) (given : GivenKeys) (diaries : List Diary) → AreDiaries trace.lines.items shown given trace.header.shards diaries → AreVoices trace shown (map voice_of diaries)
+AreVoices-diaries trace shown given diaries are = record {
+  given = given;
   each_thread = length-map diaries voice_of ∙ are.each_thread;
-  follows = λ thread voice at. AreVoices-at trace.lines.items shown thread voice (slice_get diaries thread) (are.follow thread) (sym (slice_get-map voice_of diaries thread) ∙ at);
+  follows = λ thread voice at. AreVoices-at trace.lines.items shown given thread voice (slice_get diaries thread) (are.follow thread) (sym (slice_get-map voice_of diaries thread) ∙ at);
 }
 
 -- where the receipts of diaries agree with logs, what they tell is the report
-pub IsThreadedReport-told : (trace : Trace) (shown : Bool) (logs : List SpanLog) (diaries : List Diary) (adoptions : List OtherLine) (lists : List (List Receipt)) (notes : List Note) (ending : Ending)
+pub IsThreadedReport-told : (trace : Trace) (shown : Bool) (logs : List SpanLog) (diaries : List Diary) (lists : List (List Receipt)) (notes : List Note) (ending : Ending)
     (certificate text bytes : List ℕ)
-    → lists ≡ map (λ (diary : Diary). diary.receipts.items) diaries → TellsAll shown (map voice_of diaries) adoptions notes ending text
+    → lists ≡ map (λ (diary : Diary). (kept_receipts diary.receipts)) diaries → TellsAll shown (map voice_of diaries) notes ending text
     → AreVoices trace shown (map voice_of diaries) → ending.calls ≡ replies_in trace.lines.items → AreNotesOf trace.lines.items notes certificate → ending.live ≡ live_count (map span_of_log logs)
     → Agreement logs lists → HaveHistories lists → bytes ≡ text ++ codes "audit ok\n" → IsThreadedReport trace shown bytes certificate
-IsThreadedReport-told trace shown logs diaries adoptions lists notes ending certificate text bytes of_diaries tells of_lines counted of_marks live agreed histories ends =
+IsThreadedReport-told trace shown logs diaries lists notes ending certificate text bytes of_diaries tells of_lines counted of_marks live agreed histories ends =
     let same : lists ≡ map (λ (voice : Voice). voice.receipts) (map voice_of diaries) = of_diaries ∙ sym (map-voices diaries) in
     record {
       logs = logs;
       voices = map voice_of diaries;
-      adoptions = adoptions;
       replies = tells.0;
       notes = notes;
       ending = ending;
@@ -100,7 +101,7 @@ IsThreadedReport-told trace shown logs diaries adoptions lists notes ending cert
 
 -- where the audit of the receipts of diaries stops, so does the run
 pub IsRunStop-audit : (trace : Trace) (shown : Bool) (logs : List SpanLog) (diaries : List Diary) (lists : List (List Receipt)) (error : ThreadsError)
-    → lists ≡ map (λ (diary : Diary). diary.receipts.items) diaries → AreVoices trace shown (map voice_of diaries) → IsAuditStop logs lists error → IsRunStop trace shown error
+    → lists ≡ map (λ (diary : Diary). (kept_receipts diary.receipts)) diaries → AreVoices trace shown (map voice_of diaries) → IsAuditStop logs lists error → IsRunStop trace shown error
 IsRunStop-audit trace shown logs diaries lists OutOfMemory of_diaries of_lines stop = tt
 IsRunStop-audit trace shown logs diaries lists (AuditFault cause) of_diaries of_lines stop =
     let same : lists ≡ map (λ (voice : Voice). voice.receipts) (map voice_of diaries) = of_diaries ∙ sym (map-voices diaries) in

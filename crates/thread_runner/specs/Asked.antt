@@ -1,67 +1,88 @@
 -- What the lines of a thread ask it for, and what may come of it.
-use Rattle.std.specs.Prelude.{◌≡◌, ℕ, ◌+◌, ◌-◌, ◌==◌, Bool, true, false, List, [], ◌∷◌, length, map, replicate, slice_get, if◌then◌else◌}
+use Rattle.std.specs.Prelude.{◌≡◌, ℕ, ◌+◌, ◌-◌, ◌==◌, Bool, true, false, List, [], ◌∷◌, length, map, slice_get, Option, None, Some, unwrap_or, if◌then◌else◌}
 use Rattle.std.specs.List.{AllByRecursion, range_with_len}
 use Rattle.std.specs.Option.{option_map_or}
+use Rattle.span.specs.declared.key.Key.{Key}
 use Rattle.span.specs.declared.receipt.Call.{Call}
 use Rattle.span.specs.declared.receipt.Call.TheVariants as call
 use Rattle.span.specs.declared.receipt.Receipt.{Receipt}
+use Rattle.span.specs.Log.{Value}
+use Rattle.trace_text.specs.Causes.{keys_in}
+use Rattle.trace_text.specs.Objects.{counted_from}
+use Rattle.trace_text.specs.Places.{first_of}
 use Rattle.trace_text.specs.declared.line.Call.{Call as LineCall}
 use Rattle.trace_text.specs.declared.line.Call.TheVariants.{Put, Fill, Get, Free, Sweep, Later, Tend, End}
 use Rattle.trace_text.specs.declared.line.Line.{Line}
 use Rattle.trace_text.specs.declared.line.Line.TheVariants as line
+use Rattle.trace_text.specs.declared.name.Reference.{Reference}
 use Rattle.thread_runner.specs.Told.{is_free}
 use Rattle.thread_runner.specs.declared.diary.Other.{Other}
 use Rattle.thread_runner.specs.declared.diary.Other.TheVariants as other
 
 -- ---- what lines ask for
 
--- one thing that a line asks its thread for; it has one reply
+-- one thing that a line asks its thread for; it has one reply. A key goes by its place among all keys that the lines bind
 pub data Asked : Type 0 where
-  -- a put of that value
-  Puts : ℕ → Asked
-  -- a look-up
-  Gets : Asked
-  -- a free
-  Frees : Asked
-  -- that a key be left to be freed later
-  Leaves : Asked
+  -- a put of the object, which gives the key of that place
+  Puts : (place : ℕ) → Value → Asked
+  -- a look-up of the key of that place
+  Gets : ℕ → Asked
+  -- a free of it
+  Frees : ℕ → Asked
+  -- that it be left to be freed later
+  Leaves : ℕ → Asked
   -- that the keys be taken and freed that have come in on the rings
   Tends : Asked
   -- the end of the thread
   Ends : Asked
+  -- that its shard adopt a group
+  Adopts : Asked
 
--- what a thread's call asks for, in order
-abbrev pub asked_by : LineCall → List Asked
-asked_by (Put name value) = Puts value ∷ []
-asked_by (Fill name count value) = map (λ i. Puts (value + i)) (range_with_len 0 count)
-asked_by (Get key) = Gets ∷ []
-asked_by (Free key) = Frees ∷ []
-asked_by (Sweep name from to) = replicate (to - from) Frees
-asked_by (Later key) = Leaves ∷ []
-asked_by Tend = Tends ∷ []
-asked_by End = Ends ∷ []
+-- the place of the key that a reference names, by the lines above; a plain name is that of its only put
+abbrev pub place_named : List Line → Reference → ℕ
+place_named above reference = first_of above reference.name + unwrap_or reference.index 0
 
--- what a line asks its thread for; other lines ask no thread
-abbrev pub asked_at : Line → List Asked
-asked_at (line.Call thread call) = asked_by call
-asked_at _ = []
+-- what a thread's call below those lines asks for, in order; the keys that it binds have the next places
+abbrev pub asked_by : List Line → LineCall → List Asked
+asked_by above (Put name class value) = Puts (keys_in above) (counted_from class value) ∷ []
+asked_by above (Fill name class count value) = map (λ i. Puts (keys_in above + i) (counted_from class (value + i))) (range_with_len 0 count)
+asked_by above (Get key) = Gets (place_named above key) ∷ []
+asked_by above (Free key) = Frees (place_named above key) ∷ []
+asked_by above (Sweep name from to) = map (λ i. Frees (first_of above name + i)) (range_with_len from (to - from))
+asked_by above (Later key) = Leaves (place_named above key) ∷ []
+asked_by above Tend = Tends ∷ []
+asked_by above End = Ends ∷ []
 
--- how many replies a line has
+-- what a line below those asks for, of the thread that calls or whose shard adopts
+abbrev pub asked_at : List Line → Line → List Asked
+asked_at above (line.Call thread call) = asked_by above call
+asked_at above (line.Adopt shard) = Adopts ∷ []
+asked_at above _ = []
+
+-- how many replies a call has
+abbrev pub replies_by : LineCall → ℕ
+replies_by (Fill name class count value) = count
+replies_by (Sweep name from to) = to - from
+replies_by call = 1
+
+-- how many replies to calls a line has; an adoption is no call
 abbrev pub replies_at : Line → ℕ
-replies_at line = length (asked_at line)
+replies_at (line.Call thread call) = replies_by call
+replies_at _ = 0
 
--- how many replies the lines of threads have
+-- how many replies to calls the lines have
 abbrev pub replies_in : List Line → ℕ
 replies_in [] = 0
 replies_in (line ∷ lines) = replies_at line + replies_in lines
 
--- how many replies the line at that place has
+-- how many replies to calls the line at that place has
 abbrev pub replies_on : List Line → ℕ → ℕ
 replies_on lines place = option_map_or replies_at (slice_get lines place) 0
 
--- the line is a call of that thread
+-- the line is a call of that thread, or an adoption by its shard
 abbrev pub is_line_of : ℕ → Line → Bool
 is_line_of thread (line.Call caller call) = caller == thread
+is_line_of thread (line.Adopt shard) = shard == thread
 is_line_of thread _ = false
 
 -- the places of the thread's lines, among lines of which the first has that place
@@ -91,33 +112,57 @@ is_look_up (call.Found value) = true
 is_look_up call.NotFound = true
 is_look_up call = false
 
--- a key was sent off, or its ring had no room, or it was never given out
+-- a key was sent off, or its ring had no room
 abbrev pub is_sending : Other → Bool
 is_sending other.Sent = true
 is_sending other.RingFull = true
-is_sending other.Unbound = true
 is_sending other = false
 
--- the receipt is of a free by that thread
-pub record IsFreeBy (thread : ℕ) (receipt : Receipt) : Type 0 where
+-- a group was adopted, or the adoption was refused: its shard had all its pages, or there was no group
+abbrev pub is_adoption : Other → Bool
+is_adoption (other.Adopted head) = true
+is_adoption other.PagesSpent = true
+is_adoption other.NothingToAdopt = true
+is_adoption other = false
+
+-- the receipt is of a free by that thread in that section
+pub record IsFreeBy (section thread : ℕ) (receipt : Receipt) : Type 0 where
   pub by : receipt.worker ≡ thread
+  pub in_section : receipt.section ≡ section
   pub frees : is_free receipt.call ≡ true
 
--- this may come of what a line asks the thread for: the receipt of that call; of a put that no page was left; and of a call on a key that it was never given out
-abbrev pub Answers : ℕ → Asked → Outcome → Type 0
-Answers thread (Puts value) (Called receipt) = (receipt.worker ≡ thread) × (receipt.call ≡ call.Put value)
-Answers thread (Puts value) (Said what) = what ≡ other.PagesSpent
-Answers thread Gets (Called receipt) = (receipt.worker ≡ thread) × (is_look_up receipt.call ≡ true)
-Answers thread Gets (Said what) = what ≡ other.Unbound
-Answers thread Frees (Called receipt) = IsFreeBy thread receipt
-Answers thread Frees (Said what) = what ≡ other.Unbound
-Answers thread Leaves (Said what) = is_sending what ≡ true
-Answers thread Tends (Took receipts) = AllByRecursion (IsFreeBy thread) receipts
-Answers thread Ends (Said what) = what ≡ other.Ended
-Answers thread asked outcome = ⊥
+-- the key that the put of each key gave, by the key's place among all keys that the lines bind; none where the put was refused
+abbrev pub GivenKeys : Type 0
+GivenKeys = ℕ → Option Key
+
+-- the receipt is of a call by that thread, in that section, on the key that was given for that place
+pub record IsCallOn (given : GivenKeys) (section thread place : ℕ) (receipt : Receipt) : Type 0 where
+  pub by : receipt.worker ≡ thread
+  pub in_section : receipt.section ≡ section
+  pub of_key : given place ≡ Some receipt.key
+
+-- a key that was to be freed later was sent off, or its ring had no room; one that was never given out was not
+abbrev pub IsLeft : Option Key → Other → Type 0
+IsLeft None what = what ≡ other.Unbound
+IsLeft (Some key) what = is_sending what ≡ true
+
+-- this may come of what a line asks the thread for in that section, where those keys were given: the receipt of that call, on the key of that place; of a put that no page was left; and of a call on a key that it was
+-- never given out
+abbrev pub Answers : GivenKeys → (section thread : ℕ) → Asked → Outcome → Type 0
+Answers given section thread (Puts place value) (Called receipt) = IsCallOn given section thread place receipt × (receipt.call ≡ call.Put value)
+Answers given section thread (Puts place value) (Said what) = (given place ≡ None) × (what ≡ other.PagesSpent)
+Answers given section thread (Gets place) (Called receipt) = IsCallOn given section thread place receipt × (is_look_up receipt.call ≡ true)
+Answers given section thread (Gets place) (Said what) = (given place ≡ None) × (what ≡ other.Unbound)
+Answers given section thread (Frees place) (Called receipt) = IsCallOn given section thread place receipt × (is_free receipt.call ≡ true)
+Answers given section thread (Frees place) (Said what) = (given place ≡ None) × (what ≡ other.Unbound)
+Answers given section thread (Leaves place) (Said what) = IsLeft (given place) what
+Answers given section thread Tends (Took receipts) = AllByRecursion (IsFreeBy section thread) receipts
+Answers given section thread Ends (Said what) = what ≡ other.Ended
+Answers given section thread Adopts (Said what) = is_adoption what ≡ true
+Answers given section thread asked outcome = ⊥
 
 -- these came of all that a line asks the thread for, in order
-abbrev pub AreAnswers : ℕ → List Asked → List Outcome → Type 0
-AreAnswers thread [] [] = Unit {0}
-AreAnswers thread (asked ∷ more) (outcome ∷ outcomes) = Answers thread asked outcome × AreAnswers thread more outcomes
-AreAnswers thread asked outcomes = ⊥
+abbrev pub AreAnswers : GivenKeys → (section thread : ℕ) → List Asked → List Outcome → Type 0
+AreAnswers given section thread [] [] = Unit {0}
+AreAnswers given section thread (asked ∷ more) (outcome ∷ outcomes) = Answers given section thread asked outcome × AreAnswers given section thread more outcomes
+AreAnswers given section thread asked outcomes = ⊥

@@ -1,12 +1,12 @@
 -- How what a thread was told follows its lines.
-use Rattle.std.specs.Prelude.{◌≡◌, ℕ, ◌+◌, Bool, true, List, [], ◌∷◌, Some, length, slice_get}
+use Rattle.std.specs.Prelude.{◌≡◌, ℕ, ◌+◌, Bool, true, List, [], ◌∷◌, Some, length, slice_get, take}
 use Rattle.std.specs.List.{AllByRecursion, flat_map}
 use Rattle.span.specs.declared.receipt.Receipt.{Receipt}
-use Rattle.trace_text.specs.declared.line.Call.{Call}
+use Rattle.trace_text.specs.Causes.{marks}
 use Rattle.trace_text.specs.declared.line.Line.{Line}
 use Rattle.trace_text.specs.declared.line.Line.TheVariants as line
 use Rattle.trace_text.specs.declared.trace.Trace.{Trace}
-use Rattle.thread_runner.specs.Asked.{AreAnswers, IsFreeBy, Outcome, Called, Took, Said, asked_by, places_of}
+use Rattle.thread_runner.specs.Asked.{AreAnswers, GivenKeys, IsFreeBy, Outcome, Called, Took, Said, asked_at, is_line_of, places_of}
 use Rattle.thread_runner.specs.Told.{Voice}
 use Rattle.thread_runner.specs.declared.diary.Entry.{Entry}
 use Rattle.thread_runner.specs.declared.diary.Entry.TheVariants as entry
@@ -28,7 +28,7 @@ receipts_from (Said what) = []
 pub data Passage : Type 0 where
   -- what came of its line at that place, below the header
   AtLine : ℕ → List Outcome → Passage
-  -- at a barrier the keys were taken and freed that had come in on the rings, with these receipts
+  -- at the barrier that ends a section the keys were taken and freed that had come in on the rings, with these receipts
   AtBarrier : List Receipt → Passage
 
 -- the place of the line
@@ -46,27 +46,45 @@ abbrev pub receipts_in : Passage → List Receipt
 receipts_in (AtLine place outcomes) = flat_map receipts_from outcomes
 receipts_in (AtBarrier receipts) = receipts
 
--- at that place stands a call of the thread, and these came of what it asks for
-pub record AnswersLine (lines : List Line) (thread place : ℕ) (outcomes : List Outcome) : Type 0 where
-  pub call : Call
-  pub here : slice_get lines place ≡ Some (line.Call thread call)
-  pub answered : AreAnswers thread (asked_by call) outcomes
+-- how many barriers a thread has come to at the line of that place: those of the marks above it, and for an adoption that which it is made at
+abbrev pub barriers_to : List Line → ℕ → Line → ℕ
+barriers_to lines place (line.Adopt shard) = marks (take place lines) + 1
+barriers_to lines place _ = marks (take place lines)
 
--- the thread was told this of its line; or at a barrier, of frees of its own alone
-abbrev pub IsPassage : List Line → ℕ → Passage → Type 0
-IsPassage lines thread (AtLine place outcomes) = AnswersLine lines thread place outcomes
-IsPassage lines thread (AtBarrier receipts) = AllByRecursion (IsFreeBy thread) receipts
+-- at that place stands a line of the thread, to which it comes after so many barriers, and these came of what it asks for, where those keys were given; its section is the number of marks above it
+pub record AnswersLine (lines : List Line) (given : GivenKeys) (thread barriers place : ℕ) (outcomes : List Outcome) : Type 0 where
+  pub line : Line
+  pub here : slice_get lines place ≡ Some line
+  pub of_thread : is_line_of thread line ≡ true
+  pub after_barriers : barriers ≡ barriers_to lines place line
+  pub answered : AreAnswers given (marks (take place lines)) thread (asked_at (take place lines) line) outcomes
 
--- passage by passage the voice tells what came of the thread's lines at these places, in this order, and what it took at barriers, and nothing else; it has entries where they are shown
-pub record Follows (lines : List Line) (thread : ℕ) (places : List ℕ) (shown : Bool) (voice : Voice) : Type 0 where
+-- after so many barriers the thread was told this of its line; or at the barrier that ends the section of that number, of frees of its own in that section alone
+abbrev pub IsPassage : List Line → GivenKeys → (thread barriers : ℕ) → Passage → Type 0
+IsPassage lines given thread barriers (AtLine place outcomes) = AnswersLine lines given thread barriers place outcomes
+IsPassage lines given thread barriers (AtBarrier receipts) = AllByRecursion (IsFreeBy barriers thread) receipts
+
+-- how many barriers the thread has come to after a passage
+abbrev pub barriers_after : ℕ → Passage → ℕ
+barriers_after barriers (AtLine place outcomes) = barriers
+barriers_after barriers (AtBarrier receipts) = barriers + 1
+
+-- the thread was told this, passage by passage, from so many barriers up to so many
+abbrev pub ArePassages : List Line → GivenKeys → (thread from to : ℕ) → List Passage → Type 0
+ArePassages lines given thread from to [] = from ≡ to
+ArePassages lines given thread from to (passage ∷ passages) = IsPassage lines given thread from passage × ArePassages lines given thread (barriers_after from passage) to passages
+
+-- passage by passage the voice tells what came of the thread's lines at these places, in this order, where those keys were given, and what it took at each of so many barriers, and nothing else; it has entries where they are shown
+pub record Follows (lines : List Line) (given : GivenKeys) (thread : ℕ) (places : List ℕ) (barriers : ℕ) (shown : Bool) (voice : Voice) : Type 0 where
   pub passages : List Passage
   pub in_order : flat_map places_in passages ≡ places
-  pub each : AllByRecursion (IsPassage lines thread) passages
+  pub each : ArePassages lines given thread 0 barriers passages
   pub receipts_are : voice.receipts ≡ flat_map receipts_in passages
   pub entries_are : shown ≡ true → voice.entries ≡ flat_map entries_in passages
 
--- one voice a thread, in order; each follows all lines of its thread, each once
+-- one voice a thread, in order; each follows all lines of its thread, each once, and all barriers: those of the marks, and the end of the text. One table has the key that each put gave, and each call on a name is on the key which that has for it
 pub record AreVoices (trace : Trace) (shown : Bool) (voices : List Voice) : Type 0 where
+  pub given : GivenKeys
   pub each_thread : length voices ≡ trace.header.shards
   pub follows : (thread : ℕ) (voice : Voice) → slice_get voices thread ≡ Some voice
-      → ∥ Follows trace.lines.items thread (places_of thread trace.lines.items) shown voice ∥₁
+      → ∥ Follows trace.lines.items given thread (places_of thread trace.lines.items) (marks trace.lines.items + 1) shown voice ∥₁

@@ -1,5 +1,6 @@
 -- Where each thread's lines stand. No public clause cites this module.
-use Rattle.std.specs.Prelude.{◌≡◌, ℕ, ◌==◌, List, [], ◌∷◌, ◌++◌, Some, slice_get, if◌then◌else◌}
+use Rattle.std.specs.Prelude.{◌≡◌, ℕ, ◌==◌, List, [], ◌∷◌, ◌++◌, Some, slice_get, take, if◌then◌else◌}
+use Rattle.trace_text.specs.Causes.{keys_in}
 use Rattle.trace_text.specs.declared.line.Line.{Line}
 use Rattle.thread_runner.specs.Asked.{places_of}
 
@@ -11,3 +12,7 @@ AreLaid lines places = (thread : ℕ) (listed : List ℕ) → slice_get places t
 abbrev pub AddsAt : (thread place : ℕ) → (old new : List (List ℕ)) → Type 0
 AddsAt thread place old new = (at : ℕ) (listed : List ℕ) → slice_get new at ≡ Some listed
     → (before : List ℕ) × (slice_get old at ≡ Some before) × (listed ≡ before ++ (if thread == at then place ∷ [] else []))
+
+-- of each line that has a number there, it is that of the keys which the lines above it bind
+abbrev pub AreFirsts : List Line → List ℕ → Type 0
+AreFirsts lines firsts = (place first : ℕ) → slice_get firsts place ≡ Some first → first ≡ keys_in (take place lines)

@@ -4,6 +4,7 @@ pub mod Asked
 pub mod Followed
 pub mod Grown
 pub mod Laid
+pub mod Known
 pub mod Report
 pub mod Marked
 pub mod Noted

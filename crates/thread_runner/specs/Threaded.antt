@@ -21,15 +21,14 @@ use Rattle.thread_runner.specs.Asked.{replies_in}
 use Rattle.thread_runner.specs.Followed.{AreVoices}
 use Rattle.thread_runner.specs.Marked.{AreNotesOf}
 use Rattle.thread_runner.specs.Report.{body_text, threaded_text}
-use Rattle.thread_runner.specs.Told.{Voice, other_line, voice_lines}
+use Rattle.thread_runner.specs.Told.{Voice, voice_lines}
 use Rattle.thread_runner.specs.declared.body.Note.{Note}
-use Rattle.thread_runner.specs.declared.diary.OtherLine.{OtherLine}
 use Rattle.thread_runner.specs.declared.error.ThreadsError.{ThreadsError}
 use Rattle.thread_runner.specs.declared.error.ThreadsError.TheVariants.{OutOfMemory, BadTrace, Doubled, AuditFault, SinkFailed}
 
--- all that the threads were told, one thread after another, each in the order of its calls, and after that what the adoptions came to
-abbrev pub told_replies : List Voice → List OtherLine → List LineAnswer
-told_replies voices adoptions = flat_map voice_lines voices ++ map other_line adoptions
+-- all that the threads were told, one thread after another, each in the order of its lines
+abbrev pub told_replies : List Voice → List LineAnswer
+told_replies voices = flat_map voice_lines voices
 
 -- the reply is on the line of that number
 abbrev pub is_on : ℕ → LineAnswer → Bool
@@ -41,9 +40,9 @@ pub record AreByLine (told replies : List LineAnswer) : Type 0 where
   pub by_line : IsNonDecreasingBy (λ reply. reply.line) replies
   pub in_order : (line : ℕ) → filter (is_on line) replies ≡ filter (is_on line) told
 
--- the replies are all that the threads were told, and those of the adoptions, by line, and within a line in the order of its calls: a thread's line is that thread's alone
-abbrev pub AreReplies : List Voice → List OtherLine → List LineAnswer → Type 0
-AreReplies voices adoptions replies = AreByLine (told_replies voices adoptions) replies
+-- the replies are all that the threads were told, by line, and within a line in the order of its calls: a thread's line, or an adoption by its shard, is that thread's alone
+abbrev pub AreReplies : List Voice → List LineAnswer → Type 0
+AreReplies voices replies = AreByLine (told_replies voices) replies
 
 -- the bytes are the report of a run of the trace: each thread was told what came of its own lines, in order, and its receipts are those of that; they
 -- agree with the logs of the spans, so that the calls on each span have one history. Where replies are shown, that of each call on a key is what its
@@ -52,7 +51,6 @@ AreReplies voices adoptions replies = AreByLine (told_replies voices adoptions) 
 pub record IsThreadedReport (trace : Trace) (shown : Bool) (bytes certificate : List ℕ) : Type 0 where
   pub logs : List SpanLog
   pub voices : List Voice
-  pub adoptions : List OtherLine
   pub replies : List LineAnswer
   pub notes : List Note
   pub ending : Ending
@@ -62,7 +60,7 @@ pub record IsThreadedReport (trace : Trace) (shown : Bool) (bytes certificate : 
   pub live : ending.live ≡ live_count (map span_of_log logs)
   pub agreed : Agreement logs (map (λ voice. voice.receipts) voices)
   pub histories : HaveHistories (map (λ voice. voice.receipts) voices)
-  pub told : shown ≡ true → AreReplies voices adoptions replies
+  pub told : shown ≡ true → AreReplies voices replies
   pub spelled : bytes ≡ threaded_text shown replies notes ending
 
 -- the text is a trace, and what was taken more than before is such a report, whole, with this certificate
@@ -75,10 +73,10 @@ abbrev pub WritesThreadedFront : List ℕ → Bool → (old new : Option (List �
 WritesThreadedFront text shown old new =
     (trace : Trace) × (bytes : List ℕ) × (certificate : List ℕ) × IsTrace text trace × IsThreadedReport trace shown bytes certificate × AppendsFront old new bytes
 
--- the text is a report of what the threads and the adoptions were told, with these notes, up to these counts; where replies are shown, they are all there
-abbrev pub TellsAll : Bool → List Voice → List OtherLine → List Note → Ending → List ℕ → Type 0
-TellsAll shown voices adoptions notes ending text =
-    (replies : List LineAnswer) × (shown ≡ true → AreReplies voices adoptions replies) × (text ≡ body_text shown replies notes ++ end_line ending)
+-- the text is a report of what the threads were told, with these notes, up to these counts; where replies are shown, they are all there
+abbrev pub TellsAll : Bool → List Voice → List Note → Ending → List ℕ → Type 0
+TellsAll shown voices notes ending text =
+    (replies : List LineAnswer) × (shown ≡ true → AreReplies voices replies) × (text ≡ body_text shown replies notes ++ end_line ending)
 
 -- a run of the trace by threads, each of which was told what came of its own lines, left receipts and logs that do not agree, first in this part
 abbrev pub FailsRun : Trace → Bool → AuditCause → Type 0

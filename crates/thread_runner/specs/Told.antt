@@ -1,4 +1,5 @@
 -- What the threads of a run were told, as the report tells it.
+use Rattle.span.specs.ReceiptLists.{kept_receipts}
 use Rattle.std.specs.Prelude.{ℕ, Bool, true, false, if◌then◌else◌, List, [], ◌∷◌, ◌++◌, drop, map, take}
 use Rattle.std.specs.List.{flat_map}
 use Rattle.span.specs.declared.key.Key.{Key}
@@ -84,7 +85,7 @@ voice_lines voice = told_lines voice.entries voice.receipts
 
 -- what a diary has
 abbrev pub voice_of : Diary → Voice
-voice_of diary = record { entries = diary.entries.items; receipts = diary.receipts.items }
+voice_of diary = record { entries = diary.entries.items; receipts = (kept_receipts diary.receipts) }
 
 abbrev pub diary_lines : Diary → List LineAnswer
 diary_lines diary = voice_lines (voice_of diary)

@@ -5,7 +5,7 @@ ghost use Rattle.thread_runner.specs.Report.{body_text, count_above};
 ghost use Rattle.thread_runner.specs.Threaded.{AreReplies};
 ghost use Rattle.thread_runner.specs.Told.{diary_lines, voice_of};
 
-use crate::diary::{Diary, OtherLine, push_others};
+use crate::diary::Diary;
 use std::alloc::{AllocError, Global};
 use trace_runner::{LineAnswer, PlanNews, push_answers, push_news};
 
@@ -29,22 +29,20 @@ fn push_all(replies: &mut Vec<LineAnswer>, diaries: &[Diary]) -> Result<(), Allo
     Ok(())
 }
 
-/// All replies, of threads and of adoptions, in the order of their lines; none where they are not shown.
+/// All replies, in the order of their lines; none where they are not shown.
 pub(crate) fn replies_of(
     alloc: Global,
     shown: bool,
     diaries: &[Diary],
-    adoptions: &[OtherLine],
 ) -> Result<Vec<LineAnswer>, AllocError>
     ensures { shown ≡ true → IfOk result (λ replies.
-        AreReplies (map voice_of diaries.now) adoptions.now replies.items) }
+        AreReplies (map voice_of diaries.now) replies.items) }
 {
     let mut replies = Vec::new(alloc);
     if !shown {
         return Ok(replies);
     }
     push_all(&mut replies, diaries)?;
-    push_others(&mut replies, adoptions)?;
     replies.sort_by_key(|reply: &LineAnswer| reply.line)?;
     Ok(replies)
 }

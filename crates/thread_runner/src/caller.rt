@@ -1,42 +1,77 @@
 // Who makes the calls of a thread, and keeps what they are told.
-ghost use Rattle.std.specs.Prelude.{◌≡◌, ◌+◌, ◌-◌, ◌≤◌, ◌<◌, ◌^◌, ◌∷◌, [], IfOk, IfSome, List, OnOk, Some, false, map, replicate, slice_get};
+ghost use Rattle.std.specs.Prelude.{◌≡◌, ◌+◌, ◌-◌, ◌≤◌, ◌<◌, ◌^◌, ◌∷◌, [], IfOk, IfSome, List, OnOk, Option, Some, false, map, slice_get, take, true, unwrap_or};
 ghost use Rattle.std.specs.List.{range_with_len};
 ghost use Rattle.arena.specs.Delays.{HasNoneWaiting};
+ghost use Rattle.span.specs.declared.key.Key.{Key};
 ghost use Rattle.span.specs.declared.receipt.Receipt.{Receipt};
-ghost use Rattle.trace_text.specs.declared.line.Call.{Call};
 ghost use Rattle.trace_text.specs.declared.line.Line.{Line};
-ghost use Rattle.trace_text.specs.declared.line.Line.TheVariants as lines;
-ghost use Rattle.trace_text.specs.Causes.{is_call_over};
-ghost use Rattle.thread_runner.specs.Asked.{Answers, Asked, Called, Ends, Frees, Gets, Leaves, Puts, Said, Tends, asked_by};
-ghost use Rattle.thread_runner.specs.Grown.{Grows, IsEmptyDiary, TakesIn, Tells};
+ghost use Rattle.trace_text.specs.Causes.{is_adopt, is_call_over, keys_in};
+ghost use Rattle.trace_text.specs.Objects.{counted_from, last_word};
+ghost use Rattle.trace_text.specs.Places.{place_by};
+ghost use Rattle.thread_runner.specs.Asked.{Called, Frees, Gets, GivenKeys, Leaves, Puts, Said, Tends, asked_at, asked_by, is_adoption};
+ghost use Rattle.thread_runner.specs.Followed.{entries_on};
+ghost use Rattle.thread_runner.specs.Grown.{Grows, IsEmptyDiary, TakesIn, Tells, TellsAdoption};
+ghost use Rattle.thread_runner.specs.Known.{AreFresh, AreKept, AreKnown};
 
 use crate::diary::{Diary, Other};
 use crate::error::Halt;
-use crate::layout::{Home, Text};
+use crate::keys::{Given, Keys};
+use crate::layout::Text;
 use abandoned::{AdoptError, ReceiveError};
 use arena::{Arena, Gate, Seat};
 use shard::PutError;
-use span::{Key, Receipt};
+use span::{Class, Key, Receipt, SpanId};
 use std::alloc::{AllocError, Global};
 use std::ops::Range;
 use std::sync::Wait;
-use trace_runner::{Call, Line, Reference};
-
-/// The keys that each thread's puts were given in the sections before, in order: none for a put that was refused.
-pub(crate) type Keys = Vec<Vec<Option<Key>>>;
+use trace_runner::{Call, Line, Reference, counting_from};
 
 /// A thread of the trace in its seat at the arena.
 #[derive(Drop)]
 pub(crate) struct Caller<'a, G: Gate> {
     arena: &'a Arena<G>,
     seat: Seat,
-    /// The keys that its puts were given in this section, in order: none for a put that was refused.
-    fresh: Vec<Option<Key>>,
+    /// What its puts gave in this section, in order.
+    fresh: Vec<Given>,
+    /// How many puts it made in the sections before.
+    kept: usize,
     /// What it was told.
     diary: Diary,
     /// Whether it ended in this section, so that its shard is to be abandoned.
     leaves: bool,
     ghost fits: { seat.limits ≡ arena.now.limits },
+}
+
+/// Where a line stands, and which keys it names, by their places among all keys that the lines bind.
+#[derive(Clone, Copy, Debug, PartialEq, Eq)]
+struct Spot {
+    /// The line's number.
+    number: usize,
+    /// The place of the first key that it binds.
+    binds: usize,
+    /// The place of the first key of the name that it reads.
+    reads: usize,
+}
+
+// The key of that index of a name whose first key is at that place, or of its only put. More than a number counts find no memory.
+fn place_of(first: usize, index: Option<u32>) -> Result<usize, AllocError>
+    ensures { IfOk result (λ place. place ≡ first + unwrap_or index 0) }
+{
+    let index = index.unwrap_or(0);
+    first.checked_add(index as usize).ok_or(AllocError)
+}
+
+// What the adoption came to, where the run goes on.
+fn adoption(adopted: Result<SpanId, AdoptError>) -> Result<Other, Halt>
+    ensures { IfOk result (λ other. is_adoption other ≡ true) }
+{
+    match adopted {
+        Ok(head) => Ok(Other::Adopted(head)),
+        Err(AdoptError::PagesSpent) => Ok(Other::PagesSpent),
+        Err(AdoptError::NothingToAdopt) => Ok(Other::NothingToAdopt),
+        Err(AdoptError::OutOfMemory) => Err(Halt::OutOfMemory),
+        Err(AdoptError::Doubled | AdoptError::Ended | AdoptError::PlanOpen) => Err(Halt::Doubled),
+    }
 }
 
 impl<'a, G: Gate> Caller<'a, G> {
@@ -57,6 +92,7 @@ impl<'a, G: Gate> Caller<'a, G> {
             arena,
             seat,
             fresh: Vec::new(alloc),
+            kept: 0,
             diary: Diary::new(alloc, replies),
             leaves: false,
         })
@@ -74,11 +110,13 @@ impl<'a, G: Gate> Caller<'a, G> {
         ensures told { OnOk result (Grows [] [] 0 self.old.diary self.new.diary) }
         ensures thread { self.new.seat.worker ≡ self.old.seat.worker }
         ensures table { self.new.seat.table ≡ self.old.seat.table }
+        ensures section { self.new.seat.section ≡ self.old.seat.section }
+        ensures fresh { self.new.fresh ≡ self.old.fresh }
     {
         self.diary.reserve(calls)
     }
 
-    /// Makes the calls of the line at that place, which is one of its thread's.
+    /// Makes the calls of the line at that place, which is one of its thread's. It halts at any other line than a call.
     pub(crate) fn line<R: Wait>(
         &mut self,
         rt: &R,
@@ -86,56 +124,74 @@ impl<'a, G: Gate> Caller<'a, G> {
         keys: &Keys,
         place: usize,
     ) -> Result<(), Halt>
-        ensures told { (call : Call)
-            → slice_get text.now.trace.now.lines.items place
-            ≡ Some (lines.Call self.old.seat.worker call)
-            → OnOk result (Tells self.old.seat.worker (place + 6) (asked_by call)
+        ensures call { (line : Line) → slice_get text.now.trace.now.lines.items place ≡ Some line
+            → OnOk result (is_adopt line ≡ false) }
+        ensures told { (line : Line) → slice_get text.now.trace.now.lines.items place ≡ Some line
+            → OnOk result (Tells self.old.seat.section self.old.seat.worker (place + 6)
+            (asked_at (take place text.now.trace.now.lines.items) line)
+            (AreKnown keys.now.kept.items self.old.fresh.items)
+            (AreKnown keys.now.kept.items self.new.fresh.items)
             self.old.diary self.new.diary) }
         ensures thread { self.new.seat.worker ≡ self.old.seat.worker }
         ensures table { self.new.seat.table ≡ self.old.seat.table }
+        ensures section { self.new.seat.section ≡ self.old.seat.section }
     {
         let trace = text.trace;
         if trace.lines.len() <= place {
-            return Ok(());
+            return Err(Halt::Doubled);
         }
         let Line::Call { call, .. } = &trace.lines[place] else {
-            return Ok(());
+            return Err(Halt::Doubled);
         };
-        self.call(rt, text, keys, place + 6, trace.place(place), call)
+        let Some(binds) = text.layout.first(place) else {
+            return Err(Halt::Doubled);
+        };
+        let spot = Spot {
+            number: place + 6,
+            binds,
+            reads: trace.place(place),
+        };
+        self.call(rt, text, keys, spot, call)
     }
 
-    // Makes a call of a trace, on the line of that number. The first key of the name that it reads has that place.
+    // Makes a call of a trace, on the line of that spot.
     fn call<R: Wait>(
         &mut self,
         rt: &R,
         text: &Text<'_>,
         keys: &Keys,
-        number: usize,
-        first: usize,
+        spot: Spot,
         call: &Call,
     ) -> Result<(), Halt>
         requires { (above : List Line) × (is_call_over above call.now ≡ false) }
-        ensures told { OnOk result (Tells self.old.seat.worker number (asked_by call.now)
+        ensures told { (above : List Line) → spot.binds ≡ keys_in above
+            → spot.reads ≡ place_by above call.now
+            → OnOk result (Tells self.old.seat.section self.old.seat.worker spot.number
+            (asked_by above call.now)
+            (AreKnown keys.now.kept.items self.old.fresh.items)
+            (AreKnown keys.now.kept.items self.new.fresh.items)
             self.old.diary self.new.diary) }
         ensures thread { self.new.seat.worker ≡ self.old.seat.worker }
         ensures table { self.new.seat.table ≡ self.old.seat.table }
+        ensures section { self.new.seat.section ≡ self.old.seat.section }
     {
+        let Spot {
+            number,
+            binds,
+            reads,
+        } = spot;
         match call {
-            Call::Put { value, .. } => self.put(rt, number, *value),
-            Call::Fill { count, value, .. } => self.fill(rt, number, *count, *value),
-            Call::Get { key } => {
-                let key = self.key_of(text, keys, first, key);
-                self.get(rt, number, key)
-            }
-            Call::Free { key } => {
-                let key = self.key_of(text, keys, first, key);
-                self.free(rt, number, key)
-            }
-            Call::Sweep { from, to, .. } => self.sweep(rt, text, keys, number, first, *from..*to),
-            Call::Later { key } => {
-                let key = self.key_of(text, keys, first, key);
-                self.later(number, key)
-            }
+            Call::Put { class, value, .. } => self.put(rt, number, binds, *class, *value),
+            Call::Fill {
+                class,
+                count,
+                value,
+                ..
+            } => self.fill(rt, number, binds, *class, *count, *value),
+            Call::Get { key } => self.get(rt, text, keys, number, place_of(reads, key.index)?),
+            Call::Free { key } => self.free(rt, text, keys, number, place_of(reads, key.index)?),
+            Call::Sweep { from, to, .. } => self.sweep(rt, text, keys, number, reads, *from..*to),
+            Call::Later { key } => self.later(text, keys, number, place_of(reads, key.index)?),
             Call::Tend => self.tend(rt, number),
             Call::End => {
                 self.leaves = true;
@@ -145,62 +201,87 @@ impl<'a, G: Gate> Caller<'a, G> {
     }
 
     // Keeps the receipt of a call on the line of that number.
-    fn keep(&mut self, number: usize, receipt: Receipt) -> Result<(), AllocError>
-        ensures told { (asked : Asked) → Answers self.old.seat.worker asked (Called receipt)
-            → OnOk result (Tells self.old.seat.worker number (asked ∷ [])
+    fn keep(&mut self, number: usize, receipt: Receipt) -> Result<(), Halt>
+        ensures told { OnOk result (Grows (entries_on number (Called receipt)) (receipt ∷ []) 1
             self.old.diary self.new.diary) }
         ensures seat { self.new.seat ≡ self.old.seat }
+        ensures fresh { self.new.fresh ≡ self.old.fresh }
     {
-        self.diary.keep(number, receipt)
+        self.diary.keep(number, receipt)?;
+        Ok(())
     }
 
     // Keeps what the line of that number came to other than by a call on a key.
     fn other(&mut self, number: usize, other: Other) -> Result<(), Halt>
-        ensures told { (asked : Asked) → Answers self.old.seat.worker asked (Said other)
-            → OnOk result (Tells self.old.seat.worker number (asked ∷ [])
+        ensures told { OnOk result (Grows (entries_on number (Said other)) [] 1
             self.old.diary self.new.diary) }
         ensures seat { self.new.seat ≡ self.old.seat }
+        ensures fresh { self.new.fresh ≡ self.old.fresh }
     {
         self.diary.keep_other(number, other)?;
         Ok(())
     }
 
-    // The key that a put was given, by its place among all keys that the lines bind.
-    fn key_at(&self, text: &Text<'_>, keys: &Keys, place: usize) -> Option<Key> {
-        let Home { thread, index } = text.layout.home(place)?;
-        let known = keys.get(thread as usize)?;
-        if index < known.len() {
-            return known[index];
+    // What a put of its own gave in this section, by the place of its key among all keys that the lines bind.
+    fn fresh_at(&self, text: &Text<'_>, place: usize) -> Option<Option<Key>>
+        ensures { (given : GivenKeys) → AreFresh self.now.fresh.items given
+            → IfSome result (λ key. given place ≡ key) }
+    {
+        let index = text.layout.index(place)?.checked_sub(self.kept)?;
+        let one = self.fresh.get(index)?;
+        if one.place == place {
+            Some(one.key)
+        } else {
+            None
         }
-        *self.fresh.get(index - known.len())?
     }
 
-    // The key that a reference names, whose name's first key is at that place.
-    fn key_of(
-        &self,
-        text: &Text<'_>,
-        keys: &Keys,
-        first: usize,
-        reference: &Reference,
-    ) -> Option<Key> {
-        let index = reference.index.unwrap_or(0);
-        self.key_at(text, keys, first.saturating_add(index as usize))
+    // The key that a put gave, by the place of the key among all keys that the lines bind: a put of an earlier section, or of its
+    // own. It halts where no such put was made.
+    fn key_at(&self, text: &Text<'_>, keys: &Keys, place: usize) -> Result<Option<Key>, Halt>
+        ensures { (given : GivenKeys)
+            → AreKnown keys.now.kept.items self.now.fresh.items given
+            → IfOk result (λ key. given place ≡ key) }
+    {
+        if let Some(key) = keys.get(place) {
+            return Ok(key);
+        }
+        match self.fresh_at(text, place) {
+            Some(key) => Ok(key),
+            None => Err(Halt::Doubled),
+        }
     }
 
-    fn put<R: Wait>(&mut self, rt: &R, number: usize, value: u128) -> Result<(), Halt>
-        ensures told { OnOk result (Tells self.old.seat.worker number (Puts value ∷ [])
+    // Puts the object of the class that counts up from that base, on the line of that number, and keeps what it gave as the key
+    // of that place.
+    fn put<R: Wait>(
+        &mut self,
+        rt: &R,
+        number: usize,
+        place: usize,
+        class: Class,
+        base: u128,
+    ) -> Result<(), Halt>
+        requires { last_word class base < 2 ^ 128 }
+        ensures told { (kept : List (Option (Option Key)))
+            → OnOk result (Tells self.old.seat.section self.old.seat.worker number
+            (Puts place (counted_from class base) ∷ [])
+            (AreKnown kept self.old.fresh.items)
+            (AreKnown kept self.new.fresh.items)
             self.old.diary self.new.diary) }
         ensures thread { self.new.seat.worker ≡ self.old.seat.worker }
         ensures table { self.new.seat.table ≡ self.old.seat.table }
+        ensures section { self.new.seat.section ≡ self.old.seat.section }
     {
-        match self.seat.put(rt, self.arena, value) {
+        match self.seat.put(rt, self.arena, counting_from(class, base)) {
             Ok((key, receipt)) => {
-                self.fresh.push(Some(key))?;
-                self.keep(number, receipt)?;
-                Ok(())
+                let key = Some(key);
+                self.fresh.push(Given { place, key })?;
+                self.keep(number, receipt)
             }
             Err(PutError::PagesSpent) => {
-                self.fresh.push(None)?;
+                let key = None;
+                self.fresh.push(Given { place, key })?;
                 self.other(number, Other::PagesSpent)
             }
             Err(PutError::OutOfMemory) => Err(Halt::OutOfMemory),
@@ -208,49 +289,84 @@ impl<'a, G: Gate> Caller<'a, G> {
         }
     }
 
-    // Puts `count` values in order, from `value` up.
-    fn fill<R: Wait>(&mut self, rt: &R, number: usize, count: u32, value: u128) -> Result<(), Halt>
-        requires { value + count ≤ 2 ^ 128 }
-        ensures told { OnOk result (Tells self.old.seat.worker number
-            (map (λ i. Puts (value + i)) (range_with_len 0 count))
+    // Puts `count` objects of the class in order, which count up from `value`, from `value + 1` and so on, and keeps what they gave
+    // as the keys from that place on.
+    fn fill<R: Wait>(
+        &mut self,
+        rt: &R,
+        number: usize,
+        first: usize,
+        class: Class,
+        count: u32,
+        value: u128,
+    ) -> Result<(), Halt>
+        requires { last_word class (value + count - 1) < 2 ^ 128 }
+        ensures told { (kept : List (Option (Option Key)))
+            → OnOk result (Tells self.old.seat.section self.old.seat.worker number
+            (map (λ i. Puts (first + i) (counted_from class (value + i)))
+            (range_with_len 0 count))
+            (AreKnown kept self.old.fresh.items)
+            (AreKnown kept self.new.fresh.items)
             self.old.diary self.new.diary) }
         ensures thread { self.new.seat.worker ≡ self.old.seat.worker }
         ensures table { self.new.seat.table ≡ self.old.seat.table }
+        ensures section { self.new.seat.section ≡ self.old.seat.section }
     {
         for i in 0..count {
-            self.put(rt, number, value + u128::from(i))?;
+            let place = place_of(first, Some(i))?;
+            self.put(rt, number, place, class, value + u128::from(i))?;
         }
         Ok(())
     }
 
-    // Looks the key up, where it was given out.
-    fn get<R: Wait>(&mut self, rt: &R, number: usize, key: Option<Key>) -> Result<(), Halt>
-        ensures told { OnOk result (Tells self.old.seat.worker number (Gets ∷ [])
+    // Looks the key of that place up, where it was given out.
+    fn get<R: Wait>(
+        &mut self,
+        rt: &R,
+        text: &Text<'_>,
+        keys: &Keys,
+        number: usize,
+        place: usize,
+    ) -> Result<(), Halt>
+        ensures told { OnOk result (Tells self.old.seat.section self.old.seat.worker number
+            (Gets place ∷ [])
+            (AreKnown keys.now.kept.items self.old.fresh.items)
+            (AreKnown keys.now.kept.items self.new.fresh.items)
             self.old.diary self.new.diary) }
         ensures thread { self.new.seat.worker ≡ self.old.seat.worker }
         ensures table { self.new.seat.table ≡ self.old.seat.table }
+        ensures section { self.new.seat.section ≡ self.old.seat.section }
     {
-        let Some(key) = key else {
+        let Some(key) = self.key_at(text, keys, place)? else {
             return self.other(number, Other::Unbound);
         };
         let (_, receipt) = self.seat.get(rt, self.arena, &key);
-        self.keep(number, receipt)?;
-        Ok(())
+        self.keep(number, receipt)
     }
 
-    // Frees the key, where it was given out.
-    fn free<R: Wait>(&mut self, rt: &R, number: usize, key: Option<Key>) -> Result<(), Halt>
-        ensures told { OnOk result (Tells self.old.seat.worker number (Frees ∷ [])
+    // Frees the key of that place, where it was given out.
+    fn free<R: Wait>(
+        &mut self,
+        rt: &R,
+        text: &Text<'_>,
+        keys: &Keys,
+        number: usize,
+        place: usize,
+    ) -> Result<(), Halt>
+        ensures told { OnOk result (Tells self.old.seat.section self.old.seat.worker number
+            (Frees place ∷ [])
+            (AreKnown keys.now.kept.items self.old.fresh.items)
+            (AreKnown keys.now.kept.items self.new.fresh.items)
             self.old.diary self.new.diary) }
         ensures thread { self.new.seat.worker ≡ self.old.seat.worker }
         ensures table { self.new.seat.table ≡ self.old.seat.table }
+        ensures section { self.new.seat.section ≡ self.old.seat.section }
     {
-        let Some(key) = key else {
+        let Some(key) = self.key_at(text, keys, place)? else {
             return self.other(number, Other::Unbound);
         };
         let (_, receipt) = self.seat.free(rt, self.arena, &key);
-        self.keep(number, receipt)?;
-        Ok(())
+        self.keep(number, receipt)
     }
 
     // Frees the keys of a name, whose first is at that place, of these indices.
@@ -263,27 +379,41 @@ impl<'a, G: Gate> Caller<'a, G> {
         first: usize,
         indices: Range<u32>,
     ) -> Result<(), Halt>
-        ensures told { OnOk result (Tells self.old.seat.worker number
-            (replicate (indices.end - indices.start) Frees)
+        ensures told { OnOk result (Tells self.old.seat.section self.old.seat.worker number
+            (map (λ i. Frees (first + i))
+            (range_with_len indices.start (indices.end - indices.start)))
+            (AreKnown keys.now.kept.items self.old.fresh.items)
+            (AreKnown keys.now.kept.items self.new.fresh.items)
             self.old.diary self.new.diary) }
         ensures thread { self.new.seat.worker ≡ self.old.seat.worker }
         ensures table { self.new.seat.table ≡ self.old.seat.table }
+        ensures section { self.new.seat.section ≡ self.old.seat.section }
     {
         for index in indices.start..indices.end {
-            let key = self.key_at(text, keys, first.saturating_add(index as usize));
-            self.free(rt, number, key)?;
+            let place = place_of(first, Some(index))?;
+            self.free(rt, text, keys, number, place)?;
         }
         Ok(())
     }
 
-    // Leaves the key to be freed later, where it was given out.
-    fn later(&mut self, number: usize, key: Option<Key>) -> Result<(), Halt>
-        ensures told { OnOk result (Tells self.old.seat.worker number (Leaves ∷ [])
+    // Leaves the key of that place to be freed later, where it was given out.
+    fn later(
+        &mut self,
+        text: &Text<'_>,
+        keys: &Keys,
+        number: usize,
+        place: usize,
+    ) -> Result<(), Halt>
+        ensures told { OnOk result (Tells self.old.seat.section self.old.seat.worker number
+            (Leaves place ∷ [])
+            (AreKnown keys.now.kept.items self.old.fresh.items)
+            (AreKnown keys.now.kept.items self.new.fresh.items)
             self.old.diary self.new.diary) }
         ensures thread { self.new.seat.worker ≡ self.old.seat.worker }
         ensures table { self.new.seat.table ≡ self.old.seat.table }
+        ensures section { self.new.seat.section ≡ self.old.seat.section }
     {
-        let Some(key) = key else {
+        let Some(key) = self.key_at(text, keys, place)? else {
             return self.other(number, Other::Unbound);
         };
         if !self.seat.has_shard_of(&key) {
@@ -297,10 +427,14 @@ impl<'a, G: Gate> Caller<'a, G> {
 
     // Frees the keys that have come in on the rings to its shard.
     fn tend<R: Wait>(&mut self, rt: &R, number: usize) -> Result<(), Halt>
-        ensures told { OnOk result (Tells self.old.seat.worker number (Tends ∷ [])
+        ensures told { (kept : List (Option (Option Key)))
+            → OnOk result (Tells self.old.seat.section self.old.seat.worker number (Tends ∷ [])
+            (AreKnown kept self.old.fresh.items)
+            (AreKnown kept self.new.fresh.items)
             self.old.diary self.new.diary) }
         ensures thread { self.new.seat.worker ≡ self.old.seat.worker }
         ensures table { self.new.seat.table ≡ self.old.seat.table }
+        ensures section { self.new.seat.section ≡ self.old.seat.section }
     {
         let count = self.diary.tend(rt, &mut self.seat, self.arena)?;
         self.diary.keep_other(number, Other::Settled(count))?;
@@ -310,8 +444,10 @@ impl<'a, G: Gate> Caller<'a, G> {
     /// Hands over the keys that its lines left to the threads of their shards.
     pub(crate) fn send_off(&mut self)
         ensures diary { self.new.diary ≡ self.old.diary }
+        ensures fresh { self.new.fresh ≡ self.old.fresh }
         ensures thread { self.new.seat.worker ≡ self.old.seat.worker }
         ensures table { self.new.seat.table ≡ self.old.seat.table }
+        ensures section { self.new.seat.section ≡ self.old.seat.section }
         ensures none { HasNoneWaiting self.new.seat }
     {
         self.seat.hand_over();
@@ -320,10 +456,12 @@ impl<'a, G: Gate> Caller<'a, G> {
     /// Frees the keys that are on the rings to its shard. Where all threads have come in and sent off theirs, no key is sent
     /// meanwhile, so one look at each ring takes them all.
     pub(crate) fn settle<R: Wait>(&mut self, rt: &R) -> Result<usize, AllocError>
-        ensures told { IfOk result (λ count. TakesIn self.old.seat.worker count
-            self.old.diary self.new.diary) }
+        ensures told { IfOk result (λ count. TakesIn self.old.seat.section
+            self.old.seat.worker count self.old.diary self.new.diary) }
+        ensures fresh { self.new.fresh ≡ self.old.fresh }
         ensures thread { self.new.seat.worker ≡ self.old.seat.worker }
         ensures table { self.new.seat.table ≡ self.old.seat.table }
+        ensures section { self.new.seat.section ≡ self.old.seat.section }
         ensures none { HasNoneWaiting self.new.seat }
     {
         self.diary.tend(rt, &mut self.seat, self.arena)
@@ -332,8 +470,10 @@ impl<'a, G: Gate> Caller<'a, G> {
     /// Abandons its shard, if its thread ended in this section.
     pub(crate) fn leave<R: Wait>(&mut self, rt: &R) -> Result<(), Halt>
         ensures diary { self.new.diary ≡ self.old.diary }
+        ensures fresh { self.new.fresh ≡ self.old.fresh }
         ensures thread { self.new.seat.worker ≡ self.old.seat.worker }
         ensures table { self.new.seat.table ≡ self.old.seat.table }
+        ensures section { self.new.seat.section ≡ self.old.seat.section }
     {
         if !self.leaves {
             return Ok(());
@@ -348,44 +488,46 @@ impl<'a, G: Gate> Caller<'a, G> {
         }
     }
 
-    /// Lets its shard adopt a group.
-    pub(crate) fn adopt<R: Wait>(&mut self, rt: &R) -> Result<Other, Halt>
-        ensures diary { self.new.diary ≡ self.old.diary }
+    /// Lets its shard adopt a group, on the line of that number.
+    pub(crate) fn adopt<R: Wait>(&mut self, rt: &R, number: usize) -> Result<(), Halt>
+        ensures told { OnOk result (TellsAdoption number self.old.diary self.new.diary) }
+        ensures fresh { self.new.fresh ≡ self.old.fresh }
         ensures thread { self.new.seat.worker ≡ self.old.seat.worker }
         ensures table { self.new.seat.table ≡ self.old.seat.table }
+        ensures section { self.new.seat.section ≡ self.old.seat.section }
     {
-        match self.seat.adopt(rt, self.arena) {
-            Ok(head) => Ok(Other::Adopted(head)),
-            Err(AdoptError::PagesSpent) => Ok(Other::PagesSpent),
-            Err(AdoptError::NothingToAdopt) => Ok(Other::NothingToAdopt),
-            Err(AdoptError::OutOfMemory) => Err(Halt::OutOfMemory),
-            Err(AdoptError::Doubled | AdoptError::Ended | AdoptError::PlanOpen) => {
-                Err(Halt::Doubled)
-            }
-        }
-    }
-
-    /// From now on its receipts carry the next section.
-    pub(crate) fn go_on(&mut self)
-        ensures diary { self.new.diary ≡ self.old.diary }
-        ensures thread { self.new.seat.worker ≡ self.old.seat.worker }
-        ensures table { self.new.seat.table ≡ self.old.seat.table }
-    {
-        if self.seat.section() < u64::MAX {
-            self.seat.next_section();
-        }
-    }
-
-    /// Moves the keys that its puts of this section were given after those of the sections before.
-    pub(crate) fn hand_over(&mut self, keys: &mut Keys) -> Result<(), AllocError>
-        ensures diary { self.new.diary ≡ self.old.diary }
-        ensures thread { self.new.seat.worker ≡ self.old.seat.worker }
-        ensures table { self.new.seat.table ≡ self.old.seat.table }
-    {
-        if let Some(known) = keys.get_mut(self.seat.worker() as usize) {
-            known.append(&mut self.fresh)?;
-        }
+        let other = adoption(self.seat.adopt(rt, self.arena))?;
+        self.diary.keep_adoption(number, other)?;
         Ok(())
+    }
+
+    /// Adds what its puts of this section gave to what those of the sections before gave. From now on its receipts carry the
+    /// next section.
+    pub(crate) fn go_on(&mut self, keys: &mut Keys) -> Result<(), Halt>
+        ensures diary { self.new.diary ≡ self.old.diary }
+        ensures thread { self.new.seat.worker ≡ self.old.seat.worker }
+        ensures table { self.new.seat.table ≡ self.old.seat.table }
+        ensures section { OnOk result (self.new.seat.section ≡ self.old.seat.section + 1) }
+        ensures before { (given : GivenKeys) → AreKept keys.new.kept.items given
+            → OnOk result (AreKept keys.old.kept.items given) }
+        ensures kept { (given : GivenKeys) → AreKept keys.new.kept.items given
+            → OnOk result (AreFresh self.old.fresh.items given) }
+    {
+        if self.seat.section() == u64::MAX {
+            return Err(Halt::Doubled);
+        }
+        keys.keep_all(self.fresh.as_slice())?;
+        self.kept = self.kept.saturating_add(self.fresh.len());
+        self.fresh.clear();
+        self.seat.next_section();
+        Ok(())
+    }
+
+    /// Whether it made no put in this section.
+    pub(crate) fn has_none_fresh(&self) -> bool
+        ensures { result ≡ true → self.now.fresh.items ≡ [] }
+    {
+        self.fresh.is_empty()
     }
 
     /// Its seat, and what it was told.

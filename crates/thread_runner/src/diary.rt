@@ -1,13 +1,14 @@
 // What a thread was told.
-ghost use Rattle.std.specs.Prelude.{◌≡◌, ◌++◌, ◌∷◌, [], IfOk, OnOk, drop, map, take};
+ghost use Rattle.std.specs.Prelude.{◌≡◌, ◌+◌, ◌≤◌, ◌++◌, ◌∷◌, [], IfOk, OnOk, drop, length, map, take};
 ghost use Rattle.std.specs.List.{flat_map};
+ghost use Rattle.span.specs.ReceiptLists.{kept_receipts};
 ghost use Rattle.arena.specs.Delays.{HasNoneWaiting};
 ghost use Rattle.thread_runner.specs.Grown.{Grows, IsEmptyDiary, TakesIn};
 ghost use Rattle.thread_runner.specs.declared.diary.Entry.TheVariants as entry;
-ghost use Rattle.thread_runner.specs.Told.{answer_of, call_line, diary_lines, entry_lines, is_free, lineless, other_line, receipts_after, told_lines};
+ghost use Rattle.thread_runner.specs.Told.{answer_of, answer_without, call_line, diary_lines, entry_lines, is_free, lineless, other_line, receipts_after, told_lines};
 
 use arena::{Arena, Gate, Seat};
-use span::{Call, Receipt, SpanId};
+use span::{Call, Receipt, ReceiptList, SpanId};
 use std::alloc::{AllocError, Global};
 use std::sync::Wait;
 use trace_runner::{Answer, LineAnswer};
@@ -59,10 +60,10 @@ pub(crate) struct Diary {
     /// Whether the report has replies.
     replies: bool,
     /// The receipts of all calls on keys, in order.
-    receipts: Vec<Receipt>,
+    receipts: ReceiptList,
     /// What it was told, in order, where the report has replies.
     entries: Vec<Entry>,
-    /// How many replies there are.
+    /// How many replies to calls there are.
     calls: usize,
 }
 
@@ -73,20 +74,20 @@ impl Diary {
     {
         Diary {
             replies,
-            receipts: Vec::new(alloc),
+            receipts: ReceiptList::new(alloc),
             entries: Vec::new(alloc),
             calls: 0,
         }
     }
 
-    /// Makes room for what that many calls are told.
+    /// Makes room for what that many calls are told, and for as many words of objects.
     pub(crate) fn reserve(&mut self, calls: usize) -> Result<(), AllocError>
         ensures { OnOk result (Grows [] [] 0 self.old self.new) }
     {
         if self.replies {
             self.entries.reserve(calls)?;
         }
-        self.receipts.reserve(calls)
+        self.receipts.reserve(calls, calls)
     }
 
     // Keeps an entry, where the report has replies.
@@ -113,7 +114,7 @@ impl Diary {
     {
         self.count()?;
         self.note(Entry::Called(line))?;
-        self.receipts.push(receipt)?;
+        self.receipts.push(&receipt)?;
         Ok(())
     }
 
@@ -126,6 +127,14 @@ impl Diary {
         self.note(Entry::Said(OtherLine { line, other }))
     }
 
+    /// Keeps what the adoption of the line of that number came to. It is no reply to a call, and not counted.
+    pub(crate) fn keep_adoption(&mut self, line: usize, other: Other) -> Result<(), AllocError>
+        ensures { OnOk result (Grows (entry.Said (record { line = line; other = other }) ∷ []) [] 0
+            self.old self.new) }
+    {
+        self.note(Entry::Said(OtherLine { line, other }))
+    }
+
     /// Frees the keys that have come in on the rings to the seat's shard, keeps their receipts, and says how many there were.
     pub(crate) fn tend<R: Wait, G: Gate>(
         &mut self,
@@ -134,8 +143,10 @@ impl Diary {
         arena: &Arena<G>,
     ) -> Result<usize, AllocError>
         requires { seat.old.limits ≡ arena.now.limits }
-        ensures told { IfOk result (λ count. TakesIn seat.old.worker count self.old self.new) }
+        ensures told { IfOk result (λ count. TakesIn seat.old.section seat.old.worker count
+            self.old self.new) }
         ensures worker { seat.new.worker ≡ seat.old.worker }
+        ensures section { seat.new.section ≡ seat.old.section }
         ensures table { seat.new.table ≡ seat.old.table }
         ensures limits { seat.new.limits ≡ seat.old.limits }
         ensures none { HasNoneWaiting seat.new }
@@ -153,7 +164,7 @@ impl Diary {
     }
 
     /// The receipts of all calls on keys, in order.
-    pub(crate) fn into_receipts(self) -> Vec<Receipt>
+    pub(crate) fn into_receipts(self) -> ReceiptList
         ensures { result ≡ self.receipts }
     {
         self.receipts
@@ -163,7 +174,7 @@ impl Diary {
     pub(crate) fn push_replies(&self, replies: &mut Vec<LineAnswer>) -> Result<(), AllocError>
         ensures { OnOk result (replies.new.items ≡ replies.old.items ++ diary_lines self.now) }
     {
-        push_told(replies, self.entries.as_slice(), self.receipts.as_slice())
+        push_told(replies, self.entries.as_slice(), &self.receipts)
     }
 }
 
@@ -180,16 +191,6 @@ fn answer_of(receipt: &Receipt) -> Answer
     }
 }
 
-/// The reply that a receipt tells, on the line of that number.
-fn call_line(line: usize, receipt: &Receipt) -> LineAnswer
-    ensures { result ≡ call_line line receipt.now }
-{
-    LineAnswer {
-        line,
-        answer: answer_of(receipt),
-    }
-}
-
 /// Whether a receipt is that of a free.
 fn is_free(receipt: &Receipt) -> bool
     ensures { result ≡ is_free receipt.now.call }
@@ -197,74 +198,96 @@ fn is_free(receipt: &Receipt) -> bool
     matches!(receipt.call, Call::Freed | Call::NotFreed)
 }
 
-/// Adds the reply of the first of these receipts, if there is one, on the line of that number.
-fn push_call(
-    replies: &mut Vec<LineAnswer>,
-    line: usize,
-    receipts: &[Receipt],
-) -> Result<(), AllocError>
-    ensures { OnOk result (replies.new.items ≡ replies.old.items
-        ++ map (call_line line) (take 1 receipts.now)) }
-{
-    if let Some(receipt) = receipts.first() {
-        replies.push(call_line(line, receipt))?;
-    }
-    Ok(())
-}
-
 /// Adds the reply of a receipt that no line asked for. That of a free has none: its key came in on a ring.
 fn push_lineless(replies: &mut Vec<LineAnswer>, receipt: &Receipt) -> Result<(), AllocError>
     ensures { OnOk result (replies.new.items ≡ replies.old.items ++ lineless receipt.now) }
 {
     if !is_free(receipt) {
-        replies.push(call_line(0, receipt))?;
+        let answer = answer_of(receipt);
+        replies.push(LineAnswer { line: 0, answer })?;
     }
     Ok(())
 }
 
-/// Adds the replies of receipts that no line asked for.
-fn push_all_lineless(replies: &mut Vec<LineAnswer>, receipts: &[Receipt]) -> Result<(), AllocError>
+/// Adds the replies of that many receipts that no line asked for, of which the first has that place.
+fn push_all_lineless(
+    replies: &mut Vec<LineAnswer>,
+    receipts: &ReceiptList,
+    first: usize,
+    count: usize,
+) -> Result<(), AllocError>
+    requires { first + count ≤ length (kept_receipts receipts.now) }
     ensures { OnOk result (replies.new.items ≡ replies.old.items
-        ++ flat_map lineless receipts.now) }
+        ++ flat_map lineless (take count (drop first (kept_receipts receipts.now)))) }
 {
-    for receipt in receipts {
-        push_lineless(replies, receipt)?;
+    for i in 0..count {
+        push_lineless(replies, &receipts.receipt(first + i))?;
     }
     Ok(())
 }
 
-/// The receipts after the first `count`, and those.
-fn split_receipts(receipts: &[Receipt], count: usize) -> (&[Receipt], &[Receipt])
-    ensures taken { result.0.now ≡ take count receipts.now }
-    ensures left { result.1.now ≡ drop count receipts.now }
+/// Adds the reply of the receipt of that place, if there is one, on the line of that number, and gives the place after it.
+fn push_call(
+    replies: &mut Vec<LineAnswer>,
+    line: usize,
+    receipts: &ReceiptList,
+    place: usize,
+) -> Result<usize, AllocError>
+    requires { place ≤ length (kept_receipts receipts.now) }
+    ensures told { OnOk result (replies.new.items ≡ replies.old.items
+        ++ map (call_line line) (take 1 (drop place (kept_receipts receipts.now)))) }
+    ensures left { IfOk result (λ next. drop next (kept_receipts receipts.now)
+        ≡ drop 1 (drop place (kept_receipts receipts.now))) }
+    ensures within { IfOk result (λ next. next ≤ length (kept_receipts receipts.now)) }
 {
-    receipts.split_at(count.min(receipts.len()))
+    if place == receipts.len() {
+        return Ok(place);
+    }
+    let answer = answer_of(&receipts.receipt(place));
+    replies.push(LineAnswer { line, answer })?;
+    Ok(place + 1)
 }
 
-/// Adds the replies of an entry whose receipts are the first of these, and gives those that are left.
-fn push_entry<'a>(
+/// Adds the replies of that many receipts that no line asked for, as far as there are so many, of which the first has that place,
+/// and gives the place after them.
+fn push_incoming(
+    replies: &mut Vec<LineAnswer>,
+    count: usize,
+    receipts: &ReceiptList,
+    place: usize,
+) -> Result<usize, AllocError>
+    requires { place ≤ length (kept_receipts receipts.now) }
+    ensures told { OnOk result (replies.new.items ≡ replies.old.items
+        ++ flat_map lineless (take count (drop place (kept_receipts receipts.now)))) }
+    ensures left { IfOk result (λ next. drop next (kept_receipts receipts.now)
+        ≡ drop count (drop place (kept_receipts receipts.now))) }
+    ensures within { IfOk result (λ next. next ≤ length (kept_receipts receipts.now)) }
+{
+    let count = count.min(receipts.len() - place);
+    push_all_lineless(replies, receipts, place, count)?;
+    Ok(place + count)
+}
+
+/// Adds the replies of an entry whose first receipt has that place, and gives the place of the first that is left.
+fn push_entry(
     replies: &mut Vec<LineAnswer>,
     entry: &Entry,
-    receipts: &'a [Receipt],
-) -> Result<&'a [Receipt], AllocError>
+    receipts: &ReceiptList,
+    place: usize,
+) -> Result<usize, AllocError>
+    requires { place ≤ length (kept_receipts receipts.now) }
     ensures told { OnOk result (replies.new.items ≡ replies.old.items
-        ++ entry_lines entry.now receipts.now) }
-    ensures left { IfOk result (λ left. left.now ≡ receipts_after entry.now receipts.now) }
+        ++ entry_lines entry.now (drop place (kept_receipts receipts.now))) }
+    ensures left { IfOk result (λ next. drop next (kept_receipts receipts.now)
+        ≡ receipts_after entry.now (drop place (kept_receipts receipts.now))) }
+    ensures within { IfOk result (λ next. next ≤ length (kept_receipts receipts.now)) }
 {
     match entry {
-        Entry::Called(line) => {
-            push_call(replies, *line, receipts)?;
-            let (_, left) = split_receipts(receipts, 1);
-            Ok(left)
-        }
-        Entry::Incoming(count) => {
-            let (incoming, left) = split_receipts(receipts, *count);
-            push_all_lineless(replies, incoming)?;
-            Ok(left)
-        }
+        Entry::Called(line) => push_call(replies, *line, receipts, place),
+        Entry::Incoming(count) => push_incoming(replies, *count, receipts, place),
         Entry::Said(told) => {
-            replies.push(other_line(told))?;
-            Ok(receipts)
+            push_other(replies, told)?;
+            Ok(place)
         }
     }
 }
@@ -273,46 +296,41 @@ fn push_entry<'a>(
 fn push_told(
     replies: &mut Vec<LineAnswer>,
     entries: &[Entry],
-    receipts: &[Receipt],
+    receipts: &ReceiptList,
 ) -> Result<(), AllocError>
     ensures { OnOk result (replies.new.items ≡ replies.old.items
-        ++ told_lines entries.now receipts.now) }
+        ++ told_lines entries.now (kept_receipts receipts.now)) }
 {
-    let mut left = receipts;
+    let mut place = 0;
     for entry in entries {
-        left = push_entry(replies, entry, left)?;
+        place = push_entry(replies, entry, receipts, place)?;
     }
-    push_all_lineless(replies, left)
+    push_incoming(replies, receipts.len(), receipts, place)?;
+    Ok(())
 }
 
-/// The reply of what a line came to other than by a call on a key.
-fn other_line(told: &OtherLine) -> LineAnswer
-    ensures { result ≡ other_line told.now }
+/// What is said of a line that came to something else than a call on a key.
+fn answer_without(other: &Other) -> Answer
+    ensures { result ≡ answer_without other.now }
 {
-    LineAnswer {
-        line: told.line,
-        answer: match told.other {
-            Other::PagesSpent => Answer::PagesSpent,
-            Other::Unbound => Answer::Unbound,
-            Other::Ended => Answer::Ended,
-            Other::Adopted(head) => Answer::Adopted(head),
-            Other::NothingToAdopt => Answer::NothingToAdopt,
-            Other::Sent => Answer::Sent,
-            Other::RingFull => Answer::RingFull,
-            Other::Settled(count) => Answer::Settled(count),
-        },
+    match other {
+        Other::PagesSpent => Answer::PagesSpent,
+        Other::Unbound => Answer::Unbound,
+        Other::Ended => Answer::Ended,
+        Other::Adopted(head) => Answer::Adopted(*head),
+        Other::NothingToAdopt => Answer::NothingToAdopt,
+        Other::Sent => Answer::Sent,
+        Other::RingFull => Answer::RingFull,
+        Other::Settled(count) => Answer::Settled(*count),
     }
 }
 
-/// Adds a reply for each of these.
-pub(crate) fn push_others(
-    replies: &mut Vec<LineAnswer>,
-    others: &[OtherLine],
-) -> Result<(), AllocError>
-    ensures { OnOk result (replies.new.items ≡ replies.old.items ++ map other_line others.now) }
+/// Adds the reply of what a line came to other than by a call on a key.
+fn push_other(replies: &mut Vec<LineAnswer>, told: &OtherLine) -> Result<(), AllocError>
+    ensures { OnOk result (replies.new.items ≡ replies.old.items ++ other_line told.now ∷ []) }
 {
-    for told in others {
-        replies.push(other_line(told))?;
-    }
+    let line = told.line;
+    let answer = answer_without(&told.other);
+    replies.push(LineAnswer { line, answer })?;
     Ok(())
 }

@@ -1,9 +1,10 @@
-// Where each thread's lines stand, and whose each key is.
-ghost use Rattle.std.specs.Prelude.{◌≡◌, ◌+◌, ◌<◌, ◌≤◌, ◌^◌, ◌∷◌, ◌++◌, [], IfOk, IfSome, List, OnOk, Some, length, map, slice_get, true, vec_items};
+// Where each thread's lines stand, and which keys they bind.
+ghost use Rattle.std.specs.Prelude.{◌≡◌, ◌+◌, ◌<◌, ◌≤◌, ◌^◌, ◌∷◌, ◌++◌, [], IfOk, IfSome, List, OnOk, Some, length, map, slice_get, take, true, vec_items};
 ghost use Rattle.std.proofs.Props.{props};
+ghost use Rattle.trace_text.specs.Causes.{keys_at, keys_by, keys_in};
 ghost use Rattle.trace_text.specs.declared.line.Line.{Line};
 ghost use Rattle.thread_runner.specs.Asked.{places_of};
-ghost use Rattle.thread_runner.specs.Laid.{AddsAt, AreLaid};
+ghost use Rattle.thread_runner.specs.Laid.{AddsAt, AreFirsts, AreLaid};
 
 use std::alloc::{AllocError, Global};
 use trace_runner::{Call, Line, Trace};
@@ -16,25 +17,18 @@ pub(crate) struct Text<'a> {
     /// Whether the report has the replies.
     pub(crate) replies: bool,
     ghost laid: { AreLaid trace.now.lines.items (map vec_items layout.places.items) } by { Prim.hlevel props },
+    ghost numbered: { AreFirsts trace.now.lines.items layout.firsts.items } by { Prim.hlevel props },
 }
 
-/// Which key of which thread a key is that the lines bind.
-#[derive(Clone, Copy, Debug, PartialEq, Eq)]
-pub(crate) struct Home {
-    /// The thread whose line binds it.
-    pub(crate) thread: u32,
-    /// How many keys the lines of that thread bind before it.
-    pub(crate) index: usize,
-}
-
-/// Where each thread's lines stand in a trace, and whose each key is that the lines bind. It is found once, before anything
-/// runs.
+/// Where each thread's lines stand in a trace, and which keys the lines bind. It is found once, before anything runs.
 #[derive(Drop)]
 pub(crate) struct Layout {
-    /// Of each thread, the places of its lines below the header, ascending.
+    /// Of each thread, the places of its lines below the header, and of the adoptions by its shard, ascending.
     places: Vec<Vec<usize>>,
-    /// Of each key, in the order in which the lines bind them, whose it is.
-    homes: Vec<Home>,
+    /// Of each line, how many keys the lines above it bind.
+    firsts: Vec<usize>,
+    /// Of each key, in the order in which the lines bind them, how many keys the lines of its thread bind before it.
+    indices: Vec<usize>,
 }
 
 // That many empty lists.
@@ -48,16 +42,17 @@ fn empty_lists(alloc: Global, count: usize) -> Result<Vec<Vec<usize>>, AllocErro
     Ok(lists)
 }
 
-// Enters the line at that place, where it is a thread's.
+// Enters the line at that place, where it is a thread's, or an adoption by its shard.
 fn enter_place(places: &mut [Vec<usize>], place: usize, line: &Line) -> Result<(), AllocError>
     ensures { (above : List Line) → length above ≡ place
         → AreLaid above (map vec_items places.old)
         → OnOk result (AreLaid (above ++ line.now ∷ []) (map vec_items places.new)) }
 {
-    if let Line::Call { thread, .. } = line {
-        push_at(places, *thread as usize, place)?;
+    match line {
+        Line::Call { thread, .. } => push_at(places, *thread as usize, place),
+        Line::Adopt { shard } => push_at(places, *shard as usize, place),
+        Line::Silent | Line::Mark => Ok(()),
     }
-    Ok(())
 }
 
 // Adds the place to the list of the thread, where it has one.
@@ -73,14 +68,14 @@ fn push_at(lists: &mut [Vec<usize>], thread: usize, place: usize) -> Result<(), 
 
 // Enters the next keys, which a line of the thread binds. `bound` are how many keys each thread's lines above it bind.
 fn enter_keys(
-    homes: &mut Vec<Home>,
+    indices: &mut Vec<usize>,
     bound: &mut [usize],
     thread: u32,
     count: usize,
 ) -> Result<(), AllocError> {
     for _ in 0..count {
         let index = bound.get(thread as usize).copied().unwrap_or(0);
-        homes.push(Home { thread, index })?;
+        indices.push(index)?;
         if let Some(count) = bound.get_mut(thread as usize) {
             *count = index.saturating_add(1);
         }
@@ -103,32 +98,48 @@ fn places_by_thread(
     Ok(places)
 }
 
-// Whose the keys are that the lines of that many threads bind.
-fn homes_of(alloc: Global, lines: &[Line], threads: usize) -> Result<Vec<Home>, AllocError> {
-    let mut homes = Vec::new(alloc);
+// Of each key that the lines of that many threads bind, how many the lines of its thread bind before it.
+fn indices_of(alloc: Global, lines: &[Line], threads: usize) -> Result<Vec<usize>, AllocError> {
+    let mut indices = Vec::new(alloc);
     let mut bound = Vec::with_capacity(alloc, threads)?;
     for _ in 0..threads {
         bound.push(0)?;
     }
     for line in lines {
         if let Line::Call { thread, call } = line {
-            enter_keys(&mut homes, bound.as_mut_slice(), *thread, keys_bound(call))?;
+            enter_keys(&mut indices, bound.as_mut_slice(), *thread, keys_by(call))?;
         }
     }
-    Ok(homes)
+    Ok(indices)
+}
+
+// Of each line, how many keys the lines above it bind. More than a number counts find no memory.
+fn firsts_of(alloc: Global, lines: &[Line]) -> Result<Vec<usize>, AllocError>
+    ensures { IfOk result (λ firsts. AreFirsts lines.now firsts.items) }
+{
+    let mut firsts = Vec::with_capacity(alloc, lines.len())?;
+    let mut count = 0usize;
+    for line in lines {
+        firsts.push(count)?;
+        count = count.checked_add(keys_at(line)).ok_or(AllocError)?;
+    }
+    Ok(firsts)
 }
 
 impl Layout {
     /// The layout of a trace.
     pub(crate) fn of(alloc: Global, trace: &Trace) -> Result<Layout, AllocError>
-        ensures { IfOk result (λ layout. AreLaid trace.now.lines.items
+        ensures laid { IfOk result (λ layout. AreLaid trace.now.lines.items
             (map vec_items layout.places.items)) }
+        ensures firsts { IfOk result (λ layout. AreFirsts trace.now.lines.items
+            layout.firsts.items) }
     {
         let shards = trace.header.shards as usize;
         let lines = trace.lines.as_slice();
         Ok(Layout {
             places: places_by_thread(alloc, lines, shards)?,
-            homes: homes_of(alloc, lines, shards)?,
+            firsts: firsts_of(alloc, lines)?,
+            indices: indices_of(alloc, lines, shards)?,
         })
     }
 
@@ -136,6 +147,7 @@ impl Layout {
     pub(crate) fn line_after(&self, thread: u32, done: usize, end: usize) -> Option<usize>
         ensures place { (lines : List Line) → AreLaid lines (map vec_items self.now.places.items)
             → IfSome result (λ place. slice_get (places_of thread lines) done ≡ Some place) }
+        ensures above { IfSome result (λ place. place < end) }
         ensures room { IfSome result (λ _. done + 1 < 2 ^ 64) }
     {
         let place = *self.places.get(thread as usize)?.get(done)?;
@@ -163,18 +175,44 @@ impl Layout {
             .saturating_sub(done)
     }
 
-    /// Whose the key at that place is, among all keys in the order in which the lines bind them.
-    pub(crate) fn home(&self, place: usize) -> Option<Home> {
-        self.homes.get(place).copied()
+    /// How many keys the lines bind.
+    pub(crate) fn keys(&self) -> usize {
+        self.indices.len()
+    }
+
+    /// The place, among all keys that the lines bind, of the first key that the line at that place binds.
+    pub(crate) fn first(&self, place: usize) -> Option<usize>
+        ensures { (lines : List Line) → AreFirsts lines self.now.firsts.items
+            → IfSome result (λ first. first ≡ keys_in (take place lines)) }
+    {
+        self.firsts.get(place).copied()
+    }
+
+    /// How many keys the lines of its thread bind before the key at that place. Nothing is proved of it: who asks looks
+    /// whether it was right.
+    pub(crate) fn index(&self, place: usize) -> Option<usize> {
+        self.indices.get(place).copied()
     }
 }
 
 // How many keys a call binds.
-fn keys_bound(call: &Call) -> usize {
+fn keys_by(call: &Call) -> usize
+    ensures { result ≡ keys_by call.now }
+{
     match call {
         Call::Put { .. } => 1,
         Call::Fill { count, .. } => *count as usize,
         Call::Get { .. } | Call::Free { .. } | Call::Sweep { .. } => 0,
         Call::Later { .. } | Call::Tend | Call::End => 0,
+    }
+}
+
+// How many keys a line binds.
+fn keys_at(line: &Line) -> usize
+    ensures { result ≡ keys_at line.now }
+{
+    match line {
+        Line::Call { call, .. } => keys_by(call),
+        Line::Silent | Line::Adopt { .. } | Line::Mark => 0,
     }
 }

@@ -35,6 +35,7 @@ mod caller;
 mod diary;
 mod error;
 mod keeper;
+mod keys;
 mod layout;
 mod live;
 mod minutes;

@@ -1,35 +1,44 @@
 // How many keys are live by the logs of spans.
-ghost use Rattle.std.specs.Prelude.{◌≡◌, ◌++◌, ◌∷◌, [], IfOk, List, map};
+ghost use Rattle.std.specs.Prelude.{◌≡◌, ◌+◌, ◌++◌, ◌∷◌, [], IfOk, List, map};
 ghost use Rattle.std.specs.FinSet as set;
+ghost use Rattle.span.specs.KeptLogs.{kept_changes};
 ghost use Rattle.span.specs.Log.{live_slots};
+ghost use Rattle.span.specs.Views.{viewed};
 ghost use Rattle.span.specs.SpanLogs.{span_of_log};
 ghost use Rattle.span.specs.declared.change.Change.{Change};
 ghost use Rattle.groups.specs.Spans.{live_count};
 
 use bitmap::Bits256;
-use span::{Change, SpanLog};
+use span::{ChangeView, Kept, Log, SpanLog};
 use std::alloc::AllocError;
 
 // Enters the change into the live slots.
-fn enter(live: &mut Bits256, change: &Change)
+fn enter(live: &mut Bits256, change: ChangeView<'_>)
     ensures { (before : List Change) → live.old ≡ live_slots before
-        → live.new ≡ live_slots (before ++ change.now ∷ []) }
+        → live.new ≡ live_slots (before ++ viewed change.entry ∷ []) }
 {
     match change {
-        Change::Put { slot, .. } => live.insert(*slot),
-        Change::Free { slot, .. } => live.remove(*slot),
+        ChangeView::Put { slot, .. } => live.insert(slot),
+        ChangeView::Free { slot, .. } => live.remove(slot),
     }
 }
 
 // How many slots are live after these changes.
-fn live_after(changes: &[Change]) -> usize
-    ensures { result ≡ set.len (live_slots changes.now) }
+fn live_after(log: &Kept) -> usize
+    ensures { result ≡ set.len (live_slots (kept_changes log.now)) }
 {
     let mut live = Bits256::empty();
-    for change in changes {
-        enter(&mut live, change);
+    for place in 0..log.len() {
+        enter(&mut live, log.view(place));
     }
     live.count() as usize
+}
+
+// The sum, where a `usize` counts as far.
+fn sum(first: usize, second: usize) -> Result<usize, AllocError>
+    ensures { IfOk result (λ both. both ≡ first + second) }
+{
+    first.checked_add(second).ok_or(AllocError)
 }
 
 /// How many keys are live by the logs of all spans. The error comes where these are more than a `usize` counts, and so more than
@@ -39,9 +48,7 @@ pub(crate) fn live_in(logs: &[SpanLog]) -> Result<usize, AllocError>
 {
     let mut live = 0usize;
     for log in logs {
-        live = live
-            .checked_add(live_after(log.changes.as_slice()))
-            .ok_or(AllocError)?;
+        live = sum(live, live_after(&log.log))?;
     }
     Ok(live)
 }

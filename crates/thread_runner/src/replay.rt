@@ -1,6 +1,7 @@
 // Replays a trace by threads, and holds what its calls were told against the logs.
-ghost use Rattle.std.specs.Prelude.{◌≡◌, ◌<◌, ◌-◌, ◌^◌, IfOk, IfErr, List, None, OnErr, OnOk, map, vec_items, vec_len};
+ghost use Rattle.std.specs.Prelude.{◌≡◌, ◌<◌, ◌-◌, ◌^◌, IfOk, IfErr, List, None, OnErr, OnOk, map, vec_len};
 ghost use Rattle.std.specs.List.{AllByRecursion, sum_by};
+ghost use Rattle.span.specs.ReceiptLists.{kept_receipts};
 ghost use Rattle.span.specs.SpanLogs.{span_of_log};
 ghost use Rattle.groups.specs.Spans.{live_count};
 ghost use Rattle.audit.specs.Agreement.{Agreement};
@@ -23,7 +24,7 @@ use crate::section::{Ran, Told, run_sections};
 use crate::worker::Reading;
 use arena::{Arena, Gate, NoGate, Seat, Steward, finish};
 use audit::{AuditError, audit_by_threads};
-use span::{Receipt, SpanLog};
+use span::{ReceiptList, SpanLog};
 use std::alloc::{AllocError, Global};
 use std::marker::Brand;
 use std::sync::Wait;
@@ -51,9 +52,9 @@ fn calls_of(diaries: &[Diary]) -> Result<usize, AllocError>
 }
 
 // The receipts of each thread.
-fn receipts_of(alloc: Global, diaries: Vec<Diary>) -> Result<Vec<Vec<Receipt>>, AllocError>
-    ensures { IfOk result (λ receipts. map vec_items receipts.items
-        ≡ map (λ diary. diary.receipts.items) diaries.items) }
+fn receipts_of(alloc: Global, diaries: Vec<Diary>) -> Result<Vec<ReceiptList>, AllocError>
+    ensures { IfOk result (λ receipts. map kept_receipts receipts.items
+        ≡ map (λ diary. kept_receipts diary.receipts) diaries.items) }
 {
     let mut receipts = Vec::with_capacity(alloc, diaries.len())?;
     for diary in diaries {
@@ -70,14 +71,9 @@ fn report_of(
     ending: &Ending,
 ) -> Result<Vec<u8>, AllocError>
     ensures { IfOk result (λ text. TellsAll shown (map voice_of told.now.diaries.items)
-        told.now.adoptions.items told.now.notes.items ending.now text.items) }
+        told.now.notes.items ending.now text.items) }
 {
-    let replies = replies_of(
-        alloc,
-        shown,
-        told.diaries.as_slice(),
-        told.adoptions.as_slice(),
-    )?;
+    let replies = replies_of(alloc, shown, told.diaries.as_slice())?;
     let mut report = Vec::new(alloc);
     push_body(
         &mut report,
@@ -94,11 +90,11 @@ fn held_against<R: Threads + Sync>(
     rt: &R,
     alloc: Global,
     logs: &[SpanLog],
-    receipts: &[Vec<Receipt>],
+    receipts: &[ReceiptList],
 ) -> Result<(), ThreadsError>
-    ensures agreed { OnOk result (Agreement logs.now (map vec_items receipts.now)) }
-    ensures histories { OnOk result (HaveHistories (map vec_items receipts.now)) }
-    ensures err { IfErr result (IsAuditStop logs.now (map vec_items receipts.now)) }
+    ensures agreed { OnOk result (Agreement logs.now (map kept_receipts receipts.now)) }
+    ensures histories { OnOk result (HaveHistories (map kept_receipts receipts.now)) }
+    ensures err { IfErr result (IsAuditStop logs.now (map kept_receipts receipts.now)) }
 {
     match audit_by_threads(rt, alloc, logs, receipts) {
         Ok(()) => Ok(()),
@@ -136,12 +132,12 @@ fn audited<R: Threads + Sync>(
 }
 
 // So many lists of no receipt.
-fn no_receipts(alloc: Global, count: usize) -> Result<Vec<Vec<Receipt>>, AllocError>
+fn no_receipts(alloc: Global, count: usize) -> Result<Vec<ReceiptList>, AllocError>
     ensures { IfOk result (λ lists. vec_len lists ≡ count) }
 {
     let mut lists = Vec::with_capacity(alloc, count)?;
     for _ in 0..count {
-        lists.push(Vec::new(alloc))?;
+        lists.push(ReceiptList::new(alloc))?;
     }
     Ok(lists)
 }
@@ -183,7 +179,8 @@ fn replay_at<R: Threads + Wait + Sync, G: Gate + Sync, J: Reading>(
     requires lines { trace.now.lines.items ≡ J.lines }
     requires shown { shown ≡ J.shown }
     requires table { arena.table ≡ J.table }
-    requires seats { AllByRecursion (λ seat. seat.table ≡ J.table) seats.items }
+    requires seats { AllByRecursion (λ seat. (seat.table ≡ J.table) × (seat.section ≡ 0))
+        seats.items }
     ensures ok { IfOk result (λ replayed. IsThreadedReport trace.now shown
         replayed.report.items replayed.certificate.items) }
     ensures err { IfErr result (IsRunStop trace.now shown) }

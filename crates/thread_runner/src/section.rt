@@ -1,24 +1,30 @@
 // The sections of a run, and what stands between them.
-ghost use Rattle.std.specs.Prelude.{◌≡◌, ◌+◌, ◌<◌, ◌≤◌, ◌^◌, ℕ, IfOk, List, None, length, true};
+ghost use Rattle.std.specs.Prelude.{◌≡◌, ◌+◌, ◌<◌, ◌≤◌, ◌^◌, ℕ, IfOk, List, None, OnOk, Option, Some, length, slice_get, take, true};
 ghost use Rattle.std.specs.List.{AllByRecursion};
+ghost use Rattle.std.proofs.Props.{props};
+ghost use Rattle.span.specs.declared.key.Key.{Key};
+ghost use Rattle.trace_text.specs.Causes.{is_adopt, marks};
 ghost use Rattle.trace_text.specs.declared.line.Line.{Line};
 ghost use Rattle.trace_runner.specs.Barrier.{is_barrier};
-ghost use Rattle.thread_runner.specs.Grown.{AreDiaries};
+ghost use Rattle.thread_runner.specs.Asked.{GivenKeys};
+ghost use Rattle.thread_runner.specs.Grown.{AreDiaries, Rests};
+ghost use Rattle.thread_runner.specs.Known.{AreKept};
 ghost use Rattle.thread_runner.specs.Marked.{AreNotesOf, barrier_from, is_mark, is_mark_at, marks_above};
 ghost use Rattle.thread_runner.specs.Noted.{HaveCome, plan_pairs};
 
 use crate::body::Note;
-use crate::caller::Keys;
-use crate::diary::{Diary, OtherLine};
+use crate::diary::Diary;
 use crate::error::Halt;
 use crate::keeper::Keeper;
+use crate::keys::Keys;
 use crate::layout::Text;
-use crate::worker::{Reading, SentOff, Worker};
+use crate::worker::{Briefing, Known, Reading, Resting, SentOff, Settled, Worker};
 use arena::{Arena, Gate, Seat, Steward};
 use std::alloc::{AllocError, Global};
+use std::marker::{Brand, PhantomData};
 use std::sync::Wait;
+use std::thread;
 use std::thread::Threads;
-use std::{mem, thread};
 use trace_runner::Line;
 
 /// What all sections of a run leave.
@@ -35,8 +41,6 @@ pub(crate) struct Ran {
 pub(crate) struct Told {
     /// What each worker was told.
     pub(crate) diaries: Vec<Diary>,
-    /// What the adoptions came to, in the order of their lines, where the report has replies.
-    pub(crate) adoptions: Vec<OtherLine>,
     /// What the report tells of plans, in order.
     pub(crate) notes: Vec<Note>,
     /// The text of the certificate of the last mark that planned; empty where none did.
@@ -48,78 +52,143 @@ pub(crate) struct Told {
 struct Crew<'a, G: Gate, J: Reading> {
     alloc: Global,
     text: &'a Text<'a>,
-    workers: Vec<Worker<'a, G, J>>,
+    threads: Vec<Resting<'a, G>>,
     keys: Keys,
-    adoptions: Vec<OtherLine>,
+    // How many sections were run.
+    sections: usize,
+    of: PhantomData<J>,
+    ghost reads: { text.now.trace.now.lines.items ≡ J.lines } by { Prim.hlevel props },
+    ghost rest: { AllByRecursion (λ one. Rests J.lines J.shown J.table (AreKept keys.kept.items) sections one.caller.seat one.done one.caller.diary) threads.items } by { Prim.hlevel props },
 }
 
-// A worker for each seat.
-fn workers_of<'a, G: Gate, J: Reading>(
+// A run in a section.
+#[derive(Drop)]
+struct Shift<'a, G: Gate, J: Reading, K: Known> {
+    alloc: Global,
+    text: &'a Text<'a>,
+    workers: Vec<Worker<'a, G, J, K>>,
+    ghost reads: { text.now.trace.now.lines.items ≡ J.lines } by { Prim.hlevel props },
+}
+
+// A run at the barrier that ends a section, once the rings were emptied.
+#[derive(Drop)]
+struct Meeting<'a, G: Gate, J: Reading, K: Known> {
+    alloc: Global,
+    text: &'a Text<'a>,
+    workers: Vec<Settled<'a, G, J, K>>,
+    ghost reads: { text.now.trace.now.lines.items ≡ J.lines } by { Prim.hlevel props },
+}
+
+// A thread for each seat, before the first section.
+fn threads_in<'a, G: Gate, J: Reading>(
     alloc: Global,
     arena: &'a Arena<G>,
-    text: &'a Text<'a>,
+    text: &Text<'_>,
     seats: Vec<Seat>,
-) -> Result<Vec<Worker<'a, G, J>>, AllocError>
+) -> Result<Vec<Resting<'a, G>>, AllocError>
     requires lines { text.now.trace.now.lines.items ≡ J.lines }
     requires shown { text.now.replies ≡ J.shown }
-    requires table { AllByRecursion (λ seat. seat.table ≡ J.table) seats.items }
+    requires seats { AllByRecursion (λ seat. (seat.table ≡ J.table) × (seat.section ≡ 0))
+        seats.items }
+    ensures { (kept : List (Option (Option Key))) → IfOk result (λ threads.
+        AllByRecursion (λ one. Rests J.lines J.shown J.table (AreKept kept) 0
+        one.caller.seat one.done one.caller.diary) threads.items) }
 {
-    let mut workers = Vec::with_capacity(alloc, seats.len())?;
+    let mut threads = Vec::with_capacity(alloc, seats.len())?;
     for seat in seats {
-        if let Some(worker) = Worker::new(alloc, arena, text, seat) {
-            workers.push(worker)?;
+        if let Some(resting) = Resting::new(alloc, arena, text, seat) {
+            threads.push(resting)?;
         }
+    }
+    Ok(threads)
+}
+
+// The threads in a section, where so much is known of each.
+fn begun<'a, G: Gate, J: Reading, K: Known>(
+    alloc: Global,
+    text: &'a Text<'a>,
+    threads: Vec<Resting<'a, G>>,
+) -> Result<Vec<Worker<'a, G, J, K>>, AllocError>
+    requires lines { text.now.trace.now.lines.items ≡ J.lines }
+    requires rest { AllByRecursion (λ one. Rests J.lines J.shown J.table (AreKept K.kept)
+        K.section one.caller.seat one.done one.caller.diary) threads.items }
+{
+    let mut workers = Vec::with_capacity(alloc, threads.len())?;
+    for one in threads {
+        workers.push(Worker::new(text, one))?;
     }
     Ok(workers)
 }
 
-// No key of that many threads.
-fn no_keys(alloc: Global, threads: usize) -> Result<Keys, AllocError> {
-    let mut keys = Vec::with_capacity(alloc, threads)?;
-    for _ in 0..threads {
-        keys.push(Vec::new(alloc))?;
+// What the workers of a section are told, whose lines stand from one place up to, and without, the other.
+fn briefing<'k, J: Reading, K: Known>(keys: &'k Keys, from: usize, end: usize) -> Briefing<'k, J, K>
+    requires kept { keys.now.kept.items ≡ K.kept }
+    requires one { (place : ℕ) → from ≤ place → place < end
+        → marks (take place J.lines) ≡ K.section }
+{
+    Briefing {
+        keys,
+        from,
+        end,
+        of: PhantomData,
+        at: PhantomData,
     }
-    Ok(keys)
+}
+
+// All workers end the section, and what their puts gave is kept.
+fn all_rested<'a, G: Gate, J: Reading, K: Known>(
+    alloc: Global,
+    workers: Vec<Settled<'a, G, J, K>>,
+    keys: Keys,
+) -> Result<(Vec<Resting<'a, G>>, Keys), Halt>
+    requires { keys.kept.items ≡ K.kept }
+    ensures { IfOk result (λ both. AllByRecursion (λ one. Rests J.lines J.shown J.table
+        (AreKept both.1.kept.items) (K.section + 1)
+        one.caller.seat one.done one.caller.diary) both.0.items) }
+{
+    let mut keys = keys;
+    let mut threads = Vec::with_capacity(alloc, workers.len())?;
+    for worker in workers {
+        threads.push(worker.rested(&mut keys)?)?;
+    }
+    Ok((threads, keys))
 }
 
 // A section's lines of one worker.
-fn run_one<'a, R: Wait, G: Gate, J: Reading>(
+fn run_one<'a, R: Wait, G: Gate, J: Reading, K: Known>(
     rt: &R,
-    worker: Worker<'a, G, J>,
-    keys: &Keys,
-    end: usize,
-) -> Result<Worker<'a, G, J>, Halt> {
-    worker.run(rt, keys, end)
+    worker: Worker<'a, G, J, K>,
+    told: &Briefing<'_, J, K>,
+) -> Result<Worker<'a, G, J, K>, Halt> {
+    worker.run(rt, told)
 }
 
 // A section's lines, each worker's on a thread of its own.
-fn work<'a, R: Threads + Wait + Sync, G: Gate + Sync, J: Reading>(
+fn work<'a, R: Threads + Wait + Sync, G: Gate + Sync, J: Reading, K: Known>(
     rt: &R,
-    workers: Vec<Worker<'a, G, J>>,
-    keys: &Keys,
-    end: usize,
-) -> Result<Vec<Result<Worker<'a, G, J>, Halt>>, AllocError> {
-    thread::map_vec(rt, workers, &|worker| run_one(rt, worker, keys, end))
+    workers: Vec<Worker<'a, G, J, K>>,
+    told: &Briefing<'_, J, K>,
+) -> Result<Vec<Result<Worker<'a, G, J, K>, Halt>>, AllocError> {
+    thread::map_vec(rt, workers, &|worker| run_one(rt, worker, told))
 }
 
 // A section's lines, with the steps of the open plan beside them.
-fn work_beside<'a, R: Threads + Wait + Sync, G: Gate + Sync, J: Reading>(
+fn work_beside<'a, R: Threads + Wait + Sync, G: Gate + Sync, J: Reading, K: Known>(
     rt: &R,
-    workers: Vec<Worker<'a, G, J>>,
+    workers: Vec<Worker<'a, G, J, K>>,
     keeper: Keeper<'a, G>,
-    keys: &Keys,
-    end: usize,
-) -> Result<(Vec<Result<Worker<'a, G, J>, Halt>>, Keeper<'a, G>), AllocError>
+    told: &Briefing<'_, J, K>,
+) -> Result<(Vec<Result<Worker<'a, G, J, K>, Halt>>, Keeper<'a, G>), AllocError>
     ensures pairs { IfOk result (λ both. plan_pairs both.1.steward.plan
         ≡ plan_pairs keeper.entry.steward.plan) }
     ensures minutes { IfOk result (λ both. both.1.minutes ≡ keeper.entry.minutes) }
 {
     if !keeper.has_steps() {
-        return Ok((work(rt, workers, keys, end)?, keeper));
+        return Ok((work(rt, workers, told)?, keeper));
     }
     let (workers, keeper) = thread::join(
         rt,
-        move || work(rt, workers, keys, end),
+        move || work(rt, workers, told),
         move || keeper.stepped(rt),
     );
     Ok((workers?, keeper?))
@@ -157,7 +226,7 @@ fn is_mark(line: &Line) -> bool
 fn barrier_of(lines: &[Line], from: usize) -> usize
     requires { from ≤ length lines.now }
     ensures barrier { result ≡ barrier_from lines.now from }
-    ensures within { result ≤ length lines.now }
+    ensures within { (from ≤ result) × (result ≤ length lines.now) }
 {
     for place in from..lines.len() {
         if is_barrier(&lines[place]) {
@@ -168,10 +237,10 @@ fn barrier_of(lines: &[Line], from: usize) -> usize
 }
 
 // All workers hand over what their lines left to the threads of shards.
-fn send_off_all<'a, G: Gate, J: Reading>(
+fn send_off_all<'a, G: Gate, J: Reading, K: Known>(
     alloc: Global,
-    workers: Vec<Worker<'a, G, J>>,
-) -> Result<Vec<SentOff<'a, G, J>>, AllocError> {
+    workers: Vec<Worker<'a, G, J, K>>,
+) -> Result<Vec<SentOff<'a, G, J, K>>, AllocError> {
     let mut sent = Vec::with_capacity(alloc, workers.len())?;
     for worker in workers {
         sent.push(worker.sent_off())?;
@@ -179,12 +248,12 @@ fn send_off_all<'a, G: Gate, J: Reading>(
     Ok(sent)
 }
 
-// Frees the keys that are on the rings to the shards of the workers, one after another. They then go on with their lines.
-fn all_settled<'a, G: Gate, J: Reading, R: Wait>(
+// Frees the keys that are on the rings to the shards of the workers, one after another.
+fn all_settled<'a, G: Gate, J: Reading, K: Known, R: Wait>(
     rt: &R,
     alloc: Global,
-    sent: Vec<SentOff<'a, G, J>>,
-) -> Result<Vec<Worker<'a, G, J>>, AllocError> {
+    sent: Vec<SentOff<'a, G, J, K>>,
+) -> Result<Vec<Settled<'a, G, J, K>>, AllocError> {
     let mut workers = Vec::with_capacity(alloc, sent.len())?;
     for one in sent {
         workers.push(one.settled(rt)?)?;
@@ -193,10 +262,10 @@ fn all_settled<'a, G: Gate, J: Reading, R: Wait>(
 }
 
 // The worker of that thread, taken out of these.
-fn take_worker<'a, G: Gate, J: Reading>(
-    workers: &mut Vec<Worker<'a, G, J>>,
+fn take_worker<'a, G: Gate, J: Reading, K: Known>(
+    workers: &mut Vec<Worker<'a, G, J, K>>,
     thread: u32,
-) -> Result<Worker<'a, G, J>, Halt>
+) -> Result<Worker<'a, G, J, K>, Halt>
     ensures { IfOk result (λ worker. worker.caller.seat.worker ≡ thread) }
 {
     for place in 0..workers.len() {
@@ -207,12 +276,25 @@ fn take_worker<'a, G: Gate, J: Reading>(
     Err(Halt::Doubled)
 }
 
+// The worker of that shard, taken out of these.
+fn take_settled<'a, G: Gate, J: Reading, K: Known>(
+    workers: &mut Vec<Settled<'a, G, J, K>>,
+    shard: u32,
+) -> Result<Settled<'a, G, J, K>, Halt> {
+    for at in 0..workers.len() {
+        if workers[at].thread() == shard {
+            return Ok(workers.swap_remove(at));
+        }
+    }
+    Err(Halt::Doubled)
+}
+
 // One worker for each of that many threads, in order.
-fn in_order<'a, G: Gate, J: Reading>(
+fn in_order<'a, G: Gate, J: Reading, K: Known>(
     alloc: Global,
-    workers: Vec<Worker<'a, G, J>>,
+    workers: Vec<Worker<'a, G, J, K>>,
     threads: u32,
-) -> Result<Vec<Worker<'a, G, J>>, Halt> {
+) -> Result<Vec<Worker<'a, G, J, K>>, Halt> {
     let mut workers = workers;
     let mut ordered = Vec::with_capacity(alloc, workers.len())?;
     for thread in 0..threads {
@@ -222,14 +304,16 @@ fn in_order<'a, G: Gate, J: Reading>(
 }
 
 // What the workers of that many threads leave, in order, where each has run all its lines.
-fn seats_and_diaries<'a, G: Gate, J: Reading>(
+fn seats_and_diaries<'a, G: Gate, J: Reading, K: Known>(
     alloc: Global,
-    workers: Vec<Worker<'a, G, J>>,
+    workers: Vec<Worker<'a, G, J, K>>,
     threads: u32,
 ) -> Result<(Vec<Seat>, Vec<Diary>), Halt>
+    requires { K.section ≡ marks J.lines + 1 }
     ensures seats { IfOk result (λ parts. AllByRecursion (λ seat. seat.table ≡ J.table)
         parts.0.items) }
-    ensures diaries { IfOk result (λ parts. AreDiaries J.lines J.shown threads parts.1.items) }
+    ensures diaries { (given : GivenKeys) → AreKept K.kept given
+        → IfOk result (λ parts. AreDiaries J.lines J.shown given threads parts.1.items) }
 {
     let mut workers = workers;
     let mut seats = Vec::with_capacity(alloc, workers.len())?;
@@ -243,55 +327,42 @@ fn seats_and_diaries<'a, G: Gate, J: Reading>(
     Ok((seats, diaries))
 }
 
-impl<'a, G: Gate + Sync, J: Reading> Crew<'a, G, J> {
-    // Runs the lines of the section that ends above that place, with the steps of the open plan beside them. The workers are
-    // then in order.
+impl<'a, G: Gate + Sync, J: Reading, K: Known> Shift<'a, G, J, K> {
+    // Runs the lines of the section, with the steps of the open plan beside them. The workers are then in order.
     fn run<R: Threads + Wait + Sync>(
         self,
         rt: &R,
         keeper: Keeper<'a, G>,
-        end: usize,
+        told: Briefing<'_, J, K>,
     ) -> Result<(Self, Keeper<'a, G>), Halt>
         ensures pairs { IfOk result (λ both. plan_pairs both.1.steward.plan
             ≡ plan_pairs keeper.entry.steward.plan) }
         ensures minutes { IfOk result (λ both. both.1.minutes ≡ keeper.entry.minutes) }
     {
-        let Crew {
+        let Shift {
             alloc,
             text,
             workers,
-            keys,
-            adoptions,
         } = self;
         let mut busy = Vec::with_capacity(alloc, workers.len())?;
         let mut all = Vec::with_capacity(alloc, workers.len())?;
         for worker in workers {
-            if worker.has_lines(end) {
+            if worker.has_lines(told.end) {
                 busy.push(worker)?;
             } else {
                 all.push(worker)?;
             }
         }
-        let (worked, keeper) = work_beside(rt, busy, keeper, &keys, end)?;
+        let (worked, keeper) = work_beside(rt, busy, keeper, &told)?;
         for worker in worked {
             all.push(worker?)?;
         }
-        let crew = Crew {
+        let shift = Shift {
             alloc,
             text,
             workers: in_order(alloc, all, threads_of(text))?,
-            keys,
-            adoptions,
         };
-        Ok((crew, keeper))
-    }
-
-    // Keeps the keys of the section that was run, for the sections after it.
-    fn hand_over(&mut self) -> Result<(), AllocError> {
-        for worker in self.workers.iter_mut() {
-            worker.hand_over(&mut self.keys)?;
-        }
-        Ok(())
+        Ok((shift, keeper))
     }
 
     // Abandons the shards of the threads that ended in the section, ascending.
@@ -302,39 +373,44 @@ impl<'a, G: Gate + Sync, J: Reading> Crew<'a, G, J> {
         Ok(())
     }
 
-    // Frees the keys that were left to the threads of shards, by shard. All workers hand over before the first tends, so that
-    // no key is left behind at a seat.
-    fn settle_rings<R: Wait>(&mut self, rt: &R) -> Result<(), AllocError> {
-        let workers = mem::replace(&mut self.workers, Vec::new(self.alloc));
-        let sent = send_off_all(self.alloc, workers)?;
-        self.workers = all_settled(rt, self.alloc, sent)?;
-        Ok(())
+    // Settles the section that was run, whose plan was ended: shards are abandoned, and the rings are emptied. All workers hand
+    // over before the first tends, so that no key is left behind at a seat.
+    fn settled<R: Wait>(self, rt: &R) -> Result<Meeting<'a, G, J, K>, Halt> {
+        let mut shift = self;
+        shift.abandon(rt)?;
+        let Shift {
+            alloc,
+            text,
+            workers,
+        } = shift;
+        let sent = send_off_all(alloc, workers)?;
+        Ok(Meeting {
+            alloc,
+            text,
+            workers: all_settled(rt, alloc, sent)?,
+        })
     }
+}
 
-    // Settles the section that was run, whose plan was ended: shards are abandoned, and the rings are emptied.
-    fn settle<R: Wait>(&mut self, rt: &R) -> Result<(), Halt> {
-        self.hand_over()?;
-        self.abandon(rt)?;
-        self.settle_rings(rt)?;
-        Ok(())
-    }
-
+impl<'a, G: Gate, J: Reading, K: Known> Meeting<'a, G, J, K> {
     // Makes the adoption of the line at that place.
-    fn adopt<R: Wait>(&mut self, rt: &R, place: usize, shard: u32) -> Result<(), Halt> {
-        for worker in self.workers.iter_mut() {
-            if worker.thread() == shard {
-                let other = worker.adopt(rt)?;
-                if self.text.replies {
-                    let line = place.saturating_add(6);
-                    self.adoptions.push(OtherLine { line, other })?;
-                }
-            }
-        }
+    fn adopt<R: Wait>(&mut self, rt: &R, place: usize, shard: u32) -> Result<(), Halt>
+        requires place { place < 2 ^ 63 }
+        requires section { marks (take place J.lines) ≡ K.section }
+        requires adopts { (line : Line) → slice_get J.lines place ≡ Some line
+            → is_adopt line ≡ true }
+    {
+        let worker = take_settled(&mut self.workers, shard)?;
+        self.workers.push(worker.adopt(rt, place)?)?;
         Ok(())
     }
 
     // The adoptions of the lines from one place up to, and without, another, in their order.
-    fn adoptions<R: Wait>(&mut self, rt: &R, from: usize, end: usize) -> Result<(), Halt> {
+    fn adoptions<R: Wait>(&mut self, rt: &R, from: usize, end: usize) -> Result<(), Halt>
+        requires end { end < 2 ^ 63 }
+        requires one { (place : ℕ) → from ≤ place → place < end
+            → marks (take place J.lines) ≡ K.section }
+    {
         for place in from..end {
             if let Some(Line::Adopt { shard }) = self.text.trace.lines.get(place) {
                 self.adopt(rt, place, *shard)?;
@@ -343,37 +419,112 @@ impl<'a, G: Gate + Sync, J: Reading> Crew<'a, G, J> {
         Ok(())
     }
 
-    // All workers go on to the next section.
-    fn go_on(&mut self) {
-        for worker in self.workers.iter_mut() {
-            worker.go_on();
-        }
+    // The run between this section and the next. More sections than a number counts find no memory.
+    fn rested(self, keys: Keys, sections: usize) -> Result<Crew<'a, G, J>, Halt>
+        requires keys { keys.kept.items ≡ K.kept }
+        requires section { sections ≡ K.section }
+        ensures { IfOk result (λ crew. crew.sections ≡ sections + 1) }
+    {
+        let Meeting {
+            alloc,
+            text,
+            workers,
+        } = self;
+        let (threads, keys) = all_rested(alloc, workers, keys)?;
+        let sections = sections.checked_add(1).ok_or(AllocError)?;
+        Ok(Crew {
+            alloc,
+            text,
+            threads,
+            keys,
+            sections,
+            of: PhantomData,
+        })
     }
+}
 
-    // A section up to, and without, the mark at that place, and the barrier, which begins at the other.
-    fn section<R: Threads + Wait + Sync>(
+impl<'a, G: Gate + Sync, J: Reading> Crew<'a, G, J> {
+    // A section from one place up to, and without, the mark at another, and the barrier, which begins at a third.
+    fn section<R: Threads + Wait + Sync, K: Known>(
         self,
         rt: &R,
         keeper: Keeper<'a, G>,
+        from: usize,
         barrier: usize,
         end: usize,
     ) -> Result<(Self, Keeper<'a, G>), Halt>
-        requires { (barrier < 2 ^ 63) × (end < 2 ^ 63) }
-        ensures { (lines : List Line) (above : ℕ)
-            → HaveCome lines above (plan_pairs keeper.entry.steward.plan) keeper.entry.minutes
-            → barrier ≡ barrier_from lines above
-            → marks_above lines end ≡ marks_above lines above
+        requires bounds { (from ≤ barrier) × (barrier ≤ end) × (end < 2 ^ 63) }
+        requires kept { self.keys.kept.items ≡ K.kept }
+        requires section { self.sections ≡ K.section }
+        requires one { (place : ℕ) → from ≤ place → place < end
+            → marks (take place J.lines) ≡ K.section }
+        ensures notes { (lines : List Line)
+            → HaveCome lines from (plan_pairs keeper.entry.steward.plan) keeper.entry.minutes
+            → barrier ≡ barrier_from lines from
+            → marks_above lines end ≡ marks_above lines from
             → is_mark_at lines end ≡ true
             → IfOk result (λ both. HaveCome lines (end + 1) (plan_pairs both.1.steward.plan)
             both.1.minutes) }
+        ensures sections { IfOk result (λ both. both.0.sections ≡ self.entry.sections + 1) }
     {
-        let (mut crew, keeper) = self.run(rt, keeper, end)?;
+        let Crew {
+            alloc,
+            text,
+            threads,
+            keys,
+            sections,
+            ..
+        } = self;
+        let shift: Shift<'a, G, J, K> = Shift {
+            alloc,
+            text,
+            workers: begun(alloc, text, threads)?,
+        };
+        let told = briefing(&keys, from, barrier);
+        let (shift, keeper) = shift.run(rt, keeper, told)?;
         let mut keeper = keeper.finished(rt, barrier)?;
-        crew.settle(rt)?;
-        crew.adoptions(rt, barrier, end)?;
+        let mut meeting = shift.settled(rt)?;
+        meeting.adoptions(rt, barrier, end)?;
         keeper.mark(rt, end)?;
-        crew.go_on();
-        Ok((crew, keeper))
+        Ok((meeting.rested(keys, sections)?, keeper))
+    }
+
+    // The last section, from one place up to the end of the text at another.
+    fn last_section<R: Threads + Wait + Sync, K: Known>(
+        self,
+        rt: &R,
+        keeper: Keeper<'a, G>,
+        from: usize,
+        barrier: usize,
+    ) -> Result<(Self, Keeper<'a, G>), Halt>
+        requires bounds { barrier < 2 ^ 63 }
+        requires kept { self.keys.kept.items ≡ K.kept }
+        requires section { self.sections ≡ K.section }
+        requires one { (place : ℕ) → from ≤ place → place < barrier
+            → marks (take place J.lines) ≡ K.section }
+        ensures notes { (lines : List Line)
+            → HaveCome lines from (plan_pairs keeper.entry.steward.plan) keeper.entry.minutes
+            → barrier ≡ barrier_from lines from
+            → IfOk result (λ both. HaveCome lines from None both.1.minutes) }
+        ensures sections { IfOk result (λ both. both.0.sections ≡ self.entry.sections + 1) }
+    {
+        let Crew {
+            alloc,
+            text,
+            threads,
+            keys,
+            sections,
+            ..
+        } = self;
+        let shift: Shift<'a, G, J, K> = Shift {
+            alloc,
+            text,
+            workers: begun(alloc, text, threads)?,
+        };
+        let told = briefing(&keys, from, barrier);
+        let (shift, keeper) = shift.run(rt, keeper, told)?;
+        let keeper = keeper.finished(rt, barrier)?;
+        Ok((shift.settled(rt)?.rested(keys, sections)?, keeper))
     }
 
     // All sections, up to the end of the text.
@@ -383,9 +534,12 @@ impl<'a, G: Gate + Sync, J: Reading> Crew<'a, G, J> {
         keeper: Keeper<'a, G>,
         lines: &[Line],
     ) -> Result<(Self, Keeper<'a, G>), Halt>
-        requires { HaveCome lines.now 0 (plan_pairs keeper.steward.plan) keeper.minutes }
-        ensures { IfOk result (λ both. AreNotesOf lines.now both.1.minutes.notes.items
+        requires lines { lines.now ≡ J.lines }
+        requires first { self.sections ≡ 0 }
+        requires notes { HaveCome lines.now 0 (plan_pairs keeper.steward.plan) keeper.minutes }
+        ensures notes { IfOk result (λ both. AreNotesOf lines.now both.1.minutes.notes.items
             both.1.minutes.certificate.items) }
+        ensures sections { IfOk result (λ both. both.0.sections ≡ marks lines.now + 1) }
     {
         let mut crew = self;
         let mut keeper = keeper;
@@ -393,41 +547,53 @@ impl<'a, G: Gate + Sync, J: Reading> Crew<'a, G, J> {
         for place in 0..lines.len() {
             if is_mark(&lines[place]) {
                 let barrier = barrier_of(lines, from);
-                let both = crew.section(rt, keeper, barrier, place)?;
+                let both = crew.section::<R, Brand>(rt, keeper, from, barrier, place)?;
                 crew = both.0;
                 keeper = both.1;
                 from = place + 1;
             }
         }
-        let (mut crew, keeper) = crew.run(rt, keeper, lines.len())?;
-        let keeper = keeper.finished(rt, barrier_of(lines, from))?;
-        crew.settle(rt)?;
-        Ok((crew, keeper))
+        let barrier = barrier_of(lines, from);
+        crew.last_section::<R, Brand>(rt, keeper, from, barrier)
     }
 
-    // What the run of that many threads leaves.
+    // What the workers of that many threads leave, in order.
+    fn parts<K: Known>(self, threads: u32) -> Result<(Vec<Seat>, Vec<Diary>), Halt>
+        requires kept { self.keys.kept.items ≡ K.kept }
+        requires section { self.sections ≡ K.section }
+        requires all { self.sections ≡ marks J.lines + 1 }
+        ensures seats { IfOk result (λ parts. AllByRecursion (λ seat. seat.table ≡ J.table)
+            parts.0.items) }
+        ensures diaries { (given : GivenKeys) → AreKept K.kept given
+            → IfOk result (λ parts. AreDiaries J.lines J.shown given threads parts.1.items) }
+    {
+        let Crew {
+            alloc,
+            text,
+            threads: resting,
+            ..
+        } = self;
+        let workers: Vec<Worker<'a, G, J, K>> = begun(alloc, text, resting)?;
+        seats_and_diaries(alloc, workers, threads)
+    }
+
+    // What the run of that many threads leaves, whose sections were all run.
     fn taken_apart(self, keeper: Keeper<'a, G>, threads: u32) -> Result<Ran, Halt>
+        requires { self.sections ≡ marks J.lines + 1 }
         ensures seats { IfOk result (λ ran. AllByRecursion (λ seat. seat.table ≡ J.table)
             ran.seats.items) }
-        ensures diaries { IfOk result (λ ran. AreDiaries J.lines J.shown threads
-            ran.told.diaries.items) }
+        ensures diaries { IfOk result (λ ran. (given : GivenKeys)
+            × AreDiaries J.lines J.shown given threads ran.told.diaries.items) }
         ensures notes { IfOk result (λ ran. ran.told.notes ≡ keeper.entry.minutes.notes) }
         ensures certificate { IfOk result (λ ran. ran.told.certificate
             ≡ keeper.entry.minutes.certificate) }
     {
-        let Crew {
-            alloc,
-            workers,
-            adoptions,
-            ..
-        } = self;
-        let (seats, diaries) = seats_and_diaries(alloc, workers, threads)?;
+        let (seats, diaries) = self.parts::<Brand>(threads)?;
         let (notes, certificate) = keeper.into_notes();
         Ok(Ran {
             seats,
             told: Told {
                 diaries,
-                adoptions,
                 notes,
                 certificate,
             },
@@ -439,7 +605,8 @@ impl<'a, G: Gate + Sync, J: Reading> Crew<'a, G, J> {
 ///
 /// # Errors
 ///
-/// `OutOfMemory` where an allocation was refused, and `Doubled` where a shard or the pool was not as the run had left it.
+/// `OutOfMemory` where an allocation was refused, and `Doubled` where a shard or the pool was not as the run had left it, or a
+/// thread's line or key was not where the trace has it.
 pub(crate) fn run_sections<'a, R: Threads + Wait + Sync, G: Gate + Sync, J: Reading>(
     rt: &R,
     alloc: Global,
@@ -451,10 +618,11 @@ pub(crate) fn run_sections<'a, R: Threads + Wait + Sync, G: Gate + Sync, J: Read
     requires lines { text.now.trace.now.lines.items ≡ J.lines }
     requires shown { text.now.replies ≡ J.shown }
     requires unplanned { steward.plan ≡ None }
-    requires table { AllByRecursion (λ seat. seat.table ≡ J.table) seats.items }
+    requires seats { AllByRecursion (λ seat. (seat.table ≡ J.table) × (seat.section ≡ 0))
+        seats.items }
     ensures seats { IfOk result (λ ran. AllByRecursion (λ seat. seat.table ≡ J.table)
         ran.seats.items) }
-    ensures diaries { IfOk result (λ ran. AreDiaries J.lines J.shown
+    ensures diaries { IfOk result (λ ran. (given : GivenKeys) × AreDiaries J.lines J.shown given
         text.now.trace.now.header.shards ran.told.diaries.items) }
     ensures notes { IfOk result (λ ran. AreNotesOf text.now.trace.now.lines.items
         ran.told.notes.items ran.told.certificate.items) }
@@ -465,9 +633,10 @@ pub(crate) fn run_sections<'a, R: Threads + Wait + Sync, G: Gate + Sync, J: Read
     let crew: Crew<'a, G, J> = Crew {
         alloc,
         text,
-        workers: workers_of(alloc, arena, text, seats)?,
-        keys: no_keys(alloc, text.trace.header.shards as usize)?,
-        adoptions: Vec::new(alloc),
+        threads: threads_in::<G, J>(alloc, arena, text, seats)?,
+        keys: Keys::none(alloc, text.layout.keys())?,
+        sections: 0,
+        of: PhantomData,
     };
     let (crew, keeper) = crew.sections(rt, keeper, text_lines(text))?;
     crew.taken_apart(keeper, threads_of(text))

@@ -1,14 +1,19 @@
 // Who runs a thread's lines.
-ghost use Rattle.std.specs.Prelude.{◌≡◌, Bool, IfOk, List, [], false};
+ghost use Rattle.std.specs.Prelude.{◌≡◌, ◌+◌, ◌<◌, ◌≤◌, ◌^◌, ℕ, Bool, IfOk, IfSome, List, OnOk, Option, Some, [], false, slice_get, take, true};
 ghost use Rattle.std.proofs.Props.{props};
 ghost use Rattle.arena.specs.Delays.{HasNoneWaiting};
 ghost use Rattle.arena.specs.Seats.{Table};
+ghost use Rattle.span.specs.declared.key.Key.{Key};
+ghost use Rattle.trace_text.specs.Causes.{is_adopt, marks};
 ghost use Rattle.trace_text.specs.declared.line.Line.{Line};
-ghost use Rattle.thread_runner.specs.Grown.{IsDiaryOf, Tracks};
+ghost use Rattle.thread_runner.specs.Asked.{GivenKeys};
+ghost use Rattle.thread_runner.specs.Grown.{IsDiaryOf, Rests, Tracks};
+ghost use Rattle.thread_runner.specs.Known.{AreKept, AreKnown};
 
-use crate::caller::{Caller, Keys};
-use crate::diary::{Diary, Other};
+use crate::caller::Caller;
+use crate::diary::Diary;
 use crate::error::Halt;
+use crate::keys::Keys;
 use crate::layout::Text;
 use arena::{Arena, Gate, Seat};
 use std::alloc::{AllocError, Global};
@@ -37,32 +42,105 @@ impl Reading for Brand {
     ghost table = { record { rows = []; columns = [] } };
 }
 
-/// A thread of the trace, which tells what the lines that it has run ask for.
+/// What a section begins with, which proofs alone know: so that the type of each of its workers says what that worker knows.
+pub(crate) trait Known: Send + Sync {
+    /// What is kept of the puts of the sections before.
+    ghost kept: { List (Option (Option Key)) };
+
+    /// The section's number.
+    ghost section: { ℕ };
+}
+
+/// Whoever calls a function for the brand picks what is known.
+impl Known for Brand {
+    ghost kept = { [] };
+
+    ghost section = { 0 };
+}
+
+/// What all workers of a section are told.
 #[derive(Drop)]
-pub(crate) struct Worker<'a, G: Gate, J: Reading> {
+pub(crate) struct Briefing<'k, J: Reading, K: Known> {
+    /// What the puts of the sections before gave.
+    pub(crate) keys: &'k Keys,
+    /// The place of its first line.
+    pub(crate) from: usize,
+    /// The place below its last line that is a thread's, where the barrier begins.
+    pub(crate) end: usize,
+    pub(crate) of: PhantomData<J>,
+    pub(crate) at: PhantomData<K>,
+    ghost known: { keys.now.kept.items ≡ K.kept } by { Prim.hlevel props },
+    ghost one: { (place : ℕ) → from ≤ place → place < end → marks (take place J.lines) ≡ K.section } by { Prim.hlevel props },
+}
+
+/// A thread of the trace between two sections.
+#[derive(Drop)]
+pub(crate) struct Resting<'a, G: Gate> {
+    caller: Caller<'a, G>,
+    /// How many of its lines it has run.
+    done: usize,
+}
+
+impl<'a, G: Gate> Resting<'a, G> {
+    /// The thread in this seat before the first section, or `None` where the seat is that of an arena of other numbers.
+    pub(crate) fn new(
+        alloc: Global,
+        arena: &'a Arena<G>,
+        text: &Text<'_>,
+        seat: Seat,
+    ) -> Option<Resting<'a, G>>
+        ensures { (kept : List (Option (Option Key))) → seat.section ≡ 0
+            → IfSome result (λ resting. Rests text.now.trace.now.lines.items text.now.replies
+            seat.table (AreKept kept) 0 resting.caller.seat resting.done resting.caller.diary) }
+    {
+        let caller = Caller::new(alloc, arena, text.replies, seat)?;
+        Some(Resting { caller, done: 0 })
+    }
+}
+
+/// A thread of the trace in a section, which tells what the lines that it has run ask for.
+#[derive(Drop)]
+pub(crate) struct Worker<'a, G: Gate, J: Reading, K: Known> {
     text: &'a Text<'a>,
     caller: Caller<'a, G>,
     /// How many of its lines it has run.
     done: usize,
     of: PhantomData<J>,
+    at: PhantomData<K>,
     ghost rows: { caller.seat.table.rows ≡ J.table.rows } by { Prim.hlevel props },
     ghost columns: { caller.seat.table.columns ≡ J.table.columns } by { Prim.hlevel props },
     ghost reads: { text.now.trace.now.lines.items ≡ J.lines } by { Prim.hlevel props },
-    ghost tracks: { Tracks J.lines J.shown caller.seat.worker done caller.diary } by { Prim.hlevel props },
+    ghost section: { caller.seat.section ≡ K.section } by { Prim.hlevel props },
+    ghost tracks: { Tracks J.lines J.shown (AreKnown K.kept caller.fresh.items) caller.seat.worker done K.section caller.diary } by { Prim.hlevel props },
+}
+
+/// A worker at the barrier that ends a section, which has taken and freed the keys that had come in on its rings.
+#[derive(Drop)]
+pub(crate) struct Settled<'a, G: Gate, J: Reading, K: Known> {
+    text: &'a Text<'a>,
+    caller: Caller<'a, G>,
+    /// How many of its lines it has run, with the adoptions by its shard.
+    done: usize,
+    of: PhantomData<J>,
+    at: PhantomData<K>,
+    ghost rows: { caller.seat.table.rows ≡ J.table.rows } by { Prim.hlevel props },
+    ghost columns: { caller.seat.table.columns ≡ J.table.columns } by { Prim.hlevel props },
+    ghost reads: { text.now.trace.now.lines.items ≡ J.lines } by { Prim.hlevel props },
+    ghost section: { caller.seat.section ≡ K.section } by { Prim.hlevel props },
+    ghost tracks: { Tracks J.lines J.shown (AreKnown K.kept caller.fresh.items) caller.seat.worker done (K.section + 1) caller.diary } by { Prim.hlevel props },
 }
 
 /// A worker at a barrier that has handed over the keys that its lines left to the threads of shards: none waits at its seat.
 #[derive(Drop)]
-pub(crate) struct SentOff<'a, G: Gate, J: Reading> {
-    worker: Worker<'a, G, J>,
+pub(crate) struct SentOff<'a, G: Gate, J: Reading, K: Known> {
+    worker: Worker<'a, G, J, K>,
     ghost none_waits: { HasNoneWaiting worker.caller.seat },
 }
 
-impl<'a, G: Gate, J: Reading> SentOff<'a, G, J> {
+impl<'a, G: Gate, J: Reading, K: Known> SentOff<'a, G, J, K> {
     /// Frees the keys that are on the rings to its shard: all that were left to it, where all workers have sent off theirs.
-    /// The worker then goes on with its lines.
-    pub(crate) fn settled<R: Wait>(self, rt: &R) -> Result<Worker<'a, G, J>, AllocError>
-        ensures { IfOk result (λ worker. worker.caller.seat.worker
+    pub(crate) fn settled<R: Wait>(self, rt: &R) -> Result<Settled<'a, G, J, K>, AllocError>
+        ensures { IfOk result (λ settled. settled.caller.seat.worker
             ≡ self.entry.worker.caller.seat.worker) }
     {
         let Worker {
@@ -70,36 +148,34 @@ impl<'a, G: Gate, J: Reading> SentOff<'a, G, J> {
             mut caller,
             done,
             of,
+            at,
         } = self.worker;
         caller.settle(rt)?;
-        Ok(Worker {
+        Ok(Settled {
             text,
             caller,
             done,
             of,
+            at,
         })
     }
 }
 
-impl<'a, G: Gate, J: Reading> Worker<'a, G, J> {
-    /// The worker in this seat, or `None` where the seat is that of an arena of other numbers.
-    pub(crate) fn new(
-        alloc: Global,
-        arena: &'a Arena<G>,
-        text: &'a Text<'a>,
-        seat: Seat,
-    ) -> Option<Worker<'a, G, J>>
+impl<'a, G: Gate, J: Reading, K: Known> Worker<'a, G, J, K> {
+    /// The thread in a section, where so much is known of it.
+    pub(crate) fn new(text: &'a Text<'a>, resting: Resting<'a, G>) -> Worker<'a, G, J, K>
         requires lines { text.now.trace.now.lines.items ≡ J.lines }
-        requires shown { text.now.replies ≡ J.shown }
-        requires table { seat.table ≡ J.table }
+        requires rests { Rests J.lines J.shown J.table (AreKept K.kept) K.section
+            resting.caller.seat resting.done resting.caller.diary }
     {
-        let caller = Caller::new(alloc, arena, text.replies, seat)?;
-        Some(Worker {
+        let Resting { caller, done } = resting;
+        Worker {
             text,
             caller,
-            done: 0,
+            done,
             of: PhantomData,
-        })
+            at: PhantomData,
+        }
     }
 
     /// Its thread's number.
@@ -117,26 +193,30 @@ impl<'a, G: Gate, J: Reading> Worker<'a, G, J> {
             .is_some()
     }
 
-    /// Runs its lines above the line at that place. `keys` are those of the sections before.
+    /// Runs its lines of the section. It halts where one of an earlier section is left.
     pub(crate) fn run<R: Wait>(
         self,
         rt: &R,
-        keys: &Keys,
-        end: usize,
-    ) -> Result<Worker<'a, G, J>, Halt> {
+        told: &Briefing<'_, J, K>,
+    ) -> Result<Worker<'a, G, J, K>, Halt> {
         let Worker {
             text,
             mut caller,
             mut done,
             of,
+            at,
         } = self;
+        let end = told.end;
         caller.reserve(text.layout.lines_between(caller.thread(), done, end))?;
         for _ in 0..text.trace.lines.len() {
             let next = text.layout.line_after(caller.thread(), done, end);
             let Some(place) = next else {
                 break;
             };
-            caller.line(rt, text, keys, place)?;
+            if place < told.from {
+                return Err(Halt::Doubled);
+            }
+            caller.line(rt, text, told.keys, place)?;
             done += 1;
         }
         Ok(Worker {
@@ -144,11 +224,12 @@ impl<'a, G: Gate, J: Reading> Worker<'a, G, J> {
             caller,
             done,
             of,
+            at,
         })
     }
 
     /// Hands over the keys that its lines left to the threads of their shards.
-    pub(crate) fn sent_off(self) -> SentOff<'a, G, J>
+    pub(crate) fn sent_off(self) -> SentOff<'a, G, J, K>
         ensures { result.worker.caller.seat.worker ≡ self.entry.caller.seat.worker }
     {
         let mut worker = self;
@@ -161,25 +242,14 @@ impl<'a, G: Gate, J: Reading> Worker<'a, G, J> {
         self.caller.leave(rt)
     }
 
-    /// Lets its shard adopt a group.
-    pub(crate) fn adopt<R: Wait>(&mut self, rt: &R) -> Result<Other, Halt> {
-        self.caller.adopt(rt)
-    }
-
-    /// From now on its receipts carry the next section.
-    pub(crate) fn go_on(&mut self) {
-        self.caller.go_on();
-    }
-
-    /// Moves the keys that its puts of this section were given after those of the sections before.
-    pub(crate) fn hand_over(&mut self, keys: &mut Keys) -> Result<(), AllocError> {
-        self.caller.hand_over(keys)
-    }
-
-    /// Its seat, and what it was told, where it has run all its lines.
+    /// Its seat, and what it was told, where it has run all its lines and has no key that is not kept. It has come to all
+    /// barriers.
     pub(crate) fn taken_apart(self) -> Result<(Seat, Diary), Halt>
+        requires { K.section ≡ marks J.lines + 1 }
         ensures seat { IfOk result (λ parts. parts.0.table ≡ J.table) }
-        ensures diary { IfOk result (λ parts. IsDiaryOf J.lines J.shown self.entry.caller.seat.worker parts.1) }
+        ensures diary { (given : GivenKeys) → AreKept K.kept given
+            → IfOk result (λ parts. IsDiaryOf J.lines J.shown given
+            self.entry.caller.seat.worker parts.1) }
     {
         let Worker {
             text,
@@ -190,6 +260,68 @@ impl<'a, G: Gate, J: Reading> Worker<'a, G, J> {
         if !text.layout.has_no_line_after(caller.thread(), done) {
             return Err(Halt::Doubled);
         }
+        if !caller.has_none_fresh() {
+            return Err(Halt::Doubled);
+        }
         Ok(caller.taken_apart())
+    }
+}
+
+impl<'a, G: Gate, J: Reading, K: Known> Settled<'a, G, J, K> {
+    /// Its thread's number.
+    pub(crate) fn thread(&self) -> u32
+        ensures { result ≡ self.now.caller.seat.worker }
+    {
+        self.caller.thread()
+    }
+
+    /// Lets its shard adopt a group, as the line at that place asks, which is the next of its thread. It halts where that is
+    /// another.
+    pub(crate) fn adopt<R: Wait>(self, rt: &R, place: usize) -> Result<Settled<'a, G, J, K>, Halt>
+        requires place { place < 2 ^ 63 }
+        requires section { marks (take place J.lines) ≡ K.section }
+        requires adopts { (line : Line) → slice_get J.lines place ≡ Some line
+            → is_adopt line ≡ true }
+    {
+        let Settled {
+            text,
+            mut caller,
+            done,
+            of,
+            at,
+        } = self;
+        let next = text.layout.line_after(caller.thread(), done, place + 1);
+        let Some(next) = next else {
+            return Err(Halt::Doubled);
+        };
+        if next != place {
+            return Err(Halt::Doubled);
+        }
+        caller.adopt(rt, place + 6)?;
+        Ok(Settled {
+            text,
+            caller,
+            done: done + 1,
+            of,
+            at,
+        })
+    }
+
+    /// Adds what its puts of the section gave to what those of the sections before gave, and ends the section.
+    pub(crate) fn rested(self, keys: &mut Keys) -> Result<Resting<'a, G>, Halt>
+        ensures before { (given : GivenKeys) → AreKept keys.new.kept.items given
+            → OnOk result (AreKept keys.old.kept.items given) }
+        ensures rests { ((given : GivenKeys) → AreKept keys.old.kept.items given
+            → AreKept K.kept given) → IfOk result (λ resting. Rests J.lines J.shown J.table
+            (AreKept keys.new.kept.items) (K.section + 1)
+            resting.caller.seat resting.done resting.caller.diary) }
+    {
+        let Settled {
+            mut caller,
+            done,
+            ..
+        } = self;
+        caller.go_on(keys)?;
+        Ok(Resting { caller, done })
     }
 }

@@ -3,6 +3,9 @@ use Rattle.std.proofs.Common.{◌≡◌, ◌∙◌, ◌<◌, ◌++◌, ◌∷◌
 use Rattle.std.specs.List.{AllByRecursion}
 use Rattle.std.proofs.lemmas.Bool.{cases_Bool}
 use Rattle.std.proofs.lemmas.Option.{slice_get_within}
+use Rattle.span.specs.Classes.{class_of}
+use Rattle.span.specs.Log.{Value}
+use Rattle.span.specs.declared.class.Class.{Class}
 use Rattle.span.specs.declared.key.Key.{Key}
 use Rattle.shard.specs.Calls.{Puts}
 use Rattle.shard.specs.Group.{GroupState}
@@ -27,19 +30,19 @@ use Rattle.trace_runner.specs.Runs.{IsAnswered, key_given}
 -- ---- one key
 
 module _ (core : CoreState) (sound : IsSound core) (number : ℕ) (after : ShardState) (here : slice_get core.shards number ≡ Some after) where
-  home-Puts : (before : ShardState) (value : ℕ) (key : Key) (at : ℕ) → Puts before value key at after → key.span.shard < core.limits.shards
-  home-Puts before value key at (running, inl (index, group, room, span, generation, count, is)) =
+  home-Puts : (before : ShardState) (class : Class) (value : Value) (key : Key) (at : ℕ) → Puts before class value key at after → key.span.shard < core.limits.shards
+  home-Puts before class value key at (running, inl (index, group, room, span, generation, count, is)) =
       let placed : GroupState = record group { head = with_put group.head key.slot value } in
       let there : slice_get after.groups index ≡ Some placed = ap (λ (s : ShardState). slice_get s.groups index) is ∙ slice_get-set_same before.groups index group placed room.here in
       let has = has_span-here after key.span index 0 placed placed.head (sound.groups.shards number after here).sound (record { group_is = there; span_is = refl; id_is = sym span }) in
       omega (arith, home-within core sound.groups key.span number (after, here, has), sound.groups.count)
-  home-Puts before value key at (running, inr (full, pages, opened, (shard, serial, slot, generation, count, (page, index, fresh, place, is)))) =
+  home-Puts before class value key at (running, inr (full, pages, opened, (shard, serial, slot, generation, count, (page, index, fresh, place, is)))) =
       omega (arith, shard, ap (λ (s : ShardState). s.number) is, (sound.groups.shards number after here).number_is, slice_get_within core.shards number after here, sound.groups.count)
 
 home-Issued : (old new : CoreState) (event : Event) (key : Key) → CoreStep old event (Issued key) new → IsSound new → key.span.shard < new.limits.shards
 home-Issued old new (Put number value) key step sound =
     let here : slice_get new.shards number ≡ Some step.after = ap (λ (c : CoreState). slice_get c.shards number) step.rest ∙ slice_get-set_same old.shards number step.before step.after step.here in
-    home-Puts new sound number step.after here step.before value key step.at step.puts
+    home-Puts new sound number step.after here step.before (class_of value) value key step.at step.puts
 home-Issued old new event key step sound = absurd step
 
 -- ---- all keys of what was done

@@ -87,8 +87,8 @@ module _ (h : Header) (above : List Line) (l : Line) (fine : first_cause h above
 -- a thread that a line ends is the line's
 ends-thread : (l : Line) (t : ℕ) → ends t l ≡ true → thread_of l ≡ Some t
 ends-thread line.Silent t e = cc
-ends-thread (line.Call thread (Put name v)) t e = cc
-ends-thread (line.Call thread (Fill name n v)) t e = cc
+ends-thread (line.Call thread (Put name class v)) t e = cc
+ends-thread (line.Call thread (Fill name class n v)) t e = cc
 ends-thread (line.Call thread (Get key)) t e = cc
 ends-thread (line.Call thread (Free key)) t e = cc
 ends-thread (line.Call thread (Sweep name from to)) t e = cc

@@ -16,9 +16,11 @@ use Rattle.arena_core.specs.declared.event.Event.TheVariants as event
 use Rattle.arena_core.specs.declared.reply.Refusal.TheVariants.{NothingToAdopt, RingFull}
 use Rattle.arena_core.specs.declared.reply.Reply.{Reply}
 use Rattle.arena_core.specs.declared.reply.Reply.TheVariants.{Issued, Found, Freed, Refused, Sent}
-use Rattle.trace_runner.specs.Kept.{FindsAt, FindsOne, Kept, Recalls, answer_key, is_put, keeping, kept_none, kept_of, keys_of}
+use Rattle.trace_runner.specs.Kept.{FindsAt, FindsOne, Kept, Recalls, is_put, keeping, kept_none, kept_of, keys_of}
 use Rattle.trace_runner.specs.Made.{Asked, Calls, Did, Made, asked_of, one_call}
-use Rattle.trace_runner.specs.Answers.{answer_told, on_line, told_of}
+use Rattle.trace_runner.specs.Answers.{answer_told, on_line, put_told, told_of}
+use Rattle.trace_runner.specs.declared.report.Answer.{Answer}
+use Rattle.trace_runner.specs.declared.report.Answer.TheVariants as answer
 use Rattle.trace_runner.specs.News.{news_of}
 use Rattle.trace_runner.specs.Report.{answer_line}
 use Rattle.trace_runner.specs.Runs.{asked_by, key_at, key_bound, key_made, on_key}
@@ -27,6 +29,7 @@ use Rattle.trace_text.specs.Earlier.{key_count}
 use Rattle.trace_text.specs.Places.{first_of, place_at}
 use Rattle.trace_text.specs.declared.header.Header.{Header}
 use Rattle.trace_text.specs.declared.line.Binding.{Binding}
+use Rattle.trace_text.specs.Objects.{counted_from}
 use Rattle.trace_text.specs.declared.line.Call.TheVariants.{Put, Fill, Get, Free, Sweep, Later, Tend, End}
 use Rattle.trace_text.specs.declared.line.Keys.{Keys}
 use Rattle.trace_text.specs.declared.line.Keys.TheVariants.{One, Many}
@@ -102,6 +105,15 @@ module _ (number : ℕ) (before after : Kept) (m : Made) (count : after.count �
 pub kept_of-none : (replies : Bool) → kept_none replies ≡ kept_of replies []
 kept_of-none replies = refl
 
+-- the key that an answer names
+abbrev pub answer_key : Answer → Option Key
+answer_key (answer.Key key) = Some key
+answer_key _ = None
+
+pub answer_key-put_told : (key : Option Key) → answer_key (put_told key) ≡ key
+answer_key-put_told (Some key) = refl
+answer_key-put_told None = refl
+
 -- the key that an answer names is that of the put
 pub answer_key-told : (event : Event) (reply : Reply) (core : CoreState) → answer_key (answer_told reply) ≡ key_made (one_call event reply core)
 answer_key-told event (Issued key) core = refl
@@ -174,8 +186,8 @@ later_is_no_put thread (Some key) = refl
 
 -- a line that binds a name has its keys, in order, and any other line has none
 abbrev pub Keyed : Line → List Made → Type 0
-Keyed (line.Call t (Put name v)) made = (keys_of made ≡ map key_made made) × (length made ≡ 1)
-Keyed (line.Call t (Fill name n v)) made = (keys_of made ≡ map key_made made) × (length made ≡ n)
+Keyed (line.Call t (Put name class v)) made = (keys_of made ≡ map key_made made) × (length made ≡ 1)
+Keyed (line.Call t (Fill name class n v)) made = (keys_of made ≡ map key_made made) × (length made ≡ n)
 Keyed _ made = keys_of made ≡ []
 
 asks_some : (made : List Made) (asked : List Asked) → map asked_of made ≡ asked → AllPuts asked → keys_of made ≡ map key_made made
@@ -188,10 +200,10 @@ pub Keyed-asked : (shards : ℕ) (all : List Line) (done : List Did) (l : Line) 
 Keyed-asked shards all done line.Silent made is = asks_none made [] is tt
 Keyed-asked shards all done line.Mark made is = asks_none made [] is tt
 Keyed-asked shards all done (line.Adopt s) made is = asks_none made _ is (refl, tt)
-Keyed-asked shards all done (line.Call t (Put name v)) made is = (asks_some made _ is (refl, tt), sym (length-map made asked_of) ∙ ap length is)
-Keyed-asked shards all done (line.Call t (Fill name n v)) made is = (
-  asks_some made _ is (AllPuts-map (λ i. Calls (event.Put t (v + i))) (λ i. refl) (range_with_len 0 n)),
-  sym (length-map made asked_of) ∙ ap length is ∙ length-map (range_with_len 0 n) (λ i. Calls (event.Put t (v + i))) ∙ length-range_with_len 0 n,
+Keyed-asked shards all done (line.Call t (Put name class v)) made is = (asks_some made _ is (refl, tt), sym (length-map made asked_of) ∙ ap length is)
+Keyed-asked shards all done (line.Call t (Fill name class n v)) made is = (
+  asks_some made _ is (AllPuts-map (λ i. Calls (event.Put t (counted_from class (v + i)))) (λ i. refl) (range_with_len 0 n)),
+  sym (length-map made asked_of) ∙ ap length is ∙ length-map (range_with_len 0 n) (λ i. Calls (event.Put t (counted_from class (v + i)))) ∙ length-range_with_len 0 n,
 )
 Keyed-asked shards all done (line.Call t (Get key)) made is = asks_none made _ is (get_is_no_put _, tt)
 Keyed-asked shards all done (line.Call t (Free key)) made is = asks_none made _ is (free_is_no_put _, tt)
@@ -207,8 +219,8 @@ pub length-Keyed : (l : Line) (made : List Made) → Keyed l made → length (ke
 length-Keyed line.Silent made keyed = ap length keyed
 length-Keyed line.Mark made keyed = ap length keyed
 length-Keyed (line.Adopt s) made keyed = ap length keyed
-length-Keyed (line.Call t (Put name v)) made keyed = as_many made 1 keyed
-length-Keyed (line.Call t (Fill name n v)) made keyed = as_many made n keyed
+length-Keyed (line.Call t (Put name class v)) made keyed = as_many made 1 keyed
+length-Keyed (line.Call t (Fill name class n v)) made keyed = as_many made n keyed
 length-Keyed (line.Call t (Get key)) made keyed = ap length keyed
 length-Keyed (line.Call t (Free key)) made keyed = ap length keyed
 length-Keyed (line.Call t (Sweep name from to)) made keyed = ap length keyed
@@ -256,11 +268,11 @@ IsBound-at : (place section first : ℕ) (name : List ℕ) (l : Line) (made : Li
 IsBound-at place section first name line.Silent made b keyed e = cc
 IsBound-at place section first name line.Mark made b keyed e = cc
 IsBound-at place section first name (line.Adopt s) made b keyed e = cc
-IsBound-at place section first name (line.Call t (Put bound v)) made b keyed e = elim (chosen (bytes_eq bound name) _ _ (Some b) e) [
+IsBound-at place section first name (line.Call t (Put bound class v)) made b keyed e = elim (chosen (bytes_eq bound name) _ _ (Some b) e) [
   | inl p ↦ by_record place section first t 1 One made b p.1 refl keyed
   | inr p ↦ cc p.1
 ]
-IsBound-at place section first name (line.Call t (Fill bound n v)) made b keyed e = elim (chosen (bytes_eq bound name) _ _ (Some b) e) [
+IsBound-at place section first name (line.Call t (Fill bound class n v)) made b keyed e = elim (chosen (bytes_eq bound name) _ _ (Some b) e) [
   | inl p ↦ by_record place section first t n (Many n) made b p.1 refl keyed
   | inr p ↦ cc p.1
 ]
@@ -353,8 +365,8 @@ module _ (h : Header) (lines : List Line) (n : ℕ) (done : List Did) (keys : Li
   FindsAt-fine line.Silent fine = tt
   FindsAt-fine line.Mark fine = tt
   FindsAt-fine (line.Adopt s) fine = tt
-  FindsAt-fine (line.Call t (Put name v)) fine = tt
-  FindsAt-fine (line.Call t (Fill name m v)) fine = tt
+  FindsAt-fine (line.Call t (Put name class v)) fine = tt
+  FindsAt-fine (line.Call t (Fill name class m v)) fine = tt
   FindsAt-fine (line.Call t Tend) fine = tt
   FindsAt-fine (line.Call t End) fine = tt
   FindsAt-fine (line.Call t (Later key)) fine =

@@ -1,19 +1,23 @@
 -- Which shards have ended, one step later.
-use Rattle.std.proofs.Common.{◌≡◌, ◌==◌, ℕ, zero, suc, Bool, true, false, cond, List, [], ◌∷◌, Some, refl, sym, ap, subst, ◌∙◌, arith, inl, inr, is_some, slice_get, set}
+use Rattle.std.proofs.Common.{◌≡◌, ◌==◌, ℕ, zero, suc, Bool, true, false, cond, List, [], ◌∷◌, Some, refl, sym, ap, subst, ◌∙◌, arith, inl, inr, is_some, slice_get, set, Result, Ok, Err, MatchResult}
 use Rattle.std.specs.Option.{option_map_or}
 use Rattle.std.proofs.lemmas.Bool.Decides.{nat_tests}
 use Rattle.std.proofs.lemmas.Bool.{cases_Bool, eqb-true}
 use Rattle.shard.specs.State.{ShardState}
 use Rattle.shard.specs.Calls.{Puts, Frees}
 use Rattle.shard.specs.declared.shard.Freed.TheVariants.{Yes}
+use Rattle.span.specs.Classes.{class_of}
+use Rattle.span.specs.Log.{Value}
+use Rattle.span.specs.declared.class.Class.{Class}
 use Rattle.span.specs.declared.key.Key.{Key}
 use Rattle.arena_core.specs.State.{CoreState, with_shard}
 use Rattle.arena_core.specs.Step.{CoreStep}
-use Rattle.trace_runner.specs.Recalls.{EndsOne, IsOpen, IsServed, KeepsPlan, KeepsShards, MayCall, ended_at}
+use Rattle.trace_runner.specs.Recalls.{EndsOne, IsOpen, IsPutServed, IsServed, KeepsPlan, KeepsShards, MayCall, ended_at, reply_to_put}
 use Rattle.arena_core.specs.declared.event.Event.{Event}
 use Rattle.arena_core.specs.declared.event.Event.TheVariants.{Put, Get, Free, Later, Settle, End, Retire, Adopt, Mark, Step, Close}
 use Rattle.arena_core.specs.declared.reply.Reply.{Reply}
 use Rattle.arena_core.specs.declared.reply.Reply.TheVariants.{Issued, Found, Freed, Sent, ShardEnded, Adopted, Refused}
+use Rattle.arena_core.specs.declared.reply.Refusal.{Refusal}
 use Rattle.arena_core.specs.declared.reply.Refusal.TheVariants.{OutOfMemory, PagesSpent, Ended, PlanOpen, NothingToAdopt, RingFull, Config}
 
 -- the shard of this number is there and has ended
@@ -62,16 +66,21 @@ KeepsShards-same old new same = record { limits = ap (λ (c : CoreState). c.limi
 pub KeepsPlan-same : (old new : CoreState) → new ≡ old → KeepsPlan old new
 KeepsPlan-same old new same = record { shards = KeepsShards-same old new same; plan = ap (λ (c : CoreState). c.plan) same }
 
-ended-Puts : (old new : ShardState) (value : ℕ) (key : Key) (at : ℕ) → Puts old value key at new → new.ended ≡ old.ended
-ended-Puts old new value key at (running, inl (index, group, room, span, generation, count, is)) = ap (λ (s : ShardState). s.ended) is
-ended-Puts old new value key at (running, inr (full, pages, opened, (shard, serial, slot, generation, count, (page, index, fresh, place, is)))) = ap (λ (s : ShardState). s.ended) is
+ended-Puts : (old new : ShardState) (class : Class) (value : Value) (key : Key) (at : ℕ) → Puts old class value key at new → new.ended ≡ old.ended
+ended-Puts old new class value key at (running, inl (index, group, room, span, generation, count, is)) = ap (λ (s : ShardState). s.ended) is
+ended-Puts old new class value key at (running, inr (full, pages, opened, (shard, serial, slot, generation, count, (page, index, fresh, place, is)))) = ap (λ (s : ShardState). s.ended) is
 
 ended-Frees : (old new : ShardState) (key : Key) (at : ℕ) → Frees old key (Yes at) new → new.ended ≡ old.ended
 ended-Frees old new key at (index, place, group, span, here, holds, count, is) = ap (λ (s : ShardState). s.ended) is
 
+-- what holds of both answers of a put holds of the reply that its answer stands for
+pub reply_to_put-each : (P : Reply → Type 0) (put : Result Key Refusal) → MatchResult put (λ key. P (Issued key)) (λ refusal. P (Refused refusal)) → P (reply_to_put put)
+reply_to_put-each P (Ok key) is = is
+reply_to_put-each P (Err refusal) is = is
+
 -- a call of a line ends no shard, and leaves the plan
 pub KeepsPlan-step : (old new : CoreState) (event : Event) (reply : Reply) → MayCall old event → CoreStep old event reply new → KeepsPlan old new
-KeepsPlan-step old new (Put shard value) (Issued key) may step = subst (KeepsPlan old) (sym step.rest) (record { shards = KeepsShards-with_shard old shard step.before step.after step.here (ended-Puts step.before step.after value key step.at step.puts); plan = refl })
+KeepsPlan-step old new (Put shard value) (Issued key) may step = subst (KeepsPlan old) (sym step.rest) (record { shards = KeepsShards-with_shard old shard step.before step.after step.here (ended-Puts step.before step.after (class_of value) value key step.at step.puts); plan = refl })
 KeepsPlan-step old new (Put shard value) (Refused Config) may step = KeepsPlan-same old new step.1
 KeepsPlan-step old new (Put shard value) (Refused Ended) may step = KeepsPlan-same old new step.1
 KeepsPlan-step old new (Put shard value) (Refused PagesSpent) may step = KeepsPlan-same old new step.1
@@ -142,3 +151,24 @@ IsServed-step old new Mark reply may step = absurd may
 IsServed-step old new Step reply may step = absurd may
 IsServed-step old new Close reply may step = absurd may
 IsServed-step old new event reply may step = absurd step
+
+-- ---- the core's own call of a put
+
+-- of a put only these refusals come where its shard is there and runs
+pub IsPutServed-step : (old new : CoreState) (shard : ℕ) (value : Value) (put : Result Key Refusal) → IsOpen old shard → CoreStep old (Put shard value) (reply_to_put put) new → IsPutServed put
+IsPutServed-step old new shard value (Ok key) may step = tt
+IsPutServed-step old new shard value (Err PagesSpent) may step = tt
+IsPutServed-step old new shard value (Err OutOfMemory) may step = tt
+IsPutServed-step old new shard value (Err Ended) may step = IsServed-step old new (Put shard value) (Refused Ended) may step
+IsPutServed-step old new shard value (Err Config) may step = IsServed-step old new (Put shard value) (Refused Config) may step
+IsPutServed-step old new shard value (Err cause) may step = absurd step
+
+pub CoreStep-put : (old new : CoreState) (shard : ℕ) (value : Value) (put : Result Key Refusal)
+    → MatchResult put (λ key. CoreStep old (Put shard value) (Issued key) new) (λ refusal. CoreStep old (Put shard value) (Refused refusal) new)
+    → CoreStep old (Put shard value) (reply_to_put put) new
+CoreStep-put old new shard value put = reply_to_put-each (λ reply. CoreStep old (Put shard value) reply new) put
+
+pub KeepsPlan-put : (old new : CoreState) (shard : ℕ) (value : Value) (put : Result Key Refusal) → IsOpen old shard
+    → MatchResult put (λ key. CoreStep old (Put shard value) (Issued key) new) (λ refusal. CoreStep old (Put shard value) (Refused refusal) new)
+    → KeepsPlan old new
+KeepsPlan-put old new shard value put may step = KeepsPlan-step old new (Put shard value) (reply_to_put put) may (CoreStep-put old new shard value put step)

@@ -1,5 +1,6 @@
 -- What the report tells of the replies to what lines ask for.
-use Rattle.std.specs.Prelude.{ℕ, Bool, true, false, List, ◌∷◌, map, Some, None}
+use Rattle.std.specs.Prelude.{ℕ, Bool, true, false, List, ◌∷◌, map, Option, Some, None}
+use Rattle.span.specs.declared.key.Key.{Key}
 use Rattle.arena_core.specs.declared.reply.Refusal.TheVariants.{NothingToAdopt, RingFull}
 use Rattle.arena_core.specs.declared.reply.Reply.{Reply}
 use Rattle.arena_core.specs.declared.reply.Reply.TheVariants.{Issued, Found, Freed, Sent, ShardEnded, Adopted, Refused}
@@ -24,6 +25,11 @@ answer_told (Refused RingFull) = answer.RingFull
 answer_told (Refused cause) = answer.PagesSpent
 -- no event of a line has another reply
 answer_told reply = answer.Unbound
+
+-- what the report tells of a put: the key that it gave out, or that its shard may have no further page
+abbrev pub put_told : Option Key → Answer
+put_told (Some key) = answer.Key key
+put_told None = answer.PagesSpent
 
 -- the reply to one thing that was asked for, after the events that were called
 abbrev pub answer_of : Asked → List CalledEvent → Answer

@@ -15,8 +15,6 @@ use Rattle.trace_text.specs.declared.line.Line.{Line}
 use Rattle.trace_text.specs.declared.line.Line.TheVariants as line
 use Rattle.arena_core.specs.declared.event.Event.TheVariants.{Put}
 use Rattle.trace_runner.specs.declared.replies.Replies.{Replies}
-use Rattle.trace_runner.specs.declared.report.Answer.{Answer}
-use Rattle.trace_runner.specs.declared.report.Answer.TheVariants as answer
 
 -- ---- what is kept
 
@@ -35,11 +33,6 @@ kept_in r = record { keys = r.keys.items; count = length r.keys.items + r.others
 
 abbrev pub kept_none : Bool → Kept
 kept_none asked = record { keys = []; count = 0; asked = asked; text = [] }
-
--- the key that an answer names
-abbrev pub answer_key : Answer → Option Key
-answer_key (answer.Key key) = Some key
-answer_key _ = None
 
 -- what is asked for is a put
 abbrev pub is_put : Asked → Bool

@@ -1,5 +1,5 @@
 -- What a run keeps of what its lines did. No public clause cites this module.
-use Rattle.std.specs.Prelude.{◌≡◌, ◌<◌, ◌≤◌, ◌++◌, ◌&&◌, ◌||◌, ◌==◌, nat_eq, nat_lt, ℕ, Bool, true, false, not, List, [], ◌∷◌, length, map, take, slice_get, if◌then◌else◌, Some, None}
+use Rattle.std.specs.Prelude.{◌≡◌, ◌<◌, ◌≤◌, ◌++◌, ◌&&◌, ◌||◌, ◌==◌, nat_eq, nat_lt, ℕ, Bool, true, false, not, List, [], ◌∷◌, length, map, take, slice_get, if◌then◌else◌, Some, None, Result, Ok, Err}
 use Rattle.std.specs.HashSet as bag
 use Rattle.std.specs.HashSet.{HashSet}
 use Rattle.std.specs.Option.{option_map, option_map_or}
@@ -15,8 +15,9 @@ use Rattle.trace_runner.specs.declared.plans.Plans.{Plans}
 use Rattle.arena_core.specs.declared.event.Event.{Event}
 use Rattle.arena_core.specs.declared.event.Event.TheVariants.{Put, Later, Settle, End, Retire, Adopt, Mark, Step, Close}
 use Rattle.arena_core.specs.declared.reply.Reply.{Reply}
-use Rattle.arena_core.specs.declared.reply.Reply.TheVariants.{Settled, Retired, Marked, Stepped, NoPairLeft, Closed, NoPlan, Refused}
-use Rattle.arena_core.specs.declared.reply.Refusal.TheVariants.{Ended, PlanOpen, TooMany, Config}
+use Rattle.arena_core.specs.declared.reply.Reply.TheVariants.{Issued, Settled, Retired, Marked, Stepped, NoPairLeft, Closed, NoPlan, Refused}
+use Rattle.arena_core.specs.declared.reply.Refusal.{Refusal}
+use Rattle.arena_core.specs.declared.reply.Refusal.TheVariants.{OutOfMemory, PagesSpent, Ended, PlanOpen, TooMany, Config}
 use Rattle.trace_text.specs.declared.line.Line.{Line}
 
 -- ---- what is done at a line
@@ -99,6 +100,18 @@ MayCall core Mark = ⊥
 MayCall core Step = ⊥
 MayCall core Close = ⊥
 MayCall core event = Unit {0}
+
+-- the reply that the core's own call of a put stands for
+abbrev pub reply_to_put : Result Key Refusal → Reply
+reply_to_put (Ok key) = Issued key
+reply_to_put (Err refusal) = Refused refusal
+
+-- a put gave a key out, or its shard may have no further page, or an allocation was refused
+abbrev pub IsPutServed : Result Key Refusal → Type 0
+IsPutServed (Ok key) = Unit {0}
+IsPutServed (Err PagesSpent) = Unit {0}
+IsPutServed (Err OutOfMemory) = Unit {0}
+IsPutServed (Err cause) = ⊥
 
 -- the shard that was asked for is there and has not ended, and no plan is spoken of
 abbrev pub IsServed : Reply → Type 0

@@ -24,7 +24,7 @@ abbrev pub ending_of : CoreState → ℕ → Ending
 ending_of core calls = record { pages = pages core; live = live_keys core; calls = calls }
 
 -- the bytes are the report of a run of the trace: what its lines did, from the empty plain map on, as it is told, and the counts at its end,
--- of which that of the live keys is how many keys have a value in the plain map; and the certificate is that of the last mark that planned, or nothing
+-- of which that of the live keys is how many keys have an object in the plain map; and the certificate is that of the last mark that planned, or nothing
 pub record IsReportOf (trace : Trace) (replies : Bool) (bytes certificate : List ℕ) : Type 0 where
   pub last : CoreState
   pub calls : ℕ

@@ -16,11 +16,15 @@ use Rattle.trace_runner.specs.declared.report.CloseNews.{CloseNews}
 use Rattle.trace_runner.specs.declared.report.PlanNews.{PlanNews}
 use Rattle.trace_runner.specs.declared.report.PlanNews.TheVariants.{Marked, TooMany, Closed}
 
--- an answer, without its line's number
+-- a number with a space before it
+abbrev pub number_word : ℕ → List ℕ
+number_word n = codes " " ++ decimal n
+
+-- an answer, without its line's number; an object that was found is told by all its words
 abbrev pub answer_text : Answer → List ℕ
 answer_text (answer.Key key) = codes "key " ++ key_text key
 answer_text answer.PagesSpent = codes "refused pages"
-answer_text (answer.Value value) = codes "value " ++ decimal value
+answer_text (answer.Value words) = codes "value" ++ flat_map number_word words
 answer_text answer.Absent = codes "none"
 answer_text answer.Freed = codes "yes"
 answer_text answer.NotFreed = codes "no"

@@ -6,6 +6,7 @@ use Rattle.trace_runner.specs.Barrier.{is_barrier, leavers}
 use Rattle.trace_runner.specs.Made.{Asked, Calls, Keyless, Leaves, Tends, CalledEvent, Called, Made, Did, IsAsAsked, all_called, all_made, asked_of, core_after, core_called, events_of, replies_of}
 use Rattle.trace_runner.specs.News.{News, all_news}
 use Rattle.trace_text.specs.Causes.{binding_of}
+use Rattle.trace_text.specs.Objects.{counted_from}
 use Rattle.arena_core.specs.State.{CoreState, shown}
 use Rattle.marks.specs.Plans.{OpenPlan}
 use Rattle.arena_core.specs.Step.{CoreRun, CoreStep}
@@ -52,8 +53,8 @@ on_key event (Some key) = Calls (event key)
 
 -- what a thread's call asks for, in order, after what the lines above it have done
 abbrev pub asked_by_call : (shards : ℕ) → List Line → List Did → ℕ → Call → List Asked
-asked_by_call shards lines done thread (Put name value) = Calls (event.Put thread value) ∷ []
-asked_by_call shards lines done thread (Fill name count value) = map (λ i. Calls (event.Put thread (value + i))) (range_with_len 0 count)
+asked_by_call shards lines done thread (Put name class value) = Calls (event.Put thread (counted_from class value)) ∷ []
+asked_by_call shards lines done thread (Fill name class count value) = map (λ i. Calls (event.Put thread (counted_from class (value + i)))) (range_with_len 0 count)
 asked_by_call shards lines done thread (Get key) = on_key event.Get (key_of lines done key) ∷ []
 asked_by_call shards lines done thread (Free key) = on_key event.Free (key_of lines done key) ∷ []
 asked_by_call shards lines done thread (Sweep name from to) = map (λ place. on_key event.Free (key_at lines done name place)) (range_with_len from (to - from))

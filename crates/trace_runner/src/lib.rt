@@ -2,9 +2,10 @@
 //! the run left. Beside that it checks certificates of plans.
 //!
 //! A trace is a text with one call on a line, in sections that marks part. [`replay_serial`] reads it and runs its calls on
-//! a `Core`, which keeps one word of 128 bits under each key and answers as a plain map of keys does. At a mark the shards
-//! of threads that have ended are abandoned, what was to be freed later is freed, other shards adopt what is left, and as
-//! many folds as can be are planned; they are carried out after the lines that follow. Its report goes to any [`Sink`].
+//! a `Core`, which keeps an object of 1, 4 or 16 words of 128 bits under each key and answers as a plain map of keys does. At
+//! a mark the shards of threads that have ended are abandoned, what was to be freed later is freed, other shards adopt what
+//! is left, and as many folds as can be are planned; they are carried out after the lines that follow. Its report goes to any
+//! [`Sink`].
 //!
 //! [`check_text`] reads a certificate, tests it by the checker of the crate `certificate`, and says in one line whether it is
 //! accepted.
@@ -42,6 +43,7 @@ pub use report::{
 };
 pub use sink::{Memory, Out, Sink, SinkFailed, give};
 pub use trace_text::{
-    Binding, Call, Cause, Header, Keys, Line, Name, ParseError, Reference, Trace, Version, parse,
+    Binding, Call, Cause, Header, Keys, Line, Name, ParseError, Reference, Trace, Version,
+    counting_from, parse,
 };
 pub use writing::{push_answers, push_ending, push_news};

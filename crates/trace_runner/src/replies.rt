@@ -1,13 +1,16 @@
 //! What a run keeps of the replies to its lines, and the report as it is told.
 
-ghost use Rattle.std.specs.Prelude.{◌≡◌, ◌+◌, ◌++◌, ◌^◌, ◌≤◌, ◌∷◌, [], ℕ, IfOk, OnErr, Option, OnOk, Some, length, slice_get, if◌then◌else◌};
+ghost use Rattle.std.specs.Prelude.{◌≡◌, ◌+◌, ◌++◌, ◌^◌, ◌≤◌, ◌∷◌, [], ℕ, IfOk, IfSome, OnErr, Option, OnOk, Some, length, option_map, slice_get, if◌then◌else◌};
+ghost use Rattle.arena_core.specs.declared.reply.Reply.TheVariants.{Found, Freed};
+ghost use Rattle.span.specs.Classes.{IsObject};
 ghost use Rattle.span.specs.declared.key.Key.{Key};
-ghost use Rattle.trace_runner.specs.Kept.{AreHome, IsHome, answer_key, kept_in, kept_none};
+ghost use Rattle.trace_runner.specs.Kept.{AreHome, IsHome, kept_in, kept_none};
+ghost use Rattle.trace_runner.specs.Answers.{answer_told, put_told};
 ghost use Rattle.trace_runner.specs.Report.{answer_line, news_text};
 
-use crate::report::{Answer, LineAnswer, PlanNews};
+use crate::report::{Answer, PlanNews};
 use crate::writing::{push_answer_line, push_news};
-use span::Key;
+use span::{Key, Object};
 use std::alloc::{AllocError, Global};
 
 /// What a run keeps of the replies to its lines: the keys, which later lines may name, and the report so far. Of an answer
@@ -64,12 +67,12 @@ impl Replies {
     }
 
     /// Counts an answer to a call that is no put, and tells it where the report does.
-    pub(crate) fn tell(&mut self, line: usize, answer: Answer) -> Result<(), AllocError>
+    pub(crate) fn tell(&mut self, line: usize, answer: &Answer) -> Result<(), AllocError>
         ensures count { OnOk result ((kept_in self.new).count ≡ (kept_in self.old).count + 1) }
         ensures text { OnOk result (self.new.text.items ≡ self.old.text.items
             ++ (if self.old.asked then answer_line (record {
               line = line;
-              answer = answer;
+              answer = answer.now;
             }) else [])) }
         ensures keys { self.new.keys ≡ self.old.keys }
         ensures asked { self.new.asked ≡ self.old.asked }
@@ -80,35 +83,96 @@ impl Replies {
         Ok(())
     }
 
-    /// The same for the answer to a put, which is counted by its key.
-    pub(crate) fn tell_put(&mut self, line: usize, answer: Answer) -> Result<(), AllocError>
+    /// The same for what a look-up found: the words of an object, or nothing. They are copied only where the report tells them.
+    pub(crate) fn tell_look_up(
+        &mut self,
+        line: usize,
+        found: Option<&[u128]>,
+    ) -> Result<(), AllocError>
+        requires { IfSome found (λ words. IsObject words.now) }
         ensures count { OnOk result ((kept_in self.new).count ≡ (kept_in self.old).count + 1) }
         ensures text { OnOk result (self.new.text.items ≡ self.old.text.items
             ++ (if self.old.asked then answer_line (record {
               line = line;
-              answer = answer;
+              answer = answer_told (Found (option_map (λ words. words.now) found.entry));
             }) else [])) }
-        ensures keys { OnOk result (self.new.keys.items ≡ self.old.keys.items
-            ++ answer_key answer ∷ []) }
+        ensures keys { self.new.keys ≡ self.old.keys }
         ensures asked { self.new.asked ≡ self.old.asked }
     {
-        self.keys.push(answer.key())?;
-        self.write(line, answer)
+        if !self.asked {
+            return self.count_one();
+        }
+        match found {
+            Some(words) => self.tell(line, &Answer::Value(Object::from_words(words))),
+            None => self.tell(line, &Answer::Absent),
+        }
     }
 
-    // Adds the answer's line to the report, where it tells the answers.
-    fn write(&mut self, line: usize, answer: Answer) -> Result<(), AllocError>
+    /// The same for a free: whether the key was live.
+    pub(crate) fn tell_free(&mut self, line: usize, freed: bool) -> Result<(), AllocError>
+        ensures count { OnOk result ((kept_in self.new).count ≡ (kept_in self.old).count + 1) }
         ensures text { OnOk result (self.new.text.items ≡ self.old.text.items
             ++ (if self.old.asked then answer_line (record {
               line = line;
-              answer = answer;
+              answer = answer_told (Freed freed);
+            }) else [])) }
+        ensures keys { self.new.keys ≡ self.old.keys }
+        ensures asked { self.new.asked ≡ self.old.asked }
+    {
+        if !self.asked {
+            return self.count_one();
+        }
+        let answer = if freed {
+            Answer::Freed
+        } else {
+            Answer::NotFreed
+        };
+        self.tell(line, &answer)
+    }
+
+    // Counts an answer that the report doesn't tell. An answer has the room of an object, so none is made.
+    fn count_one(&mut self) -> Result<(), AllocError>
+        ensures count { OnOk result ((kept_in self.new).count ≡ (kept_in self.old).count + 1) }
+        ensures text { self.new.text ≡ self.old.text }
+        ensures keys { self.new.keys ≡ self.old.keys }
+        ensures asked { self.new.asked ≡ self.old.asked }
+    {
+        self.others = self.others.checked_add(1).ok_or(AllocError)?;
+        Ok(())
+    }
+
+    /// The same for a put: the key that it gave out, or none where its shard may have no further page. It is counted by
+    /// its key.
+    pub(crate) fn tell_put(&mut self, line: usize, key: Option<Key>) -> Result<(), AllocError>
+        ensures count { OnOk result ((kept_in self.new).count ≡ (kept_in self.old).count + 1) }
+        ensures text { OnOk result (self.new.text.items ≡ self.old.text.items
+            ++ (if self.old.asked then answer_line (record {
+              line = line;
+              answer = put_told key;
+            }) else [])) }
+        ensures keys { OnOk result (self.new.keys.items ≡ self.old.keys.items ++ key ∷ []) }
+        ensures asked { self.new.asked ≡ self.old.asked }
+    {
+        self.keys.push(key)?;
+        if self.asked {
+            push_answer_line(&mut self.text, line, &answer_to_put(key))?;
+        }
+        Ok(())
+    }
+
+    // Adds the answer's line to the report, where it tells the answers.
+    fn write(&mut self, line: usize, answer: &Answer) -> Result<(), AllocError>
+        ensures text { OnOk result (self.new.text.items ≡ self.old.text.items
+            ++ (if self.old.asked then answer_line (record {
+              line = line;
+              answer = answer.now;
             }) else [])) }
         ensures keys { self.new.keys ≡ self.old.keys }
         ensures others { self.new.others ≡ self.old.others }
         ensures asked { self.new.asked ≡ self.old.asked }
     {
         if self.asked {
-            push_answer_line(&mut self.text, &LineAnswer { line, answer })?;
+            push_answer_line(&mut self.text, line, answer)?;
         }
         Ok(())
     }
@@ -120,5 +184,15 @@ impl Replies {
         ensures rest { kept_in self.new ≡ record (kept_in self.old) { text = self.new.text.items } }
     {
         push_news(&mut self.text, self.asked, news)
+    }
+}
+
+/// What the report tells of a put.
+fn answer_to_put(key: Option<Key>) -> Answer
+    ensures { result ≡ put_told key }
+{
+    match key {
+        Some(key) => Answer::Key(key),
+        None => Answer::PagesSpent,
     }
 }

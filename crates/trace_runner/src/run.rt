@@ -5,12 +5,14 @@ ghost use Rattle.std.specs.List.{range_with_len};
 ghost use Rattle.arena_core.specs.State.{CoreState};
 ghost use Rattle.trace_runner.specs.Barrier.{is_barrier};
 ghost use Rattle.trace_runner.specs.Kept.{AreHome, Finds, FindsAt, FindsOne, IsHome, is_put, kept_in};
-ghost use Rattle.trace_runner.specs.Recalls.{CanLeave, Carries, EndsBelow, EndsOne, HasCome, IsOpen, IsReady, IsServed, KeepsPlan, KnowsPlan, Makes, MakesLine, MayCall, Serves, has, news_at, settling_with};
+ghost use Rattle.trace_runner.specs.Recalls.{CanLeave, Carries, EndsBelow, EndsOne, HasCome, IsOpen, IsPutServed, IsReady, IsServed, KeepsPlan, KnowsPlan, Makes, MakesLine, MayCall, Serves, has, news_at, reply_to_put, settling_with};
+ghost use Rattle.span.specs.Classes.{width_of};
+ghost use Rattle.trace_text.specs.Objects.{counted_from, last_word};
 ghost use Rattle.trace_text.specs.Places.{place_at};
 ghost use Rattle.trace_text.specs.declared.line.Line.{Line};
 ghost use Rattle.trace_text.specs.Causes.{call_ends, ends, first_cause, is_adopt, is_call_over};
 ghost use Rattle.trace_runner.specs.Made.{Did, Calls, Keyless, Leaves, Tends};
-ghost use Rattle.trace_runner.specs.Answers.{answer_told};
+ghost use Rattle.trace_runner.specs.Answers.{answer_told, put_told};
 ghost use Rattle.trace_runner.specs.News.{News};
 ghost use Rattle.trace_runner.specs.Runs.{IsRun, asked_by, asked_by_call, ends_asked, finishing, on_key, IsTold, key_at, key_of, rings_asked};
 ghost use Rattle.arena_core.specs.declared.event.Event.TheVariants as event;
@@ -21,10 +23,10 @@ use crate::replies::Replies;
 use crate::report::Answer;
 use crate::rings::{settle_rings, settle_shard};
 use arena_core::{Core, Event, Refusal, Reply};
-use span::{Counted, Key};
+use span::{Class, Counted, Key, Object};
 use std::alloc::{AllocError, Global};
 use std::collections::HashSet;
-use trace_text::{Call, Line, Reference, Trace};
+use trace_text::{Call, Line, Reference, Trace, count_from};
 
 /// A run of a trace, as far as it has come.
 #[derive(Drop)]
@@ -73,26 +75,55 @@ impl<'t> Run<'t> {
     {
         let reply = self.core.step(event);
         let answer = answer_to(reply)?;
-        self.replies.tell(number, answer)?;
+        self.replies.tell(number, &answer)?;
         Ok(())
     }
 
-    /// Puts a value.
-    fn put(&mut self, number: usize, thread: u32, value: u128) -> Result<(), AllocError>
-        requires { IsOpen self.old.core thread }
-        ensures made { OnOk result (Makes number (Calls (event.Put thread value) ∷ []) self.old.core
+    /// Puts the object of the class that counts up from that base.
+    fn put(
+        &mut self,
+        number: usize,
+        thread: u32,
+        class: Class,
+        base: u128,
+    ) -> Result<(), AllocError>
+        requires running { IsOpen self.old.core thread }
+        requires within { last_word class base < 2 ^ 128 }
+        ensures made { OnOk result (Makes number
+            (Calls (event.Put thread (counted_from class base)) ∷ []) self.old.core
             (kept_in self.old.replies) self.new.core (kept_in self.new.replies)) }
         ensures shards { KeepsPlan self.old.core self.new.core }
         ensures plans { self.new.plans ≡ self.old.plans }
         ensures leaving { self.new.leaving ≡ self.old.leaving }
         ensures trace { self.new.trace.now ≡ self.old.trace.now }
     {
-        let reply = self.core.step(Event::Put {
-            shard: thread,
-            value,
-        });
-        let answer = answer_to(reply)?;
-        self.replies.tell_put(number, answer)?;
+        match class {
+            Class::C16 => self.put_words(number, thread, class, &count_from::<1>(base)),
+            Class::C64 => self.put_words(number, thread, class, &count_from::<4>(base)),
+            Class::C256 => self.put_words(number, thread, class, &count_from::<16>(base)),
+        }
+    }
+
+    // Puts the object of these words, by the core's own call: an event, an object and a reply would go through memory.
+    fn put_words(
+        &mut self,
+        number: usize,
+        thread: u32,
+        class: Class,
+        words: &[u128],
+    ) -> Result<(), AllocError>
+        requires running { IsOpen self.old.core thread }
+        requires width { length words.now ≡ width_of class }
+        ensures made { OnOk result (Makes number (Calls (event.Put thread words.now) ∷ [])
+            self.old.core (kept_in self.old.replies) self.new.core (kept_in self.new.replies)) }
+        ensures shards { KeepsPlan self.old.core self.new.core }
+        ensures plans { self.new.plans ≡ self.old.plans }
+        ensures leaving { self.new.leaving ≡ self.old.leaving }
+        ensures trace { self.new.trace.now ≡ self.old.trace.now }
+    {
+        let put = self.core.put_words(thread, class, words);
+        let key = key_of_put(put)?;
+        self.replies.tell_put(number, key)?;
         Ok(())
     }
 
@@ -106,21 +137,23 @@ impl<'t> Run<'t> {
         ensures leaving { self.new.leaving ≡ self.old.leaving }
         ensures trace { self.new.trace.now ≡ self.old.trace.now }
     {
-        self.replies.tell(number, Answer::Unbound)?;
+        self.replies.tell(number, &Answer::Unbound)?;
         Ok(())
     }
 
-    /// Puts `count` values in order, from `value` up.
+    /// Puts `count` objects of the class in order, which count up from `value`, from `value + 1` and so on.
     fn fill(
         &mut self,
         number: usize,
         thread: u32,
+        class: Class,
         count: u32,
         value: u128,
     ) -> Result<(), AllocError>
         requires running { IsOpen self.old.core thread }
-        requires within { value + count ≤ 2 ^ 128 }
-        ensures made { OnOk result (Makes number (map (λ i. Calls (event.Put thread (value + i)))
+        requires within { last_word class (value + count - 1) < 2 ^ 128 }
+        ensures made { OnOk result (Makes number
+            (map (λ i. Calls (event.Put thread (counted_from class (value + i))))
             (range_with_len 0 count)) self.old.core (kept_in self.old.replies) self.new.core
             (kept_in self.new.replies)) }
         ensures shards { KeepsPlan self.old.core self.new.core }
@@ -129,7 +162,7 @@ impl<'t> Run<'t> {
         ensures trace { self.new.trace.now ≡ self.old.trace.now }
     {
         for i in 0..count {
-            self.put(number, thread, value + u128::from(i))?;
+            self.put(number, thread, class, value + u128::from(i))?;
         }
         Ok(())
     }
@@ -161,7 +194,7 @@ impl<'t> Run<'t> {
         }
     }
 
-    // The same for a key that was given out, by the core's own call: an event and its reply would go through memory.
+    // The same for a key that was given out, by the core's own call.
     fn free_key(&mut self, number: usize, key: Key) -> Result<(), AllocError>
         ensures made { OnOk result (Makes number (Calls (event.Free key) ∷ []) self.old.core
             (kept_in self.old.replies) self.new.core (kept_in self.new.replies)) }
@@ -172,8 +205,7 @@ impl<'t> Run<'t> {
         ensures trace { self.new.trace.now ≡ self.old.trace.now }
     {
         let freed = self.core.free(&key);
-        let answer = answer_to_free(freed);
-        self.replies.tell(number, answer)?;
+        self.replies.tell_free(number, freed)?;
         Ok(())
     }
 
@@ -202,8 +234,7 @@ impl<'t> Run<'t> {
         ensures trace { self.new.trace.now ≡ self.old.trace.now }
     {
         let found = self.core.get(&key);
-        let answer = answer_to_look_up(found);
-        self.replies.tell(number, answer)?;
+        self.replies.tell_look_up(number, found)?;
         Ok(())
     }
 
@@ -267,7 +298,7 @@ impl<'t> Run<'t> {
     {
         let workers = self.trace.header.shards;
         let count = settle_shard(&mut self.core, workers, thread)?;
-        self.replies.tell(number, Answer::Settled(count))?;
+        self.replies.tell(number, &Answer::Settled(count))?;
         Ok(())
     }
 
@@ -282,7 +313,7 @@ impl<'t> Run<'t> {
         ensures trace { self.new.trace.now ≡ self.old.trace.now }
     {
         self.leaving.insert(thread)?;
-        self.replies.tell(number, Answer::Ended)?;
+        self.replies.tell(number, &Answer::Ended)?;
         Ok(())
     }
 
@@ -316,8 +347,13 @@ impl<'t> Run<'t> {
         ensures trace { self.new.trace.now ≡ self.old.trace.now }
     {
         match call {
-            Call::Put { value, .. } => self.put(number, thread, *value),
-            Call::Fill { count, value, .. } => self.fill(number, thread, *count, *value),
+            Call::Put { class, value, .. } => self.put(number, thread, *class, *value),
+            Call::Fill {
+                class,
+                count,
+                value,
+                ..
+            } => self.fill(number, thread, *class, *count, *value),
             Call::Get { key } => {
                 let key = self.key_of(first, key);
                 self.get(number, key)
@@ -566,8 +602,7 @@ fn adoptions(lines: &[Line]) -> usize
     count
 }
 
-/// What the report tells of the reply to a call. Of the refusals it tells only that of a page, that of an adoption which
-/// finds nothing and that of a full ring; running out of memory ends the run.
+/// What the report tells of the reply to a call.
 fn answer_to(reply: Reply) -> Result<Answer, AllocError>
     requires { IsServed reply }
     ensures told { OnOk result (IsTold reply) }
@@ -580,13 +615,7 @@ fn answer_to(reply: Reply) -> Result<Answer, AllocError>
         Reply::Sent => Ok(Answer::Sent),
         Reply::ShardEnded => Ok(Answer::Ended),
         Reply::Adopted(head) => Ok(Answer::Adopted(head)),
-        Reply::Refused(Refusal::PagesSpent) => Ok(Answer::PagesSpent),
-        Reply::Refused(Refusal::NothingToAdopt) => Ok(Answer::NothingToAdopt),
-        Reply::Refused(Refusal::RingFull) => Ok(Answer::RingFull),
-        Reply::Refused(Refusal::OutOfMemory) => Err(AllocError),
-        // A trace asks for its own shards alone, for none that has ended, and adopts where no plan is open.
-        Reply::Refused(Refusal::Ended | Refusal::PlanOpen | Refusal::TooMany | Refusal::Config) =>
-            unreachable!(),
+        Reply::Refused(refusal) => answer_to_refusal(refusal),
         // The others come of events that rings and plans are asked by.
         Reply::Settled(_) | Reply::Marked(_) | Reply::Stepped(..) => unreachable!(),
         Reply::NoPairLeft | Reply::Closed | Reply::NoPlan => unreachable!(),
@@ -595,12 +624,44 @@ fn answer_to(reply: Reply) -> Result<Answer, AllocError>
     }
 }
 
+/// What the report tells of a refusal: only that of a page, that of an adoption which finds nothing and that of a full ring.
+/// Running out of memory ends the run.
+fn answer_to_refusal(refusal: Refusal) -> Result<Answer, AllocError>
+    requires { IsServed (reply.Refused refusal) }
+    ensures told { OnOk result (IsTold (reply.Refused refusal)) }
+    ensures answer { IfOk result (λ answer. answer ≡ answer_told (reply.Refused refusal)) }
+{
+    match refusal {
+        Refusal::PagesSpent => Ok(Answer::PagesSpent),
+        Refusal::NothingToAdopt => Ok(Answer::NothingToAdopt),
+        Refusal::RingFull => Ok(Answer::RingFull),
+        Refusal::OutOfMemory => Err(AllocError),
+        // A trace asks for its own shards alone, for none that has ended, and adopts where no plan is open.
+        Refusal::Ended | Refusal::PlanOpen | Refusal::TooMany | Refusal::Config => unreachable!(),
+    }
+}
+
+/// The key that a put gave out; none where its shard may have no further page. Running out of memory ends the run.
+fn key_of_put(put: Result<Key, Refusal>) -> Result<Option<Key>, AllocError>
+    requires { IsPutServed put }
+    ensures told { OnOk result (IsTold (reply_to_put put)) }
+    ensures key { IfOk result (λ key. put_told key ≡ answer_told (reply_to_put put)) }
+{
+    match put {
+        Ok(key) => Ok(Some(key)),
+        Err(Refusal::PagesSpent) => Ok(None),
+        Err(Refusal::OutOfMemory) => Err(AllocError),
+        // A line puts into a shard of its trace, which runs, and no other refusal comes of that.
+        Err(_) => unreachable!(),
+    }
+}
+
 /// What the report tells of a look-up.
-fn answer_to_look_up(found: Option<u128>) -> Answer
+fn answer_to_look_up(found: Option<Object>) -> Answer
     ensures { result ≡ answer_told (reply.Found found) }
 {
     match found {
-        Some(value) => Answer::Value(value),
+        Some(object) => Answer::Value(object),
         None => Answer::Absent,
     }
 }

@@ -50,11 +50,11 @@ none_from (Some x) e = cc
 
 -- a call that is not refused binds a name that was not bound
 fresh_name : (ls : List Line) (place section first thread : ℕ) (name : List ℕ) (c : Call) (b : Binding) → binds_again ls c ≡ false → call_binding place section first name thread c ≡ Some b → binding_of name ls ≡ None
-fresh_name ls place section first thread name (Put bound v) b free e = elim (chosen (bytes_eq bound name) _ _ (Some b) e) [
+fresh_name ls place section first thread name (Put bound class v) b free e = elim (chosen (bytes_eq bound name) _ _ (Some b) e) [
   | inl p ↦ let same = same_bytes bound name p.0 in none_from (binding_of name ls) (rw same at free)
   | inr p ↦ cc p.1
 ]
-fresh_name ls place section first thread name (Fill bound n v) b free e = elim (chosen (bytes_eq bound name) _ _ (Some b) e) [
+fresh_name ls place section first thread name (Fill bound class n v) b free e = elim (chosen (bytes_eq bound name) _ _ (Some b) e) [
   | inl p ↦ let same = same_bytes bound name p.0 in none_from (binding_of name ls) (rw same at free)
   | inr p ↦ cc p.1
 ]
@@ -77,11 +77,11 @@ either_first o None free = sym (or_none o)
 either_first o (Some x) free = rw (free x refl) refl
 
 few_call : (before : List Line) (place section first thread : ℕ) (name : List ℕ) (c : Call) (b : Binding) → is_call_over before c ≡ false → call_binding place section first name thread c ≡ Some b → IsFew b.keys
-few_call before place section first thread name (Put bound v) b within e = elim (chosen (bytes_eq bound name) _ _ (Some b) e) [
+few_call before place section first thread name (Put bound class v) b within e = elim (chosen (bytes_eq bound name) _ _ (Some b) e) [
   | inl p ↦ let is : One ≡ b.keys = ap (λ o. option_map_or (λ (x : Binding). x.keys) o One) p.1 in subst IsFew is (omega arith)
   | inr p ↦ cc p.1
 ]
-few_call before place section first thread name (Fill bound n v) b within e = elim (chosen (bytes_eq bound name) _ _ (Some b) e) [
+few_call before place section first thread name (Fill bound class n v) b within e = elim (chosen (bytes_eq bound name) _ _ (Some b) e) [
   | inl p ↦ let is : Many n ≡ b.keys = ap (λ o. option_map_or (λ (x : Binding). x.keys) o One) p.1 in
       let small : n ≤ 262144 = grind (arith, nat_tests) in subst IsFew is small
   | inr p ↦ cc p.1

@@ -1,7 +1,7 @@
 -- The first cause of a line, where it is asked last whether the line binds a name again.
 use Rattle.std.proofs.Common.{◌≡◌, Bool, true, false, List, ℕ, Option, Some, None, Ok, refl}
 use Rattle.std.specs.Prelude.{if◌then◌else◌}
-use Rattle.trace_text.specs.Causes.{HasCause, binds_again, first_cause, is_call, is_call_of, reads_early, reads_unknown}
+use Rattle.trace_text.specs.Causes.{binds_again, first_cause, is_call, is_call_of, reads_early, reads_unknown}
 use Rattle.trace_text.specs.Earlier.{Few}
 use Rattle.trace_text.specs.Form.{form_of}
 use Rattle.trace_text.specs.Header.{IsWithinLimits}
@@ -60,8 +60,8 @@ known : (before : List Line) (l : Line) → is_call (binds_again before) l ≡ t
 known before line.Silent binds = refl
 known before line.Mark binds = refl
 known before (line.Adopt s) binds = refl
-known before (line.Call t (Put n v)) binds = refl
-known before (line.Call t (Fill n k v)) binds = refl
+known before (line.Call t (Put n class v)) binds = refl
+known before (line.Call t (Fill n class k v)) binds = refl
 known before (line.Call t (Get k)) binds = cc
 known before (line.Call t (Free k)) binds = cc
 known before (line.Call t (Sweep n a b)) binds = cc
@@ -73,8 +73,8 @@ late : (before : List Line) (l : Line) → is_call (binds_again before) l ≡ tr
 late before line.Silent binds = refl
 late before line.Mark binds = refl
 late before (line.Adopt s) binds = refl
-late before (line.Call t (Put n v)) binds = refl
-late before (line.Call t (Fill n k v)) binds = refl
+late before (line.Call t (Put n class v)) binds = refl
+late before (line.Call t (Fill n class k v)) binds = refl
 late before (line.Call t (Get k)) binds = cc
 late before (line.Call t (Free k)) binds = cc
 late before (line.Call t (Sweep n a b)) binds = cc

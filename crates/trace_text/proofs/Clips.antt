@@ -6,6 +6,9 @@ use Rattle.std.proofs.lemmas.Bool.{and_parts, cases_Bool}
 use Rattle.trace_text.proofs.Lines.{chosen}
 use Rattle.std.specs.Int.{IsInRange}
 use Rattle.trace_text.specs.Header.{IsWithinLimits}
+use Rattle.trace_text.specs.Objects.{last_word}
+use Rattle.span.specs.declared.class.Class.{Class}
+use Rattle.span.specs.declared.class.Class.TheVariants.{C16, C64, C256}
 use Rattle.certificate.specs.Number.{clip}
 use Rattle.trace_text.specs.Reference.{clip_reference}
 use Rattle.trace_text.specs.Within.{clip_call, clip_line, is_value_over}
@@ -47,21 +50,29 @@ and_false : (b : Bool) → (b && false) ≡ false
 and_false true = refl
 and_false false = refl
 
--- a count of a fill, and its last value
-abbrev is_fill_over : (count value : ℕ) → Bool
-is_fill_over count value = not (nat_le 1 count && nat_le count 262144) || nat_le (2 ^ 128) (value + count - 1)
+-- a count of a fill, and the last word of its last object
+abbrev is_fill_over : Class → (count value : ℕ) → Bool
+is_fill_over class count value = not (nat_le 1 count && nat_le count 262144) || nat_le (2 ^ 128) (last_word class (value + count - 1))
 
-clip-count : (n v : ℕ) → is_fill_over (clip n) v ≡ is_fill_over n v
-clip-count n v = elim (cases_Bool (nat_le n 262144)) [
-  | inl few ↦ let same : clip n ≡ n = grind (arith, nat_tests) in ap (λ k. is_fill_over k v) same
+clip-count : (class : Class) (n v : ℕ) → is_fill_over class (clip n) v ≡ is_fill_over class n v
+clip-count class n v = elim (cases_Bool (nat_le n 262144)) [
+  | inl few ↦ let same : clip n ≡ n = grind (arith, nat_tests) in ap (λ k. is_fill_over class k v) same
   | inr many ↦ let large : nat_le (clip n) 262144 ≡ false = grind (arith, nat_tests) in rw (many, large, and_false (nat_le 1 n), and_false (nat_le 1 (clip n))) refl
 ]
 
-clip-count_near : (n v : ℕ) → is_fill_over (clip n) v ≡ false → clip n ≡ n
-clip-count_near n v fine = grind (arith, nat_tests)
+clip-count_near : (class : Class) (n v : ℕ) → is_fill_over class (clip n) v ≡ false → clip n ≡ n
+clip-count_near class n v fine = grind (arith, nat_tests)
 
-last-over : (n v : ℕ) → nat_le (2 ^ 128) v ≡ true → is_fill_over n v ≡ true
-last-over n v over = grind (arith, nat_tests)
+-- a base that is over makes the last word so
+word-over : (class : Class) (v : ℕ) → nat_le (2 ^ 128) v ≡ true → nat_le (2 ^ 128) (last_word class v) ≡ true
+word-over C16 v over = grind (arith, nat_tests)
+word-over C64 v over = grind (arith, nat_tests)
+word-over C256 v over = grind (arith, nat_tests)
+
+last-over : (class : Class) (n v : ℕ) → nat_le (2 ^ 128) v ≡ true → is_fill_over class n v ≡ true
+last-over C16 n v over = grind (arith, nat_tests)
+last-over C64 n v over = grind (arith, nat_tests)
+last-over C256 n v over = grind (arith, nat_tests)
 
 -- ---- calls
 
@@ -76,8 +87,8 @@ has_range-clip from to One few = refl
 has_range-clip from to (Many n) few = clip-range from to n few
 
 has_keys-clip : (c : Call) (keys : Keys) → IsFew keys → has_keys (clip_call c) keys ≡ has_keys c keys
-has_keys-clip (Put name v) keys few = refl
-has_keys-clip (Fill name n v) keys few = refl
+has_keys-clip (Put name class v) keys few = refl
+has_keys-clip (Fill name class n v) keys few = refl
 has_keys-clip (Get key) keys few = has_key-clip key.index keys few
 has_keys-clip (Free key) keys few = has_key-clip key.index keys few
 has_keys-clip (Sweep name from to) keys few = has_range-clip from to keys few
@@ -86,8 +97,8 @@ has_keys-clip Tend keys few = refl
 has_keys-clip End keys few = refl
 
 read_name-clip : (c : Call) → read_name (clip_call c) ≡ read_name c
-read_name-clip (Put name v) = refl
-read_name-clip (Fill name n v) = refl
+read_name-clip (Put name class v) = refl
+read_name-clip (Fill name class n v) = refl
 read_name-clip (Get key) = refl
 read_name-clip (Free key) = refl
 read_name-clip (Sweep name from to) = refl
@@ -96,8 +107,8 @@ read_name-clip Tend = refl
 read_name-clip End = refl
 
 bound_name-clip : (c : Call) → bound_name (clip_call c) ≡ bound_name c
-bound_name-clip (Put name v) = refl
-bound_name-clip (Fill name n v) = refl
+bound_name-clip (Put name class v) = refl
+bound_name-clip (Fill name class n v) = refl
 bound_name-clip (Get key) = refl
 bound_name-clip (Free key) = refl
 bound_name-clip (Sweep name from to) = refl
@@ -106,8 +117,8 @@ bound_name-clip Tend = refl
 bound_name-clip End = refl
 
 over-clip : (before : List Line) (c : Call) → is_call_over before (clip_call c) ≡ is_call_over before c
-over-clip before (Put name v) = refl
-over-clip before (Fill name n v) = clip-count n v
+over-clip before (Put name class v) = refl
+over-clip before (Fill name class n v) = clip-count class n v
 over-clip before (Get key) = refl
 over-clip before (Free key) = refl
 over-clip before (Sweep name from to) = refl
@@ -120,8 +131,8 @@ pub over-value : (before : List Line) (w : Line) → is_call is_value_over w ≡
 over-value before line.Silent over = cc
 over-value before line.Mark over = cc
 over-value before (line.Adopt s) over = cc
-over-value before (line.Call t (Put name v)) over = over
-over-value before (line.Call t (Fill name n v)) over = last-over n v over
+over-value before (line.Call t (Put name class v)) over = word-over class v over
+over-value before (line.Call t (Fill name class n v)) over = last-over class n v over
 over-value before (line.Call t (Get key)) over = cc
 over-value before (line.Call t (Free key)) over = cc
 over-value before (line.Call t (Sweep name from to)) over = cc
@@ -222,8 +233,8 @@ same_reference : (key : Reference) → option_map clip key.index ≡ key.index �
 same_reference key e = ap (λ i. record { name = key.name; index = i }) e
 
 call_known : (before : List Line) (c : Call) → Few before → is_call_over before (clip_call c) ≡ false → reads_unknown before (clip_call c) ≡ false → clip_call c ≡ c
-call_known before (Put name v) few within known = refl
-call_known before (Fill name n v) few within known = ap (λ k. Fill name k v) (clip-count_near n v within)
+call_known before (Put name class v) few within known = refl
+call_known before (Fill name class n v) few within known = ap (λ k. Fill name class k v) (clip-count_near class n v within)
 call_known before (Get key) few within known = ap Get (same_reference key (key_known key.index (binding_of key.name before) (few key.name) known))
 call_known before (Free key) few within known = ap Free (same_reference key (key_known key.index (binding_of key.name before) (few key.name) known))
 call_known before (Later key) few within known = ap Later (same_reference key (key_known key.index (binding_of key.name before) (few key.name) known))

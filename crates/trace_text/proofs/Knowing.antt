@@ -18,7 +18,7 @@ pub keys_in-push : (ls : List Line) (l : Line) → keys_in (ls ++ l ∷ []) ≡ 
 keys_in-push [] l = omega arith
 keys_in-push (m ∷ ms) l = omega (arith, keys_in-push ms l)
 
-marks-push : (ls : List Line) (l : Line) → marks (ls ++ l ∷ []) ≡ marks ls + marks_at l
+pub marks-push : (ls : List Line) (l : Line) → marks (ls ++ l ∷ []) ≡ marks ls + marks_at l
 marks-push [] l = omega arith
 marks-push (m ∷ ms) l = omega (arith, marks-push ms l)
 

@@ -1,3 +1,4 @@
+pub mod Bases
 pub mod Digits
 pub mod Ends
 pub mod Heads

@@ -10,6 +10,8 @@ use Rattle.std.specs.Str.{bytes_eq}
 use Rattle.std.proofs.lemmas.Option.{cond_some, option_and_then_some}
 use Rattle.std.proofs.lemmas.Slice.Eq.{bytes_eq-Decides}
 use Rattle.std.proofs.lemmas.Bool.{and_parts, cases_Bool}
+use Rattle.span.specs.declared.class.Class.{Class}
+use Rattle.span.specs.declared.class.Class.TheVariants.{C16, C64, C256}
 use Rattle.trace_text.specs.declared.header.Version.{Version}
 use Rattle.trace_text.specs.declared.name.Reference.{Reference}
 use Rattle.trace_text.specs.declared.line.Call.{Call}
@@ -20,7 +22,7 @@ use Rattle.certificate.specs.Number.{number_in, is_numeral}
 use Rattle.trace_text.specs.Name.{is_name}
 use Rattle.trace_text.specs.Reference.{reference_in}
 use Rattle.trace_text.specs.Words.{words_of}
-use Rattle.trace_text.specs.Form.{Word, Verb, Number, Named, Refers, IsWord, AreWords, SaysLine, HasForm, has_verb, verb_of, words_of_call, bare_call, key_call, with_name, value_call, with_two, counted_call, thread_line, one_word, two_words, form_of_words, form_of}
+use Rattle.trace_text.specs.Form.{Word, Verb, Number, Named, Refers, IsWord, AreWords, SaysLine, HasForm, has_verb, class_filled, class_put, fill_verb, put_verb, verb_of, words_of_call, bare_call, key_call, with_name, value_call, with_two, counted_call, thread_line, one_word, two_words, form_of_words, form_of}
 
 -- which way a test went
 pub chosen : {X : Type 0} (b : Bool) (x y z : X) → cond b x y ≡ z → ((b ≡ true) × (x ≡ z)) ⊎ ((b ≡ false) × (y ≡ z))
@@ -66,13 +68,36 @@ key_found verb key w e = elim (chosen (bytes_eq verb (codes "get")) _ _ (Some w)
   ]
 ]
 
-value_found : (verb name value : List ℕ) (w : Call) → value_call verb name value ≡ Some w → SaysCall (verb ∷ name ∷ value ∷ []) w
-value_found verb name value w e = elim (chosen (bytes_eq verb (codes "put")) _ _ (Some w) e) [
-  | inl p ↦ option_and_then_some (λ v. with_name (λ n. Put n v) name) (number_in value) w p.1
-      (λ v is then. let parts = cond_some (is_name name) (Put name v) w then in
-      subst (SaysCall (verb ∷ name ∷ value ∷ [])) parts.1 (same_bytes verb (codes "put") p.0, ((refl, parts.0), (is, tt))))
-  | inr p ↦ cc
+-- the class of a verb is one whose verb it is
+class_put-found : (verb : List ℕ) (class : Class) → class_put verb ≡ Some class → verb ≡ put_verb class
+class_put-found verb class e = elim (chosen (bytes_eq verb (codes "put")) _ _ (Some class) e) [
+  | inl p ↦ let is : C16 ≡ class = cc p.1 in subst (λ k. verb ≡ put_verb k) is (same_bytes verb (codes "put") p.0)
+  | inr p ↦ elim (chosen (bytes_eq verb (codes "put64")) _ _ (Some class) p.1) [
+    | inl q ↦ let is : C64 ≡ class = cc q.1 in subst (λ k. verb ≡ put_verb k) is (same_bytes verb (codes "put64") q.0)
+    | inr q ↦ elim (chosen (bytes_eq verb (codes "put256")) _ _ (Some class) q.1) [
+      | inl r ↦ let is : C256 ≡ class = cc r.1 in subst (λ k. verb ≡ put_verb k) is (same_bytes verb (codes "put256") r.0)
+      | inr r ↦ cc
+    ]
+  ]
 ]
+
+class_filled-found : (verb : List ℕ) (class : Class) → class_filled verb ≡ Some class → verb ≡ fill_verb class
+class_filled-found verb class e = elim (chosen (bytes_eq verb (codes "fill")) _ _ (Some class) e) [
+  | inl p ↦ let is : C16 ≡ class = cc p.1 in subst (λ k. verb ≡ fill_verb k) is (same_bytes verb (codes "fill") p.0)
+  | inr p ↦ elim (chosen (bytes_eq verb (codes "fill64")) _ _ (Some class) p.1) [
+    | inl q ↦ let is : C64 ≡ class = cc q.1 in subst (λ k. verb ≡ fill_verb k) is (same_bytes verb (codes "fill64") q.0)
+    | inr q ↦ elim (chosen (bytes_eq verb (codes "fill256")) _ _ (Some class) q.1) [
+      | inl r ↦ let is : C256 ≡ class = cc r.1 in subst (λ k. verb ≡ fill_verb k) is (same_bytes verb (codes "fill256") r.0)
+      | inr r ↦ cc
+    ]
+  ]
+]
+
+value_found : (verb name value : List ℕ) (w : Call) → value_call verb name value ≡ Some w → SaysCall (verb ∷ name ∷ value ∷ []) w
+value_found verb name value w e = option_and_then_some (λ class. option_and_then (λ v. with_name (λ n. Put n class v) name) (number_in value)) (class_put verb) w e
+    (λ class its call. option_and_then_some (λ v. with_name (λ n. Put n class v) name) (number_in value) w call
+    (λ v is then. let parts = cond_some (is_name name) (Put name class v) w then in
+    subst (SaysCall (verb ∷ name ∷ value ∷ [])) parts.1 (class_put-found verb class its, ((refl, parts.0), (is, tt)))))
 
 -- a call with a name and two numbers, by its verb
 two_found : (call : List ℕ → ℕ → ℕ → Call) (verb name first second text : List ℕ) (w : Call) → ((n : List ℕ) (a b : ℕ) → words_of_call (call n a b) ≡ Verb text ∷ Named n ∷ Number a ∷ Number b ∷ []) → verb ≡ text → with_two call name first second ≡ Some w → SaysCall (verb ∷ name ∷ first ∷ second ∷ []) w
@@ -83,12 +108,10 @@ two_found call verb name first second text w says is e =
     subst (SaysCall (verb ∷ name ∷ first ∷ second ∷ [])) parts.1 (subst (AreWords (verb ∷ name ∷ first ∷ second ∷ [])) (sym (says name a b)) (is, ((refl, parts.0), (first_is, (second_is, tt)))))))
 
 counted_found : (verb name first second : List ℕ) (w : Call) → counted_call verb name first second ≡ Some w → SaysCall (verb ∷ name ∷ first ∷ second ∷ []) w
-counted_found verb name first second w e = elim (chosen (bytes_eq verb (codes "fill")) _ _ (Some w) e) [
-  | inl p ↦ two_found (λ n a b. Fill n a b) verb name first second (codes "fill") w (λ n a b. refl) (same_bytes verb (codes "fill") p.0) p.1
-  | inr p ↦ elim (chosen (bytes_eq verb (codes "sweep")) _ _ (Some w) p.1) [
-    | inl q ↦ two_found (λ n a b. Sweep n a b) verb name first second (codes "sweep") w (λ n a b. refl) (same_bytes verb (codes "sweep") q.0) q.1
-    | inr q ↦ cc
-  ]
+counted_found verb name first second w e = elim (chosen (bytes_eq verb (codes "sweep")) _ _ (Some w) e) [
+  | inl p ↦ two_found (λ n a b. Sweep n a b) verb name first second (codes "sweep") w (λ n a b. refl) (same_bytes verb (codes "sweep") p.0) p.1
+  | inr p ↦ option_and_then_some (λ class. with_two (λ n a b. Fill n class a b) name first second) (class_filled verb) w p.1
+      (λ class its call. two_found (λ n a b. Fill n class a b) verb name first second (fill_verb class) w (λ n a b. refl) (class_filled-found verb class its) call)
 ]
 
 -- what the words of a thread's line say, where the version has the verb
@@ -201,18 +224,28 @@ thread_again version thread verb t call c has its is said = rw (its, has, is, sa
 named_again : (name bytes : List ℕ) (call : List ℕ → Call) → (bytes ≡ name) × (is_name name ≡ true) → with_name call bytes ≡ Some (call name)
 named_again name bytes call is = rw (is.0, is.1) refl
 
-value_again : (name value : List ℕ) (v : ℕ) (bytes : List ℕ) → (bytes ≡ name) × (is_name name ≡ true) → number_in value ≡ Some v → value_call (codes "put") bytes value ≡ Some (Put name v)
-value_again name value v bytes named is = rw is (named_again name bytes (λ n. Put n v) named)
+class_put-again : (class : Class) → class_put (put_verb class) ≡ Some class
+class_put-again C16 = refl
+class_put-again C64 = refl
+class_put-again C256 = refl
+
+value_again : (class : Class) (name value : List ℕ) (v : ℕ) (bytes : List ℕ) → (bytes ≡ name) × (is_name name ≡ true) → number_in value ≡ Some v → value_call (put_verb class) bytes value ≡ Some (Put name class v)
+value_again class name value v bytes named is = rw (class_put-again class, is) (named_again name bytes (λ n. Put n class v) named)
 
 two_again : (call : List ℕ → ℕ → ℕ → Call) (name bytes first second : List ℕ) (a b : ℕ) → (bytes ≡ name) × (is_name name ≡ true) → number_in first ≡ Some a → number_in second ≡ Some b → with_two call bytes first second ≡ Some (call name a b)
 two_again call name bytes first second a b named fst snd = rw (fst, snd) (named_again name bytes (λ n. call n a b) named)
 
+fill_again : (class : Class) (name bytes first second : List ℕ) (n v : ℕ) → (bytes ≡ name) × (is_name name ≡ true) → number_in first ≡ Some n → number_in second ≡ Some v → counted_call (fill_verb class) bytes first second ≡ Some (Fill name class n v)
+fill_again C16 name bytes first second n v named fst snd = two_again (λ m a b. Fill m C16 a b) name bytes first second n v named fst snd
+fill_again C64 name bytes first second n v named fst snd = two_again (λ m a b. Fill m C64 a b) name bytes first second n v named fst snd
+fill_again C256 name bytes first second n v named fst snd = two_again (λ m a b. Fill m C256 a b) name bytes first second n v named fst snd
+
 -- a line whose words say a thread's call is read as that
 call_again : (version : Version) (words : List (List ℕ)) (t : ℕ) (c : Call) → SaysLine version (line.Call t c) words → form_of_words version words ≡ Some (line.Call t c)
-call_again version words t (Put name v) says = let w = one_more words (Number t) _ says.1 in let u = three w.1 _ _ _ w.4 in
-    rw (w.2, u.3, u.4) (thread_again version w.0 _ t _ (Put name v) says.0 refl w.3 (value_again name u.2 v u.1 u.5 u.6))
-call_again version words t (Fill name n v) says = let w = one_more words (Number t) _ says.1 in let u = four w.1 _ _ _ _ w.4 in
-    rw (w.2, u.4, u.5) (thread_again version w.0 _ t _ (Fill name n v) says.0 refl w.3 (two_again (λ m a b. Fill m a b) name u.1 u.2 u.3 n v u.6 u.7 u.8))
+call_again version words t (Put name class v) says = let w = one_more words (Number t) _ says.1 in let u = three w.1 _ _ _ w.4 in
+    rw (w.2, u.3, u.4) (thread_again version w.0 _ t _ (Put name class v) says.0 refl w.3 (value_again class name u.2 v u.1 u.5 u.6))
+call_again version words t (Fill name class n v) says = let w = one_more words (Number t) _ says.1 in let u = four w.1 _ _ _ _ w.4 in
+    rw (w.2, u.4, u.5) (thread_again version w.0 _ t _ (Fill name class n v) says.0 refl w.3 (fill_again class name u.1 u.2 u.3 n v u.6 u.7 u.8))
 call_again version words t (Sweep name from to) says = let w = one_more words (Number t) _ says.1 in let u = four w.1 _ _ _ _ w.4 in
     rw (w.2, u.4, u.5) (thread_again version w.0 _ t _ (Sweep name from to) says.0 refl w.3 (two_again (λ m a b. Sweep m a b) name u.1 u.2 u.3 from to u.6 u.7 u.8))
 call_again version words t (Get key) says = let w = one_more words (Number t) _ says.1 in let u = two w.1 _ _ w.4 in

@@ -4,6 +4,7 @@ use Rattle.std.specs.List.{list_any}
 use Rattle.std.specs.Option.{option_map_or, option_or}
 use Rattle.std.specs.Str.{bytes_eq}
 use Rattle.trace_text.specs.Form.{HasForm}
+use Rattle.trace_text.specs.Objects.{last_word}
 use Rattle.trace_text.specs.declared.header.Header.{Header}
 use Rattle.trace_text.specs.declared.line.Call.{Call}
 use Rattle.trace_text.specs.declared.line.Call.TheVariants.{Put, Fill, Get, Free, Sweep, Later, End}
@@ -27,8 +28,8 @@ thread_of _ = None
 
 -- the name that the call binds
 abbrev pub bound_name : Call → Option (List ℕ)
-bound_name (Put name value) = Some name
-bound_name (Fill name count value) = Some name
+bound_name (Put name class value) = Some name
+bound_name (Fill name class count value) = Some name
 bound_name _ = None
 
 -- the name whose keys the call reads, frees or sends off
@@ -72,8 +73,8 @@ marks (line ∷ lines) = marks_at line + marks lines
 
 -- how many keys a call binds its name to
 abbrev pub keys_by : Call → ℕ
-keys_by (Put name value) = 1
-keys_by (Fill name count value) = count
+keys_by (Put name class value) = 1
+keys_by (Fill name class count value) = count
 keys_by _ = 0
 
 -- the same for a line
@@ -88,8 +89,8 @@ keys_in (line ∷ lines) = keys_at line + keys_in lines
 
 -- what a thread's call on the line at that place, in that section and after that many keys binds the name to
 abbrev pub call_binding : (place section first : ℕ) → List ℕ → ℕ → Call → Option Binding
-call_binding place section first name thread (Put bound value) = if bytes_eq bound name then Some (record { keys = One; thread = thread; section = section; line = place; first = first }) else None
-call_binding place section first name thread (Fill bound count value) = if bytes_eq bound name then Some (record { keys = Many count; thread = thread; section = section; line = place; first = first }) else None
+call_binding place section first name thread (Put bound class value) = if bytes_eq bound name then Some (record { keys = One; thread = thread; section = section; line = place; first = first }) else None
+call_binding place section first name thread (Fill bound class count value) = if bytes_eq bound name then Some (record { keys = Many count; thread = thread; section = section; line = place; first = first }) else None
 call_binding place section first name thread _ = None
 
 -- what the line at that place, in that section and after that many keys binds the name to
@@ -141,10 +142,10 @@ may_follow_adopt _ = true
 
 -- ---- what is wrong with a line
 
--- after those lines a value, a count or the last value of a fill is outside its range
+-- after those lines a count, or the last word of the last object that the call puts, is outside its range
 abbrev pub is_call_over : List Line → Call → Bool
-is_call_over before (Put name value) = nat_le (2 ^ 128) value
-is_call_over before (Fill name count value) = not (nat_le 1 count && nat_le count MOST_KEYS) || nat_le (2 ^ 128) (value + count - 1)
+is_call_over before (Put name class value) = nat_le (2 ^ 128) (last_word class value)
+is_call_over before (Fill name class count value) = not (nat_le 1 count && nat_le count MOST_KEYS) || nat_le (2 ^ 128) (last_word class (value + count - 1))
 is_call_over before _ = false
 
 -- the call binds a name that those lines bind

@@ -6,8 +6,10 @@ use Rattle.certificate.specs.Number.{number_in}
 use Rattle.trace_text.specs.Name.{is_name}
 use Rattle.trace_text.specs.Reference.{reference_in}
 use Rattle.trace_text.specs.Words.{words_of}
+use Rattle.span.specs.declared.class.Class.{Class}
+use Rattle.span.specs.declared.class.Class.TheVariants.{C16, C64, C256}
 use Rattle.trace_text.specs.declared.header.Version.{Version}
-use Rattle.trace_text.specs.declared.header.Version.TheVariants.{One}
+use Rattle.trace_text.specs.declared.header.Version.TheVariants.{One, Two}
 use Rattle.trace_text.specs.declared.name.Reference.{Reference}
 use Rattle.trace_text.specs.declared.line.Call.{Call}
 use Rattle.trace_text.specs.declared.line.Call.TheVariants.{Put, Fill, Get, Free, Sweep, Later, Tend, End}
@@ -21,9 +23,25 @@ pub data Word : Type 0 where
   Named : List ℕ → Word
   Refers : Reference → Word
 
--- the verbs of calls that bind a name
+-- the verb of a put, by the class of its object
+abbrev pub put_verb : Class → List ℕ
+put_verb C16 = codes "put"
+put_verb C64 = codes "put64"
+put_verb C256 = codes "put256"
+
+-- the verb of a fill, by the class of its objects
+abbrev pub fill_verb : Class → List ℕ
+fill_verb C16 = codes "fill"
+fill_verb C64 = codes "fill64"
+fill_verb C256 = codes "fill256"
+
+-- the verbs of calls that bind a name to objects of one word
 abbrev pub binding_verbs : List (List ℕ)
 binding_verbs = codes "put" ∷ codes "fill" ∷ []
+
+-- the verbs of calls that bind a name to objects of more words
+abbrev pub wide_verbs : List (List ℕ)
+wide_verbs = codes "put64" ∷ codes "put256" ∷ codes "fill64" ∷ codes "fill256" ∷ []
 
 -- the verbs of calls that read a name
 abbrev pub reading_verbs : List (List ℕ)
@@ -33,14 +51,19 @@ reading_verbs = codes "get" ∷ codes "free" ∷ codes "sweep" ∷ codes "later"
 abbrev pub bare_verbs : List (List ℕ)
 bare_verbs = codes "tend" ∷ codes "end" ∷ []
 
--- a thread's call may have the verb, in a trace of each version
+-- a thread's call may have the verb in a trace of any version
+abbrev pub is_common_verb : List ℕ → Bool
+is_common_verb verb = list_any (bytes_eq verb) binding_verbs || (list_any (bytes_eq verb) reading_verbs || list_any (bytes_eq verb) bare_verbs)
+
+-- a thread's call may have the verb, in a trace of each version; the second adds the verbs of objects of more words
 abbrev pub has_verb : Version → List ℕ → Bool
-has_verb One verb = list_any (bytes_eq verb) binding_verbs || (list_any (bytes_eq verb) reading_verbs || list_any (bytes_eq verb) bare_verbs)
+has_verb One verb = is_common_verb verb
+has_verb Two verb = is_common_verb verb || list_any (bytes_eq verb) wide_verbs
 
 -- the verb of each call
 abbrev pub verb_of : Call → List ℕ
-verb_of (Put name value) = codes "put"
-verb_of (Fill name count value) = codes "fill"
+verb_of (Put name class value) = put_verb class
+verb_of (Fill name class count value) = fill_verb class
 verb_of (Get key) = codes "get"
 verb_of (Free key) = codes "free"
 verb_of (Sweep name from to) = codes "sweep"
@@ -50,8 +73,8 @@ verb_of End = codes "end"
 
 -- the words of each call, after its verb
 abbrev pub words_behind : Call → List Word
-words_behind (Put name value) = Named name ∷ Number value ∷ []
-words_behind (Fill name count value) = Named name ∷ Number count ∷ Number value ∷ []
+words_behind (Put name class value) = Named name ∷ Number value ∷ []
+words_behind (Fill name class count value) = Named name ∷ Number count ∷ Number value ∷ []
 words_behind (Get key) = Refers key ∷ []
 words_behind (Free key) = Refers key ∷ []
 words_behind (Sweep name from to) = Named name ∷ Number from ∷ Number to ∷ []
@@ -107,9 +130,23 @@ key_call verb key =
     else (if bytes_eq verb (codes "free") then option_map Free (reference_in key)
     else (if bytes_eq verb (codes "later") then option_map Later (reference_in key) else None))
 
+-- the class of the object that a call of that verb puts
+abbrev pub class_put : List ℕ → Option Class
+class_put verb =
+    if bytes_eq verb (codes "put") then Some C16
+    else (if bytes_eq verb (codes "put64") then Some C64
+    else (if bytes_eq verb (codes "put256") then Some C256 else None))
+
+-- the class of the objects that a fill of that verb puts
+abbrev pub class_filled : List ℕ → Option Class
+class_filled verb =
+    if bytes_eq verb (codes "fill") then Some C16
+    else (if bytes_eq verb (codes "fill64") then Some C64
+    else (if bytes_eq verb (codes "fill256") then Some C256 else None))
+
 -- a call with a name and a value
 abbrev pub value_call : List ℕ → List ℕ → List ℕ → Option Call
-value_call verb name value = if bytes_eq verb (codes "put") then option_and_then (λ v. with_name (λ n. Put n v) name) (number_in value) else None
+value_call verb name value = option_and_then (λ class. option_and_then (λ v. with_name (λ n. Put n class v) name) (number_in value)) (class_put verb)
 
 -- a call of this name and these two numbers
 abbrev pub with_two : (List ℕ → ℕ → ℕ → Call) → List ℕ → List ℕ → List ℕ → Option Call
@@ -118,8 +155,8 @@ with_two call name first second = option_and_then (λ a. option_and_then (λ b. 
 -- a call with a name and two numbers
 abbrev pub counted_call : List ℕ → List ℕ → List ℕ → List ℕ → Option Call
 counted_call verb name first second =
-    if bytes_eq verb (codes "fill") then with_two (λ n a b. Fill n a b) name first second
-    else (if bytes_eq verb (codes "sweep") then with_two (λ n a b. Sweep n a b) name first second else None)
+    if bytes_eq verb (codes "sweep") then with_two (λ n a b. Sweep n a b) name first second
+    else option_and_then (λ class. with_two (λ n a b. Fill n class a b) name first second) (class_filled verb)
 
 -- the line of a thread's number and its call, whose verb the version must have
 abbrev pub thread_line : Version → List ℕ → List ℕ → Option Call → Option Line

@@ -7,7 +7,7 @@ use Rattle.trace_text.specs.Form.{AreWords, Number, Verb}
 use Rattle.trace_text.specs.Words.{words_of}
 use Rattle.trace_text.specs.declared.header.Header.{Header}
 use Rattle.trace_text.specs.declared.header.Version.{Version}
-use Rattle.trace_text.specs.declared.header.Version.TheVariants.{One}
+use Rattle.trace_text.specs.declared.header.Version.TheVariants.{One, Two}
 use Rattle.trace_text.specs.declared.cause.Cause.{Cause}
 use Rattle.trace_text.specs.declared.cause.Cause.TheVariants as cause
 use Rattle.trace_text.specs.declared.cause.ParseError.{ParseError}
@@ -17,10 +17,12 @@ use Rattle.span.specs.declared.limits.TheConstants.{MOST_PAGES, MOST_RING_KEYS, 
 -- the line that a trace of each version begins with
 abbrev pub opening_of : Version → List ℕ
 opening_of One = codes "mesh 1"
+opening_of Two = codes "mesh 2"
 
 -- the number of each version
 abbrev pub number_of : Version → ℕ
 number_of One = 1
+number_of Two = 2
 
 -- what a line of the header says: that a trace begins, or a size, by its word and the greatest number it may be
 pub data Field : Type 0 where

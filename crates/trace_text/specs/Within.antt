@@ -16,7 +16,7 @@ abbrev pub clip_call : Call → Call
 clip_call (Get key) = Get (clip_reference key)
 clip_call (Free key) = Free (clip_reference key)
 clip_call (Sweep name from to) = Sweep name (clip from) (clip to)
-clip_call (Fill name count value) = Fill name (clip count) value
+clip_call (Fill name class count value) = Fill name class (clip count) value
 clip_call (Later key) = Later (clip_reference key)
 clip_call call = call
 
@@ -26,10 +26,10 @@ clip_line (line.Call thread call) = line.Call (clip thread) (clip_call call)
 clip_line (line.Adopt shard) = line.Adopt (clip shard)
 clip_line line = line
 
--- the value is outside the range of all values
+-- the value is outside the range of all words
 abbrev pub is_value_over : Call → Bool
-is_value_over (Put name value) = nat_le (2 ^ 128) value
-is_value_over (Fill name count value) = nat_le (2 ^ 128) value
+is_value_over (Put name class value) = nat_le (2 ^ 128) value
+is_value_over (Fill name class count value) = nat_le (2 ^ 128) value
 is_value_over _ = false
 
 -- the call as it is kept, or what its text alone shows to be wrong

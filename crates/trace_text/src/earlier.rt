@@ -2,6 +2,7 @@
 
 ghost use Rattle.std.specs.Prelude.{◌≡◌, ◌+◌, ◌-◌, ◌<◌, ◌^◌, List, IfOk, OnOk, is_some, nat_le};
 ghost use Rattle.trace_text.specs.Causes.{binds_again, call_ends, is_call, is_call_over, keys_at, marks_at};
+ghost use Rattle.trace_text.specs.Objects.{last_word};
 ghost use Rattle.trace_text.specs.Places.{place_at, place_by, unless};
 ghost use Rattle.trace_text.specs.Within.{cause_but_bound, read_cause, thread_cause};
 ghost use Rattle.trace_text.specs.declared.line.Line.{Line};
@@ -11,18 +12,21 @@ use super::cause::Cause;
 use super::header::Header;
 use super::line::{Binding, Call, Keys, Line};
 use super::name::Name;
+use span::Class;
 use std::alloc::{AllocError, Global};
 use std::collections::{HashMap, HashSet};
 
 /// The greatest count of a fill: as many keys as a shard has room for at once.
 const MOST_KEYS: u32 = 262_144;
 
-/// Whether the last of that many values, of which the first is that one, is above every value.
-fn ends_over(count: u32, value: u128) -> bool
+/// Whether the last word of the last of that many objects of the class is above every word, where the first counts up from that
+/// value, and each other one from one more than the one before it.
+fn ends_over(class: Class, count: u32, value: u128) -> bool
     requires { 0 < count }
-    ensures { result ≡ nat_le (2 ^ 128) (value + count - 1) }
+    ensures { result ≡ nat_le (2 ^ 128) (last_word class (value + count - 1)) }
 {
-    value.checked_add(u128::from(count - 1)).is_none()
+    let above = u128::from(count - 1) + (class.words() - 1) as u128;
+    value.checked_add(above).is_none()
 }
 
 /// What later lines need to know of those before them.
@@ -80,10 +84,13 @@ impl Earlier {
             → result ≡ is_call_over before call.now }
     {
         match call {
-            Call::Put { value, .. } => ends_over(1, *value),
-            Call::Fill { count, value, .. } => {
-                *count == 0 || *count > MOST_KEYS || ends_over(*count, *value)
-            }
+            Call::Put { class, value, .. } => ends_over(*class, 1, *value),
+            Call::Fill {
+                class,
+                count,
+                value,
+                ..
+            } => *count == 0 || *count > MOST_KEYS || ends_over(*class, *count, *value),
             _ => false,
         }
     }

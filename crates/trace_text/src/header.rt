@@ -5,7 +5,7 @@ ghost use Rattle.std.specs.Int.{IsInRange};
 ghost use Rattle.certificate.specs.Words.{contents_of};
 ghost use Rattle.std.specs.List.{list_any};
 ghost use Rattle.std.specs.Str.{bytes_eq};
-ghost use Rattle.trace_text.specs.Form.{bare_verbs, binding_verbs, reading_verbs};
+ghost use Rattle.trace_text.specs.Form.{bare_verbs, binding_verbs, reading_verbs, wide_verbs};
 ghost use Rattle.trace_text.specs.Header.{BeginWith, FailsField, FailsHeader, HasHeader, IsWithinLimits, Opening, Size, field_in, number_of, opening_of};
 ghost use Rattle.trace_text.specs.Number.{IsOutside, KeepsNumber};
 ghost use Rattle.trace_text.specs.Words.{lines_of, words_of};
@@ -20,15 +20,27 @@ use span::{MOST_PAGES, MOST_RING_KEYS, MOST_SHARDS};
 /// The version of the grammar that a trace is written in.
 #[derive(Clone, Copy, Debug, PartialEq, Eq)]
 pub enum Version {
-    /// The first line is `mesh 1`.
+    /// The first line is `mesh 1`: every object has one word.
     One,
+    /// The first line is `mesh 2`: objects of four and of sixteen words are put too.
+    Two,
 }
 
-/// Whether the verb is one of a call that binds a name.
+/// Whether the verb is one of a call that binds a name to objects of one word.
 fn binds(verb: &[u8]) -> bool
     ensures { result ≡ list_any (bytes_eq verb.now) binding_verbs }
 {
     matches!(verb, b"put" | b"fill")
+}
+
+/// Whether the verb is one of a call that binds a name to objects of more words.
+fn binds_wide(verb: &[u8]) -> bool
+    ensures { result ≡ list_any (bytes_eq verb.now) wide_verbs }
+{
+    verb == b"put64".as_slice()
+        || verb == b"put256".as_slice()
+        || verb == b"fill64".as_slice()
+        || verb == b"fill256".as_slice()
 }
 
 /// Whether the verb is one of a call that reads a name.
@@ -55,8 +67,10 @@ impl Version {
     pub(crate) fn has_verb(self, verb: &[u8]) -> bool
         ensures { result ≡ has_verb self verb.now }
     {
+        let in_each = binds(verb) || reads(verb) || is_bare(verb);
         match self {
-            Version::One => binds(verb) || reads(verb) || is_bare(verb),
+            Version::One => in_each,
+            Version::Two => in_each || binds_wide(verb),
         }
     }
 }
@@ -114,6 +128,7 @@ fn version_of(line: &[u8]) -> Option<Version>
 {
     match line {
         b"mesh 1" => Some(Version::One),
+        b"mesh 2" => Some(Version::Two),
         _ => None,
     }
 }

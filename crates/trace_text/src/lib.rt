@@ -8,7 +8,7 @@
 //! ```text
 //! mesh 1                  0 put a 7            puts 7, and binds `a` to its key
 //! shards 2                0 fill b 3 5         puts 5, 6, 7, and binds `b.0`, `b.1`, `b.2`
-//! pages 4                 0 get b.1            reads the value of a key
+//! pages 4                 0 get b.1            reads the object of a key
 //! ring 4                  0 free a             frees a key
 //! gens 9                  0 sweep b 0 2        frees `b.0` and `b.1`
 //! # bytes of any kind     0 end                ends the thread
@@ -25,8 +25,12 @@
 //! calls no more, and its shard doesn't adopt. After an adoption stand adoptions and then a mark,
 //! with nothing between them but empty lines and remarks.
 //!
+//! A trace whose first line is `mesh 2` may also have `put64`, `put256`, `fill64` and `fill256` where others have `put` and
+//! `fill`. They put objects of 4 and of 16 words. The first word of an object is the value, and each further word is one more
+//! than the word before it; the objects of a fill begin with the value, with one more than that, and so on.
+//!
 //! A shard has 1 to 1,024 pages, a ring 1 to 1,024 places, and a slot 1 to 4,294,967,295
-//! generations. A fill has 1 to 262,144 keys. Each value, the last one of a fill too, is below 2^128.
+//! generations. A fill has 1 to 262,144 keys. Each word of an object, the last one of a fill too, is below 2^128.
 //!
 //! `parse` gives the trace that a text spells, or the first line at fault and, of the causes that
 //! hold of it, the first in the order of `Cause`.
@@ -43,6 +47,7 @@
 #![tactic(auto)]
 
 mod cause;
+mod counting;
 mod earlier;
 mod header;
 mod line;
@@ -54,6 +59,7 @@ mod trace;
 mod words;
 
 pub use cause::{Cause, ParseError};
+pub use counting::{count_from, counting_from};
 pub use header::{Header, Version};
 pub use line::{Binding, Call, Keys, Line};
 pub use name::{Name, Reference};

@@ -1,22 +1,43 @@
 //! Lines of a trace.
 
 use super::name::{Name, Reference};
+use span::Class;
 
 /// A call that a thread makes.
 #[derive(Debug, Drop, PartialEq, Eq)]
 pub enum Call {
-    /// Puts a value, and binds the name to its key.
-    Put { name: Name, value: u128 },
-    /// Puts `count` values in order, from `value` up, and binds the name to their keys.
-    Fill { name: Name, count: u32, value: u128 },
-    /// Reads the value of a key.
-    Get { key: Reference },
+    /// Puts the object of the class that counts up from `value`, and binds the name to its key.
+    Put {
+        name: Name,
+        class: Class,
+        value: u128,
+    },
+    /// Puts `count` objects of the class in order, which count up from `value`, from `value + 1` and so on, and binds the name
+    /// to their keys.
+    Fill {
+        name: Name,
+        class: Class,
+        count: u32,
+        value: u128,
+    },
+    /// Reads the object of a key.
+    Get {
+        key: Reference,
+    },
     /// Frees a key.
-    Free { key: Reference },
+    Free {
+        key: Reference,
+    },
     /// Frees the keys of the name from `from` up to, and without, `to`.
-    Sweep { name: Name, from: u32, to: u32 },
+    Sweep {
+        name: Name,
+        from: u32,
+        to: u32,
+    },
     /// Sends a key off to be freed later, by the thread of the shard that opened its span.
-    Later { key: Reference },
+    Later {
+        key: Reference,
+    },
     /// Frees the keys that wait on the rings to the thread's shard.
     Tend,
     /// Ends the thread. Its shard is abandoned at the next barrier.

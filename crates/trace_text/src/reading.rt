@@ -1,7 +1,7 @@
 //! Reads lines.
 
 ghost use Rattle.std.specs.Prelude.{◌≡◌, Option};
-ghost use Rattle.trace_text.specs.Form.{adopt_line, bare_call, counted_call, form_of, form_of_words, key_call, one_word, thread_line, two_words, value_call, with_two};
+ghost use Rattle.trace_text.specs.Form.{adopt_line, bare_call, class_filled, class_put, counted_call, form_of, form_of_words, key_call, one_word, thread_line, two_words, value_call, with_two};
 ghost use Rattle.certificate.specs.Words.{contents_of};
 ghost use Rattle.trace_text.specs.Within.{within, within_call};
 ghost use Rattle.trace_text.specs.declared.line.Call.{Call};
@@ -13,6 +13,7 @@ use super::line::{Call, Line};
 use super::name::{Name, Reference};
 use super::numeral::{Number, clipped_number, parse_number};
 use super::words::words;
+use span::Class;
 
 /// A call with no more words than its verb.
 fn bare_call(verb: &[u8]) -> Result<Call, Cause>
@@ -38,32 +39,66 @@ fn key_call(verb: &[u8], key: &[u8]) -> Result<Call, Cause>
     }
 }
 
+/// The class of the object that a call of that verb puts.
+fn class_put(verb: &[u8]) -> Option<Class>
+    ensures { result ≡ class_put verb.now }
+{
+    if verb == b"put".as_slice() {
+        Some(Class::C16)
+    } else if verb == b"put64".as_slice() {
+        Some(Class::C64)
+    } else if verb == b"put256".as_slice() {
+        Some(Class::C256)
+    } else {
+        None
+    }
+}
+
+/// The class of the objects that a fill of that verb puts.
+fn class_filled(verb: &[u8]) -> Option<Class>
+    ensures { result ≡ class_filled verb.now }
+{
+    if verb == b"fill".as_slice() {
+        Some(Class::C16)
+    } else if verb == b"fill64".as_slice() {
+        Some(Class::C64)
+    } else if verb == b"fill256".as_slice() {
+        Some(Class::C256)
+    } else {
+        None
+    }
+}
+
 /// A call with a name and a value.
 fn value_call(verb: &[u8], name: &[u8], value: &[u8]) -> Result<Call, Cause>
     ensures { result ≡ within_call (value_call verb.now name.now value.now) }
 {
-    if verb != b"put".as_slice() {
-        return Err(Cause::Form);
-    }
+    let class = class_put(verb).ok_or(Cause::Form)?;
     let name = Name::new(name).ok_or(Cause::Form)?;
     match parse_number(value) {
         None => Err(Cause::Form),
         Some(Number::Large) => Err(Cause::Limit),
-        Some(Number::Fits(value)) => Ok(Call::Put { name, value }),
+        Some(Number::Fits(value)) => Ok(Call::Put { name, class, value }),
     }
 }
 
 /// A fill. A count that does not fit is kept as the greatest that does, since no fill has as many
 /// keys.
-fn fill_call(name: &[u8], count: &[u8], value: &[u8]) -> Result<Call, Cause>
-    ensures { result ≡ within_call (with_two (λ n a b. Fill n a b) name.now count.now value.now) }
+fn fill_call(class: Class, name: &[u8], count: &[u8], value: &[u8]) -> Result<Call, Cause>
+    ensures { result ≡ within_call (with_two (λ n a b. Fill n class a b) name.now count.now
+        value.now) }
 {
     let name = Name::new(name).ok_or(Cause::Form)?;
     let count = clipped_number(count).ok_or(Cause::Form)?;
     match parse_number(value) {
         None => Err(Cause::Form),
         Some(Number::Large) => Err(Cause::Limit),
-        Some(Number::Fits(value)) => Ok(Call::Fill { name, count, value }),
+        Some(Number::Fits(value)) => Ok(Call::Fill {
+            name,
+            class,
+            count,
+            value,
+        }),
     }
 }
 
@@ -83,9 +118,11 @@ fn counted_call(verb: &[u8], name: &[u8], first: &[u8], second: &[u8]) -> Result
     ensures { result ≡ within_call (counted_call verb.now name.now first.now second.now) }
 {
     match verb {
-        b"fill" => fill_call(name, first, second),
         b"sweep" => sweep_call(name, first, second),
-        _ => Err(Cause::Form),
+        _ => {
+            let class = class_filled(verb).ok_or(Cause::Form)?;
+            fill_call(class, name, first, second)
+        }
     }
 }
 

@@ -11,11 +11,12 @@ use thiserror::Error;
 pub enum Cause {
     /// The text ends before this line, or in it without a line feed.
     Cut,
-    /// The line has not its words, or an id or a count is no number or pair of numbers.
+    /// The line has not its words, or an id, a class or a count is no number or pair of numbers.
     Form,
-    /// A count, or an id's shard or serial, is outside its range.
+    /// A count, or an id's shard or serial, is outside its range, or a class is not 16, 64 or 256.
     Limit,
-    /// The second word of a group's line is not 64 lower-case hexadecimal digits.
+    /// The last word of a group's line is not 64 lower-case hexadecimal digits, or has a slot that no page
+    /// of the group's class has.
     Set,
     /// The id is not above the one before it in its list.
     Order,

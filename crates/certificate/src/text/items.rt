@@ -1,12 +1,15 @@
 // The lists of a certificate: a title with a count, and a line for each item.
 ghost use Rattle.std.specs.Prelude.{◌≡◌, ◌+◌, ◌<◌, ◌≤◌, codes, length, map, option_map, IfOk};
+ghost use Rattle.std.specs.List.{All};
 ghost use Rattle.mesh_graph.specs.Groups.{IsAscending, ids};
 ghost use Rattle.certificate.specs.Grammar.{Follows, Reads, at_line, count_in, entry_in, entry_parts, id_in, id_parts, item_in, line_in, list_in, order_of, pair_in, pair_parts, result_map};
+ghost use Rattle.certificate.specs.Text.{FitsClass};
 ghost use Rattle.certificate.specs.Words.{lines_of};
 ghost use Rattle.mesh_graph.specs.declared.build.TheConstants.{MOST_GROUPS};
 
 use super::cause::{Cause, ReadError};
 use super::lines::Lines;
+use super::version::Version;
 use super::words::{parse_count, parse_entry, parse_id, parse_pair};
 use mesh_graph::Entry;
 use span::SpanId;
@@ -52,15 +55,16 @@ fn count_at(lines: &mut Lines, title: &[u8]) -> Result<usize, Cause>
     parse_count(title, lines.next_line()?)
 }
 
-fn entry_at(lines: &mut Lines, last: Option<SpanId>) -> Result<Entry, Cause>
+fn entry_at(lines: &mut Lines, version: Version, last: Option<SpanId>) -> Result<Entry, Cause>
     ensures line { result_map entry_parts result ≡ line_in
-        (item_in entry_in (λ x. x.0) (option_map id_parts last))
+        (item_in (entry_in version) (λ x. x.id) (option_map id_parts last))
         (lines_of lines.old.text.now) lines.old.at }
+    ensures fits { IfOk result FitsClass }
     ensures after { IfOk result (λ entry. Follows last entry.id) }
     ensures text { IfOk result (λ _. lines.new.text.now ≡ lines.old.text.now) }
     ensures passed { IfOk result (λ _. lines.new.at ≡ lines.old.at + 1) }
 {
-    let entry = parse_entry(lines.next_line()?)?;
+    let entry = parse_entry(version, lines.next_line()?)?;
     in_order(last, entry.id)?;
     Ok(entry)
 }
@@ -95,11 +99,14 @@ fn id_at(lines: &mut Lines, last: Option<SpanId>) -> Result<SpanId, Cause>
 pub(super) fn read_entries(
     alloc: Global,
     lines: &mut Lines,
+    version: Version,
     title: &[u8],
 ) -> Result<Vec<Entry>, ReadError>
     requires { lines.old.at ≤ 16384 }
     ensures read { Reads (λ entries. map entry_parts entries.items) result
-        (list_in title.now entry_in (λ x. x.0) (lines_of lines.old.text.now) lines.old.at) }
+        (list_in title.now (entry_in version) (λ x. x.id) (lines_of lines.old.text.now)
+        lines.old.at) }
+    ensures fit { IfOk result (λ entries. All FitsClass entries.items) }
     ensures at_most { IfOk result (λ entries. length entries.items ≤ MOST_GROUPS) }
     ensures ascending { IfOk result (λ entries. IsAscending (ids entries.items)) }
     ensures text { IfOk result (λ _. lines.new.text.now ≡ lines.old.text.now) }
@@ -111,7 +118,7 @@ pub(super) fn read_entries(
     let mut last = None;
     for _k in 0..count {
         let line = lines.next_number();
-        let entry = match entry_at(lines, last) {
+        let entry = match entry_at(lines, version, last) {
             Ok(entry) => entry,
             Err(cause) => return Err(ReadError::BadCertificate { line, cause }),
         };

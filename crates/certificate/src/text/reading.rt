@@ -1,20 +1,22 @@
 // Reads certificates.
 ghost use Rattle.std.specs.Prelude.{◌≡◌, ◌+◌, ◌≤◌, IfOk};
-ghost use Rattle.certificate.specs.Grammar.{Reads, at_line, body_in, certificate_in, end_in, fixed_in, line_in, outline_of};
-ghost use Rattle.certificate.specs.Text.{IsWritable, certificate_text};
+ghost use Rattle.certificate.specs.Grammar.{Reads, at_line, body_in, certificate_in, end_in, fixed_in, line_in, outline_of, version_in};
+ghost use Rattle.certificate.specs.Text.{IsTextOf, IsWritable};
 ghost use Rattle.certificate.specs.Words.{lines_of};
 
 use super::cause::{Cause, ReadError};
 use super::items::{read_entries, read_folds, read_short};
 use super::lines::Lines;
-use super::words::parse_fixed;
+use super::version::Version;
+use super::words::{parse_fixed, parse_version};
 use crate::certificate::Certificate;
 use crate::plan::{Plan, Short};
 use mesh_graph::Snapshot;
 use std::alloc::Global;
 
-/// Reads a certificate of version 1. It accepts exactly the texts of the grammar, which `write` gives,
-/// and says of any other text which line is the first at fault, and that line's first cause.
+/// Reads a certificate of version 1 or 2. It accepts exactly the texts of the grammar: those that `write`
+/// gives, and those of version 1, where each group is of the class [`C16`](span::Class::C16). Of any other text
+/// it says which line is the first at fault, and that line's first cause.
 ///
 /// # Errors
 ///
@@ -23,8 +25,8 @@ pub fn read(alloc: Global, text: &[u8]) -> Result<Certificate, ReadError>
     ensures read { Reads outline_of result (certificate_in text.now) }
     ensures writable { IfOk result IsWritable }
 
-    // An accepted text is the very text that is written of what was read.
-    ensures text { IfOk result (λ certificate. text.now ≡ certificate_text certificate) }
+    // An accepted text is the very text that is written of what was read, or its text in version 1.
+    ensures text { IfOk result (λ certificate. IsTextOf certificate text.now) }
 {
     read_text(alloc, text)
 }
@@ -35,18 +37,40 @@ fn read_text(alloc: Global, text: &[u8]) -> Result<Certificate, ReadError>
     ensures writable { IfOk result IsWritable }
 {
     let mut lines = Lines::new(text);
-    read_fixed(&mut lines, b"meshcert 1")?;
-    read_body(alloc, &mut lines)
+    let version = read_version(&mut lines)?;
+    read_body(alloc, &mut lines, version)
+}
+
+/// The version that the first line names.
+fn read_version(lines: &mut Lines) -> Result<Version, ReadError>
+    requires { lines.old.at ≡ 0 }
+    ensures read { result ≡ at_line 0 (line_in version_in (lines_of lines.old.text.now) 0) }
+    ensures text { IfOk result (λ _. lines.new.text.now ≡ lines.old.text.now) }
+    ensures passed { IfOk result (λ _. lines.new.at ≡ 1) }
+{
+    let line = lines.next_number();
+    match version_at(lines) {
+        Ok(version) => Ok(version),
+        Err(cause) => Err(ReadError::BadCertificate { line, cause }),
+    }
+}
+
+fn version_at(lines: &mut Lines) -> Result<Version, Cause>
+    ensures line { result ≡ line_in version_in (lines_of lines.old.text.now) lines.old.at }
+    ensures text { IfOk result (λ _. lines.new.text.now ≡ lines.old.text.now) }
+    ensures passed { IfOk result (λ _. lines.new.at ≡ lines.old.at + 1) }
+{
+    parse_version(lines.next_line()?)
 }
 
 /// The lists and the last line, below the first line.
-fn read_body(alloc: Global, lines: &mut Lines) -> Result<Certificate, ReadError>
+fn read_body(alloc: Global, lines: &mut Lines, version: Version) -> Result<Certificate, ReadError>
     requires { lines.old.at ≡ 1 }
-    ensures read { Reads outline_of result (body_in (lines_of lines.old.text.now)) }
+    ensures read { Reads outline_of result (body_in version (lines_of lines.old.text.now)) }
     ensures writable { IfOk result IsWritable }
 {
-    let abandoned = read_entries(alloc, lines, b"abandoned")?;
-    let owned = read_entries(alloc, lines, b"owned")?;
+    let abandoned = read_entries(alloc, lines, version, b"abandoned")?;
+    let owned = read_entries(alloc, lines, version, b"owned")?;
     let folds = read_folds(alloc, lines)?;
     let short = read_short(alloc, lines)?;
     read_fixed(lines, b"end")?;

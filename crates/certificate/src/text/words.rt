@@ -1,14 +1,18 @@
 // What the words of a line say.
-ghost use Rattle.std.specs.Prelude.{◌≡◌, ℕ, Option, option_map};
+ghost use Rattle.std.specs.Prelude.{◌≡◌, ℕ, IfOk, Option, option_map};
+ghost use Rattle.bitmap.specs.Slots.{IsBelow};
+ghost use Rattle.span.specs.Classes.{slots_in};
 ghost use Rattle.certificate.specs.Number.{clip};
-ghost use Rattle.certificate.specs.Grammar.{both_ids, count_in, count_of_number, entry_in, entry_of, entry_parts, fixed_in, id_in, id_of_numbers, id_parts, pair_in, pair_parts, result_map};
+ghost use Rattle.certificate.specs.Grammar.{both, class_in, class_of_number, count_in, count_of_number, entry_in, entry_of, entry_parts, fixed_in, id_in, id_of_numbers, id_parts, is_on_page, pair_in, pair_parts, result_map, set_in, version_in};
+ghost use Rattle.certificate.specs.Text.{FitsClass};
 
 use super::cause::Cause;
 use super::numeral::parse_number;
 use super::parts::parts;
+use super::version::Version;
 use bitmap::Bits256;
 use mesh_graph::{Entry, MOST_GROUPS};
-use span::SpanId;
+use span::{Class, SpanId};
 
 /// A shard, a full stop and a serial.
 pub(super) fn parse_id(word: &[u8]) -> Result<SpanId, Cause>
@@ -34,26 +38,84 @@ fn id_of(shard: Option<u32>, serial: Option<u32>) -> Result<SpanId, Cause>
     }
 }
 
-/// A group's line: its id and its set.
-pub(super) fn parse_entry(line: &[u8]) -> Result<Entry, Cause>
-    ensures { result_map entry_parts result ≡ entry_in line.now }
+/// The bytes of a slot.
+fn parse_class(word: &[u8]) -> Result<Class, Cause>
+    ensures { result ≡ class_in word.now }
+{
+    class_of(parse_number(word))
+}
+
+/// The class that a number names.
+fn class_of(number: Option<u32>) -> Result<Class, Cause>
+    ensures { (n : Option ℕ) → number ≡ option_map clip n → result ≡ class_of_number n }
+{
+    match number {
+        None => Err(Cause::Form),
+        Some(16) => Ok(Class::C16),
+        Some(64) => Ok(Class::C64),
+        Some(256) => Ok(Class::C256),
+        Some(_) => Err(Cause::Limit),
+    }
+}
+
+/// Slots of a page of the class.
+fn parse_set(class: Class, word: &[u8]) -> Result<Bits256, Cause>
+    ensures set { result ≡ set_in class word.now }
+    ensures below { IfOk result (λ slots. IsBelow slots (slots_in class)) }
+{
+    let Some(slots) = Bits256::from_hex(word) else {
+        return Err(Cause::Set);
+    };
+    if is_on_page(class, &slots) {
+        Ok(slots)
+    } else {
+        Err(Cause::Set)
+    }
+}
+
+/// Whether a page of the class has each of the slots.
+fn is_on_page(class: Class, slots: &Bits256) -> bool
+    ensures { result ≡ is_on_page class slots.now }
+{
+    for slot in slots.iter() {
+        if u16::from(slot) >= class.slots() {
+            return false;
+        }
+    }
+    true
+}
+
+/// A group's line: its id, its class and its set. In version 1 it has no class.
+pub(super) fn parse_entry(version: Version, line: &[u8]) -> Result<Entry, Cause>
+    ensures entry { result_map entry_parts result ≡ entry_in version line.now }
+    ensures fits { IfOk result FitsClass }
 {
     let Some(words) = parts(b' ', line) else {
         return Err(Cause::Form);
     };
-    match words.as_slice() {
-        [id, set] => entry_of(id, set),
+    match (version, words.as_slice()) {
+        (Version::One, [id, set]) => entry_of(parse_id(id), Ok(Class::C16), set),
+        (Version::Two, [id, class, set]) => entry_of(parse_id(id), parse_class(class), set),
         _ => Err(Cause::Form),
     }
 }
 
-/// The group of these two words.
-fn entry_of(id: &[u8], set: &[u8]) -> Result<Entry, Cause>
-    ensures { result_map entry_parts result ≡ entry_of id.now set.now }
+/// The group of this id and class, and of the set that the word is.
+fn entry_of(
+    id: Result<SpanId, Cause>,
+    class: Result<Class, Cause>,
+    set: &[u8],
+) -> Result<Entry, Cause>
+    ensures entry { result_map entry_parts result ≡ entry_of (result_map id_parts id) class set.now }
+    ensures fits { IfOk result FitsClass }
 {
-    let id = parse_id(id)?;
-    let occupied = Bits256::from_hex(set).ok_or(Cause::Set)?;
-    Ok(Entry { id, occupied })
+    let (id, class) = both(id, class)?;
+    let occupied = parse_set(class, set)?;
+    Ok(Entry {
+        id,
+        class,
+        occupied,
+    })
 }
 
 /// A fold's line: an abandoned id and an owned one.
@@ -69,16 +131,15 @@ pub(super) fn parse_pair(line: &[u8]) -> Result<(SpanId, SpanId), Cause>
     }
 }
 
-/// Both ids. The form of both is asked before the range of either.
-fn both(
-    abandoned: Result<SpanId, Cause>,
-    owned: Result<SpanId, Cause>,
-) -> Result<(SpanId, SpanId), Cause>
-    ensures { result_map pair_parts result
-        ≡ both_ids (result_map id_parts abandoned) (result_map id_parts owned) }
+/// Both words. The form of both is asked before the range of either.
+fn both<A: Copy, B: Copy>(
+    first: Result<A, Cause>,
+    second: Result<B, Cause>,
+) -> Result<(A, B), Cause>
+    ensures { result ≡ both first second }
 {
-    match (abandoned, owned) {
-        (Ok(abandoned), Ok(owned)) => Ok((abandoned, owned)),
+    match (first, second) {
+        (Ok(first), Ok(second)) => Ok((first, second)),
         (Err(Cause::Form), _) | (_, Err(Cause::Form)) => Err(Cause::Form),
         _ => Err(Cause::Limit),
     }
@@ -117,4 +178,17 @@ pub(super) fn parse_fixed(bytes: &[u8], line: &[u8]) -> Result<(), Cause>
     } else {
         Err(Cause::Form)
     }
+}
+
+/// The first line, which names the version.
+pub(super) fn parse_version(line: &[u8]) -> Result<Version, Cause>
+    ensures { result ≡ version_in line.now }
+{
+    if line == b"meshcert 1".as_slice() {
+        return Ok(Version::One);
+    }
+    if line == b"meshcert 2".as_slice() {
+        return Ok(Version::Two);
+    }
+    Err(Cause::Form)
 }

@@ -4,16 +4,16 @@ ghost use Rattle.span.specs.Texts.{id_text};
 ghost use Rattle.std.specs.List.{All};
 ghost use Rattle.mesh_graph.specs.Groups.{IsAscending, ids};
 ghost use Rattle.certificate.specs.Grammar.{certificate_in, outline_of};
-ghost use Rattle.certificate.specs.Text.{IsReadable, IsWritable, certificate_text, entry_line, id_line, list_text, pair_line};
+ghost use Rattle.certificate.specs.Text.{IsReadable, IsWritable, certificate_text, class_text, entry_line, id_line, list_text, pair_line};
 
 use crate::certificate::Certificate;
 use itoa::Buffer;
 use mesh_graph::Entry;
-use span::SpanId;
+use span::{Class, SpanId};
 use std::alloc::{AllocError, Global};
 
-/// The text of a certificate, of version 1: the only one that it has. The lists and numbers are within
-/// the grammar, so that `read` reads it again. The error means that memory ran out.
+/// The text of a certificate, of version 2. The lists, sets and numbers are within the grammar, so that
+/// `read` reads it again. The error means that memory ran out.
 pub fn write(alloc: Global, certificate: &Certificate) -> Result<Vec<u8>, AllocError>
     requires { IsWritable certificate.now }
     ensures text { IfOk result (λ text. text.items ≡ certificate_text certificate.now) }
@@ -35,7 +35,7 @@ fn text_of(alloc: Global, certificate: &Certificate) -> Result<Vec<u8>, AllocErr
         (ids certificate.now.snapshot.abandoned)) }
     ensures owned_ascending { IfOk result (λ _. IsAscending (ids certificate.now.snapshot.owned)) }
 {
-    let mut text = Vec::from_slice(alloc, b"meshcert 1\n")?;
+    let mut text = Vec::from_slice(alloc, b"meshcert 2\n")?;
     write_entries(&mut text, b"abandoned", certificate.snapshot.abandoned())?;
     write_entries(&mut text, b"owned", certificate.snapshot.owned())?;
     write_pairs(&mut text, certificate.plan.pairs())?;
@@ -74,9 +74,22 @@ fn write_entry(text: &mut Vec<u8>, entry: &Entry) -> Result<(), AllocError>
 {
     write_id(text, entry.id)?;
     text.extend_from_slice(b" ")?;
+    text.extend_from_slice(class_word(entry.class).as_bytes())?;
+    text.extend_from_slice(b" ")?;
     text.extend_from_slice(&entry.occupied.to_hex())?;
     text.extend_from_slice(b"\n")?;
     Ok(())
+}
+
+/// The bytes of a slot of the class, in digits.
+fn class_word(class: Class) -> &'static str
+    ensures { result.now ≡ class_text class }
+{
+    match class {
+        Class::C16 => "16",
+        Class::C64 => "64",
+        Class::C256 => "256",
+    }
 }
 
 fn write_pair(text: &mut Vec<u8>, pair: (SpanId, SpanId)) -> Result<(), AllocError>

@@ -52,6 +52,9 @@ The other lines, where T is a thread and S a shard:
   adopt S                at the next mark the shard takes a group of the pool
   mark                   all threads meet, and as many folds as possible are planned
 
+Where the first line is mesh 2, put64, put256, fill64 and fill256 put objects of 4 and of 16 words,
+which hold V, V+1, .., and are found so.
+
 docs/FORMATS.md describes traces and reports, and examples/ has some of each.
 
 Examples:

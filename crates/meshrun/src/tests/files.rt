@@ -15,7 +15,7 @@ const REPORT: &[u8] =
     b"mark 1 abandoned 0 owned 1 folds 0 pages 1\nshort none\npartners none\nclosed 1 pages 1\nend pages 1 live 1 calls 1\n";
 
 const CERTIFICATE: &[u8] =
-    b"meshcert 1\nabandoned 0\nowned 1\n0.0 0100000000000000000000000000000000000000000000000000000000000000\nfolds 0\nshort 0\nend\n";
+    b"meshcert 2\nabandoned 0\nowned 1\n0.0 16 0100000000000000000000000000000000000000000000000000000000000000\nfolds 0\nshort 0\nend\n";
 
 /// With which status the job ends, and what it wrote.
 fn ended<R: Threads + Wait + Sync + Files + Input + AllocGlobal>(

@@ -20,7 +20,7 @@ const ONE_FOLD_REPORT: &[u8] =
     b"6 key 0.0/0/1\n6 key 0.0/1/1\n7 yes\n8 ended\n9 key 1.0/0/1\nmark 1 abandoned 1 owned 1 folds 1 pages 2\nfold 0.0 onto 1.0\nshort none\npartners none\n11 value 11\nstep 0.0 onto 1.0 folded\nclosed 1 pages 1\nend pages 1 live 2 calls 6\n";
 
 const ONE_FOLD_CERTIFICATE: &[u8] =
-    b"meshcert 1\nabandoned 1\n0.0 0200000000000000000000000000000000000000000000000000000000000000\nowned 1\n1.0 0100000000000000000000000000000000000000000000000000000000000000\nfolds 1\n0.0 1.0\nshort 0\nend\n";
+    b"meshcert 2\nabandoned 1\n0.0 16 0200000000000000000000000000000000000000000000000000000000000000\nowned 1\n1.0 16 0100000000000000000000000000000000000000000000000000000000000000\nfolds 1\n0.0 1.0\nshort 0\nend\n";
 
 const SECOND_CHOICE: &[u8] =
     b"mesh 1\nshards 4\npages 4\nring 4\ngens 9\n0 fill a 3 1\n0 sweep a 0 2\n1 fill b 2 4\n1 sweep b 0 1\n0 end\n1 end\n2 put c 6\n3 fill d 2 7\n3 sweep d 0 1\nmark\n";
@@ -29,7 +29,7 @@ const SECOND_CHOICE_REPORT: &[u8] =
     b"6 key 0.0/0/1\n6 key 0.0/1/1\n6 key 0.0/2/1\n7 yes\n7 yes\n8 key 1.0/0/1\n8 key 1.0/1/1\n9 yes\n10 ended\n11 ended\n12 key 2.0/0/1\n13 key 3.0/0/1\n13 key 3.0/1/1\n14 yes\nmark 1 abandoned 2 owned 2 folds 2 pages 4\nfold 0.0 onto 3.0\nfold 1.0 onto 2.0\nshort none\npartners none\nstep 0.0 onto 3.0 folded\nstep 1.0 onto 2.0 folded\nclosed 1 pages 2\nend pages 2 live 4 calls 14\n";
 
 const SECOND_CHOICE_CERTIFICATE: &[u8] =
-    b"meshcert 1\nabandoned 2\n0.0 0400000000000000000000000000000000000000000000000000000000000000\n1.0 0200000000000000000000000000000000000000000000000000000000000000\nowned 2\n2.0 0100000000000000000000000000000000000000000000000000000000000000\n3.0 0200000000000000000000000000000000000000000000000000000000000000\nfolds 2\n0.0 3.0\n1.0 2.0\nshort 0\nend\n";
+    b"meshcert 2\nabandoned 2\n0.0 16 0400000000000000000000000000000000000000000000000000000000000000\n1.0 16 0200000000000000000000000000000000000000000000000000000000000000\nowned 2\n2.0 16 0100000000000000000000000000000000000000000000000000000000000000\n3.0 16 0200000000000000000000000000000000000000000000000000000000000000\nfolds 2\n0.0 3.0\n1.0 2.0\nshort 0\nend\n";
 
 const FOLD_TWICE: &[u8] =
     b"mesh 1\nshards 3\npages 4\nring 4\ngens 9\n0 put a 1\n0 end\n1 fill b 2 10\n1 sweep b 0 1\nmark\n1 end\n2 fill c 3 20\n2 sweep c 0 2\nmark\n2 get a\n2 get b.1\n2 get c.2\n";
@@ -38,7 +38,7 @@ const FOLD_TWICE_REPORT: &[u8] =
     b"6 key 0.0/0/1\n7 ended\n8 key 1.0/0/1\n8 key 1.0/1/1\n9 yes\nmark 1 abandoned 1 owned 1 folds 1 pages 2\nfold 0.0 onto 1.0\nshort none\npartners none\n11 ended\n12 key 2.0/0/1\n12 key 2.0/1/1\n12 key 2.0/2/1\n13 yes\n13 yes\nstep 0.0 onto 1.0 folded\nclosed 1 pages 2\nmark 2 abandoned 1 owned 1 folds 1 pages 2\nfold 1.0 onto 2.0\nshort none\npartners none\n15 value 1\n16 value 11\n17 value 22\nstep 1.0 onto 2.0 folded\nclosed 2 pages 1\nend pages 1 live 3 calls 14\n";
 
 const FOLD_TWICE_CERTIFICATE: &[u8] =
-    b"meshcert 1\nabandoned 1\n1.0 0300000000000000000000000000000000000000000000000000000000000000\nowned 1\n2.0 0400000000000000000000000000000000000000000000000000000000000000\nfolds 1\n1.0 2.0\nshort 0\nend\n";
+    b"meshcert 2\nabandoned 1\n1.0 16 0300000000000000000000000000000000000000000000000000000000000000\nowned 1\n2.0 16 0400000000000000000000000000000000000000000000000000000000000000\nfolds 1\n1.0 2.0\nshort 0\nend\n";
 
 const ADOPTION: &[u8] =
     b"mesh 1\nshards 2\npages 4\nring 4\ngens 9\n0 put a 5\n0 end\nadopt 1\nmark\n1 put b 6\n";
@@ -47,7 +47,7 @@ const ADOPTION_REPORT: &[u8] =
     b"6 key 0.0/0/1\n7 ended\n8 adopted 0.0\nmark 1 abandoned 0 owned 1 folds 0 pages 1\nshort none\npartners none\n10 key 0.0/1/1\nclosed 1 pages 1\nend pages 1 live 2 calls 3\n";
 
 const ADOPTION_CERTIFICATE: &[u8] =
-    b"meshcert 1\nabandoned 0\nowned 1\n0.0 0100000000000000000000000000000000000000000000000000000000000000\nfolds 0\nshort 0\nend\n";
+    b"meshcert 2\nabandoned 0\nowned 1\n0.0 16 0100000000000000000000000000000000000000000000000000000000000000\nfolds 0\nshort 0\nend\n";
 
 /// A text that is no certificate.
 fn before(alloc: Global) -> Result<Vec<u8>, AllocError> {

@@ -1,5 +1,5 @@
 // Marks, steps and closes of the core.
-use super::{Told, answer, are_answered, key, new_core, put, tell};
+use super::{Told, answer, are_answered, found, key, new_core, put, tell};
 use arena_core::{Core, Event, Refusal};
 use fold::Step;
 use marks::Totals;
@@ -28,7 +28,7 @@ fn is_given(core: &mut Core, number: u32) -> bool {
 // gives a group.
 fn is_made(core: &mut Core, keys: [Key; 3], shards: u32) -> bool {
     let [freed, folded, kept] = keys;
-    if answer(core, put(1, 7)) != Some(Told::Issued(kept)) {
+    if answer(core, &put(1, 7)) != Some(Told::Issued(kept)) {
         return false;
     }
     for number in 2..shards {
@@ -50,8 +50,8 @@ fn looks(keys: [Key; 3]) -> [(Event, Told); 3] {
     let [freed, folded, kept] = keys;
     [
         (Event::Get { key: freed }, Told::Found(None)),
-        (Event::Get { key: folded }, Told::Found(Some(11))),
-        (Event::Get { key: kept }, Told::Found(Some(7))),
+        (Event::Get { key: folded }, found(11)),
+        (Event::Get { key: kept }, found(7)),
     ]
 }
 
@@ -94,14 +94,17 @@ fn is_stepped(core: &mut Core, keys: [Key; 3]) -> bool {
         && are_answered(core, goes_on.as_slice())
 }
 
+fn refused(event: Event) -> (Event, Told) {
+    (event, Told::Refused(Refusal::PlanOpen))
+}
+
 // Whether an open plan refuses what it must.
 fn is_refused(core: &mut Core) -> bool {
-    let refused = Told::Refused(Refusal::PlanOpen);
     let table = [
-        (Event::Mark, refused),
-        (Event::Adopt { shard: 1 }, refused),
-        (Event::Adopt { shard: 70 }, refused),
-        (Event::End { shard: 1 }, refused),
+        refused(Event::Mark),
+        refused(Event::Adopt { shard: 1 }),
+        refused(Event::Adopt { shard: 70 }),
+        refused(Event::End { shard: 1 }),
     ];
     are_answered(core, table.as_slice())
 }
@@ -111,7 +114,7 @@ fn is_closed(core: &mut Core, later: Key) -> bool {
     let table = [
         (Event::End { shard: 1 }, Told::Refused(Refusal::PlanOpen)),
         (put(1, 8), Told::Issued(later)),
-        (Event::Get { key: later }, Told::Found(Some(8))),
+        (Event::Get { key: later }, found(8)),
         (Event::Step, Told::NoPairLeft),
         (Event::Close, Told::Closed),
         (Event::Step, Told::NoPlan),
@@ -164,7 +167,7 @@ fn is_passed(core: &mut Core) -> Option<bool> {
         (Event::Free { key: folded }, Told::Freed(true)),
         (Event::Step, emptied),
         (Event::Step, Told::NoPairLeft),
-        (Event::Get { key: kept }, Told::Found(Some(7))),
+        (Event::Get { key: kept }, found(7)),
     ];
     Some(is_made_and_marked(core, keys, 2) && are_answered(core, table.as_slice()))
 }
@@ -185,7 +188,7 @@ fn are_put(core: &mut Core, shard: u32, slots: u8) -> bool {
         let Some(made) = key(shard, 0, slot, 1) else {
             return false;
         };
-        if answer(core, put(shard, 5)) != Some(Told::Issued(made)) {
+        if answer(core, &put(shard, 5)) != Some(Told::Issued(made)) {
             return false;
         }
     }
@@ -224,8 +227,8 @@ fn are_left(core: &mut Core) -> Option<bool> {
     Some(are_put && are_answered(core, table.as_slice()))
 }
 
-fn found(key: Key) -> (Event, Told) {
-    (Event::Get { key }, Told::Found(Some(5)))
+fn look(key: Key) -> (Event, Told) {
+    (Event::Get { key }, found(5))
 }
 
 fn stepped(abandoned: Key, owned: Key) -> (Event, Told) {
@@ -236,7 +239,7 @@ fn stepped(abandoned: Key, owned: Key) -> (Event, Told) {
 fn are_folded(core: &mut Core) -> Option<bool> {
     let (first, second) = (key(0, 0, 2, 1)?, key(1, 0, 1, 1)?);
     let (onto, other) = (key(2, 0, 0, 1)?, key(3, 0, 1, 1)?);
-    let looks = [found(first), found(second), found(onto), found(other)];
+    let looks = [look(first), look(second), look(onto), look(other)];
     let steps = [stepped(first, other), stepped(second, onto)];
     let are_folded = is_marked(core, looks.as_slice(), 2) && are_answered(core, steps.as_slice());
     Some(are_folded && are_answered(core, looks.as_slice()))

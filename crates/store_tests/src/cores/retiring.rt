@@ -1,5 +1,5 @@
 // Groups of a running shard that go to the pool, are folded onto those that it keeps, and come back.
-use super::{Told, key, put, totals_after};
+use super::{Told, found, key, put, totals_after};
 use arena_core::{Event, Refusal};
 use fold::Step;
 use marks::Totals;
@@ -30,10 +30,10 @@ fn totals_after_retiring(alloc: Global) -> Option<Totals> {
         (Event::Step, Told::NoPairLeft),
         (Event::Close, Told::Closed),
         (retire(0, 5), Told::Retired(1)),
-        (Event::Get { key: other }, Told::Found(Some(8))),
+        (Event::Get { key: other }, found(8)),
         (Event::Adopt { shard: 0 }, Told::Adopted(home)),
-        (Event::Get { key: first }, Told::Found(Some(6))),
-        (Event::Get { key: other }, Told::Found(Some(8))),
+        (Event::Get { key: first }, found(6)),
+        (Event::Get { key: other }, found(8)),
         (Event::Get { key: freed }, Told::Found(None)),
     ];
     totals_after(alloc, 2, 4, table.as_slice())
@@ -61,7 +61,7 @@ fn totals_after_refusals(alloc: Global) -> Option<Totals> {
         (Event::End { shard: 1 }, Told::ShardEnded),
         (retire(1, 5), Told::Refused(Refusal::Ended)),
         (retire(2, 5), Told::Refused(Refusal::Config)),
-        (Event::Get { key: second }, Told::Found(Some(6))),
+        (Event::Get { key: second }, found(6)),
     ];
     totals_after(alloc, 2, 4, table.as_slice())
 }

@@ -1,24 +1,41 @@
 //! Writes answers, a line for each.
 
 ghost use Rattle.std.specs.Prelude.{◌≡◌, ◌++◌, OnOk};
-ghost use Rattle.trace_runner.specs.Report.{answer_line, answer_text, answers_text};
+ghost use Rattle.std.specs.List.{flat_map};
+ghost use Rattle.trace_runner.specs.Report.{answer_line, answer_text, answers_text, number_word};
 
 use crate::report::{Answer, LineAnswer};
 use crate::writing::{push_id, push_key, push_number};
 use std::alloc::AllocError;
 
-fn push_answer(out: &mut Vec<u8>, answer: Answer) -> Result<(), AllocError>
-    ensures { OnOk result (out.new.items ≡ out.old.items ++ answer_text answer) }
+fn push_number_word(out: &mut Vec<u8>, number: u128) -> Result<(), AllocError>
+    ensures { OnOk result (out.new.items ≡ out.old.items ++ number_word number) }
+{
+    out.extend_from_slice(b" ")?;
+    push_number(out, number)
+}
+
+fn push_number_words(out: &mut Vec<u8>, numbers: &[u128]) -> Result<(), AllocError>
+    ensures { OnOk result (out.new.items ≡ out.old.items ++ flat_map number_word numbers.now) }
+{
+    for number in numbers {
+        push_number_word(out, *number)?;
+    }
+    Ok(())
+}
+
+fn push_answer(out: &mut Vec<u8>, answer: &Answer) -> Result<(), AllocError>
+    ensures { OnOk result (out.new.items ≡ out.old.items ++ answer_text answer.now) }
 {
     match answer {
         Answer::Key(key) => {
             out.extend_from_slice(b"key ")?;
-            push_key(out, key)
+            push_key(out, *key)
         }
         Answer::PagesSpent => out.extend_from_slice(b"refused pages"),
-        Answer::Value(value) => {
-            out.extend_from_slice(b"value ")?;
-            push_number(out, value)
+        Answer::Value(object) => {
+            out.extend_from_slice(b"value")?;
+            push_number_words(out, object.words())
         }
         Answer::Absent => out.extend_from_slice(b"none"),
         Answer::Freed => out.extend_from_slice(b"yes"),
@@ -27,26 +44,33 @@ fn push_answer(out: &mut Vec<u8>, answer: Answer) -> Result<(), AllocError>
         Answer::Ended => out.extend_from_slice(b"ended"),
         Answer::Adopted(head) => {
             out.extend_from_slice(b"adopted ")?;
-            push_id(out, head)
+            push_id(out, *head)
         }
         Answer::NothingToAdopt => out.extend_from_slice(b"refused nothing"),
         Answer::Sent => out.extend_from_slice(b"sent"),
         Answer::RingFull => out.extend_from_slice(b"full"),
         Answer::Settled(count) => {
             out.extend_from_slice(b"settled ")?;
-            push_number(out, count)
+            push_number(out, *count)
         }
     }
 }
 
 /// Adds the line of an answer to the text. It stays out of line, so that a call whose answer isn't told doesn't pay for it.
 #[inline(never)]
-pub(crate) fn push_answer_line(out: &mut Vec<u8>, answer: &LineAnswer) -> Result<(), AllocError>
-    ensures { OnOk result (out.new.items ≡ out.old.items ++ answer_line answer.now) }
+pub(crate) fn push_answer_line(
+    out: &mut Vec<u8>,
+    line: usize,
+    answer: &Answer,
+) -> Result<(), AllocError>
+    ensures { OnOk result (out.new.items ≡ out.old.items ++ answer_line (record {
+      line = line;
+      answer = answer.now;
+    })) }
 {
-    push_number(out, answer.line)?;
+    push_number(out, line)?;
     out.extend_from_slice(b" ")?;
-    push_answer(out, answer.answer)?;
+    push_answer(out, answer)?;
     out.extend_from_slice(b"\n")
 }
 
@@ -61,7 +85,7 @@ pub fn push_answers(
 {
     if replies {
         for answer in answers {
-            push_answer_line(out, answer)?;
+            push_answer_line(out, answer.line, &answer.answer)?;
         }
     }
     Ok(())

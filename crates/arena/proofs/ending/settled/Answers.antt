@@ -19,5 +19,5 @@ settle_seats-requires-clause-in_order g c = still_in_order c.args.seats.now c.ma
 
 pub returns-clause-settled : goal.returns-clause-settled
 returns-clause-settled g c =
-    all_settled vec_items vec_items c.args.seats.now c.make_room.new.seats c.greatest-section.result c.in_ok-counts.counts.items c.args.receipts.now c.make_room.new.receipts c.settle_seats.new.receipts
-    (record { worker = 0; section = 0; limits = c.args.arena.now.limits; table = c.args.arena.now.table; delay = None; outboxes = []; inboxes = [] }) c.greatest-section.ensures c.make_room.ensures.same c.make_room.ensures.items c.requires.lists c.in_ok-counts.ensures.counted c.settle_seats.ensures.freed
+    all_settled g.K.Receipts.told vec_items c.args.seats.now c.make_room.new.seats c.greatest-section.result c.in_ok-counts.counts.items c.args.receipts.now c.make_room.new.receipts c.settle_seats.new.receipts
+    (record { worker = 0; section = 0; limits = c.args.arena.now.limits; table = c.args.arena.now.table; delay = None; outboxes = []; inboxes = [] }) c.greatest-section.ensures c.make_room.ensures.same c.make_room.ensures.told c.requires.lists c.in_ok-counts.ensures.counted c.settle_seats.ensures.freed

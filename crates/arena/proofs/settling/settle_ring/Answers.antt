@@ -1,4 +1,4 @@
-use Rattle.std.proofs.Common.{◌∙◌, ◌++◌, ◌∷◌, [], ap, sym, rules, arith, take, length-drop, append_assoc}
+use Rattle.std.proofs.Common.{◌∙◌, ◌++◌, ◌∷◌, [], ap, sym, arith, take, length-drop, append_assoc}
 use Rattle.arena.proofs.Frees.{AddsFrees-one, AddsFrees-more, next_left}
 use Rattle.arena.proofs.settling.settle_ring.Goals as goal
 
@@ -14,10 +14,9 @@ loop-preserved g c =
     let keys = c.args.inbox.now.known in
     let key = c.take_known-key.result in
     let step = next_left keys _ c.loop.counter key (omega (arith, c.requires.left)) (sym inv.known ∙ c.take_known-key.ensures.known) in
-    let one = AddsFrees-one _ _ _ _ c.push_reserved.ensures.items c.free_key.ensures in
+    let one = AddsFrees-one _ _ _ _ c.tell.ensures.told c.free_key.ensures in
     record {
-      len = search rules;
-      capacity = search rules;
+      room = omega (arith, inv.room, c.tell.ensures.room);
       ring = c.take_known-key.ensures.ring ∙ inv.ring;
       taken = rw step.0 (c.take_known-key.ensures.taken ∙ ap (λ l. l ++ key ∷ []) inv.taken ∙ append_assoc c.args.inbox.now.taken (take c.loop.counter keys) (key ∷ []));
       known = sym step.1;

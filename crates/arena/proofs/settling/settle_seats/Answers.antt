@@ -29,8 +29,8 @@ loop-shard-preserved g c =
       taken = set_each (λ (seat : SeatState). taken_lists seat.inboxes) (λ (seat : SeatState). taken_with_known seat.inboxes) c.args.seats.now c.loop-shard.seats s c.settle.new.self x within below
           (one.taken ∙ ap (λ (seat : SeatState). taken_with_known seat.inboxes) seat) inv.taken;
       done =
-          frees_more (λ v. v.items) c.args.section c.args.seats.now c.args.receipts.now c.loop-shard.receipts s x c.index-receipts-shard.result c.settle.new.receipts below listed (search rules)
-          (frees_of (λ v. v.items) _ s c.args.section _ _ _ _ c.settle.new.receipts seat (ap (λ x. x.worker) seat ∙ c.requires.in_order s x below) (inv.lists_left s c.index-receipts-shard.result (omega arith)) one.freed) inv.done;
+          frees_more g.K.Receipts.told c.args.section c.args.seats.now c.args.receipts.now c.loop-shard.receipts s x c.index-receipts-shard.result c.settle.new.receipts below listed (search rules)
+          (frees_of g.K.Receipts.told _ s c.args.section _ _ _ _ c.settle.new.receipts seat (ap (λ x. x.worker) seat ∙ c.requires.in_order s x below) (inv.lists_left s c.index-receipts-shard.result (omega arith)) one.freed) inv.done;
     }
 
 pub returns-clause-taken : goal.returns-clause-taken

@@ -1,5 +1,6 @@
-use Rattle.std.proofs.Common.{◌≡◌, ◌∙◌, Some, true, false, sym, refl, length, map, vec_items, slice_get}
-use Rattle.std.proofs.lemmas.Option.{slice_get_read}
+use Rattle.std.proofs.Common.{◌≡◌, ◌∙◌, true, false, sym, refl, map, vec_items, arith}
+use Rattle.span.specs.ReceiptLists.{kept_receipts}
+use Rattle.span.specs.ReceiptViews.{receipt_viewed}
 use Rattle.audit.specs.Tables.{StandsBetween}
 use Rattle.audit.proofs.Lists.{each_more, each_all}
 use Rattle.audit.proofs.barrier.stand_between.Goals as goal
@@ -8,19 +9,16 @@ pub returns-then-not-stands_between : goal.returns-then-not-stands_between
 returns-then-not-stands_between c = (
   λ so. absurd cc,
   λ all.
-      let r = c.receipt-item.result in
-      let at : slice_get c.args.list.now c.loop-receipt.receipt-index ≡ Some r = slice_get_read c.args.list.now (length c.args.list.now) c.loop-receipt.receipt-index r refl c.loop-receipt-test.true c.receipt-item.is in
-      let e : false ≡ true = sym c.if-not-stands_between.true ∙ c.stands_between.ensures.1 (all c.loop-receipt.receipt-index r at) in
+      let e : false ≡ true = sym c.if-not-stands_between.true ∙ c.stands_between.ensures.1 (all c.loop-i.i (receipt_viewed c.view.result) c.view.ensures) in
       absurd cc,
 )
 
-pub loop-receipt-preserved : goal.loop-receipt-preserved
-loop-receipt-preserved c = each_more (StandsBetween c.args.logs.now (map vec_items c.args.rows.now)) c.args.list.now c.loop-receipt.receipt-index c.receipt-item.result c.loop-receipt.invariant
-    (slice_get_read c.args.list.now (length c.args.list.now) c.loop-receipt.receipt-index c.receipt-item.result refl c.loop-receipt-test.true c.receipt-item.is)
+pub loop-i-preserved : goal.loop-i-preserved
+loop-i-preserved c = each_more (StandsBetween c.args.logs.now (map vec_items c.args.rows.now)) (kept_receipts c.args.list.now) c.loop-i.i (receipt_viewed c.view.result) c.loop-i.invariant c.view.ensures
     (c.stands_between.ensures.0 c.if-not-stands_between.false)
 
 pub returns : goal.returns
 returns c = (
-  λ so. each_all (StandsBetween c.args.logs.now (map vec_items c.args.rows.now)) c.args.list.now c.loop-receipt.receipt-index c.loop-receipt.invariant c.loop-receipt-test.false,
+  λ so. each_all (StandsBetween c.args.logs.now (map vec_items c.args.rows.now)) (kept_receipts c.args.list.now) c.loop-i.i c.loop-i.invariant (omega (arith, c.loop-i-test.false)),
   λ right. refl,
 )

@@ -1,4 +1,5 @@
 use Rattle.std.proofs.Common.{◌≡◌, Option, ℕ, List, Some, map, slice_get, vec_items, sym, subst, refl, arith}
+use Rattle.span.specs.ReceiptViews.{receipt_viewed}
 use Rattle.audit.specs.Tables.{IsBetween}
 use Rattle.audit.proofs.Between.{stands-to}
 use Rattle.audit.proofs.Lists.{row_at}
@@ -9,7 +10,7 @@ pub returns-in-Some : goal.returns-in-Some
 returns-in-Some c =
     let logs = c.args.logs.now in
     let rows = map vec_items c.args.rows.now in
-    let r = c.args.receipt.now in
+    let r = receipt_viewed c.args.receipt.now in
     let row = c.index-rows-j.result in
     let found = (c.in-Some.ensures {u = tt}).found in
     let at : slice_get rows c.in-Some.j ≡ Some row.items = row_at vec_items c.args.rows.now c.in-Some.j row (omega (arith, (c.in-Some.ensures {u = tt}).within, c.requires.len)) c.index-rows-j.is in (

@@ -1,6 +1,7 @@
 use Rattle.std.proofs.Common.{map, vec_items, arith}
 use Rattle.std.proofs.lemmas.List.{length-map}
 use Rattle.std.proofs.lemmas.Option.{MatchOption-at_some}
+use Rattle.span.specs.ReceiptLists.{kept_receipts}
 use Rattle.audit.proofs.Judging.{if_some, judged}
 use Rattle.audit.proofs.by_threads.first_fault.Goals as goal
 
@@ -24,4 +25,4 @@ returns g c =
     let first = c.in_ok-cause.ensures {u = tt} in
     let are_all = rw c.as_slice-sections.ensures.value at are in
     let is_first = rw c.as_slice.ensures.value at first in
-    judged vec_items c.args.receipts.now c.args.logs.now (map vec_items c.in-Some-2.sections.items) c.in_ok-verdicts.verdicts.items are_all legal.0 sections.0 sections.1 sections.2 c.in_ok-cause.cause is_first
+    judged kept_receipts c.args.receipts.now c.args.logs.now (map vec_items c.in-Some-2.sections.items) c.in_ok-verdicts.verdicts.items are_all legal.0 sections.0 sections.1 sections.2 c.in_ok-cause.cause is_first

@@ -1,4 +1,5 @@
 use Rattle.std.proofs.Common.{◌≡◌, ◌∙◌, ◌++◌, ◌∷◌, [], Some, map, set, slice_get, vec_items, sym, subst, arith}
+use Rattle.span.specs.ReceiptViews.{receipt_viewed}
 use Rattle.audit.specs.Tables.{AreEntered}
 use Rattle.audit.proofs.Entered.{AreEntered-quiet, AreEntered-more, entered_by, entered_twice, row_inside, rows_set, unknown_last}
 use Rattle.audit.proofs.Lists.{row_at}
@@ -7,13 +8,13 @@ use Rattle.audit.proofs.change.enter.Goals as goal
 
 pub returns-then-not-makes_change-clause-entered : goal.returns-then-not-makes_change-clause-entered
 returns-then-not-makes_change-clause-entered c before are =
-    AreEntered-quiet c.args.logs.now before c.args.receipt.now (sym c.makes_change.ensures ∙ c.if-not-makes_change.true) (map vec_items c.args.rows.now.items) are
+    AreEntered-quiet c.args.logs.now before (receipt_viewed c.args.receipt.now) (sym c.makes_change.ensures ∙ c.if-not-makes_change.true) (map vec_items c.args.rows.now.items) are
 
 pub returns-in-Some-clause-entered : goal.returns-in-Some-clause-entered
 returns-in-Some-clause-entered c before are =
     let logs = c.args.logs.now in
     let rows = map vec_items c.args.rows.now.items in
-    let r = c.args.receipt.now in
+    let r = receipt_viewed c.args.receipt.now in
     let row = c.index_mut.result.now in
     let told = (c.in-Some.ensures {u = tt}).known in
     let makes = sym c.makes_change.ensures ∙ c.if-not-makes_change.false in
@@ -31,4 +32,4 @@ returns-in-Some-clause-entered c before are =
     entered_twice logs before rows r are makes told.1 c.in-Some.j told.0.0 row.items told.0.1 told.0.2 at one taken.0 taken.1)
 
 pub returns-in-None-clause-entered : goal.returns-in-None-clause-entered
-returns-in-None-clause-entered c before are = unknown_last c.args.logs.now before c.args.receipt.now ((c.in-None.ensures {u = tt}).known)
+returns-in-None-clause-entered c before are = unknown_last c.args.logs.now before (receipt_viewed c.args.receipt.now) ((c.in-None.ensures {u = tt}).known)

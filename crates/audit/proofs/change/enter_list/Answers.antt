@@ -1,12 +1,19 @@
-use Rattle.std.proofs.Common.{◌≡◌, Some, length, slice_get, refl}
-use Rattle.std.proofs.lemmas.Option.{slice_get_read}
-use Rattle.audit.proofs.Entered.{front_unknown}
+use Rattle.std.proofs.Common.{◌∙◌, List, map, sym, subst, vec_items}
+use Rattle.span.specs.ReceiptLists.{kept_receipts}
+use Rattle.span.specs.ReceiptViews.{receipt_viewed}
+use Rattle.span.specs.declared.receipt.Receipt.{Receipt}
+use Rattle.audit.specs.Tables.{AreEntered}
+use Rattle.audit.proofs.Entered.{front_more, front_unknown}
 use Rattle.audit.proofs.change.enter_list.Goals as goal
 
 pub returns-then-not-enter-clause-entered : goal.returns-then-not-enter-clause-entered
 returns-then-not-enter-clause-entered c before are =
-    let list = c.args.list.now in
-    let r = c.receipt-item.result in
-    let n = c.loop-receipt.receipt-index in
-    let at : slice_get list n ≡ Some r = slice_get_read list (length list) n r refl c.loop-receipt-test.true c.receipt-item.is in
-    front_unknown c.args.logs.now before list n r at ((c.if-not-enter.ensures {u = tt}).entered _ (c.loop-receipt.invariant.entered before are))
+    front_unknown c.args.logs.now before (kept_receipts c.args.list.now) c.loop-i.i (receipt_viewed c.view.result) c.view.ensures ((c.if-not-enter.ensures {u = tt}).entered _ (c.loop-i.invariant.entered before are))
+
+pub loop-i-preserved : goal.loop-i-preserved
+loop-i-preserved c = record {
+  len = (c.if-not-enter.ensures {u = tt}).len ∙ sym c.requires.len;
+  entered = λ before are. subst (λ (l : List Receipt). AreEntered c.args.logs.now l (map vec_items c.enter.new.rows.items))
+      (front_more before (kept_receipts c.args.list.now) c.loop-i.i (receipt_viewed c.view.result) c.view.ensures)
+      ((c.if-not-enter.ensures {u = tt}).entered _ (c.loop-i.invariant.entered before are));
+}

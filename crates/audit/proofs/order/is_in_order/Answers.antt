@@ -1,27 +1,28 @@
-use Rattle.std.proofs.Common.{◌≡◌, ◌<◌, ◌≤◌, length, Some, slice_get, get_or, sym, ap, refl, ◌∙◌, arith, true, false}
-use Rattle.std.proofs.lemmas.Option.{slice_get_read}
+use Rattle.std.proofs.Common.{◌≡◌, ◌<◌, ◌≤◌, length, get_or, sym, ap, refl, ◌∙◌, arith, true, false}
 use Rattle.span.specs.Ids.{rank}
+use Rattle.span.specs.ReceiptLists.{kept_receipts}
+use Rattle.span.specs.ReceiptViews.{receipt_viewed}
 use Rattle.audit.proofs.Orderly.{too_early, all_passed, changes_after-low, IsInOrderBelow-more, IsLeftBelow-more, IsLeftFrom-all}
 use Rattle.audit.proofs.Lists.{read_at}
 use Rattle.audit.proofs.order.is_in_order.Goals as goal
 
 pub returns-then-receipt-index-clause-exact : goal.returns-then-receipt-index-clause-exact
 returns-then-receipt-index-clause-exact c =
-    let call = c.index-list-i.result in
-    let at : slice_get c.args.list.now c.loop-i.i ≡ Some call = slice_get_read c.args.list.now (length c.args.list.now) c.loop-i.i call refl c.loop-i-test.true c.index-list-i.is in
+    let call = receipt_viewed c.view-receipt.result in
+    let at = c.view-receipt.ensures in
     let inside : c.place_of-place.result < length c.loop-i.left.items = omega (arith, c.loop-i.left.ok.0, c.loop-i.invariant.len, c.place_of-place.ensures.in_range) in
     let read : c.index.result.now ≡ get_or c.loop-i.left.items c.place_of-place.result 0 = read_at c.loop-i.left.items c.place_of-place.result c.index.result.now 0 inside c.index.ensures in
     let there : c.index.result.now ≡ get_or c.loop-i.left.items (rank call.key.span) 0 = read ∙ ap (λ q. get_or c.loop-i.left.items q 0) c.place_of-place.ensures.place in (
       λ so. absurd cc,
-      λ order. absurd (too_early c.args.list.now c.loop-i.i c.loop-i.left.items call c.loop-i.invariant.left at (omega (arith, c.if-receipt-index.true)) order),
+      λ order. absurd (too_early (kept_receipts c.args.list.now) c.loop-i.i c.loop-i.left.items call c.loop-i.invariant.left at (omega (arith, c.if-receipt-index.true)) order),
     )
 
 pub loop-i-preserved : goal.loop-i-preserved
 loop-i-preserved c =
-    let call = c.index-list-i.result in
-    let list = c.args.list.now in
+    let call = receipt_viewed c.view-receipt.result in
+    let list = kept_receipts c.args.list.now in
     let left = c.loop-i.left.items in
-    let at : slice_get list c.loop-i.i ≡ Some call = slice_get_read list (length list) c.loop-i.i call refl c.loop-i-test.true c.index-list-i.is in
+    let at = c.view-receipt.ensures in
     let inside : c.place_of-place.result < length left = omega (arith, c.loop-i.left.ok.0, c.loop-i.invariant.len, c.place_of-place.ensures.in_range) in
     let read : c.index.result.now ≡ get_or left c.place_of-place.result 0 = read_at left c.place_of-place.result c.index.result.now 0 inside c.index.ensures in
     let there : c.index.result.now ≡ get_or left (rank call.key.span) 0 = read ∙ ap (λ q. get_or left q 0) c.place_of-place.ensures.place in
@@ -35,9 +36,9 @@ loop-i-preserved c =
 
 pub returns-clause-exact : goal.returns-clause-exact
 returns-clause-exact c = (
-  λ so. all_passed c.args.list.now c.loop-i.i c.loop-i.invariant.below c.loop-i-test.false,
+  λ so. all_passed (kept_receipts c.args.list.now) c.loop-i.i c.loop-i.invariant.below (omega (arith, c.loop-i-test.false)),
   λ order. refl,
 )
 
 pub returns-clause-left : goal.returns-clause-left
-returns-clause-left c so = IsLeftFrom-all c.args.list.now c.loop-i.i c.loop-i.left.items c.loop-i.invariant.left
+returns-clause-left c so = IsLeftFrom-all (kept_receipts c.args.list.now) c.loop-i.i c.loop-i.left.items c.loop-i.invariant.left

@@ -1,16 +1,16 @@
-use Rattle.std.proofs.Common.{refl, length}
-use Rattle.std.proofs.lemmas.Option.{slice_get_read}
+use Rattle.std.proofs.Common.{refl, arith}
+use Rattle.span.specs.ReceiptLists.{kept_receipts}
+use Rattle.span.specs.ReceiptViews.{receipt_viewed}
 use Rattle.audit.specs.Agreement.{IsRightReply}
 use Rattle.audit.proofs.Lists.{each_more, each_all}
 use Rattle.audit.proofs.reply.list_is_right.Goals as goal
 
-pub loop-receipt-preserved : goal.loop-receipt-preserved
-loop-receipt-preserved c = each_more (IsRightReply c.args.logs.now) c.args.list.now c.loop-receipt.receipt-index c.receipt-item.result c.loop-receipt.invariant
-    (slice_get_read c.args.list.now (length c.args.list.now) c.loop-receipt.receipt-index c.receipt-item.result refl c.loop-receipt-test.true c.receipt-item.is)
+pub loop-i-preserved : goal.loop-i-preserved
+loop-i-preserved c = each_more (IsRightReply c.args.logs.now) (kept_receipts c.args.list.now) c.loop-i.i (receipt_viewed c.view.result) c.loop-i.invariant c.view.ensures
     (c.is_right_reply.ensures.0 c.if-not-is_right_reply.false)
 
 pub returns : goal.returns
 returns c = (
-  λ so. each_all (IsRightReply c.args.logs.now) c.args.list.now c.loop-receipt.receipt-index c.loop-receipt.invariant c.loop-receipt-test.false,
+  λ so. each_all (IsRightReply c.args.logs.now) (kept_receipts c.args.list.now) c.loop-i.i c.loop-i.invariant (omega (arith, c.loop-i-test.false)),
   λ right. refl,
 )

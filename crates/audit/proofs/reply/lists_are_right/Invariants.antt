@@ -1,7 +1,8 @@
-use Rattle.std.proofs.Common.{ℕ, ◌≡◌, ◌<◌, [], Some, map, vec_items, get_or, slice_get}
+use Rattle.std.proofs.Common.{ℕ, ◌≡◌, ◌<◌, [], Some, map, get_or, slice_get}
 use Rattle.span.specs.declared.receipt.Receipt.{Receipt}
+use Rattle.span.specs.ReceiptLists.{kept_receipts}
 use Rattle.audit.specs.Agreement.{IsRightReply}
 use Rattle.audit.proofs.reply.lists_are_right.Given as goal
 
 abbrev pub invariant-loop-list : goal.invariant-loop-list
-invariant-loop-list l = (w : ℕ) → w < l.list-index → (i : ℕ) (receipt : Receipt) → slice_get (get_or (map vec_items l.lists) w []) i ≡ Some receipt → IsRightReply l.logs receipt
+invariant-loop-list l = (w : ℕ) → w < l.list-index → (i : ℕ) (receipt : Receipt) → slice_get (get_or (map kept_receipts l.lists) w []) i ≡ Some receipt → IsRightReply l.logs receipt

@@ -5,6 +5,8 @@ use Rattle.certificate.proofs.partner.partners.Goals as goal
 
 pub returns : goal.returns
 returns c =
-    rw (c.in_ok-members.ensures, c.in_ok-planes.ensures, c.abandoned.ensures.entries, c.owned-2.ensures.entries) at c.in_ok-found.ensures
-    ∙ ap (map (λ (y : Entry). y.id)) (filter-members c.of-chosen.result.words c.args.snapshot.now.abandoned c.args.snapshot.now.owned)
-    ∙ sym (partners_of-filter c.args.snapshot.now c.args.short.now c.of-chosen.result.words c.owned.ensures.ascending (rw c.ids.ensures at c.of-chosen.ensures))
+    let s = c.args.snapshot.now in
+    let words = c.of-chosen.result.words in
+    rw c.owned-2.ensures.entries at c.in_ok-found.ensures
+    ∙ ap (map (λ (y : Entry). y.id)) (filter-members c.in_ok-members.members words s.abandoned s.owned (rw c.abandoned.ensures.entries at c.in_ok-members.ensures))
+    ∙ sym (partners_of-filter s c.args.short.now words c.owned.ensures.ascending (rw c.ids.ensures at c.of-chosen.ensures))

@@ -10,7 +10,7 @@ use Rattle.marks.proofs.marking.push_groups.Goals as goal
 
 -- the entry of the spans of a group
 entry : SpansState → Entry
-entry spans = record { id = spans.head.id; occupied = union_of (all_spans spans) }
+entry spans = record { id = spans.head.id; class = spans.head.class; occupied = union_of (all_spans spans) }
 
 pub loop-index-preserved : goal.loop-index-preserved
 unfolding entry

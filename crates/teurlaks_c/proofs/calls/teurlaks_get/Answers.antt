@@ -2,4 +2,4 @@ use mathlib.Core.Logic.{inr}
 use Rattle.teurlaks_c.proofs.calls.teurlaks_get.Goals as goal
 
 pub returns : goal.returns
-returns c = inr (c.in-Some.key, c.get.result, c.in-Some.ensures, c.get.ensures, c.got-2.ensures)
+returns c = inr (c.in-Some.key, c.in-Some.ensures, c.get.ensures)

@@ -1,8 +1,9 @@
-use Rattle.std.proofs.Common.{◌≡◌, ◌++◌, take}
+use Rattle.std.proofs.Common.{◌≡◌, ◌++◌, drop, take}
 use Rattle.std.specs.List.{flat_map}
+use Rattle.span.specs.ReceiptLists.{kept_receipts}
 use Rattle.thread_runner.specs.Told.{lineless}
 use Rattle.thread_runner.proofs.diary.push_all_lineless.Given as goal
 
 -- the replies so far
-abbrev pub invariant-loop-receipt : goal.invariant-loop-receipt
-invariant-loop-receipt l = l.replies.items ≡ l.initial.replies.items ++ flat_map lineless (take l.receipt-index l.receipts)
+abbrev pub invariant-loop-i : goal.invariant-loop-i
+invariant-loop-i l = l.replies.items ≡ l.initial.replies.items ++ flat_map lineless (take l.i (drop l.first (kept_receipts l.receipts)))

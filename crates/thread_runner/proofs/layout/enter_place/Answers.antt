@@ -1,21 +1,32 @@
-use Rattle.std.proofs.Common.{◌≡◌, map, refl, vec_items, false, ℕ}
+use Rattle.std.proofs.Common.{◌≡◌, ◌++◌, ◌∷◌, [], ℕ, List, false, inl, inr, map, refl, subst, sym, vec_items}
+use Rattle.std.specs.Prelude.{◌⊎◌}
+use Rattle.std.proofs.lemmas.Result.{on_ok_weaker}
 use Rattle.trace_text.specs.declared.line.Line.{Line}
-use Rattle.trace_text.specs.declared.line.Call.{Call}
 use Rattle.trace_text.specs.declared.line.Line.TheVariants as line
 use Rattle.thread_runner.specs.Asked.{is_line_of}
-use Rattle.thread_runner.proofs.Places.{AreLaid-call, AreLaid-other}
+use Rattle.thread_runner.specs.Laid.{AreLaid}
+use Rattle.thread_runner.proofs.Places.{AreLaid-other, AreLaid-own}
 use Rattle.thread_runner.proofs.layout.enter_place.Goals as goal
 
-pub returns-in_ok-push_at : goal.returns-in_ok-push_at
-returns-in_ok-push_at c above long laid =
-    rw c.in-Call.is (AreLaid-call above c.args.place c.in-Call.thread c.in-Call.call (map vec_items c.args.places.now) (map vec_items c.push_at.new.lists) long laid c.in_ok-push_at.ensures)
+pub returns-in-Call : goal.returns-in-Call
+returns-in-Call c above long laid =
+    on_ok_weaker c.push_at.result
+    (λ adds. rw c.in-Call.is (AreLaid-own above c.args.place c.in-Call.thread (line.Call c.in-Call.thread c.in-Call.call) (map vec_items c.args.places.now) (map vec_items c.push_at.new.lists) (λ at. refl) long laid adds))
+    c.push_at.ensures
 
--- a line that is no call is no thread's
-of_none : (l : Line) → ((thread : ℕ) (call : Call) → l ≡ line.Call thread call → ⊥) → (thread : ℕ) → is_line_of thread l ≡ false
-of_none line.Silent other thread = refl
-of_none (line.Call caller call) other thread = absurd (other caller call refl)
-of_none (line.Adopt shard) other thread = refl
-of_none line.Mark other thread = refl
+pub returns-in-Adopt : goal.returns-in-Adopt
+returns-in-Adopt c above long laid =
+    on_ok_weaker c.push_at-in-Adopt.result
+    (λ adds. rw c.in-Adopt.is (AreLaid-own above c.args.place c.in-Adopt.shard (line.Adopt c.in-Adopt.shard) (map vec_items c.args.places.now) (map vec_items c.push_at-in-Adopt.new.lists) (λ at. refl) long laid adds))
+    c.push_at-in-Adopt.ensures
 
-pub returns-in_default : goal.returns-in_default
-returns-in_default c above long laid = AreLaid-other above c.args.line.now (map vec_items c.args.places.now) (of_none c.args.line.now c.in_default.not-Call) laid
+-- a line that is nobody's
+nobody : (above : List Line) (l : Line) (places : List (List ℕ)) → (l ≡ line.Silent) ⊎ (l ≡ line.Mark) → AreLaid above places → AreLaid (above ++ l ∷ []) places
+nobody above l places (inl is) laid = AreLaid-other above l places (λ thread. subst (λ m. is_line_of thread m ≡ false) (sym is) refl) laid
+nobody above l places (inr is) laid = AreLaid-other above l places (λ thread. subst (λ m. is_line_of thread m ≡ false) (sym is) refl) laid
+
+pub returns-in-Silent : goal.returns-in-Silent
+returns-in-Silent c above long laid = nobody above c.args.line.now (map vec_items c.args.places.now) c.in-Silent.is laid
+
+pub returns-in-Silent-2 : goal.returns-in-Silent-2
+returns-in-Silent-2 c above long laid = nobody above c.args.line.now (map vec_items c.args.places.now) c.in-Silent.is laid

@@ -1,6 +1,15 @@
-use Rattle.std.proofs.Common.{◌∙◌, sym}
+use Rattle.std.proofs.Common.{◌∙◌, ap, sym, take}
 use Rattle.span.proofs.Slots.{live_slots-empty}
+use Rattle.span.specs.KeptLogs.{kept_changes}
+use Rattle.span.specs.Log.{live_slots}
+use Rattle.span.specs.Views.{viewed}
+use Rattle.audit.proofs.Replies.{take_more}
 use Rattle.thread_runner.proofs.live.live_after.Goals as goal
 
-pub loop-change-init : goal.loop-change-init
-loop-change-init c = c.empty-live.ensures ∙ sym live_slots-empty
+pub loop-place-init : goal.loop-place-init
+loop-place-init c = c.empty-live.ensures ∙ sym live_slots-empty
+
+pub loop-place-preserved : goal.loop-place-preserved
+loop-place-preserved c =
+    let changes = kept_changes c.args.log.now in
+    c.enter.ensures (take c.loop-place.place changes) c.loop-place.invariant ∙ ap live_slots (sym (take_more changes c.loop-place.place (viewed c.view.result) c.view.ensures))

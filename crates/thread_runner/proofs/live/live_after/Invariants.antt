@@ -1,7 +1,8 @@
 use Rattle.std.proofs.Common.{◌≡◌, take}
+use Rattle.span.specs.KeptLogs.{kept_changes}
 use Rattle.span.specs.Log.{live_slots}
 use Rattle.thread_runner.proofs.live.live_after.Given as goal
 
 -- the live slots so far
-abbrev pub invariant-loop-change : goal.invariant-loop-change
-invariant-loop-change l = l.live ≡ live_slots (take l.change-index l.changes)
+abbrev pub invariant-loop-place : goal.invariant-loop-place
+invariant-loop-place l = l.live ≡ live_slots (take l.place (kept_changes l.log))

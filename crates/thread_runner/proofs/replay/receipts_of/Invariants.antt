@@ -1,3 +1,4 @@
+use Rattle.span.specs.ReceiptLists.{kept_receipts}
 use Rattle.std.proofs.Common.{◌≡◌, map}
 use Rattle.std.specs.Prelude.{vec_items}
 use Rattle.thread_runner.specs.declared.diary.Diary.{Diary}
@@ -5,4 +6,4 @@ use Rattle.thread_runner.proofs.replay.receipts_of.Given as goal
 
 -- the lists so far
 abbrev pub invariant-loop-diary : goal.invariant-loop-diary
-invariant-loop-diary l = map vec_items l.receipts.items ≡ map (λ (d : Diary). d.receipts.items) l.yielded
+invariant-loop-diary l = map kept_receipts l.receipts.items ≡ map (λ (d : Diary). (kept_receipts d.receipts)) l.yielded

@@ -1,7 +1,11 @@
 use Rattle.std.proofs.Common.{◌≡◌}
+use Rattle.std.specs.List.{range_with_len}
 use Rattle.arena.specs.Seats.{SeatState}
-use Rattle.thread_runner.proofs.Each.{each-All}
+use Rattle.thread_runner.proofs.Each.{each-All, each-first}
 use Rattle.thread_runner.proofs.replay.replay.Goals as goal
 
 pub replay_at-requires-clause-seats : goal.replay_at-requires-clause-seats
-replay_at-requires-clause-seats g c κs within = each-All (λ (seat : SeatState). seat.table ≡ c.in-Ok.arena.table) c.in-Ok.seats.items c.in-Ok.ensures.seats.of_table
+replay_at-requires-clause-seats g c κs within =
+    let opened = c.in-Ok in
+    each-first opened.arena.limits (λ (seat : SeatState). seat.table ≡ opened.arena.table) opened.seats.items _ opened.ensures.standing
+    (each-All (λ (seat : SeatState). seat.table ≡ opened.arena.table) opened.seats.items opened.ensures.seats.of_table)

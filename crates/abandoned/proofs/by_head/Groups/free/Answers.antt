@@ -1,80 +1,66 @@
-use Rattle.std.proofs.Common.{◌≡◌, ◌∙◌, ◌<◌, ℕ, length, length-set, Some, IfSome, ap, refl, set, slice_get, subst, sym}
+use Rattle.std.proofs.Common.{◌≡◌, ◌∙◌, ◌<◌, ℕ, length, Some, ap, refl, slice_get, subst, sym}
+use Rattle.std.proofs.lemmas.Option.{slice_get_within}
 use Rattle.span.specs.Ids.{rank}
 use Rattle.span.specs.declared.id.SpanId.{SpanId}
-use Rattle.page_table.specs.State.{HasPage}
 use Rattle.groups.specs.Spans.{with_free_at}
-use Rattle.groups.proofs.Lists.{same_some, there_at}
+use Rattle.groups.proofs.Lists.{there_at}
 use Rattle.abandoned.specs.Groups.{FreesIn, GroupsState, HasHeadAt, standing}
 use Rattle.abandoned.specs.GroupsKept.{state_of}
+use Rattle.abandoned.specs.Ranked.{RankedState}
 use Rattle.abandoned.specs.State.{PooledState}
 use Rattle.groups.specs.Group.{IsHeadOf, spans_of}
-use Rattle.abandoned.proofs.FreedPlace.{FreesIn-places, at_within, group_at, on_false, on_true, one_group, read_group, same_head, unchanged}
-use Rattle.abandoned.proofs.GroupPlaces.{AtRank-set, HaveSize-set, KnowsPaged-set, place_within}
+use Rattle.abandoned.proofs.FreedPlace.{FreesIn-ranked, on_false, on_true, places-kept, there}
+use Rattle.abandoned.proofs.GroupPlaces.{HaveSize-same, IsHeadOf-places, KnowsPaged-marked, place_within}
+use Rattle.abandoned.proofs.Places.{before}
 use Rattle.abandoned.proofs.by_head.Groups.free.Goals as goal
 
 -- the group of the head, as the fields show it
 seen : (inside outside : GroupsState) → inside ≡ outside → (head : SpanId) (place : ℕ) → (group : PooledState) × HasHeadAt outside.groups head group × (place < length (spans_of group)) → (group : PooledState) × HasHeadAt inside.groups head group × (place < length (spans_of group))
 seen inside outside same head place here = subst (λ (s : GroupsState). (group : PooledState) × HasHeadAt s.groups head group × (place < length (spans_of group))) (sym same) here
 
-pub unreachable-requires : goal.unreachable-requires
-unreachable-requires g c =
+pub free-freed-requires-clause-here : goal.free-freed-requires-clause-here
+free-freed-requires-clause-here g c =
     let h = seen (state_of c.self.inside) c.args.self.now c.self.view_is c.args.head c.args.place c.requires.here in
-    let e = sym c.in_default.is ∙ read_group c.self.inside.places.items c.self.invariant.at_rank c.args.head c.rank-rank.result c.rank-rank.ensures.value c.index_mut.result.now c.index_mut.ensures.value h.0 h.1 in
-    cc
+    (h.0, there c.self.inside.places c.self.invariant.at_rank c.rank-rank.result c.args.head c.rank-rank.ensures.value h.1.0 h.0 h.1.1, h.2)
 
-pub free-freed-requires-clause-place : goal.free-freed-requires-clause-place
-free-freed-requires-clause-place g c =
-    let h = seen (state_of c.self.inside) c.args.self.now c.self.view_is c.args.head c.args.place c.requires.here in
-    subst (λ (x : PooledState). c.args.place < length (spans_of x)) (same_some (sym (read_group c.self.inside.places.items c.self.invariant.at_rank c.args.head c.rank-rank.result c.rank-rank.ensures.value c.index_mut.result.now c.index_mut.ensures.value h.0 h.1) ∙ c.in-Some.is)) h.2
-
-pub free-freed-requires-clause-page : goal.free-freed-requires-clause-page
-free-freed-requires-clause-page g c =
-    let h = seen (state_of c.self.inside) c.args.self.now c.self.view_is c.args.head c.args.place c.requires.here in
-    subst (λ (x : PooledState). IfSome x.page (HasPage c.args.table.now)) (same_some (sym (read_group c.self.inside.places.items c.self.invariant.at_rank c.args.head c.rank-rank.result c.rank-rank.ensures.value c.index_mut.result.now c.index_mut.ensures.value h.0 h.1) ∙ c.in-Some.is))
-    (c.requires.pages h.1.0 h.0 (ap (λ (s : GroupsState). slice_get s.groups h.1.0) (sym c.self.view_is) ∙ h.1.1.here))
+pub free-freed-requires-clause-pages : goal.free-freed-requires-clause-pages
+free-freed-requires-clause-pages g c group here =
+    let is = IsHeadOf-places c.self.inside.places.by_rank c.self.invariant.at_rank c.args.head group (subst (λ n. slice_get c.self.inside.places.by_rank n ≡ Some (Some group)) c.rank-rank.ensures.value here) in
+    c.requires.pages (before c.self.inside.places.by_rank (rank c.args.head)) group (ap (λ (s : GroupsState). slice_get s.groups (before c.self.inside.places.by_rank (rank c.args.head))) (sym c.self.view_is) ∙ is.here)
 
 pub mark-requires-clause-within : goal.mark-requires-clause-within
 mark-requires-clause-within g c =
     let h = seen (state_of c.self.inside) c.args.self.now c.self.view_is c.args.head c.args.place c.requires.here in
-    (place_within c.self.inside.places.items c.self.inside.paged.items c.self.invariant.sized c.rank-rank.result (at_within c.self.inside.places.items c.self.invariant.at_rank c.args.head c.rank-rank.result c.rank-rank.ensures.value c.index_mut.result.now c.index_mut.ensures.value h.0 h.1)).0
+    let here = there c.self.inside.places c.self.invariant.at_rank c.rank-rank.result c.args.head c.rank-rank.ensures.value h.1.0 h.0 h.1.1 in
+    (place_within c.self.inside.places.by_rank c.self.inside.paged.items c.self.invariant.sized c.rank-rank.result (slice_get_within c.self.inside.places.by_rank c.rank-rank.result (Some h.0) here)).0
 
 pub invariant_of-self : goal.invariant_of-self
 invariant_of-self g c =
     let h = seen (state_of c.self.inside) c.args.self.now c.self.view_is c.args.head c.args.place c.requires.here in
-    let within = at_within c.self.inside.places.items c.self.invariant.at_rank c.args.head c.rank-rank.result c.rank-rank.ensures.value c.index_mut.result.now c.index_mut.ensures.value h.0 h.1 in
-    let same = same_some (sym (read_group c.self.inside.places.items c.self.invariant.at_rank c.args.head c.rank-rank.result c.rank-rank.ensures.value c.index_mut.result.now c.index_mut.ensures.value h.0 h.1) ∙ c.in-Some.is) in
-    let there = group_at c.self.inside.places.items c.self.invariant.at_rank c.args.head c.rank-rank.result c.rank-rank.ensures.value c.index_mut.result.now c.index_mut.ensures.value c.in-Some.group c.in-Some.is within in
-    let span = there_at (spans_of c.in-Some.group) c.args.place (subst (λ (x : PooledState). c.args.place < length (spans_of x)) same h.2) in
-    let head = same_head c.free-freed.result c.in-Some.group c.free-freed.new.self c.args.place span.0 (with_free_at span.0 c.args.slot c.args.generation) c.args.table.now c.free-freed.new.table span.1 refl (c.free-freed.ensures.freed span.0 span.1) c.free-freed.ensures.unknown in
+    let here = there c.self.inside.places c.self.invariant.at_rank c.rank-rank.result c.args.head c.rank-rank.ensures.value h.1.0 h.0 h.1.1 in
+    let span = there_at (spans_of h.0) c.args.place h.2 in
+    let kept = places-kept c.self.inside.places c.self.invariant.at_rank c.rank-rank.result c.free-freed.result h.0 c.args.place span.0 (with_free_at span.0 c.args.slot c.args.generation) c.args.table.now c.free-freed.new.table c.free-freed.new.self here span.1 refl
+    (c.free-freed.ensures.freed h.0 span.0 here span.1) c.free-freed.ensures.unknown in
     record {
-      at_rank = AtRank-set c.self.inside.places.items c.self.invariant.at_rank c.rank-rank.result (Some c.free-freed.new.self)
-          (λ group is. ap (λ (x : PooledState). rank x.head.id) (sym (same_some is)) ∙ ap rank head ∙ c.self.invariant.at_rank c.rank-rank.result c.in-Some.group there);
-      paged_known = KnowsPaged-set c.self.inside.paged.items c.mark.new.parts.items c.self.inside.places.items c.self.invariant.paged_known c.rank-rank.result (Some c.in-Some.group) (Some c.free-freed.new.self) there c.is_paged.result c.is_paged.ensures c.mark.ensures.has;
-      sized = HaveSize-set c.self.inside.places.items c.self.inside.paged.items c.mark.new.parts.items c.self.invariant.sized c.rank-rank.result (Some c.free-freed.new.self) c.mark.ensures.len;
+      at_rank = kept.0;
+      paged_known = KnowsPaged-marked c.self.inside.paged.items c.mark.new.parts.items c.self.inside.places.by_rank c.free-freed.new.self.by_rank c.self.invariant.paged_known c.rank-rank.result kept.3 c.is_paged.result c.is_paged.ensures c.mark.ensures.has;
+      sized = HaveSize-same c.self.inside.places.by_rank c.free-freed.new.self.by_rank c.self.inside.paged.items c.mark.new.parts.items c.self.invariant.sized kept.1 c.mark.ensures.len;
       filled_known = c.mark.ensures.known;
-      room_for_heads = λ some. length-set c.self.inside.places.items c.rank-rank.result (Some c.free-freed.new.self) ∙ c.self.invariant.room_for_heads some;
+      room_for_heads = λ some. kept.1 ∙ c.self.invariant.room_for_heads (subst (λ n. 0 < n) kept.2 some);
     }
 
 pub returns-clause-found : goal.returns-clause-found
-returns-clause-found g c index other span is there =
-    let h = seen (state_of c.self.inside) c.args.self.now c.self.view_is c.args.head c.args.place c.requires.here in
-    let within = at_within c.self.inside.places.items c.self.invariant.at_rank c.args.head c.rank-rank.result c.rank-rank.ensures.value c.index_mut.result.now c.index_mut.ensures.value h.0 h.1 in
-    let same = one_group c.self.inside.places.items c.self.invariant.at_rank c.args.head c.rank-rank.result c.rank-rank.ensures.value c.index_mut.result.now c.index_mut.ensures.value c.in-Some.group c.in-Some.is within index other (subst (λ (s : GroupsState). IsHeadOf s.groups c.args.head index other) (sym c.self.view_is) is) in
-    c.free-freed.ensures.found span (subst (λ (x : PooledState). slice_get (spans_of x) c.args.place ≡ Some span) same there)
+returns-clause-found g c index other span is at_place =
+    let is_here = subst (λ (s : GroupsState). IsHeadOf s.groups c.args.head index other) (sym c.self.view_is) is in
+    c.free-freed.ensures.found other span (there c.self.inside.places c.self.invariant.at_rank c.rank-rank.result c.args.head c.rank-rank.ensures.value index other is_here) at_place
 
 pub returns-clause-freed : goal.returns-clause-freed
-returns-clause-freed g c index other span is there =
-    let h = seen (state_of c.self.inside) c.args.self.now c.self.view_is c.args.head c.args.place c.requires.here in
-    let within = at_within c.self.inside.places.items c.self.invariant.at_rank c.args.head c.rank-rank.result c.rank-rank.ensures.value c.index_mut.result.now c.index_mut.ensures.value h.0 h.1 in
+returns-clause-freed g c index other span is at_place =
     let is_here = subst (λ (s : GroupsState). IsHeadOf s.groups c.args.head index other) (sym c.self.view_is) is in
-    let same = one_group c.self.inside.places.items c.self.invariant.at_rank c.args.head c.rank-rank.result c.rank-rank.ensures.value c.index_mut.result.now c.index_mut.ensures.value c.in-Some.group c.in-Some.is within index other is_here in
-    on_true c.free-freed.result (λ gives.
-    subst (λ (s : GroupsState). FreesIn s index other c.args.place (with_free_at span c.args.slot c.args.generation) c.args.table.now (record { groups = standing (set c.self.inside.places.items c.rank-rank.result (Some c.free-freed.new.self)); room = c.self.inside.room }) c.free-freed.new.table) c.self.view_is
-    (FreesIn-places c.self.inside.places.items c.self.invariant.at_rank c.args.head c.rank-rank.result c.rank-rank.ensures.value c.index_mut.result.now c.index_mut.ensures.value c.in-Some.group c.in-Some.is within c.self.inside.room index c.args.place other c.free-freed.new.self (with_free_at span c.args.slot c.args.generation) c.args.table.now c.free-freed.new.table is_here gives))
-    (c.free-freed.ensures.freed span (subst (λ (x : PooledState). slice_get (spans_of x) c.args.place ≡ Some span) same there))
+    on_true c.free-freed.result (λ frees.
+    subst (λ (s : GroupsState). FreesIn s index other c.args.place (with_free_at span c.args.slot c.args.generation) c.args.table.now (record { groups = standing c.free-freed.new.self.by_rank; room = c.free-freed.new.self.room }) c.free-freed.new.table) c.self.view_is
+    (FreesIn-ranked c.self.inside.places c.self.invariant.at_rank c.rank-rank.result c.args.head c.rank-rank.ensures.value index other is_here c.args.place (with_free_at span c.args.slot c.args.generation) c.args.table.now c.free-freed.new.table c.free-freed.new.self frees))
+    (c.free-freed.ensures.freed other span (there c.self.inside.places c.self.invariant.at_rank c.rank-rank.result c.args.head c.rank-rank.ensures.value index other is_here) at_place)
 
 pub returns-clause-unknown : goal.returns-clause-unknown
-returns-clause-unknown g c =
-    let h = seen (state_of c.self.inside) c.args.self.now c.self.view_is c.args.head c.args.place c.requires.here in
-    let within = at_within c.self.inside.places.items c.self.invariant.at_rank c.args.head c.rank-rank.result c.rank-rank.ensures.value c.index_mut.result.now c.index_mut.ensures.value h.0 h.1 in
-    on_false c.free-freed.result (λ stays. (unchanged c.self.inside.places.items c.self.invariant.at_rank c.args.head c.rank-rank.result c.rank-rank.ensures.value c.index_mut.result.now c.index_mut.ensures.value c.in-Some.group c.in-Some.is within c.self.inside.room c.free-freed.new.self stays.0 ∙ c.self.view_is, stays.1)) c.free-freed.ensures.unknown
+returns-clause-unknown g c = on_false c.free-freed.result (λ stays. (ap (λ (r : RankedState). record { groups = standing r.by_rank; room = r.room }) stays.0 ∙ c.self.view_is, stays.1)) c.free-freed.ensures.unknown

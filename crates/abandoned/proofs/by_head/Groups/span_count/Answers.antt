@@ -1,30 +1,37 @@
-use Rattle.std.proofs.Common.{◌∙◌, ◌+◌, List, Option, ap, arith, length, refl, sym}
+use Rattle.std.proofs.Common.{◌∙◌, ◌+◌, None, Some, ap, arith, length, sym}
+use Rattle.std.specs.Prelude.{option_map}
 use Rattle.std.specs.List.{flat_map}
-use Rattle.groups.proofs.SpanCounts.{length-spans_more, length-take_spans}
+use Rattle.groups.proofs.SpanCounts.{length-take_spans}
 use Rattle.abandoned.specs.Groups.{GroupsState}
-use Rattle.abandoned.specs.State.{PooledState}
 use Rattle.groups.specs.Group.{spans_in}
+use Rattle.abandoned.proofs.GroupPlaces.{few_places}
 use Rattle.abandoned.proofs.Passing.{take_all}
-use Rattle.abandoned.proofs.PlaceSpans.{spans_at, spans_in-standing}
+use Rattle.abandoned.proofs.PlaceSpans.{count_before-more, spans_at, spans_before-none, spans_in-standing}
 use Rattle.abandoned.proofs.by_head.Groups.span_count.Goals as goal
+use Rattle.abandoned.proofs.by_head.Groups.span_count.Goals.{in-Some, in_default}
 
-pub loop-place-init : goal.loop-place-init
-loop-place-init g c =
-    let all = ap (λ (s : GroupsState). length (spans_in s.groups)) (sym c.self.view_is) ∙ ap length (spans_in-standing c.self.inside.places.items) in
-    let seen = ap (λ (places : List (Option PooledState)). length (flat_map spans_at places)) c.deref-place-items.ensures.value in
-    (refl, omega (arith, all, seen, c.requires))
+pub loop-rank-init : goal.loop-rank-init
+loop-rank-init g c = sym (ap length (spans_before-none c.self.inside.places.by_rank))
+
+pub loop-rank-preserved : goal.loop-rank-preserved
+loop-rank-preserved g c = elim c.match-get.branch [
+  | in-Some w ↦
+      let more = count_before-more c.self.inside.places.by_rank c.loop-rank.rank (Some w.in-Some.group.now) (sym c.get.ensures ∙ ap (option_map (λ group. group.now)) w.in-Some.is) in
+      omega (arith, more, w.count-is, w.len-count.ensures, c.loop-rank.invariant)
+  | in_default w ↦
+      let more = count_before-more c.self.inside.places.by_rank c.loop-rank.rank None (sym c.get.ensures ∙ ap (option_map (λ group. group.now)) w.in_default.is) in
+      omega (arith, more, w.count-is, c.loop-rank.invariant)
+]
 
 pub overflow_add-count : goal.overflow_add-count
 overflow_add-count g c =
-    let places = c.deref-place-items.result.now in
-    let before = c.loop-place.invariant in
-    let more = length-spans_more spans_at places c.loop-place.place-index c.place-item.result c.loop-place-test.true c.place-item.is in
-    let here = ap (λ place. length (spans_at place)) c.in-Some.is in
-    let fewer = length-take_spans spans_at places (c.loop-place.place-index + 1) in
-    omega (arith, more, here, fewer, c.len-count.ensures)
+    let more = count_before-more c.self.inside.places.by_rank c.loop-rank.rank (Some c.in-Some.group.now) (sym c.get.ensures ∙ ap (option_map (λ group. group.now)) c.in-Some.is) in
+    let fewer = length-take_spans spans_at c.self.inside.places.by_rank (c.loop-rank.rank + 1) in
+    let all = ap length (sym (spans_in-standing c.self.inside.places.by_rank)) ∙ ap (λ (s : GroupsState). length (spans_in s.groups)) c.self.view_is in
+    omega (arith, more, fewer, all, c.len-count.ensures, c.loop-rank.invariant, c.requires)
 
 pub returns : goal.returns
 returns g c =
-    c.loop-place.invariant.0
-    ∙ ap (λ places. length (flat_map spans_at places)) (take_all c.deref-place-items.result.now c.loop-place.place-index (let past = c.loop-place-test.false in omega arith) ∙ c.deref-place-items.ensures.value)
-    ∙ ap length (sym (spans_in-standing c.self.inside.places.items)) ∙ ap (λ (s : GroupsState). length (spans_in s.groups)) c.self.view_is
+    c.loop-rank.invariant
+    ∙ ap (λ places. length (flat_map spans_at places)) (take_all c.self.inside.places.by_rank c.loop-rank.rank (let past = c.loop-rank-test.false in let few = few_places c.self.inside.places.by_rank c.self.inside.paged.items c.self.invariant.sized in omega arith))
+    ∙ ap length (sym (spans_in-standing c.self.inside.places.by_rank)) ∙ ap (λ (s : GroupsState). length (spans_in s.groups)) c.self.view_is

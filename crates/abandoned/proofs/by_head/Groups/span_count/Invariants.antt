@@ -1,7 +1,7 @@
-use Rattle.std.proofs.Common.{◌≡◌, ◌≤◌, length, take}
+use Rattle.std.proofs.Common.{◌≡◌, length, take}
 use Rattle.std.specs.List.{flat_map}
 use Rattle.abandoned.proofs.PlaceSpans.{spans_at}
 use Rattle.abandoned.proofs.by_head.Groups.span_count.Given as goal
 
-abbrev pub invariant-loop-place : goal.invariant-loop-place
-invariant-loop-place g l = (l.count ≡ length (flat_map spans_at (take l.place-index l.place-items))) × (length (flat_map spans_at l.place-items) ≤ 65536)
+abbrev pub invariant-loop-rank : goal.invariant-loop-rank
+invariant-loop-rank g l = l.count ≡ length (flat_map spans_at (take l.rank l.self-inside.places.by_rank))

@@ -19,7 +19,7 @@ returns-clause-ok g c = record {
   span_room = c.span_count.result;
   running = c.requires.running;
   moved = subst (λ (p : PoolState). TakesAll p (map (whole_of c.args.shard.now.table) c.args.shard.now.groups) c.take_all.new.self) (c.in_ok-reserve.ensures {u = tt}).ok c.take_all.ensures.moved;
-  after = c.set_ended.ensures.ended ∙ ended_after c.args.shard.now c.take_all.new.shard c.take_all.ensures.emptied c.take_all.ensures.sound_shard;
+  after = c.set_ended.ensures.ended ∙ ended_after c.args.shard.now c.take_all.new.shard c.take_all.ensures.emptied;
 }
 
 pub returns-clause-kept : goal.returns-clause-kept

@@ -17,7 +17,7 @@ returns-in_default-clause-value g c =
 
 pub returns-in-Value-clause-value : goal.returns-in-Value-clause-value
 returns-in-Value-clause-value g c =
-    value-Gets c.args.self.now c.args.key.now c.args.key.now.span.shard c.in-Some.shard.now (found.Value c.in-Value.value _) (subst IsSound c.self.view_is c.self.invariant.sound).groups
+    value-Gets c.args.self.now c.args.key.now c.args.key.now.span.shard c.in-Some.shard.now (found.Value c.in-Value.words _) (subst IsSound c.self.view_is c.self.invariant.sound).groups
     (ap (λ (s : CoreState). slice_get s.shards c.args.key.now.span.shard) (sym c.self.view_is) ∙ ap (λ xs. slice_get xs c.args.key.now.span.shard) (sym c.deref.ensures.value)
     ∙ shard-found c.deref.result.now c.args.key.now.span.shard c.in-Some.shard c.in-Some.ensures.lookup)
     (λ e. absurd cc) c.in-Value.ensures.found c.in-Value.ensures.plain

@@ -10,7 +10,7 @@ returns-then-is_full-clause-none c =
     let same : c.into_iter-part-iterator.result ≡ c.split-part-items.result = c.into_iter-part-iterator.ensures.into_iter_gives in
     let turn = YieldsList-turn (YieldsList-from_slice_split _ (λ (b : ℕ). b == c.args.separator) c.args.bytes.now (ap slice.split_rest same ∙ c.split-part-items.ensures.rest) (ap slice.split_done same ∙ c.split-part-items.ensures.done) (ap slice.split_callee same ∙ c.split-part-items.ensures.closure) (λ x r q k. search (rules, tests))) c.loop-part.yielded _ c.loop-part.yielded_by _ _ c.in-Some.part c.in-Some.is c.next.ensures.steps in
     let count : length c.loop-part.parts.items ≡ length c.loop-part.yielded = ap length c.loop-part.invariant in
-    let full : length c.loop-part.parts.items ≡ 2 = grind (arith, nat_tests) in
+    let full : length c.loop-part.parts.items ≡ 3 = grind (arith, nat_tests) in
     omega (arith, turn.0)
 
 pub returns-clause-some : goal.returns-clause-some

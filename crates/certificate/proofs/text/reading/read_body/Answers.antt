@@ -10,7 +10,7 @@ pub returns-in_err-read_fixed-clause-read : goal.returns-in_err-read_fixed-claus
 returns-in_err-read_fixed-clause-read c =
     let p = err_from_is_err_and c.from_residual-in_err-read_fixed.result c.from_residual-in_err-read_fixed.ensures.1 in
     rw (p.1, p.2) (Reads-err {X = Certificate} outline_of _ _ (
-    body_in-read c.in_ok-abandoned.abandoned.items c.in_ok-owned.owned.items c.in_ok-folds.folds.items c.in_ok-short.short.items c.requires
+    body_in-read c.args.version c.in_ok-abandoned.abandoned.items c.in_ok-owned.owned.items c.in_ok-folds.folds.items c.in_ok-short.short.items c.requires
     (record { read = c.in_ok-abandoned.ensures.read; text_is = c.in_ok-abandoned.ensures.text; place = c.in_ok-abandoned.ensures.passed })
     (record { read = c.in_ok-owned.ensures.read; text_is = c.in_ok-owned.ensures.text; place = c.in_ok-owned.ensures.passed })
     (record { read = c.in_ok-folds.ensures.read; text_is = c.in_ok-folds.ensures.text; place = c.in_ok-folds.ensures.passed })
@@ -21,7 +21,7 @@ pub returns-in_err-read_nothing-clause-read : goal.returns-in_err-read_nothing-c
 returns-in_err-read_nothing-clause-read c =
     let p = err_from_is_err_and c.from_residual-in_err-read_nothing.result c.from_residual-in_err-read_nothing.ensures.1 in
     rw (p.1, p.2) (Reads-err {X = Certificate} outline_of _ _ (
-    body_in-read c.in_ok-abandoned.abandoned.items c.in_ok-owned.owned.items c.in_ok-folds.folds.items c.in_ok-short.short.items c.requires
+    body_in-read c.args.version c.in_ok-abandoned.abandoned.items c.in_ok-owned.owned.items c.in_ok-folds.folds.items c.in_ok-short.short.items c.requires
     (record { read = c.in_ok-abandoned.ensures.read; text_is = c.in_ok-abandoned.ensures.text; place = c.in_ok-abandoned.ensures.passed })
     (record { read = c.in_ok-owned.ensures.read; text_is = c.in_ok-owned.ensures.text; place = c.in_ok-owned.ensures.passed })
     (record { read = c.in_ok-folds.ensures.read; text_is = c.in_ok-folds.ensures.text; place = c.in_ok-folds.ensures.passed })
@@ -32,7 +32,7 @@ returns-in_err-read_nothing-clause-read c =
 pub returns-clause-read : goal.returns-clause-read
 returns-clause-read c =
     rw (c.from_ascending.ensures.abandoned, c.from_ascending.ensures.owned, c.new.ensures, c.new-2.ensures) (
-    body_in-read c.in_ok-abandoned.abandoned.items c.in_ok-owned.owned.items c.in_ok-folds.folds.items c.in_ok-short.short.items c.requires
+    body_in-read c.args.version c.in_ok-abandoned.abandoned.items c.in_ok-owned.owned.items c.in_ok-folds.folds.items c.in_ok-short.short.items c.requires
     (record { read = c.in_ok-abandoned.ensures.read; text_is = c.in_ok-abandoned.ensures.text; place = c.in_ok-abandoned.ensures.passed })
     (record { read = c.in_ok-owned.ensures.read; text_is = c.in_ok-owned.ensures.text; place = c.in_ok-owned.ensures.passed })
     (record { read = c.in_ok-folds.ensures.read; text_is = c.in_ok-folds.ensures.text; place = c.in_ok-folds.ensures.passed })

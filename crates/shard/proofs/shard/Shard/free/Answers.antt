@@ -1,4 +1,4 @@
-use Rattle.std.proofs.Common.{◌≡◌, ◌∙◌, List, ap, arith, set, sym, subst, refl}
+use Rattle.std.proofs.Common.{◌≡◌, ◌∙◌, ℕ, Some, slice_get, List, ap, arith, set, sym, subst, refl, inl, inr}
 use Rattle.std.specs.Prelude.{vec_capacity}
 use Rattle.std.proofs.lemmas.Bool.{true≢false}
 use Rattle.std.proofs.lemmas.Option.{slice_get_within}
@@ -9,7 +9,7 @@ use Rattle.groups.specs.Spans.{with_free}
 use Rattle.groups.specs.Directory.{KnowsGuests}
 use Rattle.shard.specs.Kept.{state_of}
 use Rattle.shard.specs.Moves.{HasGuestRoom}
-use Rattle.shard.specs.Rooms.{HasRooms}
+use Rattle.shard.specs.Rooms.{HasRooms, rooms_of}
 use Rattle.shard.specs.Sound.{IsSound}
 use Rattle.shard.specs.State.{ShardState}
 use Rattle.shard.specs.declared.shard.Freed.TheVariants.{No, NotHere, Yes}
@@ -17,7 +17,8 @@ use Rattle.shard.proofs.FreeHere.{IsSound-free_here}
 use Rattle.shard.proofs.GuestRoom.{HasGuestRoom-span}
 use Rattle.shard.proofs.Here.{found_in, here_read, read_is}
 use Rattle.groups.proofs.Lists.{set-same}
-use Rattle.shard.proofs.RoomBits.{HasRooms-free}
+use Rattle.shard.proofs.Classes.{cases_class}
+use Rattle.shard.proofs.RoomBits.{HasRooms-free, HasRooms-other}
 use Rattle.shard.proofs.ShownLogs.{IsSound-Frees, shown-Frees, was_freed-Frees}
 use Rattle.groups.proofs.KnownGuests.{KnowsGuests-span}
 use Rattle.shard.proofs.shard.Shard.free.Goals as goal
@@ -35,22 +36,21 @@ here_now g c =
     here_read _ _ _ _ found.0 found.1 found.2 c.index_mut-group.result.now c.index_mut-group.ensures.value c.span_at.result.now c.span_at.ensures
 
 -- a key that is not live leaves the groups as they were
-groups_same : (g : _) (c : goal.Then-not-free g) → set c.self.inside.groups.items c.in-Some.index c.free.new.self ≡ c.self.inside.groups.items
-groups_same g c =
-    let found = found_in c.args.self.now.groups c.self.inside.groups.items c.args.key.now.span c.in-Some.index c.in-Some.place (ap (λ (s : ShardState). s.groups) (sym c.self.view_is)) c.in-Some.ensures.place in
-    let read = read_is _ _ _ _ found.0 found.1 found.2 c.index_mut-group.result.now c.index_mut-group.ensures.value in
-    ap (set c.self.inside.groups.items c.in-Some.index) (c.if-not-free.ensures {u = tt}).unknown ∙ set-same c.self.inside.groups.items c.in-Some.index c.index_mut-group.result.now read
+groups_same : (groups : List GroupState) (index : ℕ) (group after : GroupState) → slice_get groups index ≡ Some group → after ≡ group → set groups index after ≡ groups
+groups_same groups index group after here same = ap (set groups index) same ∙ set-same groups index group here
 
 pub invariant_of-self : goal.invariant_of-self
 invariant_of-self g c =
     let kept = c.self.invariant in
-    let same = sym (groups_same g c) in
+    let found = found_in c.args.self.now.groups c.self.inside.groups.items c.args.key.now.span c.in-Some.index c.in-Some.place (ap (λ (s : ShardState). s.groups) (sym c.self.view_is)) c.in-Some.ensures.place in
+    let read = read_is _ _ _ _ found.0 found.1 found.2 c.index_mut-group.result.now c.index_mut-group.ensures.value in
+    let same = sym (groups_same c.self.inside.groups.items c.in-Some.index c.index_mut-group.result.now c.free.new.self read (c.if-not-free.ensures {u = tt}).unknown) in
     record {
       number_fits = kept.number_fits;
       pages_fit = kept.pages_fit;
       gens_fit = kept.gens_fit;
       sound = subst (λ (groups : List GroupState). IsSound (record (state_of c.self.inside) { groups = groups })) same kept.sound;
-      rooms = subst (λ (groups : List GroupState). HasRooms groups c.self.inside.rooms) same kept.rooms;
+      rooms = λ class. subst (λ (groups : List GroupState). HasRooms class groups (rooms_of c.self.inside.rooms class)) same (kept.rooms class);
       room_for_groups = kept.room_for_groups;
       no_guests = kept.no_guests;
       room_for_guests = subst (λ (groups : List GroupState). HasGuestRoom groups c.self.inside.onto c.self.inside.table.span_room (vec_capacity c.self.inside.guest_room)) same kept.room_for_guests;
@@ -61,7 +61,8 @@ invariant_of-self g c =
 pub returns-then-not-free-clause-step : goal.returns-then-not-free-clause-step
 returns-then-not-free-clause-step g c =
     let found = found_in c.args.self.now.groups c.self.inside.groups.items c.args.key.now.span c.in-Some.index c.in-Some.place (ap (λ (s : ShardState). s.groups) (sym c.self.view_is)) c.in-Some.ensures.place in
-    let here = here_read _ _ _ _ found.0 found.1 found.2 c.index_mut-group.result.now c.index_mut-group.ensures.value c.span_at.result.now c.span_at.ensures in (
+    let here = here_read _ _ _ _ found.0 found.1 found.2 c.index_mut-group.result.now c.index_mut-group.ensures.value c.span_at.result.now c.span_at.ensures in
+    let same = groups_same c.self.inside.groups.items c.in-Some.index c.index_mut-group.result.now c.free.new.self here.group_is (c.if-not-free.ensures {u = tt}).unknown in (
       c.in-Some.index,
       c.in-Some.place,
       c.index_mut-group.result.now,
@@ -69,7 +70,7 @@ returns-then-not-free-clause-step g c =
       subst (λ (s : ShardState). IsHere s.groups c.args.key.now.span c.in-Some.index c.in-Some.place c.index_mut-group.result.now c.span_at.result.now) c.self.view_is here,
       (λ holds. true≢false (sym (((c.if-not-free.ensures {u = tt}).found c.span_at.result.now c.span_at.ensures).1 holds))),
       c.changes-at.ensures,
-      ap (λ (groups : List GroupState). record (state_of c.self.inside) { groups = groups }) (groups_same g c) ∙ c.self.view_is,
+      ap (λ (groups : List GroupState). record (state_of c.self.inside) { groups = groups }) same ∙ c.self.view_is,
     )
 
 pub returns-then-not-free-clause-found : goal.returns-then-not-free-clause-found
@@ -99,7 +100,10 @@ invariant_of-self-2 g c =
       pages_fit = c.self.invariant.pages_fit;
       gens_fit = c.self.invariant.gens_fit;
       sound = rw (freed_now g c) (IsSound-free_here (state_of c.self.inside) c.self.invariant.sound c.in-Some.index c.in-Some.place group span c.args.key.now (here.group_is, here.span_is) (held g c));
-      rooms = rw c.insert.ensures (HasRooms-free c.self.inside.groups.items c.self.inside.rooms c.self.invariant.rooms c.in-Some.index c.free.new.self (slice_get_within c.self.inside.groups.items c.in-Some.index group here.group_is));
+      rooms = λ class. elim (cases_class class c.class-class.result) [
+        | inl same ↦ rw (same, c.insert.ensures.this) (HasRooms-free c.class-class.result c.self.inside.groups.items (rooms_of c.self.inside.rooms c.class-class.result) (c.self.invariant.rooms c.class-class.result) c.in-Some.index c.free.new.self (slice_get_within c.self.inside.groups.items c.in-Some.index group here.group_is))
+        | inr apart ↦ rw (c.insert.ensures.others class apart) (HasRooms-other class c.self.inside.groups.items (rooms_of c.self.inside.rooms class) (c.self.invariant.rooms class) c.in-Some.index c.free.new.self (λ e. apart (sym e ∙ sym c.class-class.ensures)))
+      ];
       room_for_groups = c.self.invariant.room_for_groups;
       no_guests = c.self.invariant.no_guests;
       room_for_guests = rw (freed_now g c)

@@ -1,6 +1,6 @@
 use Rattle.std.proofs.Common.{◌∙◌, ap, refl, subst, sym}
 use Rattle.std.proofs.lemmas.Bool.{true≢false}
-use Rattle.page_table.specs.State.{word_at}
+use Rattle.page_table.specs.State.{object_at}
 use Rattle.shard.specs.State.{ShardState}
 use Rattle.groups.specs.Group.{IsHere}
 use Rattle.shard.specs.declared.shard.Found.TheVariants.{Gone, NotHere, Value}
@@ -14,8 +14,8 @@ returns-in_default-clause-found g c = c.in_default.ensures.place
 pub returns-in_default-clause-plain : goal.returns-in_default-clause-plain
 returns-in_default-clause-plain g c = value_found-Gets c.args.self.now c.find.ensures.sound c.args.key.now NotHere c.in_default.ensures.place
 
-pub value_at-requires : goal.value_at-requires
-value_at-requires g c =
+pub value_at-words-requires-clause-page : goal.value_at-words-requires-clause-page
+value_at-words-requires-clause-page g c =
     let found = found_in c.args.self.now.groups c.self.inside.groups.items c.args.key.now.span c.in-Some.index c.in-Some.place (ap (λ (s : ShardState). s.groups) (sym c.self.view_is)) c.in-Some.ensures.place in
     rw c.page.ensures (c.self.invariant.sound.groups c.in-Some.index c.index-group.result.now (read_is _ _ _ _ found.0 found.1 found.2 c.index-group.result.now c.index-group.ensures)).page.has_page
 
@@ -28,13 +28,13 @@ returns-then-holds-clause-found g c =
       c.index-group.result.now,
       c.span_at-span.result.now,
       subst (λ (s : ShardState). IsHere s.groups c.args.key.now.span c.in-Some.index c.in-Some.place c.index-group.result.now c.span_at-span.result.now) c.self.view_is here,
-      c.if-holds.ensures.0 refl,
-      c.value_at.ensures ∙ rw (c.page.ensures) (ap (λ (s : ShardState). word_at s.table c.index-group.result.now.page c.args.key.now.slot) c.self.view_is),
+      c.if-holds.ensures.live.0 refl,
+      c.value_at-words.ensures.object ∙ rw (c.page.ensures, c.class-class.ensures.class) (ap (λ (s : ShardState). object_at s.table c.index-group.result.now.page c.span_at-span.result.now.class c.args.key.now.slot) c.self.view_is),
       c.changes-at.ensures,
     )
 
 pub returns-then-holds-clause-plain : goal.returns-then-holds-clause-plain
-returns-then-holds-clause-plain g c = value_found-Gets c.args.self.now c.find.ensures.sound c.args.key.now (Value c.value_at.result c.changes-at.result) (returns-then-holds-clause-found g c)
+returns-then-holds-clause-plain g c = value_found-Gets c.args.self.now c.find.ensures.sound c.args.key.now (Value c.value_at-words.result c.changes-at.result) (returns-then-holds-clause-found g c)
 
 pub returns-else-holds-clause-found : goal.returns-else-holds-clause-found
 returns-else-holds-clause-found g c =
@@ -45,9 +45,12 @@ returns-else-holds-clause-found g c =
       c.index-group.result.now,
       c.span_at-span.result.now,
       subst (λ (s : ShardState). IsHere s.groups c.args.key.now.span c.in-Some.index c.in-Some.place c.index-group.result.now c.span_at-span.result.now) c.self.view_is here,
-      (λ holds. true≢false (sym (c.if-holds.ensures.1 holds))),
+      (λ holds. true≢false (sym (c.if-holds.ensures.live.1 holds))),
       c.changes-at.ensures,
     )
 
 pub returns-else-holds-clause-plain : goal.returns-else-holds-clause-plain
 returns-else-holds-clause-plain g c = value_found-Gets c.args.self.now c.find.ensures.sound c.args.key.now (Gone c.changes-at.result) (returns-else-holds-clause-found g c)
+
+pub value_at-words-requires-clause-on_page : goal.value_at-words-requires-clause-on_page
+value_at-words-requires-clause-on_page g c = rw c.class-class.ensures.class c.if-holds.ensures.on_page

@@ -1,60 +1,7 @@
-use Rattle.std.proofs.Common.{◌≡◌, ◌∙◌, ◌<◌, ap, arith, inl, length, subst, sym}
-use Rattle.std.specs.Prelude.{IfOk, OnErr}
-use Rattle.shard.specs.Calls.{IsFull, Puts, PutsInNew}
-use Rattle.shard.specs.Kept.{state_of}
-use Rattle.shard.specs.Sound.{IsSound}
-use Rattle.shard.specs.State.{ShardState}
-use Rattle.shard.proofs.PutResult.{is_issued-result, IsSound-result, puts_if_new, shown-result}
-use Rattle.shard.proofs.ShownLogs.{is_issued-Puts, IsSound-Puts, shown-Puts}
 use Rattle.shard.proofs.shard.Shard.put.Goals as goal
 
-here : (g : _) (c : goal.In-Some g) → Puts c.args.self.now c.args.value c.in-Some.made.0 c.in-Some.made.1 c.put_here.new.self
-here g c = (ap (λ (s : ShardState). s.ended) (sym c.self.view_is) ∙ c.if-self.false, inl (rw c.in-Some.is at (c.in_ok-made.ensures {u = tt}).ok))
-
-sound_here : (g : _) (c : goal.In-Some g) → IsSound c.args.self.now
-sound_here g c = subst IsSound c.self.view_is c.self.invariant.sound
-
-pub returns-in-Some-clause-fresh : goal.returns-in-Some-clause-fresh
-returns-in-Some-clause-fresh g c = is_issued-Puts c.args.self.now c.put_here.new.self c.args.value c.in-Some.made.0 c.in-Some.made.1 (sound_here g c) (here g c)
-
-pub returns-in-Some-clause-plain : goal.returns-in-Some-clause-plain
-returns-in-Some-clause-plain g c = shown-Puts c.args.self.now c.put_here.new.self c.args.value c.in-Some.made.0 c.in-Some.made.1 (sound_here g c) (here g c)
-
-pub returns-in-Some-clause-sound : goal.returns-in-Some-clause-sound
-returns-in-Some-clause-sound g c = IsSound-Puts c.args.self.now c.put_here.new.self c.args.value c.in-Some.made.0 c.in-Some.made.1 (sound_here g c) (here g c)
-
-pub put_in_new-requires-clause-full : goal.put_in_new-requires-clause-full
-put_in_new-requires-clause-full g c =
-    let full = rw c.in_default.is at (c.in_ok-made.ensures {u = tt}).ok in
-    subst (λ (s : ShardState). IsFull s.groups) (sym full.1) full.0
-
--- no group had room, and the shard is as it was
-full : (g : _) (c : goal.After-put_in_new g) → IsFull c.args.self.now.groups × (c.put_here.new.self ≡ c.args.self.now)
-full g c = rw c.in_default.is at (c.in_ok-made.ensures {u = tt}).ok
-
-sound_new : (g : _) (c : goal.After-put_in_new g) → IsSound c.args.self.now
-sound_new g c = subst IsSound c.self.view_is c.self.invariant.sound
-
-new_one : (g : _) (c : goal.After-put_in_new g) → IfOk c.put_in_new.result (λ made. Puts c.args.self.now c.args.value made.0 made.1 c.put_in_new.new.self)
-new_one g c =
-    let same : state_of c.self-2.inside ≡ c.args.self.now = c.self-2.view_is ∙ (full g c).1 in
-    puts_if_new c.args.self.now c.put_in_new.new.self c.args.value c.put_in_new.result
-    (ap (λ (s : ShardState). s.ended) (sym c.self.view_is) ∙ c.if-self.false)
-    (full g c).0
-    (subst (λ (s : ShardState). length s.groups < s.page_limit) same (omega (arith, c.self-2.inside.groups.ok.0, c.len.ensures)))
-    (subst (λ (s : ShardState). s.opened < 1024) same (omega arith))
-    (subst (λ (s : ShardState). IfOk c.put_in_new.result (λ made. PutsInNew s c.args.value made.0 made.1 c.put_in_new.new.self)) (full g c).1 c.put_in_new.ensures.ok)
-
 pub returns-clause-ok : goal.returns-clause-ok
-returns-clause-ok g c = new_one g c
+returns-clause-ok g c = rw (c.class.ensures.class, c.words.ensures.words) at c.put_words.ensures.ok
 
-pub returns-clause-fresh : goal.returns-clause-fresh
-returns-clause-fresh g c = is_issued-result c.args.self.now c.put_in_new.new.self c.args.value c.put_in_new.result (sound_new g c) (new_one g c)
-
-pub returns-clause-plain : goal.returns-clause-plain
-returns-clause-plain g c = shown-result c.args.self.now c.put_in_new.new.self c.args.value c.put_in_new.result (sound_new g c) (new_one g c)
-
-pub returns-clause-sound : goal.returns-clause-sound
-returns-clause-sound g c =
-    IsSound-result c.args.self.now c.put_in_new.new.self c.args.value c.put_in_new.result (sound_new g c) (new_one g c)
-    (subst (λ (s : ShardState). OnErr c.put_in_new.result (c.put_in_new.new.self ≡ s)) (full g c).1 c.put_in_new.ensures.err)
+pub returns-clause-spent : goal.returns-clause-spent
+returns-clause-spent g c = rw c.class.ensures.class at c.put_words.ensures.spent

@@ -1,4 +1,4 @@
-use Rattle.std.proofs.Common.{◌≡◌, ◌<◌, ◌∙◌, ◌+◌, List, [], false, length, insert, ap, sym, subst, refl, arith}
+use Rattle.std.proofs.Common.{◌≡◌, ◌<◌, ◌∙◌, ◌+◌, List, [], false, length, insert, ap, sym, subst, refl, inl, inr, arith}
 use Rattle.std.specs.FinMap as map
 use Rattle.std.specs.FinSet as set
 use Rattle.span.proofs.LegalLogs.{puts_of-empty}
@@ -6,8 +6,8 @@ use Rattle.span.specs.Ids.{rank}
 use Rattle.span.specs.Log.{live_slots, puts_of, worn_slots}
 use Rattle.span.specs.State.{SpanState}
 use Rattle.span.specs.declared.id.SpanId.{SpanId}
-use Rattle.page_table.specs.State.{with_word, TableState, HasPage}
-use Rattle.shard.specs.Calls.{IsFull, new_group}
+use Rattle.page_table.specs.State.{with_object, TableState, HasPage}
+use Rattle.shard.specs.Calls.{new_group}
 use Rattle.groups.specs.Group.{IsPlaceFor}
 use Rattle.groups.specs.Tables.{with_open}
 use Rattle.shard.specs.Group.{GroupState, group_of}
@@ -20,9 +20,13 @@ use Rattle.groups.proofs.HeadPlaces.{IsLower}
 use Rattle.shard.proofs.HeadPlaces.{IsPlaceFor-lower, no_head_next}
 use Rattle.groups.proofs.Standing.{head_id}
 use Rattle.shard.proofs.PutInNew.{IsSound-put_in_new}
-use Rattle.shard.proofs.RoomBits.{HasRooms-only}
+use Rattle.std.proofs.lemmas.Bool.{cases_eq}
+use Rattle.groups.proofs.Lists.{length_insert}
+use Rattle.shard.proofs.Classes.{cases_class}
+use Rattle.shard.proofs.RoomBits.{HasRooms-all, HasRooms-last, HasRooms-last_other}
 use Rattle.groups.proofs.Tables.{HasPage-with_open_same}
 use Rattle.shard.proofs.KnownGuests.{KnowsGuests-alone}
+use Rattle.shard.specs.Rooms.{rooms_of}
 use Rattle.shard.proofs.shard.Shard.put_in_new.Goals as goal
 
 pub put_at-requires-clause-not_live : goal.put_at-requires-clause-not_live
@@ -31,33 +35,33 @@ put_at-requires-clause-not_live g c = ap (λ (s : SpanState). set.contains (live
 pub put_at-requires-clause-not_worn : goal.put_at-requires-clause-not_worn
 put_at-requires-clause-not_worn g c = ap (λ (s : SpanState). set.contains (worn_slots s.gens s.log) 0) c.with_log-head.ensures ∙ contains-worn_slots-empty c.self.inside.gens 0 c.self.invariant.gens_fit
 
-pub set_at-requires : goal.set_at-requires
-set_at-requires g c = subst (λ (t : TableState). HasPage t c.in_ok-page.page) (sym c.in_ok-page.ensures.ok) (HasPage-with_open_same c.self.inside.table c.in-Some.id c.in_ok-page.page)
+pub set_at-requires-clause-page : goal.set_at-requires-clause-page
+set_at-requires-clause-page g c = subst (λ (t : TableState). HasPage t c.in_ok-page.page) (sym c.in_ok-page.ensures.ok) (HasPage-with_open_same c.self.inside.table c.in-Some.id c.in_ok-page.page)
 
-head_now : (g : _) (c : goal.After-self-3-1 g) → c.put_at.new.self ≡ with_put (record { id = c.in-Some.id; gens = c.self.inside.gens; log = [] }) 0 c.args.value
-head_now g c = c.in_ok-key.ensures.ok ∙ ap (λ (s : SpanState). with_put s 0 c.args.value) c.with_log-head.ensures
+head_now : (g : _) (c : goal.After-self-2-1 g) → c.put_at.new.self ≡ with_put (record { id = c.in-Some.id; class = c.args.class; gens = c.self.inside.gens; log = [] }) 0 c.args.words.now
+head_now g c = c.in_ok-key.ensures.ok ∙ ap (λ (s : SpanState). with_put s 0 c.args.words.now) c.with_log-head.ensures
 
-abbrev made : (g : _) → goal.After-self-3-1 g → GroupState
-made g c = new_group c.in-Some.id c.self.inside.gens c.in_ok-page.page c.args.value
+abbrev made : (g : _) → goal.After-self-2-1 g → GroupState
+made g c = new_group c.in-Some.id c.args.class c.self.inside.gens c.in_ok-page.page c.args.words.now
 
-group_now : (g : _) (c : goal.After-self-3-1 g) → c.of-2.result ≡ made g c
+group_now : (g : _) (c : goal.After-self-2-1 g) → c.of-2.result ≡ made g c
 group_now g c = c.of-2.ensures ∙ rw c.of.ensures (ap (λ (head : SpanState). group_of (record { head = head; guests = [] }) c.in_ok-page.page false) (head_now g c))
 
-list_is : (g : _) (c : goal.After-self-3-1 g) → c.as_slice.result.now ≡ c.self.inside.groups.items
+list_is : (g : _) (c : goal.After-self-2-1 g) → c.as_slice.result.now ≡ c.self.inside.groups.items
 list_is g c = c.as_slice.ensures.value ∙ c.in_ok-reserve.ensures.items
 
-groups_now : (g : _) (c : goal.After-self-3-1 g) → c.insert_reserved.new.groups.items ≡ insert c.self.inside.groups.items c.lower_heads-index.result (made g c)
+groups_now : (g : _) (c : goal.After-self-2-1 g) → c.insert_reserved.new.groups.items ≡ insert c.self.inside.groups.items c.lower_heads-index.result (made g c)
 groups_now g c = c.insert_reserved.ensures.items ∙ rw (c.in_ok-reserve.ensures.items, group_now g c) refl
 
-table_now : (g : _) (c : goal.After-self-3-1 g) → c.set_at.new.self ≡ with_word (with_open c.self.inside.table c.in-Some.id c.in_ok-page.page) c.in_ok-page.page 0 c.args.value
+table_now : (g : _) (c : goal.After-self-2-1 g) → c.set_at.new.self ≡ with_object (with_open c.self.inside.table c.in-Some.id c.in_ok-page.page) c.in_ok-page.page c.args.class 0 c.args.words.now
 table_now g c = c.set_at.ensures ∙ rw c.in_ok-page.ensures.ok refl
 
-lower_now : (g : _) (c : goal.After-self-3-1 g) → IsLower head_id c.self.inside.groups.items (rank c.in-Some.id) c.lower_heads-index.result
+lower_now : (g : _) (c : goal.After-self-2-1 g) → IsLower head_id c.self.inside.groups.items (rank c.in-Some.id) c.lower_heads-index.result
 lower_now g c =
     subst (λ (groups : List GroupState). IsLower head_id groups (rank c.in-Some.id) c.lower_heads-index.result) (list_is g c)
     (record { within = c.lower_heads-index.ensures.within; lower = c.lower_heads-index.ensures.lower; others = c.lower_heads-index.ensures.others })
 
-place_now : (g : _) (c : goal.After-self-3-1 g) → IsPlaceFor c.self.inside.groups.items c.in-Some.id c.lower_heads-index.result
+place_now : (g : _) (c : goal.After-self-2-1 g) → IsPlaceFor c.self.inside.groups.items c.in-Some.id c.lower_heads-index.result
 place_now g c =
     IsPlaceFor-lower c.self.inside.groups.items c.in-Some.id c.lower_heads-index.result (lower_now g c)
     (no_head_next (state_of c.self.inside) c.self.invariant.sound c.in-Some.id c.in-Some.ensures.parts.0 c.in-Some.ensures.parts.1)
@@ -68,11 +72,20 @@ invariant_of-self-2 g c = record {
   pages_fit = c.self.invariant.pages_fit;
   gens_fit = c.self.invariant.gens_fit;
   sound = rw (groups_now g c, table_now g c)
-      (IsSound-put_in_new (state_of c.self.inside) c.self.invariant.sound c.in-Some.id c.in_ok-page.page c.lower_heads-index.result c.args.value c.in-Some.ensures.parts.0 c.in-Some.ensures.parts.1 c.in_ok-page.ensures.new_page (place_now g c)
+      (IsSound-put_in_new (state_of c.self.inside) c.self.invariant.sound c.in-Some.id c.args.class c.in_ok-page.page c.lower_heads-index.result c.args.words.now c.requires.width c.in-Some.ensures.parts.0 c.in-Some.ensures.parts.1 c.in_ok-page.ensures.new_page (place_now g c)
       (ap (λ (s : ShardState). s.ended) c.self.view_is ∙ c.requires.running)
       (subst (λ (s : ShardState). length s.groups < s.page_limit) (sym c.self.view_is) c.requires.pages)
       (subst (λ (s : ShardState). s.opened < 1024) (sym c.self.view_is) c.requires.opened));
-  rooms = rw (groups_now g c, c.insert.ensures, c.empty-self-inside.ensures) (HasRooms-only c.self.inside.groups.items c.lower_heads-index.result (made g c) (place_now g c).within (subst (λ (s : ShardState). IsFull s.groups) (sym c.self.view_is) c.requires.full));
+  rooms = λ class. rw (groups_now g c) (elim (cases_eq (c.lower_heads-index.result + 1) c.len.result) [
+    | inl last ↦
+        let at_end : c.lower_heads-index.result ≡ length c.self.inside.groups.items = omega (arith, last, c.len.ensures, c.insert_reserved.ensures.len, c.in_ok-reserve.ensures.len, c.self.inside.groups.ok.0) in
+        elim (cases_class class c.args.class) [
+          | inl same ↦ rw (same, c.note_opened.ensures.this (sym last)) (HasRooms-last c.args.class c.self.inside.groups.items c.lower_heads-index.result (made g c) (rooms_of c.self.inside.rooms c.args.class) at_end (c.self.invariant.rooms c.args.class))
+          | inr apart ↦ rw (c.note_opened.ensures.others (sym last) class apart) (HasRooms-last_other class c.self.inside.groups.items c.lower_heads-index.result (made g c) (rooms_of c.self.inside.rooms class) at_end (λ e. apart (sym e)) (c.self.invariant.rooms class))
+        ]
+    | inr more ↦ HasRooms-all class _ (rooms_of c.note_opened.new.self class) c.len.result (omega (arith, c.len.ensures, c.insert_reserved.ensures.len, c.in_ok-reserve.ensures.len, c.self.inside.groups.ok.0, length_insert c.self.inside.groups.items c.lower_heads-index.result (made g c)))
+        (c.note_opened.ensures.moved (omega (arith, more, c.len.ensures, c.insert_reserved.ensures.len, c.in_ok-reserve.ensures.len, c.lower_heads-index.ensures.within, c.as_slice.ensures.len)) class)
+  ]);
   room_for_groups = omega (arith, c.self.invariant.room_for_groups, c.insert_reserved.ensures.len, c.insert_reserved.ensures.capacity, c.in_ok-reserve.ensures.len, c.in_ok-reserve.ensures.ok, c.in_ok-reserve.ensures.capacity, ap (λ (t : TableState). t.page_room) (table_now g c));
   no_guests = c.self.invariant.no_guests;
   room_for_guests = HasGuestRoom-none _ _ _;
@@ -108,7 +121,7 @@ invariant_of-self g c = record {
   pages_fit = c.self.invariant.pages_fit;
   gens_fit = c.self.invariant.gens_fit;
   sound = rw c.reserve.ensures.items c.self.invariant.sound;
-  rooms = rw c.reserve.ensures.items c.self.invariant.rooms;
+  rooms = λ class. rw c.reserve.ensures.items (c.self.invariant.rooms class);
   room_for_groups = omega (arith, c.self.invariant.room_for_groups, c.reserve.ensures.len, c.reserve.ensures.capacity);
   no_guests = c.self.invariant.no_guests;
   room_for_guests = rw c.reserve.ensures.items c.self.invariant.room_for_guests;
@@ -122,7 +135,7 @@ invariant_of-self-in_err-page g c = record {
   pages_fit = c.self.invariant.pages_fit;
   gens_fit = c.self.invariant.gens_fit;
   sound = rw (c.in_ok-reserve.ensures.items, c.in_err-page.ensures.err) c.self.invariant.sound;
-  rooms = rw c.in_ok-reserve.ensures.items c.self.invariant.rooms;
+  rooms = λ class. rw c.in_ok-reserve.ensures.items (c.self.invariant.rooms class);
   room_for_groups = omega (arith, c.self.invariant.room_for_groups, c.in_ok-reserve.ensures.len, c.in_ok-reserve.ensures.capacity, ap (λ (t : TableState). t.page_room) c.in_err-page.ensures.err);
   no_guests = c.self.invariant.no_guests;
   room_for_guests = rw (c.in_ok-reserve.ensures.items, c.in_err-page.ensures.err) c.self.invariant.room_for_guests;

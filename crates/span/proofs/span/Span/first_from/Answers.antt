@@ -1,4 +1,5 @@
-use Rattle.std.proofs.Common.{ap, subst, sym, ◌∙◌, get_or}
+use Rattle.std.proofs.Common.{subst, sym}
+use Rattle.span.specs.LastGiven.{last_given}
 use Rattle.span.specs.Log.{Holds}
 use Rattle.span.specs.Order.{HasNoMemberFrom, IsLowestFrom}
 use Rattle.span.proofs.Keeping.{kept-Holds, live-within}
@@ -14,21 +15,21 @@ returns-in_default-clause-first g c =
 pub generation_of-generation-requires : goal.generation_of-generation-requires
 generation_of-generation-requires g c =
     let inside = c.self.inside in
-    rw c.deref.ensures.value (live-within inside.gens (g.L.Log.changes inside.log) inside.live inside.worn inside.generations.items c.self.invariant.follows c.in-Some.slot c.in-Some.ensures.in_range c.in-Some.ensures.lowest.inside)
+    (live-within inside.gens (g.L.Log.changes inside.log) inside.live inside.worn (last_given inside.generations) c.self.invariant.follows c.in-Some.slot c.in-Some.ensures.in_range c.in-Some.ensures.lowest.inside)
 
 pub invariant_of-result : goal.invariant_of-result
 invariant_of-result g c =
     let inside = c.self.inside in
     let held : Holds (g.L.Log.changes inside.log) c.in-Some.slot c.generation_of-generation.result =
-    kept-Holds inside.gens (g.L.Log.changes inside.log) inside.live inside.worn inside.generations.items c.self.invariant.follows c.in-Some.slot c.in-Some.ensures.in_range c.generation_of-generation.result
-    c.in-Some.ensures.lowest.inside (ap (λ xs. get_or xs c.in-Some.slot 0) (sym c.deref.ensures.value) ∙ sym c.generation_of-generation.ensures) in
+    kept-Holds inside.gens (g.L.Log.changes inside.log) inside.live inside.worn (last_given inside.generations) c.self.invariant.follows c.in-Some.slot c.in-Some.ensures.in_range c.generation_of-generation.result
+    c.in-Some.ensures.lowest.inside (sym c.generation_of-generation.ensures) in
     record { generation_in_range = Holds-some inside.gens (g.L.Log.changes inside.log) c.in-Some.slot c.generation_of-generation.result c.self.invariant.follows.legal held }
 
 pub returns-clause-first : goal.returns-clause-first
 returns-clause-first g c =
     let inside = c.self.inside in
     let held : Holds (g.L.Log.changes inside.log) c.in-Some.slot c.generation_of-generation.result =
-    kept-Holds inside.gens (g.L.Log.changes inside.log) inside.live inside.worn inside.generations.items c.self.invariant.follows c.in-Some.slot c.in-Some.ensures.in_range c.generation_of-generation.result
-    c.in-Some.ensures.lowest.inside (ap (λ xs. get_or xs c.in-Some.slot 0) (sym c.deref.ensures.value) ∙ sym c.generation_of-generation.ensures) in
+    kept-Holds inside.gens (g.L.Log.changes inside.log) inside.live inside.worn (last_given inside.generations) c.self.invariant.follows c.in-Some.slot c.in-Some.ensures.in_range c.generation_of-generation.result
+    c.in-Some.ensures.lowest.inside (sym c.generation_of-generation.ensures) in
     rw (← c.self.view_is) (IsFirstHeld-lowest inside.gens (g.L.Log.changes inside.log) c.args.slot _ c.self.invariant.follows.legal
     (subst (λ s. IsLowestFrom s c.args.slot c.in-Some.slot) c.self.invariant.follows.live_is c.in-Some.ensures.lowest) held)

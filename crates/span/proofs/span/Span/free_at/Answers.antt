@@ -1,10 +1,13 @@
-use Rattle.std.proofs.Common.{ℕ, ◌≡◌, ◌+◌, ◌≤◌, ◌<◌, true, arith, sym, subst, List, Vec, length, length-append, ◌*◌, ◌++◌, ◌∷◌, []}
+use Rattle.std.proofs.Common.{ℕ, ◌≡◌, ◌+◌, ◌≤◌, ◌<◌, true, arith, sym, subst, List, length, length-append, ◌*◌, ◌++◌, ◌∷◌, []}
 use Rattle.std.specs.FinSet as set
 use Rattle.span.specs.Log.{Holds, all_puts}
 use Rattle.span.specs.State.{SpanState}
 use Rattle.span.specs.Kept.{IsKept}
-use Rattle.std.specs.declared.alloc.Global.{Global}
+use Rattle.span.specs.LastGiven.{last_given}
+use Rattle.span.specs.declared.generations.Generations.{Generations}
 use Rattle.bitmap.specs.Slots.{SlotSet}
+use Rattle.span.specs.declared.class.Class.{Class}
+use Rattle.span.proofs.OfClass.{IsOfClass-push}
 use Rattle.span.specs.declared.change.Change.{Change}
 use Rattle.span.specs.declared.change.Change.TheVariants.{Free}
 use Rattle.span.proofs.Counting.{all_puts-free, all_puts-le}
@@ -12,9 +15,9 @@ use Rattle.span.proofs.Keeping.{Holds-kept, Follows-free, len-remove_member, som
 use Rattle.span.proofs.span.Span.free_at.Goals as goal
 
 -- what the room kept for a live key's free comes to
-module _ {gens : ℕ} {live worn : SlotSet} {generations : Vec ℕ Global} {log : List Change} {room : ℕ} (kept : IsKept gens live worn generations log room) (slot generation : ℕ) (within : slot < 256) (holds : Holds log slot generation) where
+module _ {class : Class} {gens : ℕ} {live worn : SlotSet} {generations : Generations} {log : List Change} {room : ℕ} (kept : IsKept class gens live worn generations log room) (slot generation : ℕ) (within : slot < 256) (holds : Holds log slot generation) where
   member : set.contains live slot ≡ true
-  member = (Holds-kept gens log live worn generations.items kept.follows slot within generation holds).0
+  member = (Holds-kept gens log live worn (last_given generations) kept.follows slot within generation holds).0
 
   room_for_free : 0 < room
   room_for_free = omega (arith, kept.room_for_frees, some_member live slot member)
@@ -26,12 +29,12 @@ module _ {gens : ℕ} {live worn : SlotSet} {generations : Vec ℕ Global} {log 
   count_after_free =
       omega (arith, kept.freed_once, all_puts-free log slot generation, length-append log (Free slot generation ∷ []), some_member live slot member, len-remove_member live slot member)
 
-pub push_reserved-requires-clause-in_range : goal.push_reserved-requires-clause-in_range
-push_reserved-requires-clause-in_range g c =
+pub push_free-requires-clause-in_range : goal.push_free-requires-clause-in_range
+push_free-requires-clause-in_range g c =
     omega (arith, c.self.invariant.freed_once, c.self.invariant.gens_fit, all_puts-le _ _ c.self.invariant.follows.legal)
 
-pub push_reserved-requires-clause-room : goal.push_reserved-requires-clause-room
-push_reserved-requires-clause-room g c =
+pub push_free-requires-clause-room : goal.push_free-requires-clause-room
+push_free-requires-clause-room g c =
     room_for_free c.self.invariant c.args.slot c.args.generation c.ranges.slot.fits
     (subst (λ (s : SpanState). Holds s.log c.args.slot c.args.generation) (sym c.self.view_is) c.requires)
 
@@ -41,14 +44,15 @@ invariant_of-self g c =
     let holds : Holds (g.L.Log.changes inside.log) c.args.slot c.args.generation = subst (λ (s : SpanState). Holds s.log c.args.slot c.args.generation) (sym c.self.view_is) c.requires in
     record {
       some_generation = c.self.invariant.some_generation;
-      follows = rw (c.push_reserved.ensures.changes, c.remove.ensures)
-          (Follows-free inside.gens (g.L.Log.changes inside.log) inside.live inside.worn inside.generations.items c.self.invariant.follows c.args.slot c.ranges.slot.fits c.args.generation holds);
-      at_most_all = c.self.invariant.at_most_all;
+      follows = rw (c.push_free.ensures.changes, c.remove.ensures)
+          (Follows-free inside.gens (g.L.Log.changes inside.log) inside.live inside.worn (last_given inside.generations) c.self.invariant.follows c.args.slot c.ranges.slot.fits c.args.generation holds);
+      all_or_none = c.self.invariant.all_or_none;
       gens_fit = c.self.invariant.gens_fit;
-      freed_once = rw (c.push_reserved.ensures.changes, c.remove.ensures)
+      of_class = rw c.push_free.ensures.changes (IsOfClass-push inside.class (g.L.Log.changes inside.log) _ c.self.invariant.of_class tt);
+      freed_once = rw (c.push_free.ensures.changes, c.remove.ensures)
           (count_after_free c.self.invariant c.args.slot c.args.generation c.ranges.slot.fits holds);
       room_for_frees = rw c.remove.ensures
-          (omega (arith, c.push_reserved.ensures.room, room_after_free c.self.invariant c.args.slot c.args.generation c.ranges.slot.fits holds));
+          (omega (arith, c.push_free.ensures.room, room_after_free c.self.invariant c.args.slot c.args.generation c.ranges.slot.fits holds));
     }
 
 pub returns-clause-legal : goal.returns-clause-legal

@@ -8,9 +8,10 @@ use Rattle.span.proofs.span.Span.with_log.Goals as goal
 pub invariant_of-result : goal.invariant_of-result
 invariant_of-result g c = record {
   some_generation = c.requires;
-  follows = rw (c.new.ensures.items, c.new-2.ensures, c.empty.ensures, c.empty-2.ensures) (Follows-empty c.args.gens c.requires);
-  at_most_all = omega (arith, c.new.ensures.len);
+  follows = rw (c.new.ensures.none, c.new-2.ensures, c.empty.ensures, c.empty-2.ensures) (Follows-empty c.args.gens c.requires);
+  all_or_none = c.new.ensures.all_or_none c.args.class;
   gens_fit = c.ranges.gens.fits;
+  of_class = rw c.new-2.ensures tt;
   freed_once = rw (c.new-2.ensures, c.empty.ensures, set.len-empty nat_cmp) (omega (arith, all_puts-empty));
   room_for_frees = rw (c.empty.ensures, set.len-empty nat_cmp) (omega arith);
 }

@@ -1,14 +1,17 @@
-use Rattle.std.proofs.Common.{◌≡◌, ◌-◌, ◌≤◌}
-use Rattle.std.specs.Prelude.{replicate}
+use Rattle.std.proofs.Common.{◌≡◌, ◌+◌, ◌-◌, ◌≤◌, map}
+use Rattle.std.specs.List.{range_with_len}
 use Rattle.thread_runner.specs.Asked.{Frees}
 use Rattle.thread_runner.specs.Grown.{Tells}
+use Rattle.thread_runner.specs.Known.{AreKnown}
 use Rattle.thread_runner.proofs.caller.Caller.sweep.Given as goal
 
 -- the frees so far
 abbrev pub invariant-loop-index : goal.invariant-loop-index
 invariant-loop-index g l = record {
-  told : Tells l.fn.self.seat.worker l.number (replicate (l.index - l.fn.indices.start) Frees) l.fn.self.diary l.self.diary;
+  told : Tells l.fn.self.seat.section l.fn.self.seat.worker l.number (map (λ k. Frees (l.first + k)) (range_with_len l.fn.indices.start (l.index - l.fn.indices.start)))
+      (AreKnown l.keys.kept.items l.fn.self.fresh.items) (AreKnown l.keys.kept.items l.self.fresh.items) l.fn.self.diary l.self.diary;
   bound : l.index - l.fn.indices.start ≤ l.fn.indices.end - l.fn.indices.start;
   table : l.self.seat.table ≡ l.fn.self.seat.table;
   thread : l.self.seat.worker ≡ l.fn.self.seat.worker;
+  section : l.self.seat.section ≡ l.fn.self.seat.section;
 }

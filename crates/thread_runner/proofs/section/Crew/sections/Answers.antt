@@ -1,8 +1,12 @@
-use Rattle.std.proofs.Common.{◌≡◌, ◌∙◌, ◌+◌, ap, arith, length, refl, sym}
+use Rattle.std.proofs.Common.{◌≡◌, ◌∙◌, ◌+◌, ◌<◌, ◌≤◌, ◌^◌, Some, ap, arith, length, refl, rules, slice_get, subst, sym, take, true, false}
+use Rattle.std.proofs.lemmas.List.{take_all}
 use Rattle.std.proofs.lemmas.Option.{slice_get_read}
-use Rattle.thread_runner.specs.Marked.{is_mark_at, marks_above}
+use Rattle.std.proofs.lemmas.Result.{IfOk-weaker}
+use Rattle.thread_runner.specs.Marked.{is_mark, is_mark_at, marks_above}
 use Rattle.thread_runner.specs.Noted.{plan_pairs}
-use Rattle.thread_runner.proofs.Noting.{HaveCome-other, HaveCome-same, is_mark_at-here, marks_above-other}
+use Rattle.trace_text.specs.Causes.{marks}
+use Rattle.thread_runner.proofs.Noting.{HaveCome-other, HaveCome-same, barrier_from-mark, is_mark_at-here, marks_above-other}
+use Rattle.thread_runner.proofs.Numbering.{IsOneSection, IsOneSection-mark, IsOneSection-other}
 use Rattle.thread_runner.proofs.section.Crew.sections.Goals as goal
 use Rattle.thread_runner.proofs.section.Crew.sections.Goals.{then-is_mark+in_ok-both, else-is_mark}
 
@@ -10,36 +14,62 @@ pub loop-place-preserved : goal.loop-place-preserved
 loop-place-preserved g c =
     let lines = c.args.lines.now in
     let place = c.loop-place.place in
+    let line = c.index-lines-place.result in
     let so_far = c.loop-place.invariant in
-    let is : is_mark_at lines place ≡ c.is_mark.result =
-    is_mark_at-here lines place c.index-lines-place.result
-    (slice_get_read lines (length lines) place c.index-lines-place.result refl (omega (arith, c.loop-place-test.true, c.loop-place.auto.place-end)) c.index-lines-place.is) ∙ sym c.is_mark.ensures in
+    let here : slice_get lines place ≡ Some line = slice_get_read lines (length lines) place line refl (omega (arith, c.loop-place-test.true, c.loop-place.auto.place-end)) c.index-lines-place.is in
+    let is : is_mark_at lines place ≡ c.is_mark.result = is_mark_at-here lines place line here ∙ sym c.is_mark.ensures in
     elim c.if-is_mark.branch [
       | then-is_mark+in_ok-both w ↦
           let from_is = w.from-is in
+          let sections_is = ap (λ k. k.sections) w.crew-is ∙ w.in_ok-both.ensures.sections in
+          let mark : is_mark line ≡ true = sym c.is_mark.ensures ∙ w.if-is_mark.true in
+          let next = IsOneSection-mark lines c.loop-place.from place c.loop-place.crew.sections line here mark so_far.within so_far.one in
           record {
             within = omega (arith, from_is);
             come = HaveCome-same lines (place + 1) c.if-is_mark.from w.in_ok-both.both.1.steward.plan c.if-is_mark.keeper.steward.plan w.in_ok-both.both.1.minutes c.if-is_mark.keeper.minutes from_is
                 (ap (λ k. plan_pairs k.steward.plan) w.keeper-is) (ap (λ k. k.minutes) w.keeper-is)
-                (w.in_ok-both.ensures lines c.loop-place.from so_far.come w.barrier_of-barrier.ensures.barrier so_far.same (is ∙ w.if-is_mark.true));
+                (w.in_ok-both.ensures.notes lines so_far.come w.barrier_of-barrier.ensures.barrier so_far.same (is ∙ w.if-is_mark.true));
             same = ap (marks_above lines) (sym from_is);
+            one = subst (λ s. IsOneSection lines c.if-is_mark.from (place + 1) s) (sym sections_is) (subst (λ f. IsOneSection lines f (place + 1) (c.loop-place.crew.sections + 1)) (sym from_is) next);
           }
       | else-is_mark w ↦
           let from_is = w.from-is in
+          let sections_is = ap (λ k. k.sections) w.crew-is in
+          let other : is_mark line ≡ false = sym c.is_mark.ensures ∙ w.if-is_mark.false in
+          let next = IsOneSection-other lines c.loop-place.from place c.loop-place.crew.sections line here other so_far.within so_far.one in
           record {
             within = let within = so_far.within in omega (arith, from_is);
             come = HaveCome-same lines c.loop-place.from c.if-is_mark.from c.loop-place.keeper.steward.plan c.if-is_mark.keeper.steward.plan c.loop-place.keeper.minutes c.if-is_mark.keeper.minutes from_is
                 (ap (λ k. plan_pairs k.steward.plan) w.keeper-is) (ap (λ k. k.minutes) w.keeper-is) so_far.come;
             same = marks_above-other lines place (is ∙ w.if-is_mark.false) ∙ so_far.same ∙ ap (marks_above lines) (sym from_is);
+            one = subst (λ s. IsOneSection lines c.if-is_mark.from (place + 1) s) (sym sections_is) (subst (λ f. IsOneSection lines f (place + 1) c.loop-place.crew.sections) (sym from_is) next);
           }
     ]
 
-pub returns : goal.returns
-returns g c =
+pub section-requires-clause-bounds : goal.section-requires-clause-bounds
+section-requires-clause-bounds g c κs within =
+    let lines = c.args.lines.now in
+    let place = c.loop-place.place in
+    let line = c.index-lines-place.result in
+    let here : slice_get lines place ≡ Some line = slice_get_read lines (length lines) place line refl (omega (arith, c.loop-place-test.true, c.loop-place.auto.place-end)) c.index-lines-place.is in
+    let mark : is_mark line ≡ true = sym c.is_mark.ensures ∙ c.if-is_mark.true in
+    let before = barrier_from-mark lines c.loop-place.from place line here mark c.loop-place.invariant.within in
+    let few : place < 2 ^ 63 = search rules in
+    (c.barrier_of-barrier.ensures.within.0, subst (λ b. b ≤ place) (sym c.barrier_of-barrier.ensures.barrier) before, few)
+
+pub returns-clause-notes : goal.returns-clause-notes
+returns-clause-notes g c =
     let lines = c.args.lines.now in
     let so_far = c.loop-place.invariant in
     let end : c.loop-place.place ≡ length lines = omega (arith, c.loop-place-test.false, c.loop-place.auto.place-end) in
-    let come = HaveCome-same lines c.loop-place.from c.loop-place.from c.loop-place.keeper.steward.plan c.in_ok-crew.keeper.steward.plan c.loop-place.keeper.minutes c.in_ok-crew.keeper.minutes refl
-    c.in_ok-crew.ensures.pairs c.in_ok-crew.ensures.minutes so_far.come in
-    (HaveCome-other lines c.loop-place.from (length lines) c.in_ok-keeper.keeper.minutes (ap (marks_above lines) (sym end) ∙ so_far.same)
-    (c.in_ok-keeper.ensures.minutes lines c.loop-place.from come c.barrier_of.ensures.barrier)).noted
+    IfOk-weaker c.last_section.result _ _
+    (λ both come. (HaveCome-other lines c.loop-place.from (length lines) both.1.minutes (ap (marks_above lines) (sym end) ∙ so_far.same) come).noted)
+    (c.last_section.ensures.notes lines so_far.come c.barrier_of-barrier-2.ensures.barrier)
+
+pub returns-clause-sections : goal.returns-clause-sections
+returns-clause-sections g c =
+    let lines = c.args.lines.now in
+    let so_far = c.loop-place.invariant in
+    let end : c.loop-place.place ≡ length lines = omega (arith, c.loop-place-test.false, c.loop-place.auto.place-end) in
+    let all : marks lines ≡ c.loop-place.crew.sections = ap marks (sym (take_all (length lines) lines (omega arith))) ∙ ap (λ n. marks (take n lines)) (sym end) ∙ so_far.one c.loop-place.place so_far.within (omega arith) in
+    IfOk-weaker c.last_section.result _ _ (λ both sections. sections ∙ ap (λ n. n + 1) (sym all)) c.last_section.ensures.sections

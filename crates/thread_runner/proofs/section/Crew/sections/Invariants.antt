@@ -1,6 +1,7 @@
 use Rattle.std.proofs.Common.{◌≡◌, ◌≤◌}
 use Rattle.thread_runner.specs.Marked.{marks_above}
 use Rattle.thread_runner.specs.Noted.{HaveCome, plan_pairs}
+use Rattle.thread_runner.proofs.Numbering.{IsOneSection}
 use Rattle.thread_runner.proofs.section.Crew.sections.Given as goal
 
 -- all marks so far are noted, and below the last there is no other
@@ -9,4 +10,12 @@ invariant-loop-place g l = record {
   within : l.from ≤ l.place;
   come : HaveCome l.lines l.from (plan_pairs l.keeper.steward.plan) l.keeper.minutes;
   same : marks_above l.lines l.place ≡ marks_above l.lines l.from;
+  one : IsOneSection l.lines l.from l.place l.crew.sections;
 }
+
+-- the section at hand
+abbrev pub ghosts-section : goal.ghosts-section
+ghosts-section g a = record { kept = a.self.keys.kept.items; section = a.self.sections }
+
+abbrev pub ghosts-last_section : goal.ghosts-last_section
+ghosts-last_section g a = record { kept = a.self.keys.kept.items; section = a.self.sections }

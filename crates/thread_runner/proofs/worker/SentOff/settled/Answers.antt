@@ -1,13 +1,26 @@
-use Rattle.std.proofs.Common.{◌∙◌, ap}
+use Rattle.std.proofs.Common.{◌∙◌, ap, subst, sym}
 use Rattle.arena.specs.Seats.{Table}
+use Rattle.thread_runner.specs.Grown.{TakesIn, Tracks}
+use Rattle.thread_runner.specs.Known.{AreKnown}
 use Rattle.thread_runner.proofs.Following.{Tracks-barrier}
 use Rattle.thread_runner.proofs.worker.SentOff.settled.Goals as goal
 
 pub invariant_of-result : goal.invariant_of-result
-invariant_of-result g c = record {
-  rows = ap (λ (t : Table). t.rows) c.settle.ensures.table ∙ c.args.self.worker.rows;
-  columns = ap (λ (t : Table). t.columns) c.settle.ensures.table ∙ c.args.self.worker.columns;
-  reads = c.args.self.worker.reads;
-  tracks = Tracks-barrier g.J.Reading.lines g.J.Reading.shown c.args.self.worker.caller.seat.worker c.settle.new.self.seat.worker c.args.self.worker.done c.in_ok-settle.field-0
-      c.args.self.worker.caller.diary c.settle.new.self.diary c.settle.ensures.thread c.in_ok-settle.ensures.told c.args.self.worker.tracks;
-}
+invariant_of-result g c =
+    let lines = g.J.Reading.lines in
+    let shown = g.J.Reading.shown in
+    let kept = g.K.Known.kept in
+    let section = g.K.Known.section in
+    let worker = c.args.self.worker in
+    let old = worker.caller in
+    let later = c.settle.new.self in
+    let count = c.in_ok-settle.field-0 in
+    record {
+      rows = ap (λ (t : Table). t.rows) c.settle.ensures.table ∙ worker.rows;
+      columns = ap (λ (t : Table). t.columns) c.settle.ensures.table ∙ worker.columns;
+      reads = worker.reads;
+      section = c.settle.ensures.section ∙ worker.section;
+      tracks = Tracks-barrier lines shown (AreKnown kept later.fresh.items) section old.seat.worker later.seat.worker worker.done count old.diary later.diary c.settle.ensures.thread
+          (subst (λ n. TakesIn n old.seat.worker count old.diary later.diary) worker.section c.in_ok-settle.ensures.told)
+          (subst (λ f. Tracks lines shown (AreKnown kept f.items) old.seat.worker worker.done section old.diary) (sym c.settle.ensures.fresh) worker.tracks);
+    }

@@ -1,29 +1,51 @@
-use Rattle.std.proofs.Common.{◌≡◌, ◌∙◌, Some, ap, slice_get, subst}
+use Rattle.std.proofs.Common.{◌≡◌, ◌∙◌, ◌+◌, Some, ap, arith, slice_get, subst, sym, take}
 use Rattle.arena.specs.Seats.{Table}
-use Rattle.trace_text.specs.declared.line.Line.TheVariants as line
-use Rattle.thread_runner.specs.Asked.{places_of}
+use Rattle.thread_runner.specs.Asked.{asked_at, places_of}
+use Rattle.thread_runner.specs.Grown.{Tells, Tracks}
+use Rattle.thread_runner.specs.Known.{AreKnown}
 use Rattle.thread_runner.proofs.Following.{Tracks-kept, Tracks-line}
 use Rattle.thread_runner.proofs.Places.{line_at-place}
 use Rattle.thread_runner.proofs.worker.Worker.run.Goals as goal
 
 pub loop-init : goal.loop-init
-loop-init g c = record {
-  tracks = Tracks-kept g.J.Reading.lines g.J.Reading.shown c.args.self.caller.seat.worker c.reserve.new.self.seat.worker c.args.self.done c.args.self.caller.diary c.reserve.new.self.diary
-      c.reserve.ensures.thread c.in_ok-reserve.ensures.told c.args.self.tracks;
-  rows = ap (λ (t : Table). t.rows) c.reserve.ensures.table ∙ c.args.self.rows;
-  columns = ap (λ (t : Table). t.columns) c.reserve.ensures.table ∙ c.args.self.columns;
-}
+loop-init g c =
+    let lines = g.J.Reading.lines in
+    let shown = g.J.Reading.shown in
+    let kept = g.K.Known.kept in
+    let section = g.K.Known.section in
+    let caller = c.args.self.caller in
+    let later = c.reserve.new.self in
+    record {
+      tracks = Tracks-kept lines shown (AreKnown kept later.fresh.items) caller.seat.worker later.seat.worker c.args.self.done section caller.diary later.diary c.reserve.ensures.thread c.in_ok-reserve.ensures.told
+          (subst (λ f. Tracks lines shown (AreKnown kept f.items) caller.seat.worker c.args.self.done section caller.diary) (sym c.reserve.ensures.fresh) c.args.self.tracks);
+      section = c.reserve.ensures.section ∙ c.args.self.section;
+      rows = ap (λ (t : Table). t.rows) c.reserve.ensures.table ∙ c.args.self.rows;
+      columns = ap (λ (t : Table). t.columns) c.reserve.ensures.table ∙ c.args.self.columns;
+    }
 
 pub loop-preserved : goal.loop-preserved
 loop-preserved g c =
     let text = c.args.self.text.now in
+    let lines = g.J.Reading.lines in
+    let shown = g.J.Reading.shown in
+    let kept = g.K.Known.kept in
+    let section = g.K.Known.section in
+    let told = c.args.told.now in
+    let place = c.in-Some.place in
+    let worker = c.loop.caller.seat.worker in
+    let old = c.loop.caller in
+    let new = c.line.new.self in
     let next = rw c.thread-in-loop.ensures at (c.in-Some.ensures.place text.trace.now.lines.items text.laid) in
-    let called = line_at-place c.loop.caller.seat.worker text.trace.now.lines.items c.loop.done c.in-Some.place next in
-    let tells = c.in_ok-line.ensures.told called.0 called.1 in
+    let (l, here, own) = line_at-place worker text.trace.now.lines.items c.loop.done place next in
+    let tells = c.in_ok-line.ensures.told l here in
+    let known = subst (λ k. Tells old.seat.section worker (place + 6) (asked_at (take place text.trace.now.lines.items) l) (AreKnown k old.fresh.items) (AreKnown k new.fresh.items) old.diary new.diary) told.known tells in
+    let of_trace = subst (λ ls. Tells old.seat.section worker (place + 6) (asked_at (take place ls) l) (AreKnown kept old.fresh.items) (AreKnown kept new.fresh.items) old.diary new.diary) c.args.self.reads known in
+    let of_section = subst (λ n. Tells n worker (place + 6) (asked_at (take place lines) l) (AreKnown kept old.fresh.items) (AreKnown kept new.fresh.items) old.diary new.diary) c.loop.invariant.section of_trace in
     record {
-      tracks = Tracks-line g.J.Reading.lines g.J.Reading.shown c.loop.caller.seat.worker c.line.new.self.seat.worker c.loop.done c.in-Some.place called.0 c.loop.caller.diary c.line.new.self.diary
-          c.line.ensures.thread (subst (λ ls. slice_get (places_of c.loop.caller.seat.worker ls) c.loop.done ≡ Some c.in-Some.place) c.args.self.reads next)
-          (subst (λ ls. slice_get ls c.in-Some.place ≡ Some (line.Call c.loop.caller.seat.worker called.0)) c.args.self.reads called.1) tells c.loop.invariant.tracks;
+      tracks = Tracks-line lines shown (AreKnown kept old.fresh.items) (AreKnown kept new.fresh.items) section worker new.seat.worker c.loop.done place l old.diary new.diary c.line.ensures.thread
+          (sym (told.one place (omega (arith, c.if-place-told.false)) c.in-Some.ensures.above)) (subst (λ ls. slice_get (places_of worker ls) c.loop.done ≡ Some place) c.args.self.reads next)
+          (subst (λ ls. slice_get ls place ≡ Some l) c.args.self.reads here) own (c.in_ok-line.ensures.call l here) of_section c.loop.invariant.tracks;
+      section = c.line.ensures.section ∙ c.loop.invariant.section;
       rows = ap (λ (t : Table). t.rows) c.line.ensures.table ∙ c.loop.invariant.rows;
       columns = ap (λ (t : Table). t.columns) c.line.ensures.table ∙ c.loop.invariant.columns;
     }

@@ -4,6 +4,8 @@ use Rattle.std.proofs.lemmas.List.FromFn.{map-range_with_len_more}
 use Rattle.trace_runner.specs.Kept.{kept_in}
 use Rattle.trace_runner.specs.Recalls.{Makes}
 use Rattle.trace_runner.specs.Made.{Asked, Calls}
+use Rattle.trace_text.specs.Objects.{counted_from}
+use Rattle.trace_text.proofs.Bases.{last_word-each}
 use Rattle.arena_core.specs.declared.event.Event.TheVariants as event
 use Rattle.trace_runner.proofs.Making.{Makes-append}
 use Rattle.trace_runner.proofs.Shards.{IsOpen-kept, KeepsPlan-trans}
@@ -11,7 +13,7 @@ use Rattle.trace_runner.proofs.run.Run.fill.Goals as goal
 
 pub loop-i-preserved : goal.loop-i-preserved
 loop-i-preserved c =
-    let put : ℕ → Asked = λ k. Calls (event.Put c.args.thread (c.args.value + k)) in
+    let put : ℕ → Asked = λ k. Calls (event.Put c.args.thread (counted_from c.args.class (c.args.value + k))) in
     let more = map-range_with_len_more put 0 c.loop-i.i c.loop-i.i (zero-add c.loop-i.i) in
     record {
       made = subst (λ (asked : List Asked). Makes c.args.number asked c.args.self.now.core (kept_in c.args.self.now.replies) c.put.new.self.core (kept_in c.put.new.self.replies)) (sym more)
@@ -24,5 +26,8 @@ loop-i-preserved c =
       plans = c.put.ensures.plans ∙ c.loop-i.invariant.plans;
     }
 
-pub put-requires : goal.put-requires
-put-requires c = IsOpen-kept _ _ c.args.thread c.loop-i.invariant.shards.shards c.requires.running
+pub put-requires-clause-running : goal.put-requires-clause-running
+put-requires-clause-running c = IsOpen-kept _ _ c.args.thread c.loop-i.invariant.shards.shards c.requires.running
+
+pub put-requires-clause-within : goal.put-requires-clause-within
+put-requires-clause-within c = rw c.from.ensures (last_word-each c.args.class c.args.value c.args.count c.loop-i.i c.loop-i-test.true c.requires.within)

@@ -1,0 +1,191 @@
+/* Tests of pages.c: that pages leave the process, that no byte has two holders, whatever threads ask, and what comes of refusals.
+ * Link it with -Wl,--wrap=malloc,--wrap=mmap,--wrap=mprotect. With -DFEW it is built for a range of 4,096 pages, which is spent. The word
+ * `mmap` or `mprotect` has that refused. With -DWATCHED=1, under a sanitizer or valgrind, resident size is not looked at. */
+#include <pthread.h>
+#include <stdint.h>
+#include <stdio.h>
+#include <stdlib.h>
+#include <string.h>
+
+#ifndef ROUNDS
+#define ROUNDS 100000
+#endif
+#ifndef WATCHED
+#define WATCHED 0
+#endif
+
+struct got {
+    uint8_t ok;
+    void *at;
+};
+
+struct got rattle_alloc(size_t size, size_t least), rattle_realloc(void *at, size_t old, size_t size, size_t least);
+void rattle_dealloc(void *at);
+
+static int refuse_mmap, refuse_mprotect, refuse_malloc;
+void *__real_mmap(void *, size_t, int, int, int, long), *__real_malloc(size_t);
+int __real_mprotect(void *, size_t, int);
+
+void *__wrap_mmap(void *at, size_t size, int protection, int flags, int file, long from) {
+    return refuse_mmap ? (void *)-1 : __real_mmap(at, size, protection, flags, file, from);
+}
+
+int __wrap_mprotect(void *at, size_t size, int protection) { return refuse_mprotect ? -1 : __real_mprotect(at, size, protection); }
+
+void *__wrap_malloc(size_t size) { return refuse_malloc ? NULL : __real_malloc(size); }
+
+#define WANT(holds)                                                                                                                    \
+    do {                                                                                                                               \
+        if (!(holds)) {                                                                                                                \
+            printf("pages_test.c:%d: %s\n", __LINE__, #holds);                                                                         \
+            exit(1);                                                                                                                   \
+        }                                                                                                                              \
+    } while (0)
+
+/* Marsaglia's xorshift. */
+static uint32_t next(uint64_t *state) {
+    *state ^= *state << 13;
+    *state ^= *state >> 7;
+    *state ^= *state << 17;
+    return *state >> 16;
+}
+
+static void *alloc(size_t size, int mark) {
+    struct got got = rattle_alloc(size, 1);
+    WANT(got.ok);
+    memset(got.at, mark, size);
+    return got.at;
+}
+
+/* A block that a worker has, each byte of which is its mark. */
+struct kept {
+    uint8_t *at;
+    size_t size;
+    uint8_t mark;
+};
+
+static int is_whole(const struct kept *kept, size_t size) {
+    for (size_t i = 0; i < size; i++)
+        if (kept->at[i] != kept->mark) return 0;
+    return 1;
+}
+
+static const size_t sizes[] = {4096, 1024, 4096, 1024, 448, 9216, 0};
+
+static size_t a_size(uint64_t *state) { return sizes[next(state) % (sizeof sizes / sizeof sizes[0])]; }
+
+/* Asks for another size of the block, which keeps what it has of both. */
+static void change_size(struct kept *kept, uint64_t *state) {
+    size_t size = a_size(state);
+    struct got got = rattle_realloc(kept->at, kept->size, size, 16);
+    WANT(got.ok);
+    kept->at = got.at;
+    WANT(is_whole(kept, size < kept->size ? size : kept->size));
+    *kept = (struct kept){got.at, size, next(state)};
+    memset(kept->at, kept->mark, size);
+}
+
+/* Blocks are filled whole when they come, and looked at whole when they go: two holders of one byte would show. */
+static void *worker(void *number) {
+    enum { BLOCKS = 600 };
+    uint64_t state = 88172645463325252ull + (uintptr_t)number * 7919;
+    struct kept blocks[BLOCKS] = {{0}};
+    for (int round = 0; round < ROUNDS; round++) {
+        struct kept *kept = &blocks[next(&state) % BLOCKS];
+        if (!kept->at) {
+            size_t size = a_size(&state);
+            struct got got = rattle_alloc(size, 16);
+            WANT(got.ok);
+            *kept = (struct kept){got.at, size, next(&state)};
+            memset(kept->at, kept->mark, size);
+            continue;
+        }
+        WANT(is_whole(kept, kept->size));
+        if (next(&state) % 16 == 0) change_size(kept, &state);
+        else {
+            rattle_dealloc(kept->at);
+            kept->at = NULL;
+        }
+    }
+    for (int i = 0; i < BLOCKS; i++)
+        if (blocks[i].at) rattle_dealloc(blocks[i].at);
+    return NULL;
+}
+
+static void threads(void) {
+    pthread_t threads[8];
+    for (uintptr_t i = 0; i < 8; i++) WANT(pthread_create(&threads[i], NULL, worker, (void *)i) == 0);
+    for (int i = 0; i < 8; i++) WANT(pthread_join(threads[i], NULL) == 0);
+}
+
+/* Where the system refuses a range, malloc is asked, and a refusal of malloc is one, whose place is not NULL. */
+static void refused(void) {
+    void *page = alloc(4096, 1), *quarter = alloc(1024, 2);
+    rattle_dealloc(page);
+    rattle_dealloc(quarter);
+    refuse_malloc = 1;
+    struct got one = rattle_alloc(4096, 1), other = rattle_alloc(1024, 1);
+    refuse_malloc = 0;
+    WANT(!one.ok && !other.ok && one.at && other.at);
+    refuse_mmap = refuse_mprotect = 0;
+    rattle_dealloc(alloc(4096, 1));
+}
+
+enum { COUNT = 20000 };
+static uint8_t *page[COUNT], *quarter[COUNT];
+
+#ifndef FEW
+/* Resident kilobytes, as the system tells. */
+static long resident(void) {
+    long all, resident = 0;
+    FILE *file = fopen("/proc/self/statm", "r");
+    if (!file || fscanf(file, "%ld %ld", &all, &resident) != 2) exit(2);
+    fclose(file);
+    return resident * 4;
+}
+
+/* Blocks come in order, freed ones leave the process and come again, the lowest first, and the others keep their bytes. */
+static void leave_and_come(void) {
+    for (int i = 0; i < COUNT; i++) {
+        WANT((uintptr_t)page[i] % 4096 == 0 && (uintptr_t)quarter[i] % 1024 == 0);
+        WANT(i == 0 || (page[i] == page[i - 1] + 4096 && quarter[i] == quarter[i - 1] + 1024));
+    }
+    long full = resident();
+    for (int i = 1; i < COUNT; i += 2) rattle_dealloc(page[i]);
+    long half = resident();
+    WANT(WATCHED || full - half >= COUNT / 2 * 4 - 64 * 4 - 64);
+    for (int i = 0; i < COUNT; i++)
+        if (i % 8) rattle_dealloc(quarter[i]);
+    WANT(WATCHED || half - resident() >= COUNT / 8 * 4 - 64 * 4 - 64);
+    printf("%d KB were freed, and %ld left the process\n", COUNT / 2 * 4 + COUNT / 8 * 4, full - resident());
+    for (int i = 1; i < COUNT; i += 2) WANT(alloc(4096, 1) == page[i]);
+    for (int i = 0; i < COUNT; i++)
+        if (i % 8) WANT(alloc(1024, 2) == quarter[i]);
+    for (int i = 0; i < COUNT; i++) {
+        WANT(is_whole(&(struct kept){page[i], 4096, 1}, 4096));
+        WANT(is_whole(&(struct kept){quarter[i], 1024, 2}, 1024));
+    }
+}
+#endif
+
+int main(int argc, char **argv) {
+    const char *what = argc > 1 ? argv[1] : "";
+    refuse_mmap = !strcmp(what, "mmap");
+    refuse_mprotect = !strcmp(what, "mprotect");
+    if (refuse_mmap || refuse_mprotect) refused();
+    else {
+        for (int i = 0; i < COUNT; i++) {
+            page[i] = alloc(4096, 1);
+            quarter[i] = alloc(1024, 2);
+        }
+#ifndef FEW
+        leave_and_come();
+#endif
+        for (int i = COUNT; i--;) {
+            rattle_dealloc(page[i]);
+            rattle_dealloc(quarter[i]);
+        }
+    }
+    threads();
+    return 0;
+}

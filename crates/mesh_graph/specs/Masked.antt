@@ -1,0 +1,44 @@
+-- Rows of bits that keep to one class. No public clause cites this module.
+use Rattle.std.specs.Prelude.{ℕ, ◌≡◌, ◌==◌, Bool, true, false, List, length, Option, Some, None}
+use Rattle.std.specs.List.{slice_get}
+use Rattle.bitmap.specs.Slots.{has_bit}
+use Rattle.lane_kernels.specs.Rows.{width_of as row_words}
+use Rattle.span.specs.Classes.{width_of}
+use Rattle.span.specs.declared.class.Class.{Class}
+use Rattle.span.specs.declared.class.Class.TheVariants.{C16, C64, C256}
+use Rattle.span.specs.declared.entry.Entry.{Entry}
+use Rattle.mesh_graph.specs.declared.by_class.Masks.{Masks}
+
+-- whether a group, where there is one, is of the class
+abbrev pub is_of : Class → Option Entry → Bool
+is_of class None = false
+is_of class (Some y) = width_of class == width_of y.class
+
+-- a bit for each owned group, which says whether it is of the class
+pub record IsMask (class : Class) (owned : List Entry) (mask : List ℕ) : Type 0 where
+  pub width : length mask ≡ row_words (length owned)
+  pub bits : (j : ℕ) → has_bit mask j ≡ is_of class (slice_get owned j)
+
+-- the mask of the class
+abbrev pub mask_in : Masks → Class → List ℕ
+mask_in masks C16 = masks.c16.items
+mask_in masks C64 = masks.c64.items
+mask_in masks C256 = masks.c256.items
+
+-- a mask of the owned groups for each class
+abbrev pub AreMasks : List Entry → Masks → Type 0
+AreMasks owned masks = (class : Class) → IsMask class owned (mask_in masks class)
+
+-- each group of the one side has the class of each of the other
+abbrev pub AreOfOneClass : List Entry → List Entry → Type 0
+AreOfOneClass abandoned owned = (i j : ℕ) (x y : Entry) → slice_get abandoned i ≡ Some x → slice_get owned j ≡ Some y → width_of x.class ≡ width_of y.class
+
+-- whether bit j stays where the bits of a class are kept; without masks all stay
+abbrev pub is_kept : Option Masks → Class → ℕ → Bool
+is_kept None class j = true
+is_kept (Some masks) class j = has_bit (mask_in masks class) j
+
+-- each mask, where there are any, has so many words
+abbrev pub AreAsWide : Option Masks → ℕ → Type 0
+AreAsWide None words = Unit {0}
+AreAsWide (Some masks) words = (class : Class) → length (mask_in masks class) ≡ words

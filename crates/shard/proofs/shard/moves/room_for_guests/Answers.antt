@@ -1,0 +1,20 @@
+use Rattle.std.proofs.Common.{◌∙◌, ap, arith, refl, sym}
+use Rattle.std.specs.Prelude.{vec_capacity}
+use Rattle.shard.proofs.GuestRoom.{IsGuestRoom-here}
+use Rattle.shard.proofs.HeadsHere.{head_among-here, head_among-none, head_read}
+use Rattle.shard.specs.Moves.{head_among}
+use Rattle.shard.proofs.shard.moves.room_for_guests.Goals as goal
+
+pub returns-in_default-head_index-clause-head : goal.returns-in_default-head_index-clause-head
+returns-in_default-head_index-clause-head g c = sym (ap (head_among c.args.groups.now) c.in-Some.is ∙ head_among-none c.args.groups.now c.in-Some.head c.in_default-head_index.ensures.head)
+
+pub returns-clause-head : goal.returns-clause-head
+returns-clause-head g c =
+    sym (ap (head_among c.args.groups.now) c.in-Some.is ∙ head_among-here c.args.groups.now c.in-Some.head c.in-Some-head_index.index c.in-Some-head_index.ensures.head.0 c.in-Some-head_index.ensures.head.1)
+
+pub returns-clause-room : goal.returns-clause-room
+returns-clause-room g c =
+    let found = c.in-Some-head_index.ensures.head in
+    let here = head_read c.args.groups.now c.args.groups.now refl c.in-Some.head c.in-Some-head_index.index found c.index-groups-index.result c.index-groups-index.is in
+    IsGuestRoom-here c.args.groups.now c.requires c.in-Some.head c.in-Some-head_index.index c.index-groups-index.result here c.args.more (vec_capacity c.in_ok-room.room)
+    (omega (arith, c.len-guests.ensures, c.saturating_add.ensures, c.in_ok-room.ensures.exact, c.in_ok-room.room.small))

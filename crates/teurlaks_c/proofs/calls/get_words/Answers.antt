@@ -1,0 +1,12 @@
+use Rattle.std.proofs.Common.{ap, sym, subst, ◌∙◌}
+use Rattle.std.specs.Prelude.{Some}
+use Rattle.teurlaks_c.specs.Calls.{SaysWords}
+use Rattle.teurlaks_c.proofs.calls.get_words.Goals as goal
+
+pub returns : goal.returns
+returns c = record {
+  held = c.deref.result.now;
+  is = ap (λ h. h.held) (sym c.replace.ensures.value) ∙ (sym c.into_box-held.ensures ∙ ap Some (sym c.deref.ensures));
+  same = c.of.ensures ∙ (c.into_box-held.ensures ∙ ap (λ h. h.held) c.replace.ensures.value);
+  told = subst (SaysWords c.args.room.now c.tell-says.result c.tell-says.new.room) c.get.ensures.value c.tell-says.ensures;
+}

@@ -1,0 +1,100 @@
+-- What calls on keys are told, by what is known of the keys that puts gave.
+use Rattle.std.proofs.Common.{◌≡◌, ◌∙◌, ◌++◌, ℕ, Bool, true, List, [], ◌∷◌, Option, None, Some, ap, inl, inr, refl, set, slice_get, subst, sym}
+use Rattle.span.specs.Log.{Value}
+use Rattle.std.specs.List.{AllByRecursion}
+use Rattle.std.proofs.lemmas.Bool.Decides.{eqb_tells}
+use Rattle.marks.proofs.Lists.{slice_get-set_other, slice_get-set_same}
+use Rattle.arena.specs.Receipts.{free_receipt, get_receipt, put_receipt}
+use Rattle.span.specs.Receipts.{free, look_up}
+use Rattle.span.specs.declared.key.Key.{Key}
+use Rattle.span.specs.declared.receipt.Receipt.{Receipt}
+use Rattle.thread_runner.specs.Asked.{Answers, Asked, Called, Frees, Gets, GivenKeys, IsLeft, Outcome, Puts, is_look_up, is_sending}
+use Rattle.thread_runner.specs.Followed.{entries_on, receipts_from}
+use Rattle.thread_runner.specs.Grown.{Grows, Tells}
+use Rattle.thread_runner.specs.Known.{AreFresh, AreKept, AreKnown, given_by}
+use Rattle.thread_runner.specs.Told.{is_free}
+use Rattle.thread_runner.specs.declared.diary.Diary.{Diary}
+use Rattle.thread_runner.specs.declared.diary.Other.{Other}
+use Rattle.thread_runner.specs.declared.diary.Other.TheVariants as other
+use Rattle.thread_runner.specs.declared.keys.Given.{Given}
+use Rattle.thread_runner.proofs.Growing.{Tells-one}
+use Rattle.thread_runner.proofs.Taking.{is_free-free}
+
+-- what is kept is what was given, where nothing else is
+pub AreKept-given_by : (kept : List (Option (Option Key))) → AreKept kept (given_by kept)
+AreKept-given_by kept place key there = rw there refl
+
+-- what a put gave is kept at a place where nothing was
+pub AreKept-set : (kept : List (Option (Option Key))) (place : ℕ) (key : Option Key) (given : GivenKeys) → slice_get kept place ≡ Some None → AreKept (set kept place (Some key)) given
+    → AreKept kept given × (given place ≡ key)
+AreKept-set kept place key given none are = (
+  (λ at one there. elim (eqb_tells place at) [
+    | inl (passes, same) ↦ absurd (let it : Some None ≡ Some (Some one) = sym none ∙ ap (slice_get kept) same ∙ there in cc)
+    | inr (fails, differ) ↦ are at one (slice_get-set_other kept place at (Some key) (λ e. differ (sym e)) ∙ there)
+  ]),
+  are place key (slice_get-set_same kept place None (Some key) none),
+)
+
+-- where there is none
+pub None-not_some : {X : Type 0} (o : Option X) → ((x : X) → o ≡ Some x → ⊥) → o ≡ None
+None-not_some None not = refl
+None-not_some (Some x) not = absurd (not x refl)
+
+-- a key that is to be freed later
+pub IsLeft-none : (key : Option Key) → key ≡ None → IsLeft key other.Unbound
+IsLeft-none key none = subst (λ k. IsLeft k other.Unbound) (sym none) refl
+
+pub IsLeft-some : (key : Option Key) (one : Key) (what : Other) → key ≡ Some one → is_sending what ≡ true → IsLeft key what
+IsLeft-some key one what some sending = subst (λ k. IsLeft k what) (sym some) sending
+
+-- of two lists in a row, what holds of each holds in both
+pub each-parts : {X : Type 0} (P : X → Type 0) (xs ys : List X) → AllByRecursion P (xs ++ ys) → AllByRecursion P xs × AllByRecursion P ys
+each-parts P [] ys each = (tt, each)
+each-parts P (x ∷ xs) ys each = let (left, right) = each-parts P xs ys each.1 in ((each.0, left), right)
+
+-- one thing was asked that changes nothing of what is known of keys
+pub Tells-still : (section thread number : ℕ) (asked : Asked) (outcome : Outcome) (kept : List (Option (Option Key))) (fresh later : List Given) (old new : Diary) → later ≡ fresh
+    → ((given : GivenKeys) → AreKnown kept fresh given → Answers given section thread asked outcome) → Grows (entries_on number outcome) (receipts_from outcome) 1 old new
+    → Tells section thread number (asked ∷ []) (AreKnown kept fresh) (AreKnown kept later) old new
+Tells-still section thread number asked outcome kept fresh later old new same answers grows =
+    let fits : (given : GivenKeys) → AreKnown kept later given → AreKnown kept fresh given = λ given known. subst (λ f. AreKnown kept f given) same known in
+    Tells-one section thread number asked outcome (AreKnown kept fresh) (AreKnown kept later) old new (λ given known. answers given (fits given known)) fits grows
+
+-- a put is kept with what it gave
+pub Tells-put : (section thread number place : ℕ) (value : Value) (outcome : Outcome) (key : Option Key) (kept : List (Option (Option Key))) (fresh later : List Given) (old new : Diary)
+    → later ≡ fresh ++ record { place = place; key = key } ∷ [] → ((given : GivenKeys) → given place ≡ key → Answers given section thread (Puts place value) outcome)
+    → Grows (entries_on number outcome) (receipts_from outcome) 1 old new → Tells section thread number (Puts place value ∷ []) (AreKnown kept fresh) (AreKnown kept later) old new
+Tells-put section thread number place value outcome key kept fresh later old new pushed answers grows =
+    let one : Given = record { place = place; key = key } in
+    let parts : (given : GivenKeys) → AreKnown kept later given → AreFresh fresh given × AreFresh (one ∷ []) given =
+    λ given known. each-parts (λ (g : Given). given g.place ≡ g.key) fresh (one ∷ []) (subst (λ f. AreFresh f given) pushed known.1) in
+    Tells-one section thread number (Puts place value) outcome (AreKnown kept fresh) (AreKnown kept later) old new
+    (λ given known. answers given (parts given known).1.0) (λ given known. (known.0, (parts given known).0)) grows
+
+-- the receipt of a put
+pub Answers-put : (given : GivenKeys) (section thread place : ℕ) (value : Value) (key : Key) (receipt : Receipt) → receipt ≡ put_receipt thread section value key receipt.at → given place ≡ Some key
+    → Answers given section thread (Puts place value) (Called receipt)
+Answers-put given section thread place value key receipt is known = (
+  record { by = ap (λ (r : Receipt). r.worker) is; in_section = ap (λ (r : Receipt). r.section) is; of_key = known ∙ ap (λ (r : Receipt). Some r.key) (sym is) },
+  ap (λ (r : Receipt). r.call) is,
+)
+
+is_look_up-look_up : (value : Option Value) → is_look_up (look_up value) ≡ true
+is_look_up-look_up None = refl
+is_look_up-look_up (Some value) = refl
+
+-- the receipt of a look-up
+pub Answers-get : (given : GivenKeys) (section thread place : ℕ) (value : Option Value) (key : Key) (receipt : Receipt) → receipt ≡ get_receipt thread section key value receipt.at → given place ≡ Some key
+    → Answers given section thread (Gets place) (Called receipt)
+Answers-get given section thread place value key receipt is known = (
+  record { by = ap (λ (r : Receipt). r.worker) is; in_section = ap (λ (r : Receipt). r.section) is; of_key = known ∙ ap (λ (r : Receipt). Some r.key) (sym is) },
+  ap (λ (r : Receipt). is_look_up r.call) is ∙ is_look_up-look_up value,
+)
+
+-- the receipt of a free
+pub Answers-free : (given : GivenKeys) (section thread place : ℕ) (done : Bool) (key : Key) (receipt : Receipt) → receipt ≡ free_receipt thread section key done receipt.at → given place ≡ Some key
+    → Answers given section thread (Frees place) (Called receipt)
+Answers-free given section thread place done key receipt is known = (
+  record { by = ap (λ (r : Receipt). r.worker) is; in_section = ap (λ (r : Receipt). r.section) is; of_key = known ∙ ap (λ (r : Receipt). Some r.key) (sym is) },
+  ap (λ (r : Receipt). is_free r.call) is ∙ is_free-free done,
+)

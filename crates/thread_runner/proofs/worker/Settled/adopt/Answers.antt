@@ -1,0 +1,32 @@
+use Rattle.std.proofs.Common.{◌≡◌, ◌∙◌, ◌+◌, Some, ap, slice_get, subst, sym}
+use Rattle.arena.specs.Seats.{Table}
+use Rattle.thread_runner.specs.Asked.{places_of}
+use Rattle.thread_runner.specs.Grown.{Tracks}
+use Rattle.thread_runner.specs.Known.{AreKnown}
+use Rattle.thread_runner.proofs.Following.{Tracks-adoption}
+use Rattle.thread_runner.proofs.Places.{line_at-place}
+use Rattle.thread_runner.proofs.worker.Settled.adopt.Goals as goal
+
+pub invariant_of-result : goal.invariant_of-result
+invariant_of-result g c =
+    let text = c.args.self.text.now in
+    let lines = g.J.Reading.lines in
+    let shown = g.J.Reading.shown in
+    let kept = g.K.Known.kept in
+    let section = g.K.Known.section in
+    let place = c.args.place in
+    let done = c.args.self.done in
+    let old = c.args.self.caller in
+    let new = c.adopt.new.self in
+    let worker = old.seat.worker in
+    let there = rw (c.thread.ensures, c.args.self.reads) at (c.in-Some.ensures.place text.trace.now.lines.items text.laid) in
+    let next : slice_get (places_of worker lines) done ≡ Some place = there ∙ ap Some c.if-next-place.false in
+    let (l, here, own) = line_at-place worker lines done place next in
+    record {
+      rows = ap (λ (t : Table). t.rows) c.adopt.ensures.table ∙ c.args.self.rows;
+      columns = ap (λ (t : Table). t.columns) c.adopt.ensures.table ∙ c.args.self.columns;
+      reads = c.args.self.reads;
+      section = c.adopt.ensures.section ∙ c.args.self.section;
+      tracks = Tracks-adoption lines shown (AreKnown kept new.fresh.items) section worker new.seat.worker done place l old.diary new.diary c.adopt.ensures.thread (sym c.requires.section) next here own (c.requires.adopts l here)
+          c.in_ok-adopt.ensures.told (subst (λ f. Tracks lines shown (AreKnown kept f.items) worker done (section + 1) old.diary) (sym c.adopt.ensures.fresh) c.args.self.tracks);
+    }

@@ -1,0 +1,211 @@
+//! Blocks of one size, whose memory goes back to the system.
+
+use crate::refused::Refused;
+use std::ptr::NonNull;
+
+/// What the system has memory in.
+const SYSTEM_PAGE: usize = 4096;
+
+/// How much is asked of the system at a time, where that are more blocks than one and no more than 64.
+const SEGMENT: usize = 4 << 20;
+
+/// How much of free blocks keeps its memory, for the next who takes one.
+const WARM: usize = 256 << 10;
+
+/// Blocks with numbers from 0 on, each free or taken. A new block is zeros, and one that comes again is as it was left or zeros.
+///
+/// ```text
+///   segment 0                       segment 1
+///   | taken | warm | taken | cold |   | cold | ..     a block need not begin where a system page does
+///   | system page | system page | ..                  cold: what no taken block shares has gone to the system
+/// ```
+pub(crate) struct Blocks {
+    size: usize,
+    // How many blocks a segment has.
+    per: usize,
+    segments: Vec<NonNull<u8>>,
+    taken: Vec<bool>,
+    // The free blocks, each in one of the two.
+    warm: Vec<u32>,
+    cold: Vec<u32>,
+}
+
+impl Blocks {
+    /// No blocks yet, of so many bytes. Each lies at a multiple of the greatest power of two that divides them, up to 4,096.
+    pub fn new(size: usize) -> Blocks {
+        Blocks {
+            size,
+            per: (SEGMENT / size).clamp(1, 64),
+            segments: Vec::new(),
+            taken: Vec::new(),
+            warm: Vec::new(),
+            cold: Vec::new(),
+        }
+    }
+
+    /// How many blocks there are, free and taken.
+    pub fn len(&self) -> usize {
+        self.taken.len()
+    }
+
+    /// Sees to it that a block is free. Where this is refused nothing has changed.
+    #[inline]
+    pub fn reserve(&mut self) -> Result<(), Refused> {
+        if self.warm.is_empty() && self.cold.is_empty() {
+            self.grow()?;
+        }
+        Ok(())
+    }
+
+    #[cold]
+    fn grow(&mut self) -> Result<(), Refused> {
+        let (old, new) = (self.len(), self.len() + self.per);
+        self.segments.try_reserve(1).map_err(|_| Refused::OutOfMemory)?;
+        self.taken.try_reserve(self.per).map_err(|_| Refused::OutOfMemory)?;
+        // Room for each block on both lists, so that no call that frees takes memory.
+        for list in [&mut self.warm, &mut self.cold] {
+            list.try_reserve(new).map_err(|_| Refused::OutOfMemory)?;
+        }
+        let segment = system::map(self.segment_bytes()).ok_or(Refused::OutOfMemory)?;
+        self.segments.push(segment);
+        self.taken.resize(new, false);
+        self.cold.extend((old as u32..new as u32).rev());
+        Ok(())
+    }
+
+    /// Takes a free block: its number, and where it is for as long as there are these blocks.
+    ///
+    /// # Panics
+    ///
+    /// Where none is free.
+    pub fn take(&mut self) -> (u32, NonNull<u8>) {
+        let number = self
+            .warm
+            .pop()
+            .or_else(|| self.cold.pop())
+            .expect("a block was reserved");
+        self.taken[number as usize] = true;
+        let (segment, offset) = self.place(number);
+        // SAFETY: the block lies within its segment.
+        (number, unsafe { NonNull::new_unchecked(segment.as_ptr().add(offset)) })
+    }
+
+    /// Frees a block that is taken. Takes no memory.
+    pub fn give(&mut self, number: u32) {
+        self.taken[number as usize] = false;
+        if self.warm.len() >= (WARM / self.size).max(1) {
+            self.cool();
+        }
+        self.warm.push(number);
+    }
+
+    /// Hands the memory of all free blocks to the system.
+    pub fn cool(&mut self) {
+        while let Some(number) = self.warm.pop() {
+            self.release(number);
+            self.cold.push(number);
+        }
+    }
+
+    /// Hands those system pages of a free block to the system on which no taken block lies.
+    fn release(&mut self, number: u32) {
+        let (segment, offset) = self.place(number);
+        let first_block = number as usize - number as usize % self.per;
+        let is_free = |page: usize| {
+            let last = ((page + 1) * SYSTEM_PAGE - 1) / self.size;
+            let blocks = page * SYSTEM_PAGE / self.size..=last.min(self.per - 1);
+            blocks.into_iter().all(|block| !self.taken[first_block + block])
+        };
+        let mut pages = offset / SYSTEM_PAGE..(offset + self.size - 1) / SYSTEM_PAGE + 1;
+        // Those between the first and the last are this block's alone.
+        if !is_free(pages.start) {
+            pages.start += 1;
+        }
+        if !pages.is_empty() && !is_free(pages.end - 1) {
+            pages.end -= 1;
+        }
+        if !pages.is_empty() {
+            // SAFETY: the pages lie within the segment, and no block that is taken is on any of them.
+            unsafe {
+                system::release(
+                    segment.as_ptr().add(pages.start * SYSTEM_PAGE),
+                    pages.len() * SYSTEM_PAGE,
+                )
+            }
+        }
+    }
+
+    fn place(&self, number: u32) -> (NonNull<u8>, usize) {
+        let number = number as usize;
+        (self.segments[number / self.per], number % self.per * self.size)
+    }
+
+    fn segment_bytes(&self) -> usize {
+        (self.per * self.size + SYSTEM_PAGE - 1) / SYSTEM_PAGE * SYSTEM_PAGE
+    }
+}
+
+impl Drop for Blocks {
+    fn drop(&mut self) {
+        for segment in &self.segments {
+            // SAFETY: it is what `map` gave, of so many bytes, and who has the blocks uses them no more.
+            unsafe { system::unmap(segment.as_ptr(), self.segment_bytes()) }
+        }
+    }
+}
+
+// SAFETY: nobody else has the segments, and the system's calls may come from any thread.
+unsafe impl Send for Blocks {}
+// SAFETY: nothing is done through `&Blocks` but to read its own fields.
+unsafe impl Sync for Blocks {}
+
+/// What is asked of the system, by the numbers that Linux has for it on the only processor for which there is an archive.
+mod system {
+    use std::ptr::{self, NonNull};
+
+    #[cfg(not(all(target_os = "linux", target_arch = "x86_64")))]
+    compile_error!("the archive is for Linux on x86-64");
+
+    const PROT_READ: i32 = 1;
+    const PROT_WRITE: i32 = 2;
+    const MAP_PRIVATE: i32 = 2;
+    const MAP_ANONYMOUS: i32 = 0x20;
+    const MAP_NORESERVE: i32 = 0x4000;
+    const MADV_DONTNEED: i32 = 4;
+    const MADV_NOHUGEPAGE: i32 = 15;
+
+    extern "C" {
+        fn mmap(at: *mut u8, len: usize, protection: i32, flags: i32, file: i32, offset: i64) -> *mut u8;
+        fn munmap(at: *mut u8, len: usize) -> i32;
+        fn madvise(at: *mut u8, len: usize, advice: i32) -> i32;
+    }
+
+    /// So many bytes of zeros, which take memory as they are touched, or none.
+    pub fn map(len: usize) -> Option<NonNull<u8>> {
+        let flags = MAP_PRIVATE | MAP_ANONYMOUS | MAP_NORESERVE;
+        // SAFETY: a new mapping touches no memory that there is.
+        let at = unsafe { mmap(ptr::null_mut(), len, PROT_READ | PROT_WRITE, flags, -1, 0) };
+        if at as isize == -1 {
+            return None;
+        }
+        // A huge page would be memory for many blocks, used or not. That the system has none is no matter.
+        // SAFETY: the mapping was just made, and the advice changes no byte of it.
+        unsafe { madvise(at, len, MADV_NOHUGEPAGE) };
+        NonNull::new(at)
+    }
+
+    /// # Safety
+    ///
+    /// The bytes are of one mapping of `map`, whole system pages of it, and nobody reads them before they are written again, or minds that
+    /// they are zeros.
+    pub unsafe fn release(at: *mut u8, len: usize) {
+        madvise(at, len, MADV_DONTNEED);
+    }
+
+    /// # Safety
+    ///
+    /// It is a mapping of `map`, of so many bytes, that nobody uses any more.
+    pub unsafe fn unmap(at: *mut u8, len: usize) {
+        munmap(at, len);
+    }
+}

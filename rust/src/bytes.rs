@@ -1,0 +1,150 @@
+//! Words and bytes that a core keeps, as they are looked up, and the names of bytes.
+
+use crate::names::Key;
+use std::fmt;
+use std::mem::MaybeUninit;
+use std::ops::Deref;
+use std::slice;
+
+#[cfg(not(target_endian = "little"))]
+compile_error!("the bytes of a word are those of a processor of level x86-64-v2, which has the lowest first");
+
+/// How many words an object has at most.
+pub(crate) const MOST_WORDS: usize = 16;
+
+/// How many bytes an object has at most.
+pub(crate) const MOST_BYTES: usize = 16 * MOST_WORDS;
+
+/// How many words the least object has that holds so many bytes, 1 to 256.
+pub(crate) const fn words_for(bytes: usize) -> usize {
+    match bytes {
+        0..=16 => 1,
+        17..=64 => 4,
+        _ => MOST_WORDS,
+    }
+}
+
+/// The words of one object, 1, 4 or 16: of [`Core::get_words`](crate::Core::get_words). They are read as a slice.
+#[derive(Clone, Copy)]
+pub struct Words {
+    // SAFETY: the first `len` are initialised.
+    words: [MaybeUninit<u128>; MOST_WORDS],
+    len: usize,
+}
+
+impl Words {
+    /// The words that `write` writes to the beginning of 16, and says how many, if any.
+    pub(crate) fn written(write: impl FnOnce(*mut u128) -> Option<usize>) -> Option<Words> {
+        let mut words = [MaybeUninit::uninit(); MOST_WORDS];
+        let len = write(words.as_mut_ptr().cast())?;
+        debug_assert!(len <= MOST_WORDS);
+        Some(Words { words, len })
+    }
+
+    /// The word of an object of one word.
+    pub fn word(&self) -> Option<u128> {
+        match **self {
+            [word] => Some(word),
+            _ => None,
+        }
+    }
+
+    /// The object's bytes, 16, 64 or 256, each word from its lowest byte on.
+    pub fn as_bytes(&self) -> &[u8] {
+        // SAFETY: so many bytes are initialised, and any bytes are bytes.
+        unsafe { slice::from_raw_parts(self.words.as_ptr().cast(), 16 * self.len) }
+    }
+}
+
+impl Deref for Words {
+    type Target = [u128];
+
+    fn deref(&self) -> &[u128] {
+        // SAFETY: so many words are initialised.
+        unsafe { slice::from_raw_parts(self.words.as_ptr().cast(), self.len) }
+    }
+}
+
+impl PartialEq for Words {
+    fn eq(&self, other: &Words) -> bool {
+        **self == **other
+    }
+}
+
+impl Eq for Words {}
+
+impl fmt::Debug for Words {
+    fn fmt(&self, f: &mut fmt::Formatter<'_>) -> fmt::Result {
+        fmt::Debug::fmt(&**self, f)
+    }
+}
+
+/// The name of bytes that a core keeps: their key, and how many they are. It is 12 bytes.
+///
+/// Their number stands here and nowhere else: the page has the bytes, and zeros up to the end of the object that holds them.
+#[derive(Clone, Copy, PartialEq, Eq, PartialOrd, Ord, Hash, Debug)]
+pub struct BytesKey {
+    key: Key,
+    len: u16,
+}
+
+impl BytesKey {
+    /// The name of so many bytes, 1 to 256.
+    pub(crate) fn new(key: Key, len: usize) -> BytesKey {
+        debug_assert!((1..=MOST_BYTES).contains(&len));
+        BytesKey { key, len: len as u16 }
+    }
+
+    /// The key of the object that holds them.
+    pub fn key(self) -> Key {
+        self.key
+    }
+
+    /// How many there are, 1 to 256.
+    #[allow(clippy::len_without_is_empty)]
+    pub fn len(self) -> usize {
+        usize::from(self.len)
+    }
+}
+
+/// Bytes that were looked up: of [`Core::get_bytes`](crate::Core::get_bytes). They are read as a slice.
+#[derive(Clone, Copy)]
+pub struct Bytes {
+    words: Words,
+    len: usize,
+}
+
+impl Bytes {
+    /// The first bytes of the object, or `None` where it has not so many.
+    pub(crate) fn of(words: Words, len: usize) -> Option<Bytes> {
+        (len <= words.as_bytes().len()).then_some(Bytes { words, len })
+    }
+}
+
+impl Deref for Bytes {
+    type Target = [u8];
+
+    fn deref(&self) -> &[u8] {
+        &self.words.as_bytes()[..self.len]
+    }
+}
+
+impl AsRef<[u8]> for Bytes {
+    fn as_ref(&self) -> &[u8] {
+        self
+    }
+}
+
+impl PartialEq for Bytes {
+    fn eq(&self, other: &Bytes) -> bool {
+        **self == **other
+    }
+}
+
+impl Eq for Bytes {}
+
+impl fmt::Debug for Bytes {
+    fn fmt(&self, f: &mut fmt::Formatter<'_>) -> fmt::Result {
+        fmt::Debug::fmt(&**self, f)
+    }
+}

@@ -1,0 +1,136 @@
+//! Bytes of each number, plain values of each size, and what is refused of them.
+
+use teurlaks::{BytesKey, Core, Limits, Refused, Store};
+
+/// Bytes that tell their number and place.
+fn bytes(len: usize) -> Vec<u8> {
+    (0..len).map(|place| (7 * len + place) as u8).collect()
+}
+
+#[test]
+fn what_comes_back_is_what_went_in() -> Result<(), Refused> {
+    let mut core = Core::new(Limits::default())?;
+    let keys: Vec<BytesKey> = (1..=256)
+        .map(|len| core.insert_bytes(0, &bytes(len)))
+        .collect::<Result<_, _>>()?;
+    for (place, key) in keys.iter().enumerate() {
+        let len = place + 1;
+        assert_eq!(key.len(), len);
+        assert_eq!(core.get_bytes(*key).as_deref(), Some(&*bytes(len)));
+        // The object is the least that holds them, and has zeros after them.
+        let words = core.get_words(key.key()).expect("the key is live");
+        assert_eq!(
+            words.len(),
+            if len <= 16 {
+                1
+            } else if len <= 64 {
+                4
+            } else {
+                16
+            }
+        );
+        assert!(words.as_bytes()[len..].iter().all(|byte| *byte == 0));
+        assert_eq!(words.word(), core.get(key.key()));
+    }
+    // 16 of one word are on one page, 48 of four on another, and 192 of sixteen on twelve.
+    assert_eq!((core.len(), core.pages()), (256, 14));
+    assert!(keys.iter().all(|key| core.free(key.key())));
+    assert!(keys.iter().all(|key| core.get_bytes(*key).is_none()));
+    Ok(())
+}
+
+#[test]
+fn other_numbers_are_refused() -> Result<(), Refused> {
+    let mut core = Core::new(Limits::default())?;
+    assert_eq!(core.insert_bytes(0, &[]), Err(Refused::Config));
+    assert_eq!(core.insert_bytes(0, &[0; 257]), Err(Refused::Config));
+    for len in [0, 2, 3, 5, 15, 17, 256] {
+        assert_eq!(core.insert_words(0, &vec![0; len]), Err(Refused::Config));
+    }
+    assert!(core.is_empty());
+    Ok(())
+}
+
+/// Pages of different sizes are never folded onto each other, and those of one size are.
+#[test]
+fn folds_are_within_a_size() -> Result<(), Refused> {
+    let mut core = Core::new(Limits {
+        shards: 2,
+        ..Limits::default()
+    })?;
+    for len in [16, 64, 256] {
+        let stale = core.insert_bytes(0, &bytes(len))?;
+        let kept = core.insert_bytes(0, &bytes(len))?;
+        core.free(stale.key());
+        core.insert_bytes(1, &bytes(len))?;
+        assert_eq!(core.get_bytes(kept).as_deref(), Some(&*bytes(len)));
+    }
+    core.end(0)?;
+    assert_eq!(core.pages(), 6);
+    assert_eq!((core.mesh()?, core.pages(), core.len()), (3, 3, 6));
+    // The pool's only page has objects of 64 bytes now, and shard 1 has none of that size left.
+    let mut other = Core::new(Limits {
+        shards: 2,
+        ..Limits::default()
+    })?;
+    other.insert_bytes(0, &bytes(64))?;
+    other.insert_bytes(1, &bytes(16))?;
+    other.insert_bytes(1, &bytes(256))?;
+    other.end(0)?;
+    assert_eq!((other.mark()?.folds, other.pages()), (0, 3));
+    Ok(())
+}
+
+fn round_trip<T: Copy + PartialEq + std::fmt::Debug>(value: T, other: T) -> Result<(), Refused> {
+    let mut store = Store::new()?;
+    let stale = store.insert(other)?;
+    let key = store.insert(value)?;
+    assert_eq!(store.remove(stale), Some(other));
+    assert_eq!((store.get(stale), store.get(key)), (None, Some(value)));
+    assert_eq!(store.iter().collect::<Vec<_>>(), [(key, value)]);
+    assert_eq!((store.len(), store.pages()), (1, 1));
+    Ok(())
+}
+
+#[test]
+fn plain_values_of_each_size() -> Result<(), Refused> {
+    #[derive(Clone, Copy, Debug, PartialEq)]
+    struct Padded {
+        small: u8,
+        large: u64,
+        even: Option<u16>,
+    }
+    round_trip(7_u8, 8)?;
+    round_trip(u128::MAX, 0)?;
+    round_trip("a", "b")?;
+    round_trip([7_u8; 17], [8; 17])?;
+    round_trip([7_u128; 16], [8; 16])?;
+    let value = Padded {
+        small: 1,
+        large: 2,
+        even: Some(3),
+    };
+    round_trip(value, Padded { even: None, ..value })
+}
+
+/// What is folded stays where its key finds it.
+#[test]
+fn a_store_gives_pages_back() -> Result<(), Refused> {
+    let mut store = Store::new()?;
+    let keys: Vec<_> = (0..1024_u64)
+        .map(|value| store.insert([value; 8]))
+        .collect::<Result<_, _>>()?;
+    let kept = |place: &usize| place % 8 == place / 64 % 8;
+    for (place, key) in keys.iter().enumerate() {
+        if !kept(&place) {
+            store.remove(*key);
+        }
+    }
+    assert_eq!(store.pages(), 16);
+    store.retire(0, 8)?;
+    assert_eq!((store.mesh()?, store.pages()), (8, 8));
+    assert!((0..1024)
+        .filter(kept)
+        .all(|place| store.get(keys[place]) == Some([place as u64; 8])));
+    Ok(())
+}

@@ -1,0 +1,109 @@
+//! What the system has again after a compaction, and what happens where it has none left. It is one test, since the limit is the process's.
+
+use teurlaks::{Key, Refused, Slab, Stepped};
+
+#[repr(C)]
+struct Limit {
+    soft: u64,
+    hard: u64,
+}
+
+/// The bytes of address space that a process may have, as Linux numbers this.
+const RLIMIT_AS: i32 = 9;
+
+extern "C" {
+    fn getrlimit(resource: i32, limit: *mut Limit) -> i32;
+    fn setrlimit(resource: i32, limit: *const Limit) -> i32;
+}
+
+/// Runs the call with so many bytes of address space left.
+fn with_bytes_left<R>(bytes: u64, call: impl FnOnce() -> R) -> R {
+    let mut old = Limit { soft: 0, hard: 0 };
+    // SAFETY: both calls are given a limit that is there.
+    unsafe {
+        assert_eq!(getrlimit(RLIMIT_AS, &mut old), 0);
+        let soft = 1024 * kilobytes("VmSize:") + bytes;
+        assert_eq!(setrlimit(RLIMIT_AS, &Limit { soft, hard: old.hard }), 0);
+        let done = call();
+        assert_eq!(setrlimit(RLIMIT_AS, &old), 0);
+        done
+    }
+}
+
+/// What the system says of the process.
+fn kilobytes(name: &str) -> u64 {
+    let status = std::fs::read_to_string("/proc/self/status").expect("Linux tells it");
+    let line = status
+        .lines()
+        .find_map(|line| line.strip_prefix(name))
+        .expect("it has a line");
+    line.split_whitespace()
+        .next()
+        .and_then(|number| number.parse().ok())
+        .expect("it is a number")
+}
+
+type Fold = fn(&mut Slab<[u64; 30]>) -> Result<(), Refused>;
+
+/// Of so many values five of 100 stay, and then pages fold.
+fn most_of_it_leaves_the_process(values: usize, fold: Fold) -> Result<(), Refused> {
+    let mut keys = vec![Key::from_bits(1); values];
+    let base = kilobytes("VmRSS:");
+    let mut slab = Slab::new()?;
+    for (number, key) in keys.iter_mut().enumerate() {
+        *key = slab.insert([number as u64; 30])?;
+    }
+    let full = kilobytes("VmRSS:") - base;
+    slab.retain(|_, value| value[0] * 7919 % 100 < 5);
+    fold(&mut slab)?;
+    let left = kilobytes("VmRSS:") - base;
+    assert_eq!(slab.len(), values / 20);
+    assert!(full > values as u64 * 240 / 1024, "{full} KB");
+    // The pool, which comes with the first retirement, takes some of it.
+    assert!(left < full / 2, "of {full} KB {left} are left");
+    Ok(())
+}
+
+fn by_steps(slab: &mut Slab<[u64; 30]>) -> Result<(), Refused> {
+    for _ in 0..2 {
+        for shard in 0..5 {
+            slab.retire(shard, slab.pages() / 10)?;
+        }
+        slab.mark()?;
+        while slab.step()? != Stepped::NoPairLeft {}
+        slab.close()?;
+        while slab.adopt(0).is_ok() {}
+    }
+    Ok(())
+}
+
+/// Inserts until memory is refused, which changes nothing.
+fn refused_where_there_is_none<const BYTES: usize>() -> Result<(), Refused> {
+    let mut slab = Slab::new()?;
+    let mut keys = Vec::with_capacity(100_000);
+    keys.push(slab.insert([0_u8; BYTES])?);
+    let refused = with_bytes_left(16 << 20, || loop {
+        match slab.insert([keys.len() as u8; BYTES]) {
+            Ok(key) => keys.push(key),
+            Err(refused) => return (refused, slab.insert([0; BYTES]).err()),
+        }
+    });
+    assert_eq!(refused, (Refused::OutOfMemory, Some(Refused::OutOfMemory)));
+    assert!(keys.len() > 64 && slab.len() == keys.len());
+    assert!(slab.iter().count() == keys.len());
+    for (number, key) in keys.iter().enumerate() {
+        assert_eq!(slab.get(*key), Some(&[number as u8; BYTES]));
+    }
+    let key = slab.insert([1; BYTES])?;
+    assert!(!keys.contains(&key) && slab.remove(key) == Some([1; BYTES]));
+    Ok(())
+}
+
+#[test]
+fn memory_goes_back_and_is_refused() -> Result<(), Refused> {
+    // On 4,688 pages, more than a plan has on a side.
+    most_of_it_leaves_the_process(300_000, |slab| slab.compact().map(drop))?;
+    most_of_it_leaves_the_process(300_000, by_steps)?;
+    refused_where_there_is_none::<1000>()?;
+    refused_where_there_is_none::<8192>()
+}
