@@ -177,13 +177,7 @@ pub extern "C" fn teurlaks_totals(alloc: Global, handle: &mut Handle) -> TotalsR
 
 // The core keeps the object of these words.
 #[inline(always)]
-fn put(
-    alloc: Global,
-    handle: &mut Handle,
-    shard: u32,
-    class: Class,
-    words: &[u128],
-) -> PutReply
+fn put(alloc: Global, handle: &mut Handle, shard: u32, class: Class, words: &[u128]) -> PutReply
     requires live { IsSome handle.old.held }
     requires width { length words.now ≡ width_of class }
     ensures { Puts handle.old.held shard words.now result handle.new.held }
