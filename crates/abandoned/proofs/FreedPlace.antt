@@ -1,13 +1,14 @@
--- A free in the group that stands at the place of its head.
-use Rattle.std.proofs.Common.{zero, suc, ◌≡◌, ℕ, Bool, true, false, length, length-set, Some, set, slice_get, ap, sym, subst, ◌∙◌, refl}
+-- The group that stands at the place of its head, and a free there.
+use Rattle.std.proofs.Common.{zero, suc, ◌≡◌, ◌<◌, ℕ, Bool, true, false, length, length-set, Some, set, slice_get, ap, sym, subst, ◌∙◌, refl}
 use Rattle.std.specs.Bool.{OnFalse, OnTrue}
+use Rattle.std.specs.Prelude.{Err, Ok, OnErr, Result}
 use Rattle.span.specs.Ids.{rank}
 use Rattle.span.specs.State.{SpanState}
 use Rattle.span.specs.declared.id.SpanId.{SpanId}
 use Rattle.page_table.specs.State.{TableState}
 use Rattle.groups.proofs.Lists.{same_some}
 use Rattle.abandoned.specs.Calls.{GivesUp}
-use Rattle.abandoned.specs.Groups.{FreesIn, standing}
+use Rattle.abandoned.specs.Groups.{FreesIn, GroupsState, HasHeadAt, standing}
 use Rattle.abandoned.specs.Ranked.{FreesAt, RankedState}
 use Rattle.abandoned.specs.State.{PooledState}
 use Rattle.groups.specs.Group.{IsHeadOf, spans_of, with_span}
@@ -22,6 +23,24 @@ on_true false f x = x
 pub on_false : {X Y : Type 0} (b : Bool) → (X → Y) → OnFalse b X → OnFalse b Y
 on_false true f x = x
 on_false false f x = f x
+
+-- what is said where a test holds, where it fails, and of a result where it is an error
+
+pub where_true : {X : Type 0} (b : Bool) → b ≡ true → OnTrue b X → X
+where_true true on x = x
+where_true false on x = absurd cc
+
+pub where_false : {X : Type 0} (b : Bool) → b ≡ false → OnFalse b X → X
+where_false true off x = absurd cc
+where_false false off x = x
+
+pub where_err : {A E X : Type 0} (r : Result A E) → X → OnErr r X
+where_err (Ok a) x = tt
+where_err (Err e) x = x
+
+-- the group of the head, as the fields show it
+pub seen : (inside outside : GroupsState) → inside ≡ outside → (head : SpanId) (place : ℕ) → (group : PooledState) × HasHeadAt outside.groups head group × (place < length (spans_of group)) → (group : PooledState) × HasHeadAt inside.groups head group × (place < length (spans_of group))
+seen inside outside same head place here = subst (λ (s : GroupsState). (group : PooledState) × HasHeadAt s.groups head group × (place < length (spans_of group))) (sym same) here
 
 -- the head's id after a free
 pub same_head : (group now : PooledState) (place : ℕ) (span changed : SpanState) (table table_now : TableState) → slice_get (spans_of group) place ≡ Some span → changed.id ≡ span.id

@@ -19,10 +19,13 @@ pub mod Passing
 pub mod PlaceSpans
 pub mod Places
 pub mod RankedGroups
+pub mod ReadGroup
 pub mod Received
 pub mod Released
 pub mod Retiring
 pub mod Searches
+pub mod SetHere
+pub mod SetPlace
 pub mod ShownLogs
 pub mod Started
 pub mod Tables

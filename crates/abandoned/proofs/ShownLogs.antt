@@ -1,5 +1,5 @@
 -- A sound pool shows the map that its logs leave: what its calls do to the plain map.
-use Rattle.std.proofs.Common.{◌≡◌, ℕ, true, false, cond, ◌∷◌, ◌++◌, Option, Some, None, is_some, slice_get, ◌∙◌, ap, sym, refl, arith}
+use Rattle.std.proofs.Common.{◌≡◌, ℕ, true, false, cond, ◌∷◌, ◌++◌, Option, Some, None, is_some, slice_get, ◌∙◌, ap, sym, subst, refl, arith}
 use Rattle.std.specs.Prelude.{count_by}
 use Rattle.std.specs.FinMap as map
 use Rattle.std.specs.FinSet as set_of
@@ -8,30 +8,35 @@ use Rattle.std.proofs.lemmas.Bool.{false_from_ne_true}
 use Rattle.span.proofs.Slots.{contains-live_slots}
 use Rattle.span.proofs.Values.{is_some-value_in}
 use Rattle.span.specs.Ids.{same_span}
-use Rattle.span.specs.Log.{Value, Held, live_slots, replay, value_if, value_in}
-use Rattle.span.specs.PlainMap.{PlainMap, without}
-use Rattle.span.specs.State.{SpanState}
+use Rattle.span.specs.Log.{Value, Held, IsOfClass, live_slots, replay, value_if, value_in}
+use Rattle.span.specs.PlainMap.{PlainMap, has_as_many, may_set, with_value, without}
+use Rattle.span.specs.State.{IsSettable, SpanState}
 use Rattle.span.specs.declared.key.Key.{Key}
 use Rattle.span.specs.declared.id.SpanId.{SpanId}
-use Rattle.shard.specs.Calls.{value_found, was_freed}
-use Rattle.groups.specs.Spans.{with_free}
+use Rattle.shard.specs.Calls.{value_found, was_freed, was_replaced}
+use Rattle.groups.specs.Spans.{with_free, with_set}
 use Rattle.groups.specs.Shown.{object_of, span_named, value_by}
 use Rattle.shard.specs.declared.shard.Found.{Found}
 use Rattle.shard.specs.declared.shard.Found.TheVariants.{Gone, NotHere}
 use Rattle.shard.specs.declared.shard.Found.TheVariants as found
 use Rattle.shard.specs.declared.shard.Freed.{Freed}
 use Rattle.shard.specs.declared.shard.Freed.TheVariants as freed
+use Rattle.shard.specs.declared.shard.replacing.Replaced.{Replaced}
+use Rattle.shard.specs.declared.shard.replacing.Replaced.TheVariants as replaced
 use Rattle.groups.proofs.GroupSpans.{named_stands, span_named-none, span_named-stands, spans_round}
-use Rattle.groups.proofs.Logged.{logged, logged_by, logged-free, nothing_pending, others, same_plain_map, value_by-mapped}
+use Rattle.groups.proofs.Logged.{logged, logged_by, logged-free, logged-set, nothing_pending, others, same_plain_map, value_by-mapped}
 use Rattle.groups.proofs.Logs.{is_some-value_in-gone, value_in-gone, value_in-held}
+use Rattle.groups.proofs.SetGroups.{has_as_many-not, has_as_many-settable}
+use Rattle.groups.proofs.Standing.{spans_of-with_span}
 use Rattle.groups.proofs.Unions.{member_of_union}
-use Rattle.abandoned.specs.Calls.{Frees, Gets}
+use Rattle.abandoned.specs.Calls.{Frees, Gets, Sets}
 use Rattle.abandoned.specs.Shown.{shown}
 use Rattle.abandoned.specs.Sound.{IsSound}
 use Rattle.abandoned.specs.State.{PoolState, PooledState}
-use Rattle.groups.specs.Group.{IsElsewhere, IsHere, spans_in, spans_of}
+use Rattle.groups.specs.Group.{IsElsewhere, IsHere, spans_in, spans_of, with_span}
 use Rattle.abandoned.proofs.Freed.{IsSound-Frees, groups-Leaves}
 use Rattle.abandoned.proofs.Pages.{none_live, sound_paged}
+use Rattle.abandoned.proofs.SetHere.{IsSound-set}
 
 -- a slot that is not live has no value, whatever the object
 nothing_live : (o : Option Held) (generation : ℕ) (object : Option Value) → is_some o ≡ false → cond (is_some (value_if generation o)) object None ≡ value_if generation o
@@ -115,3 +120,47 @@ shown-Frees old new key (freed.Yes at) sound (index, place, group, span, here, h
     ∙ ap (λ m. without m key) (sym was)
 shown-Frees old new key (freed.No at) sound (index, place, group, span, here, gone, before, new_is) = ap shown new_is
 shown-Frees old new key freed.NotHere sound (elsewhere, new_is) = ap shown new_is
+
+-- a set
+
+pub IsSound-Sets : (old new : PoolState) (key : Key) (value : Value) (answer : Replaced) → IsSound old → Sets old key value answer new → IsSound new
+IsSound-Sets old new key value (replaced.Yes at) sound (index, place, page, group, span, here, paged, settable, before, new_is) =
+    subst IsSound (sym new_is) (IsSound-set old sound index place page group span key value (here.group_is, here.span_is) paged settable)
+IsSound-Sets old new key value (replaced.No at) sound (index, place, group, span, here, not, before, new_is) = subst IsSound (sym new_is) sound
+IsSound-Sets old new key value replaced.NotHere sound (elsewhere, new_is) = subst IsSound (sym new_is) sound
+
+module _ (old : PoolState) (sound : IsSound old) (key : Key) (value : Value) where
+  module _ (index place : ℕ) (group : PooledState) (span : SpanState) (here : IsHere old.groups key.span index place group span) where
+    -- whether the plain map may be set is whether the log of the key's span may
+    may_set-here : may_set (shown old) key value ≡ has_as_many value (value_in span.log key.slot key.generation)
+    may_set-here = ap (has_as_many value) (value_of-here old sound key index place group span here)
+
+    of_class : IsOfClass span.class span.log
+    of_class = let its = (sound.groups index group here.group_is).classes place span here.span_is in subst (λ c. IsOfClass c span.log) (sym its.class_is) its.of_class
+
+    pub may_set-settable : IsSettable span key.slot key.generation value → may_set (shown old) key value ≡ true
+    may_set-settable settable = may_set-here ∙ has_as_many-settable span key.slot key.generation value of_class settable
+
+    may_set-not : (IsSettable span key.slot key.generation value → ⊥) → may_set (shown old) key value ≡ false
+    may_set-not not = may_set-here ∙ has_as_many-not span key.slot key.generation value of_class not
+
+-- a set is done exactly where the plain map may be set
+pub was_replaced-Sets : (old new : PoolState) (key : Key) (value : Value) (answer : Replaced) → IsSound old → Sets old key value answer new → was_replaced answer ≡ may_set (shown old) key value
+was_replaced-Sets old new key value (replaced.Yes at) sound (index, place, page, group, span, here, paged, settable, before, new_is) = sym (may_set-settable old sound key value index place group span here settable)
+was_replaced-Sets old new key value (replaced.No at) sound (index, place, group, span, here, not, before, new_is) = sym (may_set-not old sound key value index place group span here not)
+was_replaced-Sets old new key value replaced.NotHere sound (elsewhere, new_is) = sym (ap (has_as_many value) (value_of-elsewhere old sound key elsewhere))
+
+-- a set of the key is a set of the plain map
+pub shown-Sets : (old new : PoolState) (key : Key) (value : Value) (answer : Replaced) → IsSound old → Sets old key value answer new → shown new ≡ cond (was_replaced answer) (with_value (shown old) key value) (shown old)
+shown-Sets old new key value (replaced.Yes at) sound (index, place, page, group, span, here, paged, settable, before, new_is) =
+    let round = spans_round spans_of old.groups index place group span (here.group_is, here.span_is) in
+    let once = sound.once span.id in
+    let same = ap (λ spans. count_by (λ (s : SpanState). same_span s.id span.id) spans) round.whole in
+    let was : shown old ≡ logged (round.left ++ span ∷ round.right) nothing_pending = shown-logged old sound ∙ ap (λ spans. logged spans nothing_pending) round.whole in
+    let after : IsSound new = IsSound-Sets old new key value (replaced.Yes at) sound (index, place, page, group, span, here, paged, settable, before, new_is) in
+    shown-logged new after ∙ ap (λ (p : PoolState). logged (spans_in p.groups) nothing_pending) new_is
+    ∙ ap (λ spans. logged spans nothing_pending) (round.after (with_span group place (with_set span key value)) (with_set span key value) (spans_of-with_span group place (with_set span key value)))
+    ∙ logged-set round.left round.right span nothing_pending key (others round.left round.right span (omega arith)) (sym here.id_is) value settable.0
+    ∙ ap (λ m. with_value m key value) (sym was)
+shown-Sets old new key value (replaced.No at) sound (index, place, group, span, here, not, before, new_is) = ap shown new_is
+shown-Sets old new key value replaced.NotHere sound (elsewhere, new_is) = ap shown new_is

@@ -5,13 +5,13 @@ use Rattle.std.specs.FinSet as set
 use Rattle.span.specs.declared.id.SpanId.{SpanId}
 use Rattle.span.specs.declared.key.Key.{Key}
 use Rattle.span.specs.Ids.{rank}
-use Rattle.span.specs.Log.{Holds}
-use Rattle.span.specs.State.{SpanState}
-use Rattle.page_table.specs.State.{TableState, object_at, words_of}
+use Rattle.span.specs.Log.{Holds, Value}
+use Rattle.span.specs.State.{IsSettable, SpanState}
+use Rattle.page_table.specs.State.{TableState, object_at, with_object, words_of}
 use Rattle.page_table.specs.Words.{Words}
 use Rattle.shard.specs.Group.{GroupState}
 use Rattle.groups.specs.Group.{HasNoHead, IsElsewhere, IsHeadOf, IsHere, spans_of, with_span, IsPlaceFor}
-use Rattle.groups.specs.Spans.{union_of, with_free}
+use Rattle.groups.specs.Spans.{union_of, with_free, with_set}
 use Rattle.groups.specs.Brief.{IsBriefOf}
 use Rattle.groups.specs.Whole.{WholeState, spans_moved}
 use Rattle.shard.specs.Moves.{TakesIn as TakesInShard, whole_of as whole_of_shard, with_room as with_room_in}
@@ -22,6 +22,8 @@ use Rattle.shard.specs.declared.shard.Found.{Found}
 use Rattle.shard.specs.declared.shard.Found.TheVariants as found
 use Rattle.shard.specs.declared.shard.Freed.{Freed}
 use Rattle.shard.specs.declared.shard.Freed.TheVariants as freed
+use Rattle.shard.specs.declared.shard.replacing.Replaced.{Replaced}
+use Rattle.shard.specs.declared.shard.replacing.Replaced.TheVariants as replaced
 use Rattle.abandoned.specs.State.{PoolState, PooledState, whole_of}
 
 -- what a look-up of the key finds: the object at its slot of its span's page, and how many changes its span's log has
@@ -64,6 +66,17 @@ Frees old key (freed.No at) new =
     (index place : ℕ) × (group : PooledState) × (span : SpanState) × IsHere old.groups key.span index place group span
     × (Holds span.log key.slot key.generation → ⊥) × (at ≡ length span.log) × (new ≡ old)
 Frees old key freed.NotHere new = IsElsewhere old.groups key.span × (new ≡ old)
+
+-- what a set of the key to the value does and answers: it writes the value at the key's slot of its group's page, and adds its own change to its span's log; or it does nothing, where the key is not live or its object has another class
+abbrev pub Sets : PoolState → Key → Value → Replaced → PoolState → Type 0
+Sets old key value (replaced.Yes at) new =
+    (index place page : ℕ) × (group : PooledState) × (span : SpanState) × IsHere old.groups key.span index place group span × (group.page ≡ Some page)
+    × IsSettable span key.slot key.generation value × (at ≡ length span.log)
+    × (new ≡ record old { groups = slice_set old.groups index (with_span group place (with_set span key value)); table = with_object old.table page span.class key.slot value })
+Sets old key value (replaced.No at) new =
+    (index place : ℕ) × (group : PooledState) × (span : SpanState) × IsHere old.groups key.span index place group span
+    × (IsSettable span key.slot key.generation value → ⊥) × (at ≡ length span.log) × (new ≡ old)
+Sets old key value replaced.NotHere new = IsElsewhere old.groups key.span × (new ≡ old)
 
 -- the group of the head leaves the pool, with its page, if it has one, and its spans, and all else stays
 abbrev pub Lifts : PoolState → SpanId → Option WholeState → PoolState → Type 0

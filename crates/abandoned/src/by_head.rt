@@ -1,14 +1,14 @@
 // The groups of the pool, each at the place of its head.
-ghost use Rattle.std.specs.Prelude.{◌≡◌, ◌<◌, ◌≤◌, ◌-◌, ◌+◌, ◌++◌, ◌*◌, ◌↔◌, ◌⊎◌, ℕ, [], IfOk, IfSome, IsTrue, MatchOption, OnErr, OnOk, Some, filter, insert, is_some, length, map, max, slice_get, vec_capacity};
+ghost use Rattle.std.specs.Prelude.{◌≡◌, ◌<◌, ◌≤◌, ◌-◌, ◌+◌, ◌++◌, ◌*◌, ◌↔◌, ◌⊎◌, ℕ, [], IfOk, IfSome, IsTrue, MatchOption, OnErr, OnOk, Some, filter, insert, is_some, length, map, max, slice_get, slice_set, vec_capacity};
 ghost use Rattle.std.specs.Bool.{OnTrue, OnFalse};
 ghost use Rattle.span.specs.Ids.{rank};
 ghost use Rattle.span.specs.Log.{Holds};
 ghost use Rattle.span.specs.SpanLogs.{AreLegal, room_for_logs, span_of_log};
-ghost use Rattle.span.specs.State.{SpanState};
+ghost use Rattle.span.specs.State.{IsSettable, SpanState};
 ghost use Rattle.page_table.specs.State.{HasPage};
-ghost use Rattle.groups.specs.Spans.{with_free_at, live_count};
+ghost use Rattle.groups.specs.Spans.{with_free_at, with_set_at, live_count};
 ghost use Rattle.abandoned.specs.Calls.{HasNoPage, IsFirstPaged};
-ghost use Rattle.groups.specs.Group.{HasNoHead, IsHeadOf, IsPlaceFor, spans_in, spans_of, summary};
+ghost use Rattle.groups.specs.Group.{HasNoHead, IsHeadOf, IsPlaceFor, spans_in, spans_of, summary, with_span};
 ghost use Rattle.abandoned.specs.Groups.{FreesIn, HasHeadAt, Removes};
 ghost use Rattle.abandoned.specs.Numbers.{HasNoneFrom};
 ghost use Rattle.abandoned.specs.State.{PooledState};
@@ -112,6 +112,46 @@ impl<L: Log> Groups<L> {
         };
         mark(&mut self.paged, &mut self.filled, rank, false);
         Some(group)
+    }
+
+    /// Sets the object of the slot in the span at the place of the head's group to these words, where the slot is live
+    /// there at the generation and its object has as many, and says whether it was. The group keeps its page, whose
+    /// words are the caller's to write.
+    ///
+    /// # Errors
+    ///
+    /// `AllocError` in place of `true`, where the span's log could not grow. The groups are then as they were.
+    pub(crate) fn set(
+        &mut self,
+        head: SpanId,
+        place: usize,
+        slot: u8,
+        generation: u32,
+        words: &[u128],
+    ) -> Result<bool, AllocError>
+        requires { (group : PooledState) × HasHeadAt self.old.groups head group
+            × (place < length (spans_of group)) }
+        ensures found { (index : ℕ) (group : PooledState) (span : SpanState)
+            → IsHeadOf self.old.groups head index group
+            → slice_get (spans_of group) place ≡ Some span
+            → IfOk result (λ done. IsTrue done ↔ IsSettable span slot generation words.now) }
+        ensures set { (index : ℕ) (group : PooledState) (span : SpanState)
+            → IsHeadOf self.old.groups head index group
+            → slice_get (spans_of group) place ≡ Some span
+            → IfOk result (λ done. OnTrue done (self.new ≡ record self.old {
+              groups = slice_set self.old.groups index (with_span group place
+                  (with_set_at span slot generation words.now));
+            })) }
+        ensures unknown { IfOk result (λ done. OnFalse done (self.new ≡ self.old)) }
+        ensures refused { (index : ℕ) (group : PooledState) (span : SpanState)
+            → IsHeadOf self.old.groups head index group
+            → slice_get (spans_of group) place ≡ Some span
+            → OnErr result (IsSettable span slot generation words.now) }
+        ensures err { OnErr result (self.new ≡ self.old) }
+    {
+        let rank = head.rank() as usize;
+        let done = self.places.set(rank, place, slot, generation, words)?;
+        Ok(done)
     }
 
     /// Frees the slot in the span at the place of the head's group, where it is live there at the generation, and

@@ -1,12 +1,12 @@
 // Groups in a row, found by the ranks of their heads.
-ghost use Rattle.std.specs.Prelude.{◌≡◌, ◌<◌, ◌≤◌, ◌-◌, ◌+◌, ◌↔◌, [], IfSome, IsTrue, MatchOption, None, OnErr, OnOk, Some, length, max, option_map, slice_get, slice_index_or, slice_set, vec_capacity};
+ghost use Rattle.std.specs.Prelude.{◌≡◌, ◌<◌, ◌≤◌, ◌-◌, ◌+◌, ◌↔◌, [], IfOk, IfSome, IsTrue, MatchOption, None, OnErr, OnOk, Some, length, max, option_map, slice_get, slice_index_or, slice_set, vec_capacity};
 ghost use Rattle.std.specs.Bool.{OnTrue, OnFalse};
 ghost use Rattle.span.specs.Ids.{rank};
 ghost use Rattle.span.specs.Log.{Holds};
-ghost use Rattle.span.specs.State.{SpanState};
+ghost use Rattle.span.specs.State.{IsSettable, SpanState};
 ghost use Rattle.page_table.specs.State.{HasPage};
-ghost use Rattle.groups.specs.Group.{spans_of};
-ghost use Rattle.groups.specs.Spans.{with_free_at};
+ghost use Rattle.groups.specs.Group.{spans_of, with_span};
+ghost use Rattle.groups.specs.Spans.{with_free_at, with_set_at};
 ghost use Rattle.abandoned.specs.Groups.{has_page};
 ghost use Rattle.abandoned.specs.Ranked.{AreFound, FreesAt, IsFoundAt, IsGrown, LetsGo, are_ranked};
 ghost use Rattle.abandoned.specs.State.{PooledState};
@@ -129,6 +129,47 @@ impl<L: Log> ByRank<L> {
         let group = let_go(&mut self.groups, &mut self.index, place);
         give_back(&mut self.groups, self.room);
         Some(group)
+    }
+
+    /// Sets the object of the slot in the span at the place of the group whose head has the rank to these words, where the
+    /// slot is live there at the generation and its object has as many, and says whether it was.
+    ///
+    /// # Errors
+    ///
+    /// `AllocError` in place of `true`, where the span's log could not grow. The groups are then as they were.
+    pub(crate) fn set(
+        &mut self,
+        rank: usize,
+        place: usize,
+        slot: u8,
+        generation: u32,
+        words: &[u128],
+    ) -> Result<bool, AllocError>
+        requires { (group : PooledState) × (slice_get self.old.by_rank rank ≡ Some (Some group))
+            × (place < length (spans_of group)) }
+        ensures found { (group : PooledState) (span : SpanState)
+            → slice_get self.old.by_rank rank ≡ Some (Some group)
+            → slice_get (spans_of group) place ≡ Some span
+            → IfOk result (λ done. IsTrue done ↔ IsSettable span slot generation words.now) }
+        ensures set { (group : PooledState) (span : SpanState)
+            → slice_get self.old.by_rank rank ≡ Some (Some group)
+            → slice_get (spans_of group) place ≡ Some span
+            → IfOk result (λ done. OnTrue done (self.new ≡ record self.old {
+              by_rank = slice_set self.old.by_rank rank (Some (with_span group place
+                  (with_set_at span slot generation words.now)));
+            })) }
+        ensures unknown { IfOk result (λ done. OnFalse done (self.new ≡ self.old)) }
+        ensures refused { (group : PooledState) (span : SpanState)
+            → slice_get self.old.by_rank rank ≡ Some (Some group)
+            → slice_get (spans_of group) place ≡ Some span
+            → OnErr result (IsSettable span slot generation words.now) }
+        ensures err { OnErr result (self.new ≡ self.old) }
+    {
+        let Some(at) = place_of(self.groups.as_slice(), self.index.as_slice(), rank) else {
+            unreachable!();
+        };
+        let done = self.groups[at].set(place, slot, generation, words)?;
+        Ok(done)
     }
 
     /// Frees the slot in the span at the place of the group whose head has the rank, where it is live there at the

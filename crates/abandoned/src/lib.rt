@@ -26,8 +26,8 @@
 //! No call walks the pool: an index says where the group of each head stands, and a bit for each head says which
 //! of them have a page.
 //!
-//! The public fact of the crate is that a pool is a plain map of keys: [`Pool::get`] and
-//! [`Pool::free`] answer and do what a map would (`shown` in `specs/Shown.antt`), and
+//! The public fact of the crate is that a pool is a plain map of keys: [`Pool::get`], [`Pool::set`]
+//! and [`Pool::free`] answer and do what a map would (`shown` in `specs/Shown.antt`), and
 //! [`Pool::receive`], [`Pool::retire`] and [`Pool::adopt`] change nothing of what pool and shard show
 //! together.
 //!
@@ -40,8 +40,9 @@
 //! let (key, _) = first.put(Object::c16(7))?;     // 0.0/0/1
 //! pool.receive(&mut first)?;                     // shard 0 has ended, and its group is here
 //! pool.get(&key);                                // Found::Value(&[7], 1)
+//! pool.set(&key, &[11])?;                        // Replaced::Yes(1)
 //! pool.adopt(&mut second)?;                      // 0.0, the head of the group that has gone to shard 1
-//! second.get(&key);                              // Found::Value(&[7], 1), as ever
+//! second.get(&key);                              // Found::Value(&[11], 2), as ever
 //! pool.get(&key);                                // Found::NotHere
 //! ```
 #![tactic(auto)]

@@ -27,6 +27,7 @@ use std::marker::Model;
 mod handover;
 mod logs;
 mod moves;
+mod replacing;
 mod retiring;
 
 /// The groups that shards have let go, at an end or before, by ascending head, and the pages of those that have a live slot.

@@ -1,10 +1,10 @@
 // A group of the pool: a head and its guests, and their page, if they have one.
-ghost use Rattle.std.specs.Prelude.{◌≡◌, ◌<◌, ◌≤◌, ◌↔◌, IfSome, Some, IsTrue, MatchOption, false, is_some, length, slice_get};
+ghost use Rattle.std.specs.Prelude.{◌≡◌, ◌<◌, ◌≤◌, ◌↔◌, IfOk, IfSome, OnErr, Some, IsTrue, MatchOption, false, is_some, length, slice_get};
 ghost use Rattle.std.specs.Bool.{OnTrue, OnFalse};
 ghost use Rattle.span.specs.Log.{Holds};
-ghost use Rattle.span.specs.State.{SpanState};
+ghost use Rattle.span.specs.State.{IsSettable, SpanState};
 ghost use Rattle.page_table.specs.State.{HasPage};
-ghost use Rattle.groups.specs.Spans.{HasNoSpan, IsSpanAt, union_of, with_free_at, live_count};
+ghost use Rattle.groups.specs.Spans.{HasNoSpan, IsSpanAt, union_of, with_free_at, with_set_at, live_count};
 ghost use Rattle.groups.specs.Brief.{IsBriefOf};
 ghost use Rattle.abandoned.specs.Calls.{GivesUp};
 ghost use Rattle.abandoned.specs.State.{group_of};
@@ -14,6 +14,7 @@ ghost use Rattle.bitmap.specs.declared.bits.TheConstants.{SLOTS};
 use groups::{Brief, Spans};
 use page_table::{Page, Table};
 use span::{Entry, Log, Span, SpanId};
+use std::alloc::AllocError;
 use std::marker::Model;
 
 /// A head and its guests, and their page, which they have exactly while one of their slots is live.
@@ -123,6 +124,34 @@ impl<L: Log> Pooled<L> {
         ensures { slice_get (spans_of self.now) place ≡ Some result.now }
     {
         self.spans.span_at(place)
+    }
+
+    /// Sets the object of the slot in the span at the place to these words, where the slot is live there at the generation
+    /// and its object has as many, and says whether it was. The words of the page are the caller's to write.
+    ///
+    /// # Errors
+    ///
+    /// `AllocError` in place of `true`, where the span's log could not grow. The group is then as it was.
+    pub(crate) fn set(
+        &mut self,
+        place: usize,
+        slot: u8,
+        generation: u32,
+        words: &[u128],
+    ) -> Result<bool, AllocError>
+        requires { place < length (spans_of self.old) }
+        ensures found { (span : SpanState) → slice_get (spans_of self.old) place ≡ Some span
+            → IfOk result (λ done. IsTrue done ↔ IsSettable span slot generation words.now) }
+        ensures set { (span : SpanState) → slice_get (spans_of self.old) place ≡ Some span
+            → IfOk result (λ done. OnTrue done (self.new ≡ with_span self.old place
+            (with_set_at span slot generation words.now))) }
+        ensures unknown { IfOk result (λ done. OnFalse done (self.new ≡ self.old)) }
+        ensures refused { (span : SpanState) → slice_get (spans_of self.old) place ≡ Some span
+            → OnErr result (IsSettable span slot generation words.now) }
+        ensures err { OnErr result (self.new ≡ self.old) }
+    {
+        let done = self.spans.set(place, slot, generation, words)?;
+        Ok(done)
     }
 
     /// Frees the slot in the span at the place, where it is live there at the generation, and gives the page up where

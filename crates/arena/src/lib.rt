@@ -1,16 +1,16 @@
 //! Shards behind locks, worked on by threads.
 //!
 //! An [`Arena`] keeps each shard in a lock of its own, and the pool in another. Each worker has a
-//! [`Seat`], which puts into the shard of its number and looks keys up, and frees them, wherever
-//! their spans are. A [`Steward`] keeps the open plan of folds, which a mark makes, and takes its
-//! steps beside the workers.
+//! [`Seat`], which puts into the shard of its number and looks keys up, sets their objects in place,
+//! and frees them, wherever their spans are. A [`Steward`] keeps the open plan of folds, which a mark
+//! makes, and takes its steps beside the workers.
 //!
 //! ```text
 //!   word of a span      not opened     the pool       shard s
 //!                           │             │             │
 //!   locks, in the order   (none)         pool    <   shard 0  <  shard 1  <  ..
 //!   they are taken in
-//!                       put, get, free of one span     one lock
+//!                       put, get, set, free of a span  one lock
 //!                       end, retire, adopt, step       the pool's and one shard's
 //!                       mark, close, totals            all of them
 //! ```
@@ -23,8 +23,8 @@
 //!
 //! What is done under a lock is done by one call of a shard, of the pool, `fold_one` or `mark_in` on
 //! what the lock lends ([`sections`]), so the contracts of those calls hold of it, and each look-up,
-//! put and free makes its receipt there. A word is only a hint of where a span is: an answer stands
-//! on what was found under the lock.
+//! put, set and free makes its receipt there. A word is only a hint of where a span is: an answer
+//! stands on what was found under the lock.
 //!
 //! No contract speaks of what a lock guards at a moment that no caller can name. So a seat's contract
 //! says that its answer is its receipt's, and when the run is over the receipts are held against the
@@ -42,6 +42,7 @@
 //! let (arena, mut seats, mut steward) = Arena::open(alloc, 2, 4, 4, 9, NoGate)?;
 //! let (key, receipt) = seats[0].put(rt, &arena, Object::c16(7))?;   // in shard 0, under its lock
 //! let (found, receipt) = seats[1].get(rt, &arena, &key);   // Some(Object::c16(7)), wherever the key's span is
+//! let (done, receipt) = seats[1].set(rt, &arena, &key, Object::c16(8))?;   // true: the same class, in the same place
 //! seats[1].free_later(key);                                // for the ring to shard 0, without a lock
 //! seats[1].hand_over();                                    // on that ring, with all others that wait
 //! seats[0].tend(rt, &arena, &mut receipts)?;               // 1: the key is freed
@@ -60,6 +61,7 @@ mod locks;
 mod opening;
 mod outboxes;
 mod receipts;
+mod replacing;
 mod ring_table;
 mod seat;
 pub mod sections;

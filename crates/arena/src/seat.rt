@@ -2,7 +2,7 @@
 ghost use Rattle.std.proofs.Props.{props};
 ghost use Rattle.std.specs.Prelude.{All, ◌≡◌, ℕ, ◌+◌, ◌-◌, ◌<◌, ◌≤◌, ◌^◌, ◌↔◌, ◌∷◌, ◌++◌, [], IfOk, IfSome, IsOk, IsTrue, MatchResult, None, OnErr, OnOk, Some, length, map, slice_get, slice_index_or, slice_set, sum, vec_len};
 ghost use Rattle.arena.specs.Delays.{CountsCall, HandsOver, HasNoneWaiting, NoneWaits, delay_begun};
-ghost use Rattle.arena.specs.Receipts.{AddsFrees, IsGetBy, done_by, found_by, free_receipt, get_receipt, joined, put_receipt};
+ghost use Rattle.arena.specs.Receipts.{AddsFrees, IsGetBy, done_by, found_by, free_receipt, get_receipt, joined, put_receipt, set_receipt};
 ghost use Rattle.arena.specs.Seats.{AreNoFewer, HasItsRings, KeepsEnds, free_places, in_rings, known_lists, sending_side, sent_lists, taken_lists};
 ghost use Rattle.arena.specs.Settled.{taken_with_known};
 ghost use Rattle.arena.specs.Tended.{AreLookedAt, IsTended};
@@ -33,7 +33,7 @@ use std::sync::Wait;
 ///
 /// A key that it leaves to another thread goes in a block with others, and is on its ring, where that thread sees it, at the
 /// latest when the seat tends its own rings, hands over, ends its shard, goes on to the next section or is let go, or makes the
-/// [`MOST_DELAY`]th further call: each `put`, `get`, `free`, `free_later`, `retire` and `adopt` is one.
+/// [`MOST_DELAY`]th further call: each `put`, `get`, `set`, `free`, `free_later`, `retire` and `adopt` is one.
 #[derive(Drop)]
 pub struct Seat {
     worker: u32,
@@ -200,6 +200,31 @@ impl Seat {
         self.count_call();
         let receipt = self.get_wherever(rt, arena, key);
         (value_in(&receipt), receipt)
+    }
+
+    /// Sets the key's object to this one in place, under the lock of whoever has its span, where the key is live and its object
+    /// has the same class, and gives whether it did so and the receipt. A span that was never opened takes no lock: nothing is
+    /// set, before its log's first change.
+    ///
+    /// # Errors
+    ///
+    /// `AllocError` in place of a set that would be done, where the span's log could not grow. Nothing is set then, and there is
+    /// no receipt.
+    pub fn set<G: Gate, L: Log, R: Wait>(
+        &mut self,
+        rt: &R,
+        arena: &Arena<G, L>,
+        key: &Key,
+        value: Object,
+    ) -> Result<(bool, Receipt), AllocError>
+        requires { self.old.limits ≡ arena.now.limits }
+        ensures receipt { IfOk result (λ set. set.1 ≡ set_receipt self.old.worker self.old.section
+            key.now value set.0 set.1.at) }
+        ensures seat { CountsCall self.old self.new }
+    {
+        self.count_call();
+        let receipt = arena.set_wherever(rt, self.worker, self.section, key, &value)?;
+        Ok((done_in(&receipt), receipt))
     }
 
     /// Frees the key, under the lock of whoever has its span, and gives whether it was live and the receipt. A span that
@@ -532,9 +557,9 @@ fn value_in(receipt: &Receipt) -> Option<Object>
     }
 }
 
-// Whether the free of a receipt was done.
+// Whether the free or the set of a receipt was done.
 fn done_in(receipt: &Receipt) -> bool
     ensures { result ≡ done_by receipt.now.call }
 {
-    matches!(receipt.call, Call::Freed)
+    matches!(receipt.call, Call::Freed | Call::Set { .. })
 }

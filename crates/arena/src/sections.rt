@@ -12,11 +12,12 @@ ghost use Rattle.shard.specs.Shown.{shown};
 ghost use Rattle.shard.specs.Sound.{IsSound};
 ghost use Rattle.abandoned.specs.Shown.{shown as shown_by_pool};
 ghost use Rattle.abandoned.specs.Sound.{IsSound as IsSoundPool};
-ghost use Rattle.arena.specs.Receipts.{TellsFree, TellsFreePooled, TellsGet, TellsGetPooled, free_receipt, get_receipt, put_receipt, told_of_free, told_of_get, was_done};
+ghost use Rattle.arena.specs.Receipts.{TellsFree, TellsFreePooled, TellsGet, TellsGetPooled, TellsSet, TellsSetPooled, free_receipt, get_receipt, put_receipt, set_receipt, told_of_free, told_of_get, told_of_set, was_done};
 
 use abandoned::Pool;
-use shard::{Found, Freed, PutError, Shard};
+use shard::{Found, Freed, PutError, Replaced, Shard};
 use span::{Call, Key, Log, Object, Receipt};
+use std::alloc::AllocError;
 
 /// Puts the object into the shard, as [`Shard::put`] does, and makes the receipt of that put. Its key is the receipt's.
 ///
@@ -69,6 +70,35 @@ pub fn get_in<L: Log>(shard: &Shard<L>, worker: u32, section: u64, key: &Key) ->
     receipt_of_get(shard.get(key), worker, section, key)
 }
 
+/// Sets the key's object to this one in the shard, in place, as [`Shard::set`] does, and makes the receipt of that set. There is
+/// none exactly where the shard has no such span.
+///
+/// # Errors
+///
+/// As that of [`Shard::set`]: `AllocError` in place of a set that would be done, where the span's log could not grow. The shard is
+/// then as it was, and there is no receipt.
+pub fn set_in<L: Log>(
+    shard: &mut Shard<L>,
+    worker: u32,
+    section: u64,
+    key: &Key,
+    value: Object,
+) -> Result<Option<Receipt>, AllocError>
+    ensures receipt { IfOk result (λ told. TellsSet shard.old worker section key.now value told
+        shard.new) }
+    ensures found { IfOk result (λ told. IfSome told (λ receipt. receipt
+        ≡ set_receipt worker section key.now value
+        (plain.may_set (shown shard.old) key.now value) receipt.at)) }
+    ensures plain { IfOk result (λ told. shown shard.new ≡ (if was_done told
+        then plain.with_value (shown shard.old) key.now value else shown shard.old)) }
+    ensures sound { IsSound shard.new }
+    ensures refused { OnErr result (plain.may_set (shown shard.old) key.now value ≡ true) }
+    ensures err { OnErr result (shard.new ≡ shard.old) }
+{
+    let replaced = shard.set(key, value.words())?;
+    Ok(receipt_of_set(replaced, worker, section, key, value))
+}
+
 /// Frees the key in the shard, as [`Shard::free`] does, and makes the receipt of that free. There is none exactly where the shard
 /// has no such span. It takes no memory.
 pub fn free_in<L: Log>(
@@ -100,6 +130,35 @@ pub fn get_pool<L: Log>(pool: &Pool<L>, worker: u32, section: u64, key: &Key) ->
     receipt_of_get(pool.get(key), worker, section, key)
 }
 
+/// Sets the key's object to this one in the pool, in place, as [`Pool::set`] does, and makes the receipt of that set. There is
+/// none exactly where the pool has no such span.
+///
+/// # Errors
+///
+/// As that of [`Pool::set`]: `AllocError` in place of a set that would be done, where the span's log could not grow. The pool is
+/// then as it was, and there is no receipt.
+pub fn set_pool<L: Log>(
+    pool: &mut Pool<L>,
+    worker: u32,
+    section: u64,
+    key: &Key,
+    value: Object,
+) -> Result<Option<Receipt>, AllocError>
+    ensures receipt { IfOk result (λ told. TellsSetPooled pool.old worker section key.now value told
+        pool.new) }
+    ensures found { IfOk result (λ told. IfSome told (λ receipt. receipt
+        ≡ set_receipt worker section key.now value
+        (plain.may_set (shown_by_pool pool.old) key.now value) receipt.at)) }
+    ensures plain { IfOk result (λ told. shown_by_pool pool.new ≡ (if was_done told
+        then plain.with_value (shown_by_pool pool.old) key.now value else shown_by_pool pool.old)) }
+    ensures sound { IsSoundPool pool.new }
+    ensures refused { OnErr result (plain.may_set (shown_by_pool pool.old) key.now value ≡ true) }
+    ensures err { OnErr result (pool.new ≡ pool.old) }
+{
+    let replaced = pool.set(key, value.words())?;
+    Ok(receipt_of_set(replaced, worker, section, key, value))
+}
+
 /// Frees the key in the pool, as [`Pool::free`] does, and makes the receipt of that free. There is none exactly where the pool
 /// has no such span. It takes no memory.
 pub fn free_pool<L: Log>(
@@ -126,6 +185,13 @@ pub(crate) fn unopened_get(worker: u32, section: u64, key: &Key) -> Receipt
     get_at(0, None, worker, section, key)
 }
 
+/// The receipt of a set of a span that was never opened: nothing is done, before the span's first change.
+pub(crate) fn unopened_set(worker: u32, section: u64, key: &Key, value: Object) -> Receipt
+    ensures { result ≡ set_receipt worker section key.now value false 0 }
+{
+    set_at(0, false, worker, section, key, value)
+}
+
 /// The receipt of a free of a span that was never opened: nothing is done, before the span's first change.
 pub(crate) fn unopened_free(worker: u32, section: u64, key: &Key) -> Receipt
     ensures { result ≡ free_receipt worker section key.now false 0 }
@@ -145,6 +211,23 @@ fn receipt_of_get(found: Found<'_>, worker: u32, section: u64, key: &Key) -> Opt
         }
         Found::Gone(at) => Some(get_at(at, None, worker, section, key)),
         Found::NotHere => None,
+    }
+}
+
+// The receipt of a set that came to this, where the span is there.
+fn receipt_of_set(
+    replaced: Replaced,
+    worker: u32,
+    section: u64,
+    key: &Key,
+    value: Object,
+) -> Option<Receipt>
+    ensures { result ≡ told_of_set worker section key.now value replaced }
+{
+    match replaced {
+        Replaced::Yes(at) => Some(set_at(at, true, worker, section, key, value)),
+        Replaced::No(at) => Some(set_at(at, false, worker, section, key, value)),
+        Replaced::NotHere => None,
     }
 }
 
@@ -169,6 +252,19 @@ fn get_at(at: usize, found: Option<Object>, worker: u32, section: u64, key: &Key
         key: *key,
         at,
         call: Call::look_up(found),
+    }
+}
+
+// The receipt of a set of the key to the object after that many changes, which was done or was not.
+fn set_at(at: usize, done: bool, worker: u32, section: u64, key: &Key, value: Object) -> Receipt
+    ensures { result ≡ set_receipt worker section key.now value done at }
+{
+    Receipt {
+        worker,
+        section,
+        key: *key,
+        at,
+        call: Call::set(value, done),
     }
 }
 

@@ -7,8 +7,8 @@ use Rattle.span.specs.declared.id.SpanId.{SpanId}
 use Rattle.span.specs.declared.key.Key.{Key}
 use Rattle.span.specs.Classes.{class_of}
 use Rattle.span.specs.Log.{Value}
-use Rattle.span.specs.PlainMap.{PlainMap, with_put, without}
-use Rattle.shard.specs.Calls.{Frees, IsSpent, Puts, was_freed}
+use Rattle.span.specs.PlainMap.{PlainMap, has_as_many, may_set, with_put, with_value, without}
+use Rattle.shard.specs.Calls.{Frees, IsSpent, Puts, Sets, was_freed, was_replaced}
 use Rattle.shard.specs.Shown.{shown as shown_by}
 use Rattle.shard.specs.Sound.{IsSound as IsSoundShard}
 use Rattle.shard.specs.State.{ShardState}
@@ -17,30 +17,35 @@ use Rattle.shard.specs.declared.error.PutError.{PutError}
 use Rattle.shard.specs.declared.error.PutError.TheVariants as put_error
 use Rattle.shard.specs.declared.shard.Freed.{Freed}
 use Rattle.shard.specs.declared.shard.Freed.TheVariants as freed
-use Rattle.abandoned.specs.Calls.{Adopts, HasNothingToAdopt, IsDoubled, IsInPool, Receives}
+use Rattle.shard.specs.declared.shard.replacing.Replaced.{Replaced}
+use Rattle.shard.specs.declared.shard.replacing.Replaced.TheVariants as replaced
+use Rattle.abandoned.specs.Calls.{Adopts, HasNothingToAdopt, IsDoubled, IsInPool, Receives, Sets as SetsPooled}
+use Rattle.abandoned.specs.Shown.{shown as shown_by_pool}
 use Rattle.abandoned.specs.Sound.{IsSound as IsSoundPool}
 use Rattle.abandoned.specs.State.{PoolState}
 use Rattle.abandoned.specs.declared.error.AdoptError.{AdoptError}
 use Rattle.abandoned.specs.declared.error.AdoptError.TheVariants as adopt_error
 use Rattle.abandoned.specs.declared.error.ReceiveError.{ReceiveError}
 use Rattle.abandoned.specs.declared.error.ReceiveError.TheVariants as receive_error
-use Rattle.arena_core.specs.declared.event.Event.TheVariants.{Put, Free, End, Retire, Adopt}
+use Rattle.arena_core.specs.declared.event.Event.TheVariants.{Put, Set, Free, End, Retire, Adopt}
 use Rattle.arena_core.specs.declared.machine.Core.TheInside.{Inside}
 use Rattle.arena_core.specs.declared.reply.Refusal.{Refusal}
+use Rattle.arena_core.specs.declared.reply.Refusal.TheVariants.{OutOfMemory}
 use Rattle.arena_core.specs.declared.reply.Reply.TheVariants as reply
 use Rattle.arena_core.specs.Kept.{state_of}
+use Rattle.arena_core.specs.Moved.{StandsIn, StandsInNoOther}
 use Rattle.arena_core.specs.Plain.{PlainStep}
 use Rattle.arena_core.specs.Refusals.{refusal_of, refusal_of_adoption, refusal_of_end}
 use Rattle.arena_core.specs.Sound.{IsSound}
-use Rattle.arena_core.specs.State.{CoreState, has_span}
+use Rattle.arena_core.specs.State.{CoreState, has_span, shown, with_pool}
 use Rattle.marks.specs.Numbers.{Limits}
 use Rattle.arena_core.specs.Step.{CoreStep, HasClosed}
 use Rattle.arena_core.proofs.Fields.{IsRead, shard-read, state_of-with_both_at, state_of-with_shard_at, with_both_at, with_shard_at}
 use Rattle.arena_core.proofs.Moves.{CoreStep-adopt_refused, CoreStep-end_refused, CoreStep-retire_refused}
 use Rattle.abandoned.specs.Retires.{HasRetired, Retires}
-use Rattle.arena_core.proofs.Moved.{has_span-Frees}
-use Rattle.arena_core.proofs.PlanSteps.{IsSoundStep, IsSoundStep-Adopts, IsSoundStep-Frees, IsSoundStep-Puts, IsSoundStep-Receives, IsSoundStep-Retires}
-use Rattle.arena_core.proofs.Steps.{CoreStep-refused, not_doubled, not_in_pool}
+use Rattle.arena_core.proofs.Moved.{has_span-Frees, has_span-Sets, value-no_other}
+use Rattle.arena_core.proofs.PlanSteps.{IsSoundStep, IsSoundStep-Adopts, IsSoundStep-Frees, IsSoundStep-Puts, IsSoundStep-Receives, IsSoundStep-Retires, IsSoundStep-Sets, IsSoundStep-SetsPooled, IsSoundStep-set_refused}
+use Rattle.arena_core.proofs.Steps.{CoreStep-refused, has_span-may_set, may_set-shard, not_doubled, not_in_pool, with_pool-same}
 
 -- a shard that is as it was leaves the fields as they were
 pub state_of-same : {L : Type 0} (c : Inside L) (number : ℕ) (before after : ShardState) → IsRead c number before → after ≡ before → state_of (with_shard_at c number after) ≡ state_of c
@@ -77,6 +82,48 @@ pub PlainStep-refused : (limits : Limits) (old new : PlainMap) (number : ℕ) (v
 PlainStep-refused limits old new number value put_error.OutOfMemory same = same
 PlainStep-refused limits old new number value put_error.PagesSpent same = same
 PlainStep-refused limits old new number value put_error.Ended same = same
+
+-- a set that the shard which was asked decides
+pub IsStep-set_home : {L : Type 0} (c : Inside L) (now : CoreState) (number : ℕ) (key : Key) (value : Value) (before after : ShardState) (answer : Replaced) → state_of c ≡ now → IsSound (state_of c) → IsRead c number before → (answer ≡ replaced.NotHere → ⊥) → Sets before key value answer after
+    → was_replaced answer ≡ may_set (shown_by before) key value → shown_by after ≡ cond (was_replaced answer) (with_value (shown_by before) key value) (shown_by before) → IsSoundShard after
+    → IsSoundStep now (Set key value) (reply.Replaced (was_replaced answer)) (state_of (with_shard_at c number after))
+IsStep-set_home c now number key value before after answer now_is kept read here sets found plain sound =
+    let at = shard-read c number before read in
+    let has = has_span-Sets before after key value answer (kept.groups.shards number before at).sound here sets in
+    subst (λ old. IsSoundStep old (Set key value) (reply.Replaced (was_replaced answer)) (state_of (with_shard_at c number after))) now_is
+    (subst (IsSoundStep (state_of c) (Set key value) (reply.Replaced (was_replaced answer))) (sym (state_of-with_shard_at c number after))
+    (IsSoundStep-Sets (state_of c) key value number before after answer kept at has sets found plain sound))
+
+-- a set that the shard refuses leaves the fields as they were
+pub IsStep-set_refused_home : {L : Type 0} (c : Inside L) (now : CoreState) (number : ℕ) (key : Key) (value : Value) (before after : ShardState) → state_of c ≡ now → IsSound (state_of c) → IsRead c number before → may_set (shown_by before) key value ≡ true → after ≡ before
+    → IsSoundStep now (Set key value) (reply.Refused OutOfMemory) (state_of (with_shard_at c number after))
+IsStep-set_refused_home c now number key value before after now_is kept read may same =
+    let has = has_span-may_set before key value may in
+    subst (λ old. IsSoundStep old (Set key value) (reply.Refused OutOfMemory) (state_of (with_shard_at c number after))) now_is
+    (subst (IsSoundStep (state_of c) (Set key value) (reply.Refused OutOfMemory)) (sym (state_of-same c number before after read same))
+    (IsSoundStep-set_refused (state_of c) key value kept (may_set-shard (state_of c) kept.groups key value number before (shard-read c number before read) has ∙ may)))
+
+-- a key whose span is in no shard: the core shows under it what the pool shows
+module _ {L : Type 0} (c : Inside L) (now : CoreState) (key : Key) (value : Value) (pool : PoolState) (now_is : state_of c ≡ now) (kept : IsSound (state_of c)) (not_home : StandsIn now.shards key.span key.span.shard → ⊥) (no_other : StandsInNoOther now.shards key.span) where
+  pooled : (shown (state_of c)).value_of key ≡ (shown_by_pool c.pool).value_of key
+  pooled =
+      value-no_other (state_of c) key (subst (λ (s : CoreState). StandsIn s.shards key.span key.span.shard → ⊥) (sym now_is) not_home)
+      (subst (λ (s : CoreState). StandsInNoOther s.shards key.span) (sym now_is) no_other)
+
+  -- a set that the pool decides
+  pub IsStep-set_pooled : (answer : Replaced) → SetsPooled c.pool key value answer pool
+      → was_replaced answer ≡ may_set (shown_by_pool c.pool) key value → shown_by_pool pool ≡ cond (was_replaced answer) (with_value (shown_by_pool c.pool) key value) (shown_by_pool c.pool) → IsSoundPool pool
+      → IsSoundStep now (Set key value) (reply.Replaced (was_replaced answer)) (with_pool (state_of c) pool)
+  IsStep-set_pooled answer sets found plain sound =
+      subst (λ old. IsSoundStep old (Set key value) (reply.Replaced (was_replaced answer)) (with_pool (state_of c) pool)) now_is
+      (IsSoundStep-SetsPooled (state_of c) key value pool answer kept pooled sets found plain sound)
+
+  -- a set that the pool refuses leaves the core as it was
+  pub IsStep-set_refused_pooled : may_set (shown_by_pool c.pool) key value ≡ true → pool ≡ c.pool → IsSoundStep now (Set key value) (reply.Refused OutOfMemory) (with_pool (state_of c) pool)
+  IsStep-set_refused_pooled may same =
+      subst (λ old. IsSoundStep old (Set key value) (reply.Refused OutOfMemory) (with_pool (state_of c) pool)) now_is
+      (subst (IsSoundStep (state_of c) (Set key value) (reply.Refused OutOfMemory)) (sym (with_pool-same (state_of c) pool same))
+      (IsSoundStep-set_refused (state_of c) key value kept (ap (has_as_many value) pooled ∙ may)))
 
 pub IsStep-free_fields : {L : Type 0} (c : Inside L) (number : ℕ) (key : Key) (before after : ShardState) (answer : Freed) → IsSound (state_of c) → IsRead c number before → has_span key.span before ≡ true → Frees before key answer after
     → was_freed answer ≡ is_some ((shown_by before).value_of key) → shown_by after ≡ cond (was_freed answer) (without (shown_by before) key) (shown_by before) → IsSoundShard after

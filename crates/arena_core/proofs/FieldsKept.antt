@@ -7,14 +7,16 @@ use Rattle.span.specs.declared.id.SpanId.{SpanId}
 use Rattle.span.specs.declared.key.Key.{Key}
 use Rattle.span.specs.Classes.{class_of}
 use Rattle.span.specs.Log.{Value}
-use Rattle.span.specs.PlainMap.{without}
-use Rattle.shard.specs.Calls.{Frees, Puts, was_freed}
+use Rattle.span.specs.PlainMap.{may_set, with_value, without}
+use Rattle.shard.specs.Calls.{Frees, Puts, Sets, was_freed, was_replaced}
 use Rattle.shard.specs.Group.{GroupState}
 use Rattle.shard.specs.Shown.{shown as shown_by}
 use Rattle.shard.specs.Sound.{IsSound as IsSoundShard}
 use Rattle.shard.specs.State.{ShardState}
 use Rattle.shard.specs.declared.shard.Freed.{Freed}
 use Rattle.shard.specs.declared.shard.Freed.TheVariants as freed
+use Rattle.shard.specs.declared.shard.replacing.Replaced.{Replaced}
+use Rattle.shard.specs.declared.shard.replacing.Replaced.TheVariants as replaced
 use Rattle.abandoned.specs.Calls.{Receives}
 use Rattle.abandoned.specs.State.{PoolState}
 use Rattle.arena_core.specs.declared.machine.Core.TheInside.{Inside}
@@ -24,13 +26,14 @@ use Rattle.arena_core.specs.Sound.{IsSound}
 use Rattle.marks.specs.Numbers.{Limits}
 use Rattle.marks.specs.Plans.{OpenPlan}
 use Rattle.arena_core.specs.State.{has_span, new_core}
-use Rattle.arena_core.proofs.FieldSteps.{IsStep-free_home, state_of-both_same, state_of-same}
+use Rattle.arena_core.proofs.FieldSteps.{IsStep-free_home, IsStep-set_home, state_of-both_same, state_of-same}
 use Rattle.arena_core.proofs.Fields.{IsRead, shard-read, with_both_at, with_shard_at}
 use Rattle.marks.proofs.Flagged.{with_flags}
-use Rattle.arena_core.proofs.Groups.{IsCall-Frees, IsCall-Puts}
+use Rattle.arena_core.proofs.Groups.{IsCall-ChangesSpan, IsCall-Puts}
 use Rattle.arena_core.proofs.MarkSteps.{with_step_at}
 use Rattle.arena_core.proofs.Noted.{Comes, KnowsMoved-map, KnowsMoved-noted, KnowsMoved-set, has_span-flagged, kept-IsCall, kept-emptied, kept-part}
 use Rattle.abandoned.specs.Retires.{Retires}
+use Rattle.arena_core.proofs.OneSpan.{ChangesSpan-Frees, ChangesSpan-Sets}
 use Rattle.arena_core.proofs.Retired.{HasGone-Retires}
 use Rattle.arena_core.proofs.Start.{slice_get-range}
 
@@ -56,9 +59,14 @@ module _ {L : Type 0} (c : Inside L) (kept : IsKept c) (number : ℕ) (before : 
   GetsNone-same after same id foreign has = ap (has_span id) (sym same) ∙ has
 
   pub GetsNone-Frees : (key : Key) (answer : Freed) (after : ShardState) → Frees before key answer after → GetsNone number before after
-  GetsNone-Frees key (freed.Yes at) after frees = kept-IsCall before after number number_is (IsCall-Frees before after key at frees)
+  GetsNone-Frees key (freed.Yes at) after frees = kept-IsCall before after number number_is (IsCall-ChangesSpan before after (ChangesSpan-Frees before after key at frees))
   GetsNone-Frees key (freed.No at) after (index, place, group, span, there, dead, at_is, same) = GetsNone-same after same
   GetsNone-Frees key freed.NotHere after frees = GetsNone-same after frees.1
+
+  pub GetsNone-Sets : (key : Key) (value : Value) (answer : Replaced) (after : ShardState) → Sets before key value answer after → GetsNone number before after
+  GetsNone-Sets key value (replaced.Yes at) after sets = kept-IsCall before after number number_is (IsCall-ChangesSpan before after (ChangesSpan-Sets before after key value at sets))
+  GetsNone-Sets key value (replaced.No at) after (index, place, group, span, there, unfit, at_is, same) = GetsNone-same after same
+  GetsNone-Sets key value replaced.NotHere after sets = GetsNone-same after sets.1
 
   pub GetsNone-Receives : (pool_before pool_after : PoolState) (after : ShardState) → Receives pool_before before pool_after after → GetsNone number before after
   GetsNone-Receives pool_before pool_after after receives id foreign has = kept-emptied before after (ap (λ (s : ShardState). s.groups) receives.after) id has
@@ -97,6 +105,15 @@ module _ {L : Type 0} (c : Inside L) (kept : IsKept c) (number : ℕ) (before : 
   IsKept-free key (freed.No at) after frees found plain sound =
       IsKept-with_shard_at after (GetsNone-Frees key (freed.No at) after frees) (IsStep-free_home c (state_of c) number key before after (freed.No at) refl kept.sound read (λ e. absurd cc) frees found plain sound).kept
   IsKept-free key freed.NotHere after frees found plain sound = IsKept-same after frees.1
+
+  -- a set, whatever it answers
+  pub IsKept-set : (key : Key) (value : Value) (answer : Replaced) (after : ShardState) → Sets before key value answer after → was_replaced answer ≡ may_set (shown_by before) key value → shown_by after ≡ cond (was_replaced answer) (with_value (shown_by before) key value) (shown_by before) → IsSoundShard after
+      → IsKept (with_shard_at c number after)
+  IsKept-set key value (replaced.Yes at) after sets found plain sound =
+      IsKept-with_shard_at after (GetsNone-Sets key value (replaced.Yes at) after sets) (IsStep-set_home c (state_of c) number key value before after (replaced.Yes at) refl kept.sound read (λ e. absurd cc) sets found plain sound).kept
+  IsKept-set key value (replaced.No at) after sets found plain sound =
+      IsKept-with_shard_at after (GetsNone-Sets key value (replaced.No at) after sets) (IsStep-set_home c (state_of c) number key value before after (replaced.No at) refl kept.sound read (λ e. absurd cc) sets found plain sound).kept
+  IsKept-set key value replaced.NotHere after sets found plain sound = IsKept-same after sets.1
 
   -- spans come in, and are noted
   pub IsKept-noted : (after : ShardState) (pool : PoolState) (plan : Option OpenPlan) (noted : List (Option ℕ)) (head : SpanId) (first : ℕ) → Comes before after head first → Notes c.whereabouts noted after.groups head first number

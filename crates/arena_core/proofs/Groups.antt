@@ -6,26 +6,25 @@ use Rattle.std.proofs.lemmas.Bool.Decides.{nat_tests}
 use Rattle.std.proofs.lemmas.List.Sums.{sum_by-append, sum_by-cons}
 use Rattle.span.specs.declared.id.SpanId.{SpanId}
 use Rattle.span.specs.declared.key.Key.{Key}
+use Rattle.span.specs.Ids.{same_span}
 use Rattle.span.specs.Classes.{class_of}
 use Rattle.span.specs.Log.{Value}
 use Rattle.span.specs.State.{SpanState}
-use Rattle.shard.specs.Calls.{Puts, Frees, new_group}
-use Rattle.groups.specs.Spans.{new_span, with_free, union_of, with_put}
+use Rattle.shard.specs.Calls.{Puts, new_group}
+use Rattle.groups.specs.Spans.{new_span, union_of, with_put}
 use Rattle.shard.specs.Group.{GroupState}
 use Rattle.groups.specs.Group.{spans_of, with_span}
 use Rattle.page_table.specs.State.{TableState}
 use Rattle.shard.specs.Moves.{TakesIn, whole_of, with_room}
 use Rattle.groups.specs.Whole.{WholeState, spans_moved}
 use Rattle.shard.specs.State.{ShardState}
-use Rattle.shard.specs.declared.shard.Freed.TheVariants.{Yes}
 use Rattle.groups.proofs.Standing.{spans_of-with_span}
-use Rattle.abandoned.specs.Calls.{Adopts, Frees as FreesPooled, Receives, TakesAll, TakesIn as TakesInPool, with_rooms}
-use Rattle.abandoned.specs.Sound.{IsSound as IsSoundPool}
+use Rattle.abandoned.specs.Calls.{Adopts, Receives, TakesAll, TakesIn as TakesInPool, with_rooms}
 use Rattle.abandoned.specs.State.{PoolState, PooledState}
-use Rattle.abandoned.proofs.Freed.{groups-Leaves}
 use Rattle.abandoned.proofs.TakenIn.{empty_or_not}
 use Rattle.fold.proofs.Sums.{sum_by-Lifts}
 use Rattle.arena_core.proofs.Lists.{flat-insert, flat-set, sum_by-set_at}
+use Rattle.arena_core.proofs.OneSpan.{ChangesPooled, ChangesSpan}
 use Rattle.arena_core.proofs.Spans.{named, sum_in, sum_pooled, times_in, times_pooled}
 
 -- whether the shard has opened the span, as a count
@@ -141,32 +140,33 @@ IsCall-Puts before after value key at (running, inr (full, pages, spans, (shard_
     alone zero span here = let same : with_put (new_span key.span (class_of value) before.gens) 0 value ≡ span = cc in ap (λ (s : SpanState). s.gens) (sym same)
     alone (suc place) span here = absurd cc
 
-pub IsCall-Frees : (before after : ShardState) (key : Key) (at : ℕ) → Frees before key (Yes at) after → IsCall before after
-IsCall-Frees before after key at (index, place, group, span, here, holds, at_is, after_is) = record {
-  number_is = ap (λ (s : ShardState). s.number) after_is;
-  page_limit_is = ap (λ (s : ShardState). s.page_limit) after_is;
-  gens_is = ap (λ (s : ShardState). s.gens) after_is;
-  ended_is = ap (λ (s : ShardState). s.ended) after_is;
-  opened_more = omega (arith, ap (λ (s : ShardState). s.opened) after_is);
-  spans = λ id. omega (arith, ap (own id) after_is, kept (named id) refl);
-  strays_are = kept (strays before.gens) refl;
-  none_lost = λ id. omega (arith, kept (named id) refl);
+-- a span that changes is still there
+pub IsCall-ChangesSpan : (before after : ShardState) → ChangesSpan before after → IsCall before after
+IsCall-ChangesSpan before after changes = record {
+  number_is = ap (λ (s : ShardState). s.number) changes.after_is;
+  page_limit_is = ap (λ (s : ShardState). s.page_limit) changes.after_is;
+  gens_is = ap (λ (s : ShardState). s.gens) changes.after_is;
+  ended_is = ap (λ (s : ShardState). s.ended) changes.after_is;
+  opened_more = omega (arith, ap (λ (s : ShardState). s.opened) changes.after_is);
+  spans = λ id. omega (arith, ap (own id) changes.after_is, named_still id);
+  strays_are = kept (strays before.gens) (ap (λ n. cond {A = ℕ} (eqb n before.gens) 0 1) changes.same.gens_is);
+  none_lost = λ id. omega (arith, named_still id);
 }
   where
-    kept : (w : SpanState → ℕ) → w (with_free span key) ≡ w span → sum_in w after ≡ sum_in w before
-    kept w same = sum_in-with_span w before after index place group span (with_free span key) here.group_is here.span_is same (ap (λ (s : ShardState). s.groups) after_is)
+    kept : (w : SpanState → ℕ) → w changes.now ≡ w changes.span → sum_in w after ≡ sum_in w before
+    kept w same = sum_in-with_span w before after changes.index changes.place changes.group changes.span changes.now changes.group_is changes.span_is same (ap (λ (s : ShardState). s.groups) changes.after_is)
 
-pub IsPoolCall-Frees : (before after : PoolState) (key : Key) (at : ℕ) → IsSoundPool before → FreesPooled before key (Yes at) after → IsPoolCall before after
-IsPoolCall-Frees before after key at sound (index, place, group, span, here, holds, at_is, leaves) = record {
-  spans = λ id. kept (named id) refl;
-  strays_are = λ gens. kept (strays gens) refl;
+    named_still : (id : SpanId) → times_in id after ≡ times_in id before
+    named_still id = kept (named id) (ap (λ i. cond {A = ℕ} (same_span i id) 1 0) changes.same.id_is)
+
+pub IsPoolCall-ChangesPooled : (before after : PoolState) → ChangesPooled before after → IsPoolCall before after
+IsPoolCall-ChangesPooled before after changes = record {
+  spans = λ id. kept (named id) (ap (λ i. cond {A = ℕ} (same_span i id) 1 0) changes.same.id_is);
+  strays_are = λ gens. kept (strays gens) (ap (λ n. cond {A = ℕ} (eqb n gens) 0 1) changes.same.gens_is);
 }
   where
-    changed : (now : PooledState) × (after.groups ≡ set before.groups index now) × (spans_of now ≡ set (spans_of group) place (with_free span key))
-    changed = groups-Leaves before sound index place group span key (here.group_is, here.span_is) holds after leaves
-
-    kept : (w : SpanState → ℕ) → w (with_free span key) ≡ w span → sum_pooled w after ≡ sum_pooled w before
-    kept w same = sum_pooled-with_span w before after index place group span (with_free span key) changed.0 here.group_is here.span_is same changed.2 changed.1
+    kept : (w : SpanState → ℕ) → w changes.now ≡ w changes.span → sum_pooled w after ≡ sum_pooled w before
+    kept w same = sum_pooled-with_span w before after changes.index changes.place changes.group changes.span changes.now changes.group_now changes.group_is changes.span_is same changes.spans_are changes.groups_are
 
 -- groups that move
 

@@ -16,6 +16,7 @@ pub mod Moved
 pub mod Moves
 pub mod NextLive
 pub mod Noted
+pub mod OneSpan
 pub mod Owners
 pub mod PlanFolds
 pub mod PlanKept

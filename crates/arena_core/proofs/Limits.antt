@@ -1,19 +1,25 @@
 -- No step changes the numbers of the product.
 use Rattle.std.proofs.Common.{◌≡◌, Bool, true, false, List, [], ◌∷◌, inl, inr, Some, None, ap, ◌∙◌}
 use Rattle.span.specs.declared.key.Key.{Key}
+use Rattle.span.specs.Log.{Value}
 use Rattle.fold.specs.declared.step.Step.TheVariants.{Absent, Emptied, Clash, Folded}
 use Rattle.arena_core.specs.declared.event.Event.{Event}
-use Rattle.arena_core.specs.declared.event.Event.TheVariants.{Put, Get, Free, Later, Settle, End, Retire, Adopt, Mark, Step, Close}
+use Rattle.arena_core.specs.declared.event.Event.TheVariants.{Put, Get, Set, Free, Later, Settle, End, Retire, Adopt, Mark, Step, Close}
 use Rattle.arena_core.specs.declared.reply.Reply.{Reply}
-use Rattle.arena_core.specs.declared.reply.Reply.TheVariants.{Issued, Found, Freed, Sent, Settled, ShardEnded, Retired, Adopted, Marked, Stepped, NoPairLeft, Closed, NoPlan, Refused}
+use Rattle.arena_core.specs.declared.reply.Reply.TheVariants.{Issued, Found, Replaced, Freed, Sent, Settled, ShardEnded, Retired, Adopted, Marked, Stepped, NoPairLeft, Closed, NoPlan, Refused}
 use Rattle.arena_core.specs.declared.reply.Refusal.TheVariants.{OutOfMemory, PagesSpent, Ended, PlanOpen, TooMany, NothingToAdopt, RingFull, Config}
 use Rattle.arena_core.specs.Rings.{with_keys, with_ring_at}
 use Rattle.arena_core.specs.State.{CoreState, with_rings}
-use Rattle.arena_core.specs.Step.{CoreRun, CoreStep, FreesKey}
+use Rattle.arena_core.specs.Step.{CoreRun, CoreStep, FreesKey, SetsKey}
 
 -- the numbers of equal cores
 limits-same : (old new : CoreState) → new ≡ old → new.limits ≡ old.limits
 limits-same old new same = ap (λ (c : CoreState). c.limits) same
+
+limits-SetsKey : (old new : CoreState) (key : Key) (value : Value) (done : Bool) → SetsKey old key value done new → new.limits ≡ old.limits
+limits-SetsKey old new key value true (inl sets) = ap (λ (c : CoreState). c.limits) sets.rest
+limits-SetsKey old new key value true (inr sets) = ap (λ (c : CoreState). c.limits) sets.rest
+limits-SetsKey old new key value false step = limits-same old new step.1
 
 limits-FreesKey : (old new : CoreState) (key : Key) (freed : Bool) → FreesKey old key freed new → new.limits ≡ old.limits
 limits-FreesKey old new key true (inl frees) = ap (λ (c : CoreState). c.limits) frees.rest
@@ -27,6 +33,8 @@ limits-CoreStep old new (Put shard value) (Refused Ended) step = limits-same old
 limits-CoreStep old new (Put shard value) (Refused PagesSpent) step = limits-same old new step.1
 limits-CoreStep old new (Put shard value) (Refused OutOfMemory) step = limits-same old new step.1
 limits-CoreStep old new (Get key) (Found value) step = limits-same old new step.1
+limits-CoreStep old new (Set key value) (Replaced done) step = limits-SetsKey old new key value done step
+limits-CoreStep old new (Set key value) (Refused OutOfMemory) step = limits-same old new step.1
 limits-CoreStep old new (Free key) (Freed freed) step = limits-FreesKey old new key freed step
 limits-CoreStep old new (Later worker key) Sent step = ap (λ (c : CoreState). c.limits) step.rest
 limits-CoreStep old new (Later worker key) (Refused RingFull) step = limits-same old new step.1

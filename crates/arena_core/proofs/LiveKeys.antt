@@ -1,5 +1,5 @@
 -- The live keys of a core as a list: each key that has a value stands there once.
-use Rattle.std.proofs.Common.{◌≡◌, ◌≢◌, ℕ, suc, ◌+◌, ◌-◌, ◌≤◌, T, Bool, true, false, cond, eqb, ◌&&◌, List, [], ◌∷◌, ◌⊎◌, inl, inr, refl, sym, ap, ◌∙◌, arith, Option, Some, None, map, fold, slice_get, length, length-append, is_some, eq-eqb}
+use Rattle.std.proofs.Common.{◌≡◌, ◌≢◌, ℕ, suc, ◌+◌, ◌-◌, ◌≤◌, T, Bool, true, false, cond, eqb, ◌&&◌, List, [], ◌∷◌, ◌⊎◌, inl, inr, refl, sym, ap, subst, ◌∙◌, arith, Option, Some, None, IsSomeAnd, map, length, length-append, is_some, eq-eqb}
 use Rattle.std.specs.Prelude.{count_by, find}
 use Rattle.std.specs.FinMap as finmap
 use Rattle.std.specs.FinMap.Entries as entry
@@ -13,12 +13,12 @@ use Rattle.std.proofs.lemmas.Bool.{cases_eq, ne_eqb}
 use Rattle.std.proofs.lemmas.List.{length-map}
 use Rattle.std.proofs.lemmas.List.Sums.{sum_by-cons}
 use Rattle.span.proofs.Ids.{same_span-flip}
+use Rattle.span.proofs.LegalLogs.{Holds-some}
 use Rattle.span.specs.declared.change.Change.{Change}
-use Rattle.span.specs.declared.change.Change.TheVariants.{Put, Free}
 use Rattle.span.specs.declared.key.Key.{Key}
 use Rattle.span.specs.declared.id.SpanId.{SpanId}
 use Rattle.span.specs.Ids.{same_span}
-use Rattle.span.specs.Log.{Contents, Held, IsLegal, Value, changed, live_slots, replay, value_if, value_in}
+use Rattle.span.specs.Log.{Held, Holds, IsLegal, live_slots, replay, value_if, value_in}
 use Rattle.span.specs.PlainMap.{same_key}
 use Rattle.span.specs.State.{SpanState}
 use Rattle.groups.specs.Spans.{live_count}
@@ -77,47 +77,11 @@ count_by-slot slot p (e ∷ es) sorted =
         rw (none, eq-eqb slot e.0 same) (omega arith)
     by_slot (inr differ) = rw (ne_eqb slot e.0 differ) (omega arith)
 
--- what a log holds was put by it
-
-came_from : (before : Contents) (log : List Change) (slot : ℕ) (held : Held) → finmap.get (fold changed before log) slot ≡ Some held
-    → (finmap.get before slot ≡ Some held) ⊎ ((at : ℕ) × (value : Value) × (slice_get log at ≡ Some (Put slot held.generation value)))
-came_from before [] slot held is = inl is
-came_from before (Put other generation value ∷ log) slot held is = by_rest (came_from (changed before (Put other generation value)) log slot held is)
-  where
-    by_rest : (finmap.get (changed before (Put other generation value)) slot ≡ Some held) ⊎ ((at : ℕ) × (value : Value) × (slice_get log at ≡ Some (Put slot held.generation value)))
-        → (finmap.get before slot ≡ Some held) ⊎ ((at : ℕ) × (found : Value) × (slice_get (Put other generation value ∷ log) at ≡ Some (Put slot held.generation found)))
-    by_rest (inr (at, found, here)) = inr (suc at, found, here)
-    by_rest (inl now) = by_slot (cases_eq slot other) (sym (finmap.get-insert nat_cmp_total before other (record { generation = generation; value = value }) slot ∙ ap (λ b. cond b (Some (record { generation = generation; value = value })) (finmap.get before slot)) (unsigned_tied slot other)) ∙ now)
-      where
-        by_slot : (slot ≡ other) ⊎ (slot ≢ other) → cond (eqb slot other) (Some (record { generation = generation; value = value })) (finmap.get before slot) ≡ Some held
-            → (finmap.get before slot ≡ Some held) ⊎ ((at : ℕ) × (found : Value) × (slice_get (Put other generation value ∷ log) at ≡ Some (Put slot held.generation found)))
-        by_slot (inl same) now =
-            let is : ◌≡◌ {A = Option Held} (Some (record { generation = generation; value = value })) (Some held) = rw (eq-eqb slot other same) at now in
-            let same_held : ◌≡◌ {A = Held} (record { generation = generation; value = value }) held = cc in
-            inr (0, value, ap Some (ap (λ n. Put n generation value) (sym same) ∙ ap (λ (h : Held). Put slot h.generation value) same_held))
-        by_slot (inr differ) now = inl (rw (ne_eqb slot other differ) at now)
-came_from before (Free other generation ∷ log) slot held is = by_rest (came_from (changed before (Free other generation)) log slot held is)
-  where
-    by_rest : (finmap.get (changed before (Free other generation)) slot ≡ Some held) ⊎ ((at : ℕ) × (value : Value) × (slice_get log at ≡ Some (Put slot held.generation value)))
-        → (finmap.get before slot ≡ Some held) ⊎ ((at : ℕ) × (found : Value) × (slice_get (Free other generation ∷ log) at ≡ Some (Put slot held.generation found)))
-    by_rest (inr (at, found, here)) = inr (suc at, found, here)
-    by_rest (inl now) = by_slot (cases_eq slot other) (sym (finmap.get-remove nat_cmp_total before other slot ∙ ap (λ b. cond b None (finmap.get before slot)) (unsigned_tied slot other)) ∙ now)
-      where
-        by_slot : (slot ≡ other) ⊎ (slot ≢ other) → cond (eqb slot other) None (finmap.get before slot) ≡ Some held → (finmap.get before slot ≡ Some held) ⊎ ((at : ℕ) × (found : Value) × (slice_get (Free other generation ∷ log) at ≡ Some (Put slot held.generation found)))
-        by_slot (inl same) now = absurd (let no : ◌≡◌ {A = Option Held} None (Some held) = rw (eq-eqb slot other same) at now in cc)
-        by_slot (inr differ) now = inl (rw (ne_eqb slot other differ) at now)
-
 -- generations count from 1
 generation-from_one : (gens : ℕ) (log : List Change) (slot : ℕ) (held : Held) → IsLegal gens log → finmap.get (replay log) slot ≡ Some held → 1 ≤ held.generation
-unfolding replay IsLegal
-generation-from_one gens log slot held legal is = by_origin (came_from nothing log slot held is)
-  where
-    nothing : Contents
-    nothing = finmap.empty
-
-    by_origin : (finmap.get nothing slot ≡ Some held) ⊎ ((at : ℕ) × (value : Value) × (slice_get log at ≡ Some (Put slot held.generation value))) → 1 ≤ held.generation
-    by_origin (inl now) = absurd (let no : None ≡ Some held = sym (finmap.get-empty nat_cmp slot) ∙ now in cc)
-    by_origin (inr (at, value, here)) = omega (arith, (legal at (Put slot held.generation value) here).1)
+generation-from_one gens log slot held legal is =
+    let holds : Holds log slot held.generation = subst (λ (o : Option Held). IsSomeAnd o (λ found. found.generation ≡ held.generation)) (sym is) refl in
+    omega (arith, Holds-some gens log slot held.generation legal holds)
 
 -- the keys of one span
 

@@ -5,7 +5,8 @@ use Rattle.std.proofs.lemmas.Option.{none-some}
 use Rattle.span.specs.declared.id.SpanId.{SpanId}
 use Rattle.span.specs.declared.key.Key.{Key}
 use Rattle.span.specs.Ids.{rank}
-use Rattle.shard.specs.Calls.{Frees, Gets, value_found}
+use Rattle.span.specs.Log.{Value}
+use Rattle.shard.specs.Calls.{Frees, Gets, Sets, value_found}
 use Rattle.shard.specs.Shown.{shown as shown_by}
 use Rattle.shard.specs.Sound.{IsSound as IsSoundShard}
 use Rattle.shard.specs.State.{ShardState}
@@ -14,6 +15,8 @@ use Rattle.shard.specs.declared.shard.Found.{Found}
 use Rattle.shard.specs.declared.shard.Found.TheVariants as found
 use Rattle.shard.specs.declared.shard.Freed.{Freed}
 use Rattle.shard.specs.declared.shard.Freed.TheVariants as freed
+use Rattle.shard.specs.declared.shard.replacing.Replaced.{Replaced}
+use Rattle.shard.specs.declared.shard.replacing.Replaced.TheVariants as replaced
 use Rattle.groups.proofs.Lists.{count-none, find-none, same_some}
 use Rattle.groups.proofs.Ranks.{id_from_rank}
 use Rattle.abandoned.specs.Shown.{shown as shown_by_pool}
@@ -22,12 +25,17 @@ use Rattle.arena_core.specs.Sound.{HasSoundGroups}
 use Rattle.arena_core.specs.State.{CoreState, has_span, shard_with, shown, shown_at}
 use Rattle.arena_core.proofs.Steps.{has_span-elsewhere, has_span-here, has_span-not, value-shard}
 
--- a look-up or a free that finds the span
+-- a look-up, a set or a free that finds the span
 
 pub has_span-Gets : (shard : ShardState) (key : Key) (answer : Found) → IsSoundShard shard → (answer ≡ found.NotHere → ⊥) → Gets shard key answer → has_span key.span shard ≡ true
 has_span-Gets shard key (found.Value value at) sound here (index, place, group, span, its, holds, object, at_is) = has_span-here shard key.span index place group span sound its
 has_span-Gets shard key (found.Gone at) sound here (index, place, group, span, its, gone, at_is) = has_span-here shard key.span index place group span sound its
 has_span-Gets shard key found.NotHere sound here away = absurd (here refl)
+
+pub has_span-Sets : (before after : ShardState) (key : Key) (value : Value) (answer : Replaced) → IsSoundShard before → (answer ≡ replaced.NotHere → ⊥) → Sets before key value answer after → has_span key.span before ≡ true
+has_span-Sets before after key value (replaced.Yes at) sound here (index, place, group, span, its, settable, at_is, rest) = has_span-here before key.span index place group span sound its
+has_span-Sets before after key value (replaced.No at) sound here (index, place, group, span, its, unfit, at_is, same) = has_span-here before key.span index place group span sound its
+has_span-Sets before after key value replaced.NotHere sound here away = absurd (here refl)
 
 pub has_span-Frees : (before after : ShardState) (key : Key) (answer : Freed) → IsSoundShard before → (answer ≡ freed.NotHere → ⊥) → Frees before key answer after → has_span key.span before ≡ true
 has_span-Frees before after key (freed.Yes at) sound here (index, place, group, span, its, holds, at_is, rest) = has_span-here before key.span index place group span sound its

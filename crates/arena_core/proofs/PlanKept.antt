@@ -1,10 +1,10 @@
 -- What an event that is no fold does to the groups that an open plan names: each stays, and none grows.
-use Rattle.std.proofs.Common.{◌≡◌, ◌≢◌, ℕ, zero, suc, Bool, true, false, ◌||◌, List, [], ◌∷◌, ◌⊎◌, inl, inr, refl, sym, ap, subst, ◌∙◌, Option, Some, None, set, slice_get, insert}
+use Rattle.std.proofs.Common.{◌≡◌, ◌≢◌, ℕ, zero, suc, Bool, true, false, ◌||◌, List, [], ◌∷◌, ◌⊎◌, inl, inr, refl, sym, ap, subst, ◌∙◌, Some, None, set, slice_get, insert}
 use Rattle.std.specs.FinSet as set_of
-use Rattle.std.specs.FinSet.{contains, contains-union, contains-remove}
+use Rattle.std.specs.FinSet.{contains, contains-union}
 use Rattle.std.specs.Cmp.{nat_cmp_total}
 use Rattle.std.proofs.Math.Bool.{or-true}
-use Rattle.std.proofs.lemmas.Bool.{and_parts, cases_eq}
+use Rattle.std.proofs.lemmas.Bool.{cases_eq}
 use Rattle.bitmap.specs.Slots.{SlotSet, AreDisjoint}
 use Rattle.bitmap.specs.Operations.{AreDisjoint-at, AreDisjoint-by_slot}
 use Rattle.span.specs.declared.id.SpanId.{SpanId}
@@ -13,41 +13,28 @@ use Rattle.span.specs.Ids.{same_span}
 use Rattle.span.specs.Classes.{class_of}
 use Rattle.span.specs.Log.{Value, live_slots}
 use Rattle.span.specs.State.{SpanState}
-use Rattle.span.proofs.Slots.{live_slots-free}
-use Rattle.shard.specs.Calls.{Frees, Puts}
+use Rattle.shard.specs.Calls.{Puts}
 use Rattle.shard.specs.Group.{GroupState}
 use Rattle.groups.specs.Group.{occupied, spans_of, with_span}
-use Rattle.groups.specs.Spans.{IsSpanAt, union_of, with_free, with_put}
+use Rattle.groups.specs.Spans.{IsSpanAt, union_of, with_put}
 use Rattle.groups.specs.Whole.{WholeState}
 use Rattle.shard.specs.State.{ShardState}
-use Rattle.shard.specs.declared.shard.Freed.TheVariants.{Yes}
 use Rattle.groups.proofs.Lists.{after-insert, after-set, same_some}
 use Rattle.groups.proofs.Standing.{spans_of-with_span}
-use Rattle.abandoned.specs.Calls.{Frees as FreesPooled, Receives, TakesAll, TakesIn, with_rooms}
-use Rattle.abandoned.specs.Sound.{IsSound as IsSoundPool}
+use Rattle.abandoned.specs.Calls.{Receives, TakesAll, TakesIn, with_rooms}
 use Rattle.abandoned.specs.State.{PoolState, PooledState}
-use Rattle.abandoned.proofs.Freed.{groups-Leaves}
-use Rattle.abandoned.proofs.Released.{has_page_if_held}
-use Rattle.groups.proofs.Standing.{page-with_span}
 use Rattle.abandoned.proofs.TakenIn.{empty_or_not}
 use Rattle.arena_core.specs.Plan.{IsCarriedOut, IsOwned, IsPooled, IsUnderWay, IsWaiting}
 use Rattle.marks.specs.Plans.{plans_onto, OpenPlan}
 use Rattle.arena_core.specs.State.{CoreState}
 use Rattle.marks.proofs.Lists.{slice_get-set_other, slice_get-set_same}
+use Rattle.arena_core.proofs.OneSpan.{ChangesPooled, ChangesSpan, IsSame, IsWithin}
 use Rattle.arena_core.proofs.Spans.{same_span-self}
 
 -- sets of slots
 
--- no slot more than the other set has
-abbrev pub IsWithin : SlotSet → SlotSet → Type 0
-IsWithin now before = (slot : ℕ) → contains now slot ≡ true → contains before slot ≡ true
-
 pub AreDisjoint-within : (a a_now b b_now : SlotSet) → IsWithin a_now a → IsWithin b_now b → AreDisjoint a b → AreDisjoint a_now b_now
 AreDisjoint-within a a_now b b_now less_a less_b apart = AreDisjoint-by_slot a_now b_now (λ q in_a in_b. AreDisjoint-at a b apart q (less_a q in_a) (less_b q in_b))
-
-live_slots-fewer : (span : SpanState) (key : Key) → IsWithin (live_slots (with_free span key).log) (live_slots span.log)
-live_slots-fewer span key slot live =
-    (and_parts _ _ (sym (contains-remove nat_cmp_total (live_slots span.log) key.slot slot) ∙ ap (λ s. contains s slot) (sym (live_slots-free span.log key.slot key.generation)) ∙ live)).1
 
 -- a span that loses slots makes the union lose slots
 union_of-fewer : (spans : List SpanState) (place : ℕ) (span now : SpanState) → slice_get spans place ≡ Some span → IsWithin (live_slots now.log) (live_slots span.log) → IsWithin (union_of (set spans place now)) (union_of spans)
@@ -208,19 +195,20 @@ closed-with_span : (group : GroupState) (place : ℕ) (now : SpanState) → (wit
 closed-with_span group zero now = refl
 closed-with_span group (suc place) now = refl
 
-pub IsFewer-freed : (group : GroupState) (place : ℕ) (span : SpanState) (key : Key) → slice_get (spans_of group) place ≡ Some span → IsFewer group (with_span group place (with_free span key))
-IsFewer-freed group place span key here = record {
-  head_is = head-with_span group place span (with_free span key) here refl;
-  class_is = class-with_span group place span (with_free span key) here refl;
-  slots = λ slot live. union_of-fewer (spans_of group) place span (with_free span key) here (live_slots-fewer span key) slot (ap (λ spans. contains (union_of spans) slot) (sym (spans_of-with_span group place (with_free span key))) ∙ live);
-  guests = guests-with_span group place span (with_free span key) here refl;
-  closed_is = closed-with_span group place (with_free span key);
+pub IsFewer-with_span : (group : GroupState) (place : ℕ) (span now : SpanState) → slice_get (spans_of group) place ≡ Some span → IsSame span now → IsFewer group (with_span group place now)
+IsFewer-with_span group place span now here same = record {
+  head_is = head-with_span group place span now here same.id_is;
+  class_is = class-with_span group place span now here same.class_is;
+  slots = λ slot live. union_of-fewer (spans_of group) place span now here same.slots slot (ap (λ spans. contains (union_of spans) slot) (sym (spans_of-with_span group place now)) ∙ live);
+  guests = guests-with_span group place span now here same.id_is;
+  closed_is = closed-with_span group place now;
 }
 
-pub KeepsClosed-Frees : (before after : ShardState) (key : Key) (at : ℕ) → Frees before key (Yes at) after → KeepsClosed before.groups after.groups
-KeepsClosed-Frees before after key at (index, place, group, span, here, holds, at_is, after_is) other there at_other closed =
-    let (now, there_now, fewer) = after-set IsFewer IsFewer-same before.groups index group (with_span group place (with_free span key)) here.group_is (IsFewer-freed group place span key here.span_is) other there at_other in
-    (other, now, ap (λ (s : ShardState). slice_get s.groups other) after_is ∙ there_now, fewer)
+pub KeepsClosed-ChangesSpan : (before after : ShardState) → ChangesSpan before after → KeepsClosed before.groups after.groups
+KeepsClosed-ChangesSpan before after changes other there at_other closed =
+    let fewer = IsFewer-with_span changes.group changes.place changes.span changes.now changes.span_is changes.same in
+    let (now, there_now, is) = after-set IsFewer IsFewer-same before.groups changes.index changes.group (with_span changes.group changes.place changes.now) changes.group_is fewer other there at_other in
+    (other, now, ap (λ (s : ShardState). slice_get s.groups other) changes.after_is ∙ there_now, is)
 
 -- the pool
 
@@ -238,37 +226,22 @@ pooled_class now group zero span after here same is =
     ap (λ (s : SpanState). s.class) head ∙ same ∙ ap (λ (s : SpanState). s.class) (sym first)
 pooled_class now group (suc place) span after here same is = let head : now.head ≡ group.head = same_some (ap (λ spans. slice_get spans 0) is) in ap (λ (s : SpanState). s.class) head
 
-pub KeepsPooled-Frees : (before after : PoolState) (key : Key) (at : ℕ) → IsSoundPool before → FreesPooled before key (Yes at) after → KeepsPooled before.groups after.groups
-KeepsPooled-Frees before after key at sound (index, place, group, span, here, holds, at_is, leaves) other there at_other = by_place (cases_eq other index)
+pub KeepsPooled-ChangesPooled : (before after : PoolState) → ChangesPooled before after → KeepsPooled before.groups after.groups
+KeepsPooled-ChangesPooled before after changes other there at_other = by_place (cases_eq other changes.index)
   where
-    changed : (now : PooledState) × (after.groups ≡ set before.groups index now) × (spans_of now ≡ set (spans_of group) place (with_free span key))
-    changed = groups-Leaves before sound index place group span key (here.group_is, here.span_is) holds after leaves
-
-    by_place : (other ≡ index) ⊎ (other ≢ index) → (place : ℕ) × (now : PooledState) × (slice_get after.groups place ≡ Some now) × (now.head.id ≡ there.head.id) × (now.head.class ≡ there.head.class) × IsWithin (union_of (spans_of now)) (union_of (spans_of there)) × (there.page ≡ None → now.page ≡ None)
+    by_place : (other ≡ changes.index) ⊎ (other ≢ changes.index) → (place : ℕ) × (now : PooledState) × (slice_get after.groups place ≡ Some now) × (now.head.id ≡ there.head.id) × (now.head.class ≡ there.head.class) × IsWithin (union_of (spans_of now)) (union_of (spans_of there)) × (there.page ≡ None → now.page ≡ None)
     by_place (inl same) =
-        let is : group ≡ there = same_some (sym here.group_is ∙ ap (slice_get before.groups) (sym same) ∙ at_other) in (
-          index,
-          changed.0,
-          ap (λ gs. slice_get gs index) changed.1 ∙ slice_get-set_same before.groups index group changed.0 here.group_is,
-          pooled_head changed.0 group place span (with_free span key) here.span_is refl changed.2 ∙ ap (λ (g : PooledState). g.head.id) is,
-          pooled_class changed.0 group place span (with_free span key) here.span_is refl changed.2 ∙ ap (λ (g : PooledState). g.head.class) is,
+        let is : changes.group ≡ there = same_some (sym changes.group_is ∙ ap (slice_get before.groups) (sym same) ∙ at_other) in (
+          changes.index,
+          changes.group_now,
+          ap (λ gs. slice_get gs changes.index) changes.groups_are ∙ slice_get-set_same before.groups changes.index changes.group changes.group_now changes.group_is,
+          pooled_head changes.group_now changes.group changes.place changes.span changes.now changes.span_is changes.same.id_is changes.spans_are ∙ ap (λ (g : PooledState). g.head.id) is,
+          pooled_class changes.group_now changes.group changes.place changes.span changes.now changes.span_is changes.same.class_is changes.spans_are ∙ ap (λ (g : PooledState). g.head.class) is,
           (λ slot live. ap (λ (g : PooledState). contains (union_of (spans_of g)) slot) (sym is)
-              ∙ union_of-fewer (spans_of group) place span (with_free span key) here.span_is (live_slots-fewer span key) slot (ap (λ spans. contains (union_of spans) slot) (sym changed.2) ∙ live)),
-          (λ none. absurd (has_page_if_held before sound index place group span key.slot key.generation here.group_is here.span_is holds (ap (λ (g : PooledState). g.page) is ∙ none))),
+              ∙ union_of-fewer (spans_of changes.group) changes.place changes.span changes.now changes.span_is changes.same.slots slot (ap (λ spans. contains (union_of spans) slot) (sym changes.spans_are) ∙ live)),
+          (λ none. changes.no_page (ap (λ (g : PooledState). g.page) is ∙ none)),
         )
-    by_place (inr differ) = (other, there, ap (λ gs. slice_get gs other) changed.1 ∙ slice_get-set_other before.groups index other changed.0 differ ∙ at_other, refl, refl, (λ slot e. e), λ none. none)
-
--- the pool knows of the plan as before
-pub has_plan-Frees : (before after : PoolState) (key : Key) (at : ℕ) → IsSoundPool before → FreesPooled before key (Yes at) after → after.has_plan ≡ before.has_plan
-has_plan-Frees before after key at sound (index, place, group, span, here, holds, at_is, leaves) = by_case (empty_or_not (union_of (spans_of (with_span group place (with_free span key)))))
-  where
-    by_page : (o : Option ℕ) → group.page ≡ o → union_of (spans_of (with_span group place (with_free span key))) ≡ set_of.empty → after.has_plan ≡ before.has_plan
-    by_page None is none = absurd (has_page_if_held before sound index place group span key.slot key.generation here.group_is here.span_is holds is)
-    by_page (Some page) is none = ap (λ (p : PoolState). p.has_plan) (leaves.emptied none page (page-with_span group place (with_free span key) ∙ is))
-
-    by_case : (union_of (spans_of (with_span group place (with_free span key))) ≡ set_of.empty) ⊎ (union_of (spans_of (with_span group place (with_free span key))) ≢ set_of.empty) → after.has_plan ≡ before.has_plan
-    by_case (inl none) = by_page group.page refl none
-    by_case (inr live) = ap (λ (p : PoolState). p.has_plan) (leaves.live live)
+    by_place (inr differ) = (other, there, ap (λ gs. slice_get gs other) changes.groups_are ∙ slice_get-set_other before.groups changes.index other changes.group_now differ ∙ at_other, refl, refl, (λ slot e. e), λ none. none)
 
 -- the groups of before are there still
 abbrev pub HasStill : List PooledState → List PooledState → Type 0

@@ -7,20 +7,21 @@ use Rattle.span.specs.declared.key.Key.{Key}
 use Rattle.span.specs.Ids.{same_span}
 use Rattle.span.specs.Classes.{class_of}
 use Rattle.span.specs.Log.{Value}
-use Rattle.span.specs.PlainMap.{with_put as with_key, without}
+use Rattle.span.specs.PlainMap.{may_set, with_put as with_key, with_value, without}
 use Rattle.span.proofs.Ids.{same_id_from_test}
-use Rattle.shard.specs.Calls.{Frees, Puts, new_group, was_freed}
+use Rattle.shard.specs.Calls.{Frees, Puts, Sets, new_group, was_freed, was_replaced}
 use Rattle.shard.specs.Group.{GroupState}
 use Rattle.groups.specs.Group.{with_span}
-use Rattle.groups.specs.Spans.{with_free, with_put}
+use Rattle.groups.specs.Spans.{with_put}
 use Rattle.shard.specs.State.{ShardState}
 use Rattle.shard.specs.Shown.{shown as shown_by}
 use Rattle.shard.specs.Sound.{IsSound as IsSoundShard}
 use Rattle.shard.specs.declared.shard.Freed.{Freed}
 use Rattle.shard.specs.declared.shard.Freed.TheVariants as freed
-use Rattle.shard.specs.declared.shard.Freed.TheVariants.{Yes}
+use Rattle.shard.specs.declared.shard.replacing.Replaced.{Replaced}
+use Rattle.shard.specs.declared.shard.replacing.Replaced.TheVariants as replaced
 use Rattle.groups.proofs.Lists.{cases-insert, cases-set}
-use Rattle.abandoned.specs.Calls.{Adopts, Frees as FreesPooled, Receives}
+use Rattle.abandoned.specs.Calls.{Adopts, Frees as FreesPooled, Receives, Sets as SetsPooled}
 use Rattle.abandoned.specs.Shown.{shown as shown_by_pool}
 use Rattle.abandoned.specs.Sound.{IsSound as IsSoundPool}
 use Rattle.abandoned.specs.State.{PoolState}
@@ -31,17 +32,19 @@ use Rattle.arena_core.specs.Sound.{AreRings, IsSound}
 use Rattle.arena_core.specs.State.{CoreState, has_span, opened_by, opened_of, shown, with_pool, with_shard}
 use Rattle.arena_core.specs.Step.{CoreStep, HasClosed}
 use Rattle.arena_core.specs.declared.event.Event.{Event}
-use Rattle.arena_core.specs.declared.event.Event.TheVariants.{Put, Free, End, Retire, Adopt}
+use Rattle.arena_core.specs.declared.event.Event.TheVariants.{Put, Set, Free, End, Retire, Adopt}
+use Rattle.arena_core.specs.declared.reply.Refusal.TheVariants.{OutOfMemory}
 use Rattle.arena_core.specs.declared.reply.Reply.{Reply}
 use Rattle.arena_core.specs.declared.reply.Reply.TheVariants as reply
 use Rattle.arena_core.proofs.Changes.{opened-somewhere}
 use Rattle.arena_core.proofs.Lists.{each-set}
-use Rattle.arena_core.proofs.PlanKept.{IsFewer-freed, IsUnderWay-kept, KeepsAllClosed, KeepsAllClosed-same, KeepsAllClosed-set, KeepsClosed-Frees, KeepsClosed-Puts, KeepsPooled, KeepsPooled-Frees, KeepsPooled-Receives, KeepsPooled-same, has_plan-Frees, has_plan-Receives, plans_onto-pair}
+use Rattle.arena_core.proofs.PlanKept.{IsFewer-with_span, IsUnderWay-kept, KeepsAllClosed, KeepsAllClosed-same, KeepsAllClosed-set, KeepsClosed-ChangesSpan, KeepsClosed-Puts, KeepsPooled, KeepsPooled-ChangesPooled, KeepsPooled-Receives, KeepsPooled-same, has_plan-Receives, plans_onto-pair}
+use Rattle.arena_core.proofs.OneSpan.{ChangesPooled, ChangesPooled-Frees, ChangesPooled-Sets, ChangesSpan, ChangesSpan-Frees, ChangesSpan-Sets}
 use Rattle.arena_core.proofs.Moves.{IsStep-Adopts, IsStep-Receives, IsStep-Retires, unclosed}
 use Rattle.abandoned.specs.Retires.{HasRetired, Retires}
 use Rattle.arena_core.proofs.Retired.{HasGone-Retires}
 use Rattle.arena_core.proofs.Spans.{times-parts, times_in-found, times_in-le}
-use Rattle.arena_core.proofs.Steps.{IsStep, IsStep-Frees, IsStep-FreesPooled, IsStep-Puts, IsStep-dead, has_span-here, with_pool-same, with_shard-same}
+use Rattle.arena_core.proofs.Steps.{IsStep, IsStep-Frees, IsStep-FreesPooled, IsStep-Puts, IsStep-Sets, IsStep-SetsPooled, IsStep-dead, IsStep-unset, has_span-here, with_pool-same, with_shard-same}
 
 -- what the core keeps, its own step, and that of the plain map, if the plain map knows the event
 pub record IsSoundStep (old : CoreState) (event : Event) (answer : Reply) (new : CoreState) : Type 0 where
@@ -136,24 +139,24 @@ HasSoundPlan-Puts old sound number value key at before after here puts =
         let opened : opened_by old.shards key.span.shard ≡ before.opened = ap (opened_by old.shards) (shard_is ∙ (sound.groups.shards number before here).number_is) ∙ ap opened_of here in
         unplanned-next old sound key.span (omega arith)
 
--- frees
+-- a span that changes
 
-AreClosedAsPlanned-Frees : (plan : Option OpenPlan) (before after : ShardState) (key : Key) (at : ℕ) → Frees before key (Yes at) after → AreClosedAsPlanned plan before.groups → AreClosedAsPlanned plan after.groups
-AreClosedAsPlanned-Frees plan before after key at (index, place, group, span, here, holds, at_is, after_is) all other now there =
-    elim (cases-set before.groups index (with_span group place (with_free span key)) other now (ap (λ gs. slice_get gs other) (sym (ap (λ (s : ShardState). s.groups) after_is)) ∙ there)) [
-      | inl new ↦ let fewer = IsFewer-freed group place span key here.span_is in
-          subst (λ (g : GroupState). g.closed ≡ is_planned plan g.head.id) new.1 (fewer.closed_is ∙ all index group here.group_is ∙ ap (is_planned plan) (sym fewer.head_is))
+AreClosedAsPlanned-ChangesSpan : (plan : Option OpenPlan) (before after : ShardState) → ChangesSpan before after → AreClosedAsPlanned plan before.groups → AreClosedAsPlanned plan after.groups
+AreClosedAsPlanned-ChangesSpan plan before after changes all other now there =
+    elim (cases-set before.groups changes.index (with_span changes.group changes.place changes.now) other now (ap (λ gs. slice_get gs other) (sym (ap (λ (s : ShardState). s.groups) changes.after_is)) ∙ there)) [
+      | inl new ↦ let fewer = IsFewer-with_span changes.group changes.place changes.span changes.now changes.span_is changes.same in
+          subst (λ (g : GroupState). g.closed ≡ is_planned plan g.head.id) new.1 (fewer.closed_is ∙ all changes.index changes.group changes.group_is ∙ ap (is_planned plan) (sym fewer.head_is))
       | inr old ↦ all other now old.1
     ]
 
-pub HasSoundPlan-Frees : (old : CoreState) → IsSound old → (number : ℕ) (key : Key) (at : ℕ) (before after : ShardState) → slice_get old.shards number ≡ Some before → Frees before key (Yes at) after → HasSoundPlan (with_shard old number after)
-HasSoundPlan-Frees old sound number key at before after here frees =
-    HasSoundPlan-kept old (with_shard old number after) sound.plan refl refl (KeepsPooled-same old.pool.groups) (KeepsAllClosed-set old.shards number before after here (KeepsClosed-Frees before after key at frees))
-    (AreAllClosedAsPlanned-set old.plan old.shards number after sound.plan.closed (AreClosedAsPlanned-Frees old.plan before after key at frees (sound.plan.closed number before here)))
+pub HasSoundPlan-ChangesSpan : (old : CoreState) → IsSound old → (number : ℕ) (before after : ShardState) → slice_get old.shards number ≡ Some before → ChangesSpan before after → HasSoundPlan (with_shard old number after)
+HasSoundPlan-ChangesSpan old sound number before after here changes =
+    HasSoundPlan-kept old (with_shard old number after) sound.plan refl refl (KeepsPooled-same old.pool.groups) (KeepsAllClosed-set old.shards number before after here (KeepsClosed-ChangesSpan before after changes))
+    (AreAllClosedAsPlanned-set old.plan old.shards number after sound.plan.closed (AreClosedAsPlanned-ChangesSpan old.plan before after changes (sound.plan.closed number before here)))
 
-pub HasSoundPlan-FreesPooled : (old : CoreState) → IsSound old → (key : Key) (at : ℕ) (pool : PoolState) → FreesPooled old.pool key (Yes at) pool → HasSoundPlan (with_pool old pool)
-HasSoundPlan-FreesPooled old sound key at pool frees =
-    HasSoundPlan-kept old (with_pool old pool) sound.plan refl (has_plan-Frees old.pool pool key at sound.groups.pool frees) (KeepsPooled-Frees old.pool pool key at sound.groups.pool frees) (KeepsAllClosed-same old.shards) sound.plan.closed
+pub HasSoundPlan-ChangesPooled : (old : CoreState) → IsSound old → (pool : PoolState) → ChangesPooled old.pool pool → HasSoundPlan (with_pool old pool)
+HasSoundPlan-ChangesPooled old sound pool changes =
+    HasSoundPlan-kept old (with_pool old pool) sound.plan refl changes.has_plan_is (KeepsPooled-ChangesPooled old.pool pool changes) (KeepsAllClosed-same old.shards) sound.plan.closed
 
 -- ends
 
@@ -201,6 +204,42 @@ pub IsSoundStep-Puts : (old : CoreState) (number : ℕ) (value : Value) (key : K
 IsSoundStep-Puts old number value key at before after sound here puts fresh plain sound_after =
     with_plan_kept old (Put number value) (reply.Issued key) (with_shard old number after) (IsStep-Puts old number value key at before after sound.groups here puts fresh plain sound_after) (HasSoundPlan-Puts old sound number value key at before after here puts) sound.rings
 
+-- a key that is not live, or whose object has another class, is not set
+pub IsSoundStep-unset : (old : CoreState) (key : Key) (value : Value) → IsSound old → may_set (shown old) key value ≡ false → IsSoundStep old (Set key value) (reply.Replaced false) old
+IsSoundStep-unset old key value sound never = with_plan_kept old (Set key value) (reply.Replaced false) old (IsStep-unset old key value sound.groups never) sound.plan sound.rings
+
+-- a set that is refused
+pub IsSoundStep-set_refused : (old : CoreState) (key : Key) (value : Value) → IsSound old → may_set (shown old) key value ≡ true → IsSoundStep old (Set key value) (reply.Refused OutOfMemory) old
+IsSoundStep-set_refused old key value sound may = record { kept = sound; exact = (may, refl); plain = refl }
+
+pub IsSoundStep-Sets : (old : CoreState) (key : Key) (value : Value) (number : ℕ) (before after : ShardState) (answer : Replaced) → IsSound old → slice_get old.shards number ≡ Some before → has_span key.span before ≡ true → Sets before key value answer after
+    → was_replaced answer ≡ may_set (shown_by before) key value → shown_by after ≡ cond (was_replaced answer) (with_value (shown_by before) key value) (shown_by before) → IsSoundShard after
+    → IsSoundStep old (Set key value) (reply.Replaced (was_replaced answer)) (with_shard old number after)
+IsSoundStep-Sets old key value number before after answer sound here has sets found plain sound_after =
+    with_plan_kept old (Set key value) (reply.Replaced (was_replaced answer)) (with_shard old number after) (IsStep-Sets old key value number before after answer sound.groups here has sets found plain sound_after) (by_answer answer sets) sound.rings
+  where
+    same : after ≡ before → HasSoundPlan (with_shard old number after)
+    same is = subst HasSoundPlan (sym (with_shard-same old number before after here is)) sound.plan
+
+    by_answer : (a : Replaced) → Sets before key value a after → HasSoundPlan (with_shard old number after)
+    by_answer (replaced.Yes at) s = HasSoundPlan-ChangesSpan old sound number before after here (ChangesSpan-Sets before after key value at s)
+    by_answer (replaced.No at) (index, place, group, span, there, unfit, at_is, is) = same is
+    by_answer replaced.NotHere (elsewhere, is) = same is
+
+pub IsSoundStep-SetsPooled : (old : CoreState) (key : Key) (value : Value) (pool : PoolState) (answer : Replaced) → IsSound old → (shown old).value_of key ≡ (shown_by_pool old.pool).value_of key → SetsPooled old.pool key value answer pool
+    → was_replaced answer ≡ may_set (shown_by_pool old.pool) key value → shown_by_pool pool ≡ cond (was_replaced answer) (with_value (shown_by_pool old.pool) key value) (shown_by_pool old.pool) → IsSoundPool pool
+    → IsSoundStep old (Set key value) (reply.Replaced (was_replaced answer)) (with_pool old pool)
+IsSoundStep-SetsPooled old key value pool answer sound pooled sets found plain sound_pool =
+    with_plan_kept old (Set key value) (reply.Replaced (was_replaced answer)) (with_pool old pool) (IsStep-SetsPooled old key value pool answer sound.groups pooled sets found plain sound_pool) (by_answer answer sets) sound.rings
+  where
+    same : pool ≡ old.pool → HasSoundPlan (with_pool old pool)
+    same is = subst HasSoundPlan (sym (with_pool-same old pool is)) sound.plan
+
+    by_answer : (a : Replaced) → SetsPooled old.pool key value a pool → HasSoundPlan (with_pool old pool)
+    by_answer (replaced.Yes at) s = HasSoundPlan-ChangesPooled old sound pool (ChangesPooled-Sets old.pool pool key value at s)
+    by_answer (replaced.No at) (index, place, group, span, there, unfit, at_is, is) = same is
+    by_answer replaced.NotHere (elsewhere, is) = same is
+
 -- a key that is not live is not freed
 pub IsSoundStep-dead : (old : CoreState) (key : Key) → IsSound old → (shown old).value_of key ≡ None → IsSoundStep old (Free key) (reply.Freed false) old
 IsSoundStep-dead old key sound none = with_plan_kept old (Free key) (reply.Freed false) old (IsStep-dead old key sound.groups none) sound.plan sound.rings
@@ -215,7 +254,7 @@ IsSoundStep-Frees old key number before after answer sound here has frees found 
     same is = subst HasSoundPlan (sym (with_shard-same old number before after here is)) sound.plan
 
     by_answer : (a : Freed) → Frees before key a after → HasSoundPlan (with_shard old number after)
-    by_answer (freed.Yes at) f = HasSoundPlan-Frees old sound number key at before after here f
+    by_answer (freed.Yes at) f = HasSoundPlan-ChangesSpan old sound number before after here (ChangesSpan-Frees before after key at f)
     by_answer (freed.No at) (index, place, group, span, there, dead, at_is, is) = same is
     by_answer freed.NotHere (elsewhere, is) = same is
 
@@ -229,7 +268,7 @@ IsSoundStep-FreesPooled old key pool answer sound pooled frees found plain sound
     same is = subst HasSoundPlan (sym (with_pool-same old pool is)) sound.plan
 
     by_answer : (a : Freed) → FreesPooled old.pool key a pool → HasSoundPlan (with_pool old pool)
-    by_answer (freed.Yes at) f = HasSoundPlan-FreesPooled old sound key at pool f
+    by_answer (freed.Yes at) f = HasSoundPlan-ChangesPooled old sound pool (ChangesPooled-Frees old.pool pool key at sound.groups.pool f)
     by_answer (freed.No at) (index, place, group, span, there, dead, at_is, is) = same is
     by_answer freed.NotHere (elsewhere, is) = same is
 

@@ -3,7 +3,7 @@ use Rattle.std.proofs.Common.{◌≡◌, ℕ, ◌+◌, ◌<◌, Bool, true, fals
 use Rattle.std.proofs.lemmas.List.{length_push, take_more}
 use Rattle.span.specs.PlainMap.{PlainMap}
 use Rattle.arena_core.specs.declared.event.Event.{Event}
-use Rattle.arena_core.specs.declared.event.Event.TheVariants.{Put, Get, Free, Later, Settle, End, Retire, Adopt, Mark, Step, Close}
+use Rattle.arena_core.specs.declared.event.Event.TheVariants.{Put, Get, Set, Free, Later, Settle, End, Retire, Adopt, Mark, Step, Close}
 use Rattle.arena_core.specs.declared.reply.Reply.{Reply}
 use Rattle.arena_core.specs.Plain.{ErasedStep, PlainRun, PlainStep, erased, is_plain}
 use Rattle.arena_core.specs.Sound.{IsSound}
@@ -26,6 +26,7 @@ PlainRun-stay limits old mid new steps run same = subst (λ s. PlainRun limits o
 PlainRun-added : (limits : Limits) (old mid new : PlainMap) (steps : List (Event × Reply)) (event : Event) (reply : Reply) → PlainRun limits old steps mid → ErasedStep limits mid event reply new → PlainRun limits old (steps ++ added event reply) new
 PlainRun-added limits old mid new steps (Put shard value) reply run step = PlainRun-push limits old mid new steps (Put shard value) reply run step
 PlainRun-added limits old mid new steps (Get key) reply run step = PlainRun-push limits old mid new steps (Get key) reply run step
+PlainRun-added limits old mid new steps (Set key value) reply run step = PlainRun-push limits old mid new steps (Set key value) reply run step
 PlainRun-added limits old mid new steps (Free key) reply run step = PlainRun-push limits old mid new steps (Free key) reply run step
 PlainRun-added limits old mid new steps (Later worker key) reply run step = PlainRun-push limits old mid new steps (Later worker key) reply run step
 PlainRun-added limits old mid new steps (Settle worker shard) reply run step = PlainRun-push limits old mid new steps (Settle worker shard) reply run step

@@ -7,7 +7,7 @@ use Rattle.span.specs.declared.id.SpanId.{SpanId}
 use Rattle.span.specs.declared.key.Key.{Key}
 use Rattle.span.specs.Ids.{same_span}
 use Rattle.span.specs.Log.{Value}
-use Rattle.span.specs.PlainMap.{PlainMap, same_key, with_put, without}
+use Rattle.span.specs.PlainMap.{PlainMap, same_key, with_put, with_value, without}
 use Rattle.shard.specs.Shown.{shown as shown_by}
 use Rattle.groups.specs.Shown.{span_named}
 use Rattle.shard.specs.State.{ShardState}
@@ -37,20 +37,26 @@ pub record IsLocal (old new : CoreState) (a b : PlainMap) (has : SpanId → Bool
   pub issued_only : (key : Key) → has key.span ≡ false → b.is_issued key ≡ false
 
 module _ (old new : CoreState) (a b : PlainMap) (has : SpanId → Bool) (local : IsLocal old new a b has) (key : Key) where
-  module _ (value : Value) (puts : b ≡ with_put a key value) where
-    put_value : (other : Key) (s : Bool) → same_key key other ≡ s → (shown new).value_of other ≡ cond s (Some value) ((shown old).value_of other)
-    put_value other true same = by_has (has other.span) refl
+  -- the key has the value then, and each other key what it had
+  module _ (value : Value) (values : (other : Key) → b.value_of other ≡ cond (same_key key other) (Some value) (a.value_of other)) where
+    value_set : (other : Key) (s : Bool) → same_key key other ≡ s → (shown new).value_of other ≡ cond s (Some value) ((shown old).value_of other)
+    value_set other true same = by_has (has other.span) refl
       where
         some : b.value_of other ≡ Some value
-        some = ap (λ (m : PlainMap). m.value_of other) puts ∙ ap (λ s. cond s (Some value) (a.value_of other)) same
+        some = values other ∙ ap (λ s. cond s (Some value) (a.value_of other)) same
 
         by_has : (h : Bool) → has other.span ≡ h → (shown new).value_of other ≡ Some value
         by_has true here = local.value_here other here ∙ some
         by_has false none = absurd (let no : None ≡ Some value = sym (local.value_only other none) ∙ some in cc)
-    put_value other false differ =
-        let kept : b.value_of other ≡ a.value_of other = ap (λ (m : PlainMap). m.value_of other) puts ∙ ap (λ s. cond s (Some value) (a.value_of other)) differ in
+    value_set other false differ =
+        let kept : b.value_of other ≡ a.value_of other = values other ∙ ap (λ s. cond s (Some value) (a.value_of other)) differ in
         code-injective _ _ (omega (arith, local.value other, ap code kept))
 
+  -- no key is issued
+  issued_still : ((other : Key) → b.is_issued other ≡ a.is_issued other) → (other : Key) → (shown new).is_issued other ≡ (shown old).is_issued other
+  issued_still kept other = bit-injective _ _ (omega (arith, local.issued other, ap bit (kept other)))
+
+  module _ (value : Value) (puts : b ≡ with_put a key value) where
     put_issued : (other : Key) (s : Bool) → same_key key other ≡ s → (shown new).is_issued other ≡ (s || (shown old).is_issued other)
     put_issued other true same = by_has (has other.span) refl
       where
@@ -65,13 +71,16 @@ module _ (old new : CoreState) (a b : PlainMap) (has : SpanId → Bool) (local :
         bit-injective _ _ (omega (arith, local.issued other, ap bit kept))
 
     pub shown-put : shown new ≡ with_put (shown old) key value
-    shown-put = same_plain_map _ _ (λ other. put_issued other _ refl) (λ other. put_value other _ refl) (λ worker shard. ap (λ r. pending_at r worker shard) local.rings)
+    shown-put = same_plain_map _ _ (λ other. put_issued other _ refl) (λ other. value_set value (λ it. ap (λ (m : PlainMap). m.value_of it) puts) other _ refl) (λ worker shard. ap (λ r. pending_at r worker shard) local.rings)
 
     pub fresh-put : a.is_issued key ≡ false → (shown old).is_issued key ≡ false
     fresh-put fresh =
         let now : (shown new).is_issued key ≡ true = put_issued key true (same_key-self key) in
         let there : b.is_issued key ≡ true = ap (λ (m : PlainMap). m.is_issued key) puts ∙ ap (λ s. s || a.is_issued key) (same_key-self key) in
         bit-injective _ false (omega (arith, local.issued key, ap bit now, ap bit there, ap bit fresh))
+
+  pub shown-set : (value : Value) → b ≡ with_value a key value → shown new ≡ with_value (shown old) key value
+  shown-set value sets = same_plain_map _ _ (issued_still (λ other. ap (λ (m : PlainMap). m.is_issued other) sets)) (λ other. value_set value (λ it. ap (λ (m : PlainMap). m.value_of it) sets) other _ refl) (λ worker shard. ap (λ r. pending_at r worker shard) local.rings)
 
   module _ (here : has key.span ≡ true) (frees : b ≡ without a key) where
     free_value : (other : Key) (s : Bool) → same_key key other ≡ s → (shown new).value_of other ≡ cond s None ((shown old).value_of other)
@@ -83,13 +92,8 @@ module _ (old new : CoreState) (a b : PlainMap) (has : SpanId → Bool) (local :
         let kept : b.value_of other ≡ a.value_of other = ap (λ (m : PlainMap). m.value_of other) frees ∙ ap (λ s. cond s None (a.value_of other)) differ in
         code-injective _ _ (omega (arith, local.value other, ap code kept))
 
-    free_issued : (other : Key) → (shown new).is_issued other ≡ (shown old).is_issued other
-    free_issued other =
-        let kept : b.is_issued other ≡ a.is_issued other = ap (λ (m : PlainMap). m.is_issued other) frees in
-        bit-injective _ _ (omega (arith, local.issued other, ap bit kept))
-
     pub shown-free : shown new ≡ without (shown old) key
-    shown-free = same_plain_map _ _ free_issued (λ other. free_value other _ refl) (λ worker shard. ap (λ r. pending_at r worker shard) local.rings)
+    shown-free = same_plain_map _ _ (issued_still (λ other. ap (λ (m : PlainMap). m.is_issued other) frees)) (λ other. free_value other _ refl) (λ worker shard. ap (λ r. pending_at r worker shard) local.rings)
 
     -- what the owner showed under the key, the core showed
     pub value-before : (shown old).value_of key ≡ a.value_of key

@@ -1,11 +1,11 @@
 -- The steps and runs of the plain map of keys, and what of a run the plain map knows.
 use Rattle.std.specs.Prelude.{◌≡◌, ◌⊎◌, ◌<◌, ◌≤◌, ℕ, Bool, true, false, if◌then◌else◌, List, [], ◌∷◌, ◌++◌, length, Some, None, IsSome}
 use Rattle.span.specs.declared.key.Key.{Key}
-use Rattle.span.specs.PlainMap.{PlainMap, with_pending, with_put, without}
+use Rattle.span.specs.PlainMap.{PlainMap, may_set, with_pending, with_put, with_value, without}
 use Rattle.arena_core.specs.declared.event.Event.{Event}
-use Rattle.arena_core.specs.declared.event.Event.TheVariants.{Put, Get, Free, Later, Settle, End, Retire, Adopt, Mark, Step, Close}
+use Rattle.arena_core.specs.declared.event.Event.TheVariants.{Put, Get, Set, Free, Later, Settle, End, Retire, Adopt, Mark, Step, Close}
 use Rattle.arena_core.specs.declared.reply.Reply.{Reply}
-use Rattle.arena_core.specs.declared.reply.Reply.TheVariants.{Issued, Found, Freed, Sent, Settled, Refused}
+use Rattle.arena_core.specs.declared.reply.Reply.TheVariants.{Issued, Found, Replaced, Freed, Sent, Settled, Refused}
 use Rattle.arena_core.specs.declared.reply.Refusal.TheVariants.{OutOfMemory, PagesSpent, Ended, RingFull, Config}
 use Rattle.marks.specs.Numbers.{Limits}
 
@@ -27,6 +27,10 @@ PlainStep limits old (Put shard value) (Refused PagesSpent) new = new ≡ old
 PlainStep limits old (Put shard value) (Refused Ended) new = new ≡ old
 PlainStep limits old (Put shard value) (Refused Config) new = new ≡ old
 PlainStep limits old (Get key) (Found value) new = (value ≡ old.value_of key) × (new ≡ old)
+-- where the key has a value of as many words, this one takes its place
+PlainStep limits old (Set key value) (Replaced true) new = (may_set old key value ≡ true) × (new ≡ with_value old key value)
+PlainStep limits old (Set key value) (Replaced false) new = (may_set old key value ≡ false) × (new ≡ old)
+PlainStep limits old (Set key value) (Refused OutOfMemory) new = new ≡ old
 PlainStep limits old (Free key) (Freed freed) new = Loses old key freed new
 -- where the list has room, the key goes last
 PlainStep limits old (Later worker key) Sent new = (length (old.pending worker key.span.shard) < limits.ring_capacity) × (new ≡ with_pending old worker key.span.shard (old.pending worker key.span.shard ++ key ∷ []))

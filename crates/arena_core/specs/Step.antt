@@ -5,12 +5,14 @@ use Rattle.span.specs.declared.id.SpanId.{SpanId}
 use Rattle.span.specs.declared.key.Key.{Key}
 use Rattle.span.specs.Classes.{class_of}
 use Rattle.span.specs.Log.{Value}
+use Rattle.span.specs.PlainMap.{may_set}
 use Rattle.span.specs.declared.class.Class.{Class}
-use Rattle.shard.specs.Calls.{Puts, Frees, IsSpent}
+use Rattle.shard.specs.Calls.{Puts, Frees, IsSpent, Sets}
 use Rattle.shard.specs.Group.{GroupState}
 use Rattle.shard.specs.State.{ShardState}
 use Rattle.shard.specs.declared.shard.Freed.TheVariants.{Yes}
-use Rattle.abandoned.specs.Calls.{Adopts, Frees as FreesPooled, HasNothingToAdopt, Receives}
+use Rattle.shard.specs.declared.shard.replacing.Replaced.TheVariants as replaced
+use Rattle.abandoned.specs.Calls.{Adopts, Frees as FreesPooled, HasNothingToAdopt, Receives, Sets as SetsPooled}
 use Rattle.abandoned.specs.Retires.{HasRetired, Retires}
 use Rattle.abandoned.specs.State.{PoolState}
 use Rattle.certificate.specs.declared.certificate.Certificate.{Certificate}
@@ -18,9 +20,9 @@ use Rattle.fold.specs.Folds.{Folds}
 use Rattle.fold.specs.declared.step.Step.{Step as Outcome}
 use Rattle.fold.specs.declared.step.Step.TheVariants.{Absent, Emptied, Clash, Folded}
 use Rattle.arena_core.specs.declared.event.Event.{Event}
-use Rattle.arena_core.specs.declared.event.Event.TheVariants.{Put, Get, Free, Later, Settle, End, Retire, Adopt, Mark, Step, Close}
+use Rattle.arena_core.specs.declared.event.Event.TheVariants.{Put, Get, Set, Free, Later, Settle, End, Retire, Adopt, Mark, Step, Close}
 use Rattle.arena_core.specs.declared.reply.Reply.{Reply}
-use Rattle.arena_core.specs.declared.reply.Reply.TheVariants.{Issued, Found, Freed, Sent, Settled, ShardEnded, Retired, Adopted, Marked, Stepped, NoPairLeft, Closed, NoPlan, Refused}
+use Rattle.arena_core.specs.declared.reply.Reply.TheVariants.{Issued, Found, Replaced, Freed, Sent, Settled, ShardEnded, Retired, Adopted, Marked, Stepped, NoPairLeft, Closed, NoPlan, Refused}
 use Rattle.arena_core.specs.declared.reply.Refusal.TheVariants.{OutOfMemory, PagesSpent, Ended, PlanOpen, TooMany, NothingToAdopt, RingFull, Config}
 use Rattle.arena_core.specs.Sound.{IsSound}
 use Rattle.marks.specs.Closings.{closed_onto, reopened}
@@ -92,6 +94,28 @@ pub record PutsInShard (old : CoreState) (number : ℕ) (value : Value) (key : K
   pub here : slice_get old.shards number ≡ Some before
   pub puts : Puts before (class_of value) value key at after
   pub rest : new ≡ with_shard old number after
+
+-- one shard, which has the key's span, sets the key to the value, and all else is as it was
+pub record SetsInShard (old : CoreState) (key : Key) (value : Value) (new : CoreState) : Type 0 where
+  pub number : ℕ
+  pub before : ShardState
+  pub after : ShardState
+  pub at : ℕ
+  pub here : slice_get old.shards number ≡ Some before
+  pub sets : Sets before key value (replaced.Yes at) after
+  pub rest : new ≡ with_shard old number after
+
+-- the pool, which has the key's span, sets the key to the value, and all else is as it was
+pub record SetsInPool (old : CoreState) (key : Key) (value : Value) (new : CoreState) : Type 0 where
+  pub after : PoolState
+  pub at : ℕ
+  pub sets : SetsPooled old.pool key value (replaced.Yes at) after
+  pub rest : new ≡ with_pool old after
+
+-- the key is set to the value by the shard or the pool that has its span, if it is live with an object of as many words
+abbrev pub SetsKey : CoreState → Key → Value → Bool → CoreState → Type 0
+SetsKey old key value true new = SetsInShard old key value new ⊎ SetsInPool old key value new
+SetsKey old key value false new = (may_set (shown old) key value ≡ false) × (new ≡ old)
 
 -- one shard, which has the key's span, frees the key, and all else is as it was
 pub record FreesInShard (old : CoreState) (key : Key) (new : CoreState) : Type 0 where
@@ -227,6 +251,8 @@ CoreStep old (Put shard value) (Refused Ended) new = HasEnded old shard × (new 
 CoreStep old (Put shard value) (Refused PagesSpent) new = NeedsPage (class_of value) old shard × (new ≡ old)
 CoreStep old (Put shard value) (Refused OutOfMemory) new = MayPut (class_of value) old shard × (new ≡ old)
 CoreStep old (Get key) (Found value) new = (value ≡ (shown old).value_of key) × (new ≡ old)
+CoreStep old (Set key value) (Replaced done) new = SetsKey old key value done new
+CoreStep old (Set key value) (Refused OutOfMemory) new = (may_set (shown old) key value ≡ true) × (new ≡ old)
 CoreStep old (Free key) (Freed freed) new = FreesKey old key freed new
 CoreStep old (Later worker key) Sent new = SendsKey old worker key new
 CoreStep old (Later worker key) (Refused RingFull) new = HasFullRing old worker key.span.shard × (new ≡ old)

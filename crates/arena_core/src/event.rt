@@ -8,6 +8,8 @@ pub enum Event {
     Put { shard: u32, value: Object },
     /// Look the key up.
     Get { key: Key },
+    /// Set the key to the object, in place of the one of its class that it has.
+    Set { key: Key, value: Object },
     /// Free the key.
     Free { key: Key },
     /// Free the key later: it goes on the ring from the worker of this number to the shard that opened its span.

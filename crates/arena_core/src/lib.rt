@@ -1,8 +1,8 @@
 //! The core: shards, the pool and the open plan as one value that takes events and answers replies.
 //!
 //! A [`Core`] takes [`Event`]s one after another, and answers each with one [`Reply`]. A put goes to the shard of the number
-//! that it names, and keeps there an object of 16, 64 or 256 bytes, on a page of objects of that size; a look-up and a free go to
-//! whoever has the span of the key. The end of a shard brings its groups to the pool, a retirement brings those with the fewest
+//! that it names, and keeps there an object of 16, 64 or 256 bytes, on a page of objects of that size; a look-up, a set and a free
+//! go to whoever has the span of the key. The end of a shard brings its groups to the pool, a retirement brings those with the fewest
 //! live keys there while the shard goes on, and an adoption moves one of them, whole, to a shard. A mark plans folds of the pool's
 //! groups onto those of the shards, as many as can be; a step carries the next of them out, and a close ends the plan. Nothing is
 //! lost where an event is refused: the core is as it was before.
@@ -41,6 +41,8 @@
 //! core.put(1, Object::c16(8))?;                  // slot 0 of shard 1's page, so no fold is planned
 //! core.step(Event::Adopt { shard: 1 });          // and so shard 1 adopts the group, with its page
 //! core.get(&key);                                // Some([7]), as ever
+//! core.set(&key, &[9])?;                         // true: one word for one word, where the old one stands
+//! core.set(&key, &[9; 4])?;                      // false: its class is another
 //! core.free(&key);                               // true
 //! core.get(&key);                                // None, now and for ever
 //! ```

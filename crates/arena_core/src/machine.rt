@@ -27,11 +27,12 @@ mod deferred;
 mod ends;
 mod keys;
 mod plans;
+mod setting;
 mod walk;
 
 /// All shards, the pool and the rings of deferred frees as one value, which takes events one after another and answers replies.
 ///
-/// A put costs what the shard's own put costs. A look-up and a free ask the shard that opened the span first, which has
+/// A put costs what the shard's own put costs. A look-up, a set and a free ask the shard that opened the span first, which has
 /// it until it ends or retires it: they then cost what that shard's own call costs. A span that it does not have is asked
 /// for in the shard that took it in last, and then in the pool: where neither has it, it stands nowhere. So none is asked
 /// twice, and a key of a span that was never opened costs three look-ups at most.
@@ -130,24 +131,24 @@ impl<L: Log> Core<L> {
         })
     }
 
-    /// Takes the event and answers it. The replies to puts, look-ups, frees, deferred frees and settlings are those of a
-    /// plain map of keys; ends, retirements, adoptions, marks, steps and closes leave the map that the core shows as it is.
+    /// Takes the event and answers it. The replies to puts, look-ups, sets, frees, deferred frees and settlings are those of
+    /// a plain map of keys; ends, retirements, adoptions, marks, steps and closes leave the map that the core shows as it is.
     ///
     /// A refused event changes nothing. Of several causes that hold, the first of these is answered:
     ///
-    /// | Refusal | Put | End | Retire | Adopt | Mark | Step |
-    /// |---|---|---|---|---|---|---|
-    /// | [`Refusal::PagesSpent`] | the shard needs a page that it may not have | | | the shard has all its pages | | |
-    /// | [`Refusal::Ended`] | the shard has ended | the shard has ended | the shard has ended | the shard has ended | | |
-    /// | [`Refusal::PlanOpen`] | | the shard has a closed group | the shard has a closed group | a plan is open | a plan is open | |
-    /// | [`Refusal::TooMany`] | | | | | a side has more than 4,096 groups | |
-    /// | [`Refusal::NothingToAdopt`] | | | | no group of the pool has a page | | |
-    /// | [`Refusal::Config`] | there is no such shard | there is no such shard | there is no such shard | there is no such shard | | |
-    /// | [`Refusal::OutOfMemory`] | an allocation was refused | an allocation was refused | an allocation was refused | an allocation was refused | an allocation was refused | an allocation was refused; the pair stays next |
+    /// | Refusal | Put | Set | End | Retire | Adopt | Mark | Step |
+    /// |---|---|---|---|---|---|---|---|
+    /// | [`Refusal::PagesSpent`] | the shard needs a page that it may not have | | | | the shard has all its pages | | |
+    /// | [`Refusal::Ended`] | the shard has ended | | the shard has ended | the shard has ended | the shard has ended | | |
+    /// | [`Refusal::PlanOpen`] | | | the shard has a closed group | the shard has a closed group | a plan is open | a plan is open | |
+    /// | [`Refusal::TooMany`] | | | | | | a side has more than 4,096 groups | |
+    /// | [`Refusal::NothingToAdopt`] | | | | | no group of the pool has a page | | |
+    /// | [`Refusal::Config`] | there is no such shard | | there is no such shard | there is no such shard | there is no such shard | | |
+    /// | [`Refusal::OutOfMemory`] | an allocation was refused | an allocation was refused | an allocation was refused | an allocation was refused | an allocation was refused | an allocation was refused | an allocation was refused; the pair stays next |
     ///
-    /// A look-up, a free and a close are never refused, and take no memory. A deferred free and a settling take none
-    /// either: [`Refusal::RingFull`] comes exactly where the ring of the deferred free holds as many keys as it may, and
-    /// [`Refusal::Config`] exactly where there is no such worker or shard.
+    /// A look-up, a free and a close are never refused, and take no memory. A set is refused only in place of a yes. A deferred
+    /// free and a settling take no memory either: [`Refusal::RingFull`] comes exactly where the ring of the deferred free holds
+    /// as many keys as it may, and [`Refusal::Config`] exactly where there is no such worker or shard.
     ///
     /// A mark that is not refused plans as many folds as can be, and shows it: no plan of what stands has more pairs. Until the
     /// plan is closed, the groups that it folds onto take no put, and each step carries out its next pair.
@@ -165,6 +166,10 @@ impl<L: Log> Core<L> {
                 Err(refusal) => Reply::Refused(refusal),
             },
             Event::Get { key } => Reply::Found(object_of(self.get(&key))),
+            Event::Set { key, value } => match self.set(&key, value.words()) {
+                Ok(done) => Reply::Replaced(done),
+                Err(refusal) => Reply::Refused(refusal),
+            },
             Event::Free { key } => Reply::Freed(self.free(&key)),
             Event::Later { worker, key } => match self.later(worker, key) {
                 Ok(()) => Reply::Sent,

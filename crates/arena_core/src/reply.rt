@@ -1,6 +1,7 @@
 // What the core answers.
 ghost use Rattle.std.specs.Prelude.{◌≡◌, ◌≢◌, Some};
 ghost use Rattle.arena_core.specs.Refusals.{refusal_of, refusal_of_adoption, refusal_of_end, refusal_of_mark};
+ghost use Rattle.arena_core.specs.declared.reply.Refusal.TheVariants as cause;
 
 use abandoned::{AdoptError, ReceiveError};
 use certificate::Certificate;
@@ -8,6 +9,7 @@ use fold::Step;
 use marks::MarkError;
 use shard::PutError;
 use span::{Key, Object, SpanId};
+use std::alloc::AllocError;
 use thiserror::Error;
 
 /// What the core answers to one event.
@@ -17,6 +19,8 @@ pub enum Reply {
     Issued(Key),
     /// The object that a look-up found, or that the key is not live.
     Found(Option<Object>),
+    /// Whether a set found its key live with an object of the class of the new one, and replaced it.
+    Replaced(bool),
     /// Whether a free found its key live, and freed it.
     Freed(bool),
     /// The key waits to be freed.
@@ -73,6 +77,14 @@ pub enum Refusal {
     /// There is no shard of this number, or no worker: there are as many workers as shards.
     #[error("there is no shard or worker of this number: they are numbered from 0 to one below the count of shards")]
     Config,
+}
+
+impl From<AllocError> for Refusal {
+    ghost from_gives = { λ _ refusal. refusal ≡ cause.OutOfMemory };
+
+    fn from(_: AllocError) -> Refusal {
+        Refusal::OutOfMemory
+    }
 }
 
 impl From<PutError> for Refusal {

@@ -7,6 +7,8 @@ use Rattle.std.proofs.lemmas.Option.{same_Some, slice_get_cases, slice_get_withi
 use Rattle.span.specs.KeptLogs.{kept_changes}
 use Rattle.span.specs.declared.change.Change.{Change}
 use Rattle.span.specs.declared.id.SpanId.{SpanId}
+use Rattle.span.specs.declared.key.Key.{Key}
+use Rattle.span.specs.declared.receipt.Call.{Call}
 use Rattle.span.specs.declared.receipt.Receipt.{Receipt}
 use Rattle.span.specs.declared.span_log.SpanLog.{SpanLog}
 use Rattle.audit.specs.Receipts.{log_of, makes_change}
@@ -236,6 +238,9 @@ same_change : (logs : List SpanLog) (span : SpanId) (r : Receipt) (at : ℕ) (c 
 same_change logs span r at c d at_c spans places at_d =
     same_Some c d (sym at_c ∙ ap (λ s. slice_get (log_of logs s) r.at) spans ∙ ap (λ k. slice_get (log_of logs span) k) places ∙ at_d)
 
+CallMakes-same : (call : Call) (key : Key) (c d : Change) → c ≡ d → CallMakes call key c → CallMakes call key d
+CallMakes-same call key c d same makes = subst (CallMakes call key) same makes
+
 module _ {X : Type 0} (f : X → List Receipt) (xs : List X) (logs : List SpanLog) where
   -- where each place has its section, each change has its receipt
   pub changes_have : (rows : List (List (Option ℕ))) → AreEntered logs (flat_map f xs) rows → AreFull rows → ChangesHaveReceipts logs (map f xs)
@@ -259,7 +264,7 @@ module _ {X : Type 0} (f : X → List Receipt) (xs : List X) (logs : List SpanLo
             listed.1,
             r,
             listed.2,
-            record { makes = made.3.makes; same_span = spans; same_place = made.3.same_place; same_change = subst (λ (c : Change). CallMakes r.call r.key c) same known.2 },
+            record { makes = made.3.makes; same_span = spans; same_place = made.3.same_place; same_change = CallMakes-same r.call r.key known.0 change same known.2 },
           )
     ];
     once = λ v i w j a b at_a at_b makes_a makes_b spans places.

@@ -1,14 +1,16 @@
 -- A walk over a log's changes.
-use Rattle.std.proofs.Common.{zero, suc, subst, ◌≡◌, ℕ, ◌<◌, Bool, true, false, cond, eqb, List, [], ◌∷◌, ◌++◌, length, take, replicate, set, get_or, Option, Some, None, option_map, slice_get, sym, ap, refl, ◌∙◌, inl, inr, arith, eq-eqb, eqb-true, get_or-set_same, get_or-set_other}
+use Rattle.std.proofs.Common.{zero, suc, subst, ◌≡◌, ◌↔◌, ℕ, ◌<◌, Bool, true, false, cond, eqb, List, [], ◌∷◌, ◌++◌, length, take, replicate, set, get_or, Option, Some, None, IsSomeAnd, option_map, slice_get, sym, ap, refl, ◌∙◌, inl, inr, arith, eq-eqb, eqb-true, get_or-set_same, get_or-set_other}
 use Rattle.std.specs.FinMap as map
 use Rattle.std.proofs.lemmas.Bool.{cases_lt, cases_eq, ne_eqb}
 use Rattle.std.proofs.lemmas.List.{get_or_past, get_or-replicate, length-replicate}
 use Rattle.std.proofs.lemmas.Option.{same_Some}
 use Rattle.span.specs.declared.change.Change.{Change}
 use Rattle.span.specs.declared.class.Class.{Class}
-use Rattle.span.specs.Log.{replay, puts_of, IsChangeOf, IsLegal, IsLegalAfter, IsOfClass}
-use Rattle.span.proofs.Changes.{puts_of-put_same, puts_of-put_other, puts_of-free}
+use Rattle.span.specs.Classes.{width_of}
+use Rattle.span.specs.Log.{Held, Value, replay, puts_of, IsChangeOf, IsLegal, IsLegalAfter, IsOfClass}
+use Rattle.span.proofs.Changes.{puts_of-put_same, puts_of-put_other, puts_of-set, puts_of-free}
 use Rattle.span.proofs.LegalLogs.{puts_of-empty}
+use Rattle.span.proofs.OfClass.{Fits-replay}
 use Rattle.audit.specs.Changes.{AreAfter, AreIssued, slot_of, left_by, generation_of, issued_by}
 use Rattle.audit.proofs.Replies.{generation_more, get_none}
 
@@ -50,6 +52,31 @@ AreAfter-more before c held s left long is_slot is_left after q fits = elim (cas
       ∙ sym (generation_more before c q ∙ ap (λ b. cond b (option_map generation_of (left_by c)) (option_map generation_of (map.get (replay before) q))) (ne_eqb q (slot_of c) (λ e. other (e ∙ sym is_slot))))
 ]
 
+-- a set to an object of the class is legal after changes of the class where its slot holds something of its generation
+pub set_legal : (gens : ℕ) (class : Class) (before : List Change) (slot generation : ℕ) (value : Value) (here : Option ℕ) → IsOfClass class before → length value ≡ width_of class
+    → here ≡ option_map generation_of (map.get (replay before) slot) → (here ≡ Some generation) ↔ IsLegalAfter gens before (Change.Set slot generation value)
+set_legal gens class before slot generation value here of_class wide is = (
+  λ same. legal (map.get (replay before) slot) refl (sym is ∙ same),
+  λ legal. is ∙ held (map.get (replay before) slot) legal,
+)
+  where
+    legal : (o : Option Held) → map.get (replay before) slot ≡ o → option_map generation_of o ≡ Some generation
+        → IsSomeAnd o (λ h. (h.generation ≡ generation) × (length h.value ≡ length value))
+    legal None e same = absurd cc
+    legal (Some h) e same = (same_Some h.generation generation same, (Fits-replay class before of_class slot h e).1 ∙ sym wide)
+
+    held : (o : Option Held) → IsSomeAnd o (λ h. (h.generation ≡ generation) × (length h.value ≡ length value)) → option_map generation_of o ≡ Some generation
+    held None none = absurd none
+    held (Some h) is = ap Some is.0
+
+-- as many puts of a slot, told by a test for another slot
+puts_same : (changes : List Change) (q slot : ℕ) → puts_of q changes ≡ cond (eqb q slot) (puts_of slot changes) (puts_of q changes)
+puts_same changes q slot = either (eqb q slot) refl
+  where
+    either : (b : Bool) → eqb q slot ≡ b → puts_of q changes ≡ cond b (puts_of slot changes) (puts_of q changes)
+    either true is = ap (λ s. puts_of s changes) (eqb-true q slot is)
+    either false is = refl
+
 -- how many puts of a slot there are after one more change that is legal
 puts_more : (gens : ℕ) (before : List Change) (c : Change) → IsLegalAfter gens before c → (q : ℕ)
     → puts_of q (before ++ c ∷ []) ≡ cond (eqb q (slot_of c)) (issued_by c (puts_of (slot_of c) before)) (puts_of q before)
@@ -61,11 +88,8 @@ puts_more gens before (Change.Put slot generation value) legal q = elim (cases_e
   | inr other ↦
       puts_of-put_other before slot generation value q (λ e. other (sym e)) ∙ ap (λ b. cond b generation (puts_of q before)) (sym (ne_eqb q slot other))
 ]
-puts_more gens before (Change.Free slot generation) legal q = puts_of-free before slot generation q ∙ either (eqb q slot) refl
-  where
-    either : (b : Bool) → eqb q slot ≡ b → puts_of q before ≡ cond b (puts_of slot before) (puts_of q before)
-    either true is = ap (λ s. puts_of s before) (eqb-true q slot is)
-    either false is = refl
+puts_more gens before (Change.Set slot generation value) legal q = puts_of-set before slot generation value q ∙ puts_same before q slot
+puts_more gens before (Change.Free slot generation) legal q = puts_of-free before slot generation q ∙ puts_same before q slot
 
 pub AreIssued-more : (gens : ℕ) (before : List Change) (c : Change) (issued : List ℕ) (s last next : ℕ) → length issued ≡ 256 → s < 256 → s ≡ slot_of c → last ≡ get_or issued s 0 → next ≡ issued_by c last
     → AreIssued before issued → IsLegalAfter gens before c → AreIssued (before ++ c ∷ []) (set issued s next)

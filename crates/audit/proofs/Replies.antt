@@ -3,7 +3,7 @@ use Rattle.std.proofs.Common.{suc, ◌≡◌, ℕ, ◌+◌, Bool, true, false, c
 use Rattle.std.proofs.lemmas.Option.{slice_get_within, get_or_from_slice_get}
 use Rattle.span.specs.declared.change.Change.{Change}
 use Rattle.span.specs.Log.{Held, replay}
-use Rattle.span.proofs.Changes.{get-put, get-free}
+use Rattle.span.proofs.Changes.{get-put, get-set, get-free}
 use Rattle.std.specs.FinMap as map
 use Rattle.std.specs.Ordering.{nat_cmp}
 use Rattle.std.proofs.Math.Seq.{take-suc}
@@ -12,6 +12,7 @@ use Rattle.audit.specs.Changes.{slot_of, left_by, generation_of}
 -- what a slot holds after one more change
 pub get_more : (log : List Change) (c : Change) (q : ℕ) → map.get (replay (log ++ c ∷ [])) q ≡ cond (eqb q (slot_of c)) (left_by c) (map.get (replay log) q)
 get_more log (Change.Put slot generation value) q = get-put log slot generation value q
+get_more log (Change.Set slot generation value) q = get-set log slot generation value q
 get_more log (Change.Free slot generation) q = get-free log slot generation q
 
 -- the generation of it

@@ -1,16 +1,16 @@
 -- What the plain map holds beside a span's changes, and what one more change does to both.
-use Rattle.std.proofs.Common.{◌≡◌, ℕ, ◌+◌, ◌≤◌, Bool, true, false, cond, ◌&&◌, ◌||◌, eqb, List, [], ◌∷◌, ◌++◌, Option, Some, None, IsSomeAnd, sym, subst, ap, refl, inl, inr, arith, ◌∙◌, eq-eqb, eqb-true}
+use Rattle.std.proofs.Common.{◌≡◌, ℕ, ◌+◌, ◌≤◌, Bool, true, false, cond, ◌&&◌, ◌||◌, eqb, List, [], ◌∷◌, ◌++◌, length, Option, Some, None, IsSomeAnd, sym, subst, ap, refl, inl, inr, arith, ◌∙◌, eq-eqb, eqb-true}
 use Rattle.std.specs.Ordering.{nat_cmp}
 use Rattle.std.specs.FinMap as map
 use Rattle.std.proofs.lemmas.Bool.{cases_eq, ne_eqb}
 use Rattle.span.proofs.Ids.{test_from_same_id}
-use Rattle.span.proofs.Changes.{get-put, get-free, puts_of-push}
+use Rattle.span.proofs.Changes.{get-put, get-set, get-free, puts_of-push}
 use Rattle.span.specs.declared.id.SpanId.{SpanId}
 use Rattle.span.specs.declared.key.Key.{Key}
 use Rattle.span.specs.declared.change.Change.{Change}
 use Rattle.span.specs.declared.receipt.Call.{Call}
 use Rattle.span.specs.Log.{Held, Value, replay, puts_of, IsLegalAfter, value_if}
-use Rattle.span.specs.PlainMap.{PlainMap, empty_map, with_put, without, same_key}
+use Rattle.span.specs.PlainMap.{PlainMap, empty_map, with_put, with_value, without, same_key}
 use Rattle.audit.specs.Receipts.{value_after, is_change}
 use Rattle.audit.specs.Agreement.{CallMakes, IsAnswered}
 use Rattle.audit.specs.History.{IsStep}
@@ -103,6 +103,17 @@ module _ (span : SpanId) (changes : List Change) (m : PlainMap) (shows : Shows s
           second false y h = absurd cc
       by_test other same_too false this is = issued_before (Change.Put key.slot key.generation value) other same_too is
 
+  Shows-set : (value : Value) → IsSomeAnd (map.get (replay changes) key.slot) (λ held. held.generation ≡ key.generation)
+      → Shows span (changes ++ Change.Set key.slot key.generation value ∷ []) (with_value m key value)
+  Shows-set value holds = record {
+    values = shown (Change.Set key.slot key.generation value) (Some (record { generation = key.generation; value = value })) (Some value)
+        (get-set changes key.slot key.generation value)
+        (λ other equal. rw equal refl)
+        (λ other differ. rw differ refl)
+        (λ other slots differ. no_value (map.get (replay changes) other.slot) key.generation other.generation (rw slots holds) differ);
+    issued = issued_before (Change.Set key.slot key.generation value);
+  }
+
   Shows-free : IsSomeAnd (map.get (replay changes) key.slot) (λ held. held.generation ≡ key.generation)
       → Shows span (changes ++ Change.Free key.slot key.generation ∷ []) (without m key)
   Shows-free holds = record {
@@ -114,9 +125,16 @@ module _ (span : SpanId) (changes : List Change) (m : PlainMap) (shows : Shows s
     issued = issued_before (Change.Free key.slot key.generation);
   }
 
+-- a slot that may be set holds something of the generation
+held_at : (held : Option Held) (generation : ℕ) (value : Value) → IsSomeAnd held (λ h. (h.generation ≡ generation) × (length h.value ≡ length value))
+    → IsSomeAnd held (λ h. h.generation ≡ generation)
+held_at None generation value legal = absurd legal
+held_at (Some h) generation value legal = legal.0
+
 -- the map after a call that makes a change
 abbrev pub after_call : Call → Key → PlainMap → PlainMap
 after_call (Call.Put value) key m = with_put m key value
+after_call (Call.Set value) key m = with_value m key value
 after_call Call.Freed key m = without m key
 after_call _ key m = m
 
@@ -126,6 +144,11 @@ Shows-change span gens changes m (Call.Put value) key (Change.Put slot generatio
     let e : Change.Put key.slot key.generation value ≡ Change.Put slot generation put_value = cc in
     subst (λ (c : Change). Shows span (changes ++ c ∷ []) (with_put m key value)) e
     (Shows-put span changes m shows key same value (ap (map.get (replay changes)) makes.0 ∙ legal.0) (makes.1 ∙ legal.1 ∙ ap (λ s. puts_of s changes + 1) (sym makes.0)))
+Shows-change span gens changes m (Call.Set value) key (Change.Set slot generation set_value) shows same legal makes =
+    let e : Change.Set key.slot key.generation value ≡ Change.Set slot generation set_value = cc in
+    let holds : IsSomeAnd (map.get (replay changes) slot) (λ held. held.generation ≡ generation) = held_at (map.get (replay changes) slot) generation set_value legal in
+    subst (λ (c : Change). Shows span (changes ++ c ∷ []) (with_value m key value)) e
+    (Shows-set span changes m shows key same value (rw (makes.0, makes.1) holds))
 Shows-change span gens changes m Call.Freed key (Change.Free slot generation) shows same legal makes =
     let e : Change.Free key.slot key.generation ≡ Change.Free slot generation = cc in
     subst (λ (c : Change). Shows span (changes ++ c ∷ []) (without m key)) e
@@ -137,6 +160,8 @@ pub IsStep-quiet : (m : PlainMap) (call : Call) (key : Key) → IsAnswered call 
 IsStep-quiet m (Call.Put value) key is quiet = absurd cc
 IsStep-quiet m (Call.Found value) key is quiet = (is, refl)
 IsStep-quiet m Call.NotFound key is quiet = (is, refl)
+IsStep-quiet m (Call.Set value) key is quiet = absurd cc
+IsStep-quiet m (Call.NotSet value) key is quiet = (is, refl)
 IsStep-quiet m Call.Freed key is quiet = absurd cc
 IsStep-quiet m Call.NotFreed key is quiet = (is, refl)
 
@@ -155,5 +180,6 @@ IsStep-change span gens changes m (Call.Put value) key (Change.Put slot generati
     never true h = absurd (h refl)
     never false h = refl
 IsStep-change span gens changes m (Call.Put value) key change shows same legal makes is done = absurd makes
+IsStep-change span gens changes m (Call.Set value) key change shows same legal makes is done = (is, refl)
 IsStep-change span gens changes m Call.Freed key change shows same legal makes is done = (is, refl)
 IsStep-change span gens changes m call key change shows same legal makes is done = absurd cc

@@ -8,7 +8,7 @@ use Rattle.span.specs.declared.receipt.Receipt.{Receipt}
 use Rattle.span.specs.KeptLogs.{kept_changes}
 use Rattle.span.specs.Log.{IsLegal, IsOfClass, Value}
 use Rattle.span.specs.declared.span_log.SpanLog.{SpanLog}
-use Rattle.audit.specs.Receipts.{IsAt, log_of, makes_change, changes_after, value_after}
+use Rattle.audit.specs.Receipts.{CanBeSet, IsAt, log_of, makes_change, changes_after, value_after}
 
 -- no span has two logs
 abbrev pub HaveOneSpanEach : List SpanLog → Type 0
@@ -24,9 +24,10 @@ pub record LogsAreLegal (logs : List SpanLog) : Type 0 where
   pub one : HaveOneSpanEach logs
   pub legal : (i : ℕ) (log : SpanLog) → slice_get logs i ≡ Some log → IsLegalLog log
 
--- a put's receipt is of a Put and a free's of a Free, with the change's key and value
+-- a put's receipt is of a Put, a set's of a Set and a free's of a Free, with the change's key and value
 abbrev pub CallMakes : Call → Key → Change → Type 0
 CallMakes (Call.Put value) key (Change.Put slot generation put_value) = (key.slot ≡ slot) × (key.generation ≡ generation) × (value ≡ put_value)
+CallMakes (Call.Set value) key (Change.Set slot generation set_value) = (key.slot ≡ slot) × (key.generation ≡ generation) × (value ≡ set_value)
 CallMakes Call.Freed key (Change.Free slot generation) = (key.slot ≡ slot) × (key.generation ≡ generation)
 CallMakes _ _ _ = ⊥
 
@@ -46,11 +47,13 @@ pub record ChangesHaveReceipts (logs : List SpanLog) (lists : List (List Receipt
   pub known : (w i : ℕ) (receipt : Receipt) → IsAt lists w i receipt → makes_change receipt ≡ true
       → (change : Change) × (slice_get (log_of logs receipt.key.span) receipt.at ≡ Some change) × CallMakes receipt.call receipt.key change
 
--- the call was answered as a key with this value, if any, answers it: a look-up finds the value, and a free is done where there is one
+-- the call was answered as a key with this value, if any, answers it: a look-up finds the value, a set is done where there is one of its class, and a free where there is one
 abbrev pub IsAnswered : Call → Option Value → Type 0
 IsAnswered (Call.Put put_value) value = Unit {0}
 IsAnswered (Call.Found found) value = value ≡ Some found
 IsAnswered Call.NotFound value = value ≡ None
+IsAnswered (Call.Set new) value = CanBeSet value new
+IsAnswered (Call.NotSet new) value = ¬ CanBeSet value new
 IsAnswered Call.Freed value = is_some value ≡ true
 IsAnswered Call.NotFreed value = value ≡ None
 

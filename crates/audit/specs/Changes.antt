@@ -3,23 +3,26 @@ use Rattle.std.specs.Prelude.{◌≡◌, ℕ, ◌<◌, Option, Some, None, List,
 use Rattle.std.specs.Option.{option_map}
 use Rattle.std.specs.FinMap as map
 use Rattle.span.specs.declared.change.Change.{Change}
-use Rattle.span.specs.declared.change.Change.TheVariants.{Put, Free}
+use Rattle.span.specs.declared.change.Change.TheVariants.{Put, Set, Free}
 use Rattle.span.specs.Log.{Held, replay, puts_of}
 use Rattle.bitmap.specs.declared.bits.TheConstants.{SLOTS}
 
 -- the slot of a change
 abbrev pub slot_of : Change → ℕ
 slot_of (Put slot generation value) = slot
+slot_of (Set slot generation value) = slot
 slot_of (Free slot generation) = slot
 
 -- what the change's slot holds after it
 abbrev pub left_by : Change → Option Held
 left_by (Put slot generation value) = Some (record { generation = generation; value = value })
+left_by (Set slot generation value) = Some (record { generation = generation; value = value })
 left_by (Free slot generation) = None
 
 -- the last generation of the change's slot after it, where this was the last before it
 abbrev pub issued_by : Change → ℕ → ℕ
 issued_by (Put slot generation value) last = generation
+issued_by (Set slot generation value) last = last
 issued_by (Free slot generation) last = last
 
 -- the generation of what a slot holds

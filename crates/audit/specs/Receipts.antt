@@ -1,5 +1,5 @@
 -- What receipts say, and where they stand.
-use Rattle.std.specs.Prelude.{◌≡◌, ℕ, ◌+◌, Bool, true, false, if◌then◌else◌, Option, Some, List, [], ◌∷◌, slice_get}
+use Rattle.std.specs.Prelude.{◌≡◌, ℕ, ◌+◌, Bool, true, false, if◌then◌else◌, Option, Some, IsSomeAnd, List, [], ◌∷◌, length, slice_get}
 use Rattle.std.specs.List.{slice_index_or}
 use Rattle.span.specs.declared.change.Change.{Change}
 use Rattle.span.specs.declared.id.SpanId.{SpanId}
@@ -11,9 +11,10 @@ use Rattle.span.specs.Log.{Value, value_in}
 use Rattle.span.specs.Ids.{same_span}
 use Rattle.span.specs.declared.span_log.SpanLog.{SpanLog}
 
--- the call makes a change: a put does, and a free that was done
+-- the call makes a change: a put does, and a set and a free that were done
 abbrev pub is_change : Call → Bool
 is_change (Call.Put value) = true
+is_change (Call.Set value) = true
 is_change Call.Freed = true
 is_change _ = false
 
@@ -37,3 +38,7 @@ log_of (log ∷ logs) span = if same_span log.span span then kept_changes log.lo
 -- the value that a key has after the changes, if any
 abbrev pub value_after : List Change → Key → Option Value
 value_after changes key = value_in changes key.slot key.generation
+
+-- a key with this value, if any, can be set to the new one: it has a value, and the new one is of its class, since it has as many words
+abbrev pub CanBeSet : Option Value → Value → Type 0
+CanBeSet value new = IsSomeAnd value (λ old. length old ≡ length new)

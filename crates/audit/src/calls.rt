@@ -21,13 +21,16 @@ pub fn place_of(span: SpanId) -> usize
     span.rank() as usize
 }
 
-/// Whether the call makes a change: a put does, and a free that was done.
+/// Whether the call makes a change: a put does, and a set and a free that were done.
 pub fn makes_change(receipt: &ReceiptView<'_>) -> bool
     ensures { result ≡ makes_change (receipt_viewed receipt.now) }
 {
     match receipt.call {
-        CallView::Put { .. } | CallView::Freed => true,
-        CallView::Found { .. } | CallView::NotFound | CallView::NotFreed => false,
+        CallView::Put { .. } | CallView::Set { .. } | CallView::Freed => true,
+        CallView::Found { .. }
+        | CallView::NotFound
+        | CallView::NotSet { .. }
+        | CallView::NotFreed => false,
     }
 }
 
@@ -56,6 +59,14 @@ pub fn call_makes(call: CallView<'_>, key: &Key, change: ChangeView<'_>) -> bool
                 words,
             },
         ) => { key.slot == slot && key.generation == generation && value == words }
+        (
+            CallView::Set { words: set },
+            ChangeView::Set {
+                slot,
+                generation,
+                words,
+            },
+        ) => { key.slot == slot && key.generation == generation && set == words }
         (CallView::Freed, ChangeView::Free { slot, generation }) => {
             key.slot == slot && key.generation == generation
         }
@@ -68,7 +79,9 @@ pub fn slot_of(change: ChangeView<'_>) -> u8
     ensures { result ≡ slot_of (viewed change.entry) }
 {
     match change {
-        ChangeView::Put { slot, .. } | ChangeView::Free { slot, .. } => slot,
+        ChangeView::Put { slot, .. }
+        | ChangeView::Set { slot, .. }
+        | ChangeView::Free { slot, .. } => slot,
     }
 }
 
@@ -77,7 +90,7 @@ pub fn generation_left_by(change: ChangeView<'_>) -> Option<u32>
     ensures { result ≡ option_map generation_of (left_by (viewed change.entry)) }
 {
     match change {
-        ChangeView::Put { generation, .. } => Some(generation),
+        ChangeView::Put { generation, .. } | ChangeView::Set { generation, .. } => Some(generation),
         ChangeView::Free { .. } => None,
     }
 }
@@ -88,6 +101,6 @@ pub fn issued_by(change: ChangeView<'_>, last: u32) -> u32
 {
     match change {
         ChangeView::Put { generation, .. } => generation,
-        ChangeView::Free { .. } => last,
+        ChangeView::Set { .. } | ChangeView::Free { .. } => last,
     }
 }

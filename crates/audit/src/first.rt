@@ -41,7 +41,7 @@ impl Firsts {
     }
 
     /// How many of the log's changes by slot stand up to the put of the key: in a legal log each earlier key of the slot has a
-    /// put and a free.
+    /// put and a free. Sets are not counted, so the guess falls short where there are some.
     pub fn guess(&self, log: usize, key: &Key) -> usize {
         let first = self
             .firsts

@@ -1,6 +1,7 @@
 // Whether no span has two logs and each log is legal.
 ghost use Rattle.std.specs.Prelude.{◌≡◌, ◌↔◌, ◌<◌, ◌≤◌, ◌+◌, ◌++◌, ◌∷◌, [], IsTrue, IfOk, MatchOption, List, Some, None, ℕ, slice_get};
 ghost use Rattle.span.specs.declared.change.Change.{Change};
+ghost use Rattle.span.specs.declared.class.Class.{Class};
 ghost use Rattle.span.specs.KeptLogs.{kept_changes};
 ghost use Rattle.span.specs.Log.{IsChangeOf, IsLegal, IsLegalAfter, IsOfClass};
 ghost use Rattle.span.specs.Views.{viewed};
@@ -29,14 +30,27 @@ fn none_issued() -> [u32; SLOTS]
     [0; SLOTS]
 }
 
-// Whether the change may follow the changes before it.
+// Whether something of this generation is there.
+fn is_of(here: Option<u32>, generation: u32) -> bool
+    ensures { IsTrue result ↔ (here ≡ Some generation) }
+{
+    match here {
+        Some(current) => current == generation,
+        None => false,
+    }
+}
+
+// Whether the change may follow the changes before it, where it and they are of one class: what a slot holds then has as many
+// words as what a set puts in its place.
 fn may_follow(
     held: &[Option<u32>; SLOTS],
     issued: &[u32; SLOTS],
     gens: u32,
     change: ChangeView<'_>,
 ) -> bool
-    ensures { (before : List Change) → AreAfter before held.now → AreIssued before issued.now
+    ensures { (class : Class) (before : List Change) → IsOfClass class before
+        → IsChangeOf class (viewed change.entry)
+        → AreAfter before held.now → AreIssued before issued.now
         → (IsTrue result ↔ IsLegalAfter gens before (viewed change.entry)) }
 {
     let here = held[usize::from(slot_of(change))];
@@ -46,19 +60,17 @@ fn may_follow(
             && 1 <= generation
             && generation - 1 == last
             && generation <= gens,
-        ChangeView::Free { generation, .. } => match here {
-            Some(current) => current == generation,
-            None => false,
-        },
+        ChangeView::Set { generation, .. } => is_of(here, generation),
+        ChangeView::Free { generation, .. } => is_of(here, generation),
     }
 }
 
-// Whether a put is of a slot that a page of the class has, and of an object of the class.
+// Whether a put or a set is of a slot that a page of the class has, and of an object of the class.
 fn is_of_class(class: Class, change: ChangeView<'_>) -> bool
     ensures { IsTrue result ↔ IsChangeOf class (viewed change.entry) }
 {
     match change {
-        ChangeView::Put { slot, words, .. } => {
+        ChangeView::Put { slot, words, .. } | ChangeView::Set { slot, words, .. } => {
             u16::from(slot) < class.slots() && words.len() == class.words()
         }
         ChangeView::Free { .. } => true,

@@ -7,7 +7,7 @@ ghost use Rattle.span.specs.ReceiptLists.{kept_receipts};
 ghost use Rattle.span.specs.ReceiptViews.{call_viewed, receipt_viewed};
 ghost use Rattle.span.specs.Views.{viewed};
 ghost use Rattle.audit.specs.Changes.{left_by};
-ghost use Rattle.audit.specs.Receipts.{value_after};
+ghost use Rattle.audit.specs.Receipts.{CanBeSet, value_after};
 ghost use Rattle.audit.specs.Agreement.{IsAnswered, IsRightReply, RepliesAreRight};
 ghost use Rattle.audit.specs.Slots.{AreBySlot, IsBySlot};
 ghost use Rattle.audit.specs.Tables.{IsTable};
@@ -29,6 +29,11 @@ fn words_after(change: ChangeView<'_>, generation: u32) -> Option<&[u128]>
             words,
             ..
         } if put == generation => Some(words),
+        ChangeView::Set {
+            generation: set,
+            words,
+            ..
+        } if set == generation => Some(words),
         _ => None,
     }
 }
@@ -50,6 +55,16 @@ fn value_after<'a>(
     words_after(log.view(last), key.generation)
 }
 
+// Whether a key that holds these words, if any, can be set to the new ones.
+fn can_be_set(value: Option<&[u128]>, new: &[u128]) -> bool
+    ensures { IsTrue result ↔ CanBeSet (option_map (λ words. words.now) value.entry) new.now }
+{
+    match value {
+        Some(words) => words.len() == new.len(),
+        None => false,
+    }
+}
+
 // Whether the call was answered as a key that holds these words, if any, answers it.
 fn is_answered(call: CallView<'_>, value: Option<&[u128]>) -> bool
     ensures { IsTrue result ↔ IsAnswered (call_viewed call.entry)
@@ -62,6 +77,8 @@ fn is_answered(call: CallView<'_>, value: Option<&[u128]>) -> bool
             None => false,
         },
         CallView::NotFound | CallView::NotFreed => value.is_none(),
+        CallView::Set { words: new } => can_be_set(value, new),
+        CallView::NotSet { words: new } => !can_be_set(value, new),
         CallView::Freed => value.is_some(),
     }
 }

@@ -16,6 +16,7 @@ pub mod MappedSpans
 pub mod Places
 pub mod Ranks
 pub mod Removed
+pub mod SetGroups
 pub mod Sound
 pub mod SpanCounts
 pub mod Standing

@@ -8,12 +8,12 @@ use Rattle.std.proofs.lemmas.Bool.{cases_eq, false_from_ne_true, false≢true, n
 use Rattle.bitmap.specs.Slots.{SlotSet, AreDisjoint}
 use Rattle.bitmap.specs.Words.{same_slots}
 use Rattle.bitmap.specs.Operations.{AreDisjoint-at, AreDisjoint-by_slot}
-use Rattle.span.specs.Log.{live_slots, replay, Holds}
+use Rattle.span.specs.Log.{Value, live_slots, replay, Holds}
 use Rattle.std.specs.FinMap as map
 use Rattle.span.specs.declared.change.Change.{Change}
-use Rattle.span.proofs.Slots.{contains-live_slots, live_slots-free}
+use Rattle.span.proofs.Slots.{contains-live_slots, live_slots-free, live_slots-set}
 use Rattle.span.specs.State.{SpanState}
-use Rattle.groups.specs.Spans.{union_of, AreApart, with_free_at}
+use Rattle.groups.specs.Spans.{union_of, AreApart, with_free_at, with_set_at}
 
 pub outside_left : (a b : SlotSet) (q : ℕ) → contains (union a b) q ≡ false → contains a q ≡ false
 outside_left a b q h = (or_parts _ _ (sym (contains-union nat_cmp_total a b q) ∙ h)).0
@@ -125,3 +125,25 @@ pub lose_held : (spans : List SpanState) (place : ℕ) (span : SpanState) (slot 
     → (union_of (set spans place (with_free_at span slot generation)) ≡ remove (union_of spans) slot) × AreApart (set spans place (with_free_at span slot generation))
 lose_held spans place span slot generation at holds apart =
     lose_slot slot span (with_free_at span slot generation) (live_if_held span.log slot generation holds) (live_slots-free span.log slot generation) spans place at apart
+
+-- where the same slots of one span are live, the union is the same, and the spans stay apart
+pub keep_slots : (span after : SpanState) → live_slots after.log ≡ live_slots span.log → (spans : List SpanState) (place : ℕ) → slice_get spans place ≡ Some span → AreApart spans
+    → (union_of (set spans place after) ≡ union_of spans) × AreApart (set spans place after)
+keep_slots span after same [] place at apart = absurd cc
+keep_slots span after same (first ∷ rest) zero at apart =
+    let this : first ≡ span = cc in
+    let shown : live_slots after.log ≡ live_slots first.log = same ∙ ap (λ (s : SpanState). live_slots s.log) (sym this) in (
+      ap (λ s. union s (union_of rest)) shown,
+      (subst (λ (s : SlotSet). AreDisjoint s (union_of rest)) (sym shown) apart.0, apart.1),
+    )
+keep_slots span after same (first ∷ rest) (suc place) at apart =
+    let later = keep_slots span after same rest place at apart.1 in (
+      ap (union (live_slots first.log)) later.0,
+      (subst (AreDisjoint (live_slots first.log)) (sym later.0) apart.0, later.1),
+    )
+
+-- after a set in one of the spans
+pub keep_held : (spans : List SpanState) (place : ℕ) (span : SpanState) (slot generation : ℕ) (value : Value) → slice_get spans place ≡ Some span → Holds span.log slot generation → AreApart spans
+    → (union_of (set spans place (with_set_at span slot generation value)) ≡ union_of spans) × AreApart (set spans place (with_set_at span slot generation value))
+keep_held spans place span slot generation value at holds apart =
+    keep_slots span (with_set_at span slot generation value) (live_slots-set span.log slot generation value holds) spans place at apart

@@ -6,8 +6,8 @@ ghost use Rattle.bitmap.specs.Slots.{AreDisjoint, HasAllBelow, IsLowestOutside};
 ghost use Rattle.span.specs.Classes.{slots_in, width_of};
 ghost use Rattle.span.specs.Log.{live_slots, puts_of, Holds};
 ghost use Rattle.span.specs.SpanLogs.{AreLegal, room_for_logs, span_of_log};
-ghost use Rattle.span.specs.State.{SpanState};
-ghost use Rattle.groups.specs.Spans.{all_spans, taken, union_of, IsSpanAt, HasNoSpan, with_put, with_free_at, with_span_at, live_count};
+ghost use Rattle.span.specs.State.{IsSettable, SpanState};
+ghost use Rattle.groups.specs.Spans.{all_spans, taken, union_of, IsSpanAt, HasNoSpan, with_put, with_set_at, with_free_at, with_span_at, live_count};
 ghost use Rattle.bitmap.specs.declared.bits.TheConstants.{SLOTS};
 
 use bitmap::Bits256;
@@ -221,6 +221,76 @@ impl<L: Log> Spans<L> {
         let key = self.head.put_at(slot, words)?;
         self.occupied.insert(slot);
         Ok(key)
+    }
+
+    /// Sets the object of the slot in the span at the place to these words, where the slot is live there at the generation
+    /// and its object has as many, and says whether it was. The words of the page are the caller's to write.
+    ///
+    /// # Errors
+    ///
+    /// `AllocError` in place of `true`, where the span's log could not grow. The spans are then as they were.
+    pub fn set(
+        &mut self,
+        place: usize,
+        slot: u8,
+        generation: u32,
+        words: &[u128],
+    ) -> Result<bool, AllocError>
+        requires { place < length (all_spans self.old) }
+        ensures found { (span : SpanState) → slice_get (all_spans self.old) place ≡ Some span
+            → IfOk result (λ done. IsTrue done ↔ IsSettable span slot generation words.now) }
+        ensures set { (span : SpanState) → slice_get (all_spans self.old) place ≡ Some span
+            → IfOk result (λ done. OnTrue done (self.new ≡ with_span_at self.old place
+            (with_set_at span slot generation words.now))) }
+        ensures unknown { IfOk result (λ done. OnFalse done (self.new ≡ self.old)) }
+        ensures refused { (span : SpanState) → slice_get (all_spans self.old) place ≡ Some span
+            → OnErr result (IsSettable span slot generation words.now) }
+        ensures err { OnErr result (self.new ≡ self.old) }
+    {
+        if place == 0 {
+            self.set_in_head(slot, generation, words)
+        } else {
+            self.set_in_guest(place - 1, slot, generation, words)
+        }
+    }
+
+    fn set_in_head(&mut self, slot: u8, generation: u32, words: &[u128]) -> Result<bool, AllocError>
+        ensures found { IfOk result (λ done. IsTrue done
+            ↔ IsSettable self.old.head slot generation words.now) }
+        ensures set { IfOk result (λ done. OnTrue done (self.new ≡ record self.old {
+          head = with_set_at
+              self.old.head slot generation words.now;
+        })) }
+        ensures unknown { IfOk result (λ done. OnFalse done (self.new ≡ self.old)) }
+        ensures refused { OnErr result (IsSettable self.old.head slot generation words.now) }
+        ensures err { OnErr result (self.new ≡ self.old) }
+    {
+        let done = self.head.set_held(slot, generation, words)?;
+        Ok(done)
+    }
+
+    fn set_in_guest(
+        &mut self,
+        at: usize,
+        slot: u8,
+        generation: u32,
+        words: &[u128],
+    ) -> Result<bool, AllocError>
+        requires { at < length self.old.guests }
+        ensures found { (span : SpanState) → slice_get self.old.guests at ≡ Some span
+            → IfOk result (λ done. IsTrue done ↔ IsSettable span slot generation words.now) }
+        ensures set { (span : SpanState) → slice_get self.old.guests at ≡ Some span
+            → IfOk result (λ done. OnTrue done (self.new ≡ record self.old {
+              guests = slice_set self.old.guests at
+                  (with_set_at span slot generation words.now);
+            })) }
+        ensures unknown { IfOk result (λ done. OnFalse done (self.new ≡ self.old)) }
+        ensures refused { (span : SpanState) → slice_get self.old.guests at ≡ Some span
+            → OnErr result (IsSettable span slot generation words.now) }
+        ensures err { OnErr result (self.new ≡ self.old) }
+    {
+        let done = self.guests[at].set_held(slot, generation, words)?;
+        Ok(done)
     }
 
     /// Frees the slot in the span at the place, where it is live there at the generation. It takes no memory.

@@ -32,8 +32,10 @@ use std::marker::Model;
 mod folds;
 mod logs;
 mod moves;
+mod replacing;
 mod retiring;
 
+pub use replacing::Replaced;
 pub use retiring::LiveGroup;
 
 /// What a look-up finds. A `usize` is the number of changes in the log of the key's span.

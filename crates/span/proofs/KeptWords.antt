@@ -10,7 +10,7 @@ use Rattle.span.proofs.Changes.{slice_get-push}
 use Rattle.span.specs.declared.class.Class.{Class}
 use Rattle.span.specs.declared.change.Change.TheVariants as change
 use Rattle.span.specs.declared.stored.Stored.{Stored}
-use Rattle.span.specs.declared.stored.Stored.TheVariants.{Put, Free}
+use Rattle.span.specs.declared.stored.Stored.TheVariants.{Put, Set, Free}
 
 pub run_from-more : (words more : List ℕ) (first width : ℕ) → first + width ≤ length words → run_from (words ++ more) first width ≡ run_from words first width
 run_from-more words more first width within =
@@ -22,6 +22,7 @@ run_from-last words more width long = ap (take width) (drop-append_seam words mo
 
 change_in-more : (words more : List ℕ) (stored : Stored) → end_of stored ≤ length words → change_in (words ++ more) stored ≡ change_in words stored
 change_in-more words more (Put slot class generation first) within = ap (change.Put slot generation) (run_from-more words more first (width_of class) within)
+change_in-more words more (Set slot class generation first) within = ap (change.Set slot generation) (run_from-more words more first (width_of class) within)
 change_in-more words more (Free slot generation) within = refl
 
 changes_in-more : (words more : List ℕ) (changes : List Stored) → AreWithin (length words) changes → changes_in (words ++ more) changes ≡ changes_in words changes
@@ -34,6 +35,13 @@ pub changes_in-put : (words : List ℕ) (changes : List Stored) (object : List �
 changes_in-put words changes object slot class generation first last within long =
     map-append (change_in (words ++ object)) changes (Put slot class generation first ∷ [])
     ∙ (λ i. changes_in-more words object changes within i ++ change.Put slot generation ((ap (λ n. run_from (words ++ object) n (width_of class)) last ∙ run_from-last words object (width_of class) long) i) ∷ [])
+
+-- and so is a set
+pub changes_in-set : (words : List ℕ) (changes : List Stored) (object : List ℕ) (slot : ℕ) (class : Class) (generation first : ℕ) → first ≡ length words → AreWithin (length words) changes → length object ≡ width_of class
+    → changes_in (words ++ object) (changes ++ Set slot class generation first ∷ []) ≡ changes_in words changes ++ change.Set slot generation object ∷ []
+changes_in-set words changes object slot class generation first last within long =
+    map-append (change_in (words ++ object)) changes (Set slot class generation first ∷ [])
+    ∙ (λ i. changes_in-more words object changes within i ++ change.Set slot generation ((ap (λ n. run_from (words ++ object) n (width_of class)) last ∙ run_from-last words object (width_of class) long) i) ∷ [])
 
 pub changes_in-free : (words : List ℕ) (changes : List Stored) (slot generation : ℕ) → changes_in words (changes ++ Free slot generation ∷ []) ≡ changes_in words changes ++ change.Free slot generation ∷ []
 changes_in-free words changes slot generation = map-append (change_in words) changes (Free slot generation ∷ [])

@@ -8,8 +8,8 @@ use Rattle.std.proofs.lemmas.Option.{none-some, same_Some}
 use Rattle.span.specs.Classes.{slots_in, width_of}
 use Rattle.span.specs.declared.class.Class.{Class}
 use Rattle.span.specs.declared.change.Change.{Change}
-use Rattle.span.specs.declared.change.Change.TheVariants.{Put, Free}
-use Rattle.span.specs.Log.{Contents, Held, Holds, IsChangeOf, IsOfClass, changed, replay}
+use Rattle.span.specs.declared.change.Change.TheVariants.{Put, Set, Free}
+use Rattle.span.specs.Log.{Contents, Held, Holds, IsChangeOf, IsOfClass, Value, changed, replay}
 
 pub IsOfClass-push : (class : Class) (log : List Change) (change : Change) → IsOfClass class log → IsChangeOf class change → IsOfClass class (log ++ change ∷ [])
 IsOfClass-push class [] change before next = (next, tt)
@@ -19,8 +19,10 @@ IsOfClass-push class (first ∷ log) change before next = (before.0, IsOfClass-p
 abbrev Fits : Class → Contents → Type 0
 Fits class contents = (slot : ℕ) (held : Held) → map.get contents slot ≡ Some held → (slot < slots_in class) × (length held.value ≡ width_of class)
 
-Fits-changed : (class : Class) (contents : Contents) (change : Change) → Fits class contents → IsChangeOf class change → Fits class (changed contents change)
-Fits-changed class contents (Put other generation value) fits next slot held is =
+-- where a slot takes an object, of a put or of a set
+Fits-insert : (class : Class) (contents : Contents) (other generation : ℕ) (value : Value) → Fits class contents → (other < slots_in class) × (length value ≡ width_of class)
+    → Fits class (map.insert contents other (record { generation = generation; value = value }))
+Fits-insert class contents other generation value fits next slot held is =
     let found : map.get (map.insert contents other (record { generation = generation; value = value })) slot ≡ (if slot == other then Some (record { generation = generation; value = value }) else map.get contents slot) =
     map.get-insert nat_cmp_total contents other (record { generation = generation; value = value }) slot ∙ rw (unsigned_tied slot other) refl in
     elim (cases_eq slot other) [
@@ -32,6 +34,10 @@ Fits-changed class contents (Put other generation value) fits next slot held is 
           let kept : map.get (map.insert contents other (record { generation = generation; value = value })) slot ≡ map.get contents slot = rw (ne_eqb slot other differ) at found in
           fits slot held (sym kept ∙ is)
     ]
+
+Fits-changed : (class : Class) (contents : Contents) (change : Change) → Fits class contents → IsChangeOf class change → Fits class (changed contents change)
+Fits-changed class contents (Put slot generation value) fits next other held is = Fits-insert class contents slot generation value fits next other held is
+Fits-changed class contents (Set slot generation value) fits next other held is = Fits-insert class contents slot generation value fits next other held is
 Fits-changed class contents (Free other generation) fits next slot held is =
     let found : map.get (map.remove contents other) slot ≡ (if slot == other then None else map.get contents slot) = map.get-remove nat_cmp_total contents other slot ∙ rw (unsigned_tied slot other) refl in
     elim (cases_eq slot other) [

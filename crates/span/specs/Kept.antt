@@ -16,12 +16,12 @@ pub record Follows (gens : ℕ) (log : List Change) (live worn : SlotSet) (gener
   pub worn_is : worn ≡ worn_slots gens log
   pub generation_is : (slot : ℕ) → slot < SLOTS → slice_index generations slot ≡ puts_of slot log
 
--- beside this, a generation is kept for each slot of the class or for none, each put that is not live was freed once, and the log has room for a free of each live slot
+-- beside this, a generation is kept for each slot of the class or for none, beside puts and their frees the log has at most 2^63 changes, and it has room for a free of each live slot
 pub record IsKept (class : Class) (gens : ℕ) (live worn : SlotSet) (generations : Generations) (log : List Change) (room : ℕ) : Type 0 where
   pub some_generation : 1 ≤ gens
   pub gens_fit : gens < 2 ^ 32
   pub of_class : IsOfClass class log
   pub follows : Follows gens log live worn (last_given generations)
   pub all_or_none : HasAllOrNone class generations
-  pub freed_once : length log + set.len live ≡ 2 * all_puts log
+  pub few_sets : length log + set.len live ≤ 2 * all_puts log + 2 ^ 63
   pub room_for_frees : set.len live ≤ room

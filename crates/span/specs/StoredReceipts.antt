@@ -6,7 +6,7 @@ use Rattle.span.specs.declared.receipt.Call.{Call}
 use Rattle.span.specs.declared.receipt.Call.TheVariants as call
 use Rattle.span.specs.declared.receipt.Receipt.{Receipt}
 use Rattle.span.specs.declared.stored_receipt.StoredCall.{StoredCall}
-use Rattle.span.specs.declared.stored_receipt.StoredCall.TheVariants.{Put, Found, NotFound, Freed, NotFreed}
+use Rattle.span.specs.declared.stored_receipt.StoredCall.TheVariants.{Put, Found, NotFound, Set, NotSet, Freed, NotFreed}
 use Rattle.span.specs.declared.stored_receipt.StoredReceipt.{StoredReceipt}
 
 -- the words of the call's object; none where it has no object
@@ -14,6 +14,8 @@ abbrev pub call_words : Call → List ℕ
 call_words (call.Put value) = value
 call_words (call.Found value) = value
 call_words call.NotFound = []
+call_words (call.Set value) = value
+call_words (call.NotSet value) = value
 call_words call.Freed = []
 call_words call.NotFreed = []
 
@@ -22,6 +24,8 @@ abbrev pub call_width : StoredCall → ℕ
 call_width (Put class) = width_of class
 call_width (Found class) = width_of class
 call_width NotFound = 0
+call_width (Set class) = width_of class
+call_width (NotSet class) = width_of class
 call_width Freed = 0
 call_width NotFreed = 0
 
@@ -30,6 +34,8 @@ abbrev pub call_in : StoredCall → List ℕ → Call
 call_in (Put class) words = call.Put words
 call_in (Found class) words = call.Found words
 call_in NotFound words = call.NotFound
+call_in (Set class) words = call.Set words
+call_in (NotSet class) words = call.NotSet words
 call_in Freed words = call.Freed
 call_in NotFreed words = call.NotFreed
 

@@ -53,6 +53,29 @@ pub trait Log: Drop {
             ++ change.Put slot generation words.now ∷ [] }
         ensures room { room self.old ≤ room self.new + 1 };
 
+    /// Makes room for that many more changes, of which one is a set, and for that many words of objects among them.
+    ///
+    /// # Errors
+    ///
+    /// `AllocError` where memory runs out, or where there would be more than 2^63 changes, as only a log that takes no memory
+    /// could have. The changes are then as they were, and the room has not shrunk.
+    fn reserve_set(&mut self, more: usize, words: usize) -> Result<(), AllocError>
+        ensures changes { changes self.new ≡ changes self.old }
+        ensures room { room self.old ≤ room self.new }
+        ensures ok { OnOk result (more ≤ room self.new) }
+        ensures words { OnOk result (words ≤ word_room self.new) }
+        ensures few { OnOk result (length (changes self.new) + more ≤ 2 ^ 63) };
+
+    /// Adds a set to an object of the class at the end, in reserved room, which needs no memory.
+    fn push_set(&mut self, slot: u8, generation: u32, class: Class, words: &[u128])
+        requires room { 0 < room self.old }
+        requires word_room { length words.now ≤ word_room self.old }
+        requires width { length words.now ≡ width_of class }
+        requires in_range { length (changes self.old) + 1 < 2 ^ 64 }
+        ensures changes { changes self.new ≡ changes self.old
+            ++ change.Set slot generation words.now ∷ [] }
+        ensures room { room self.old ≤ room self.new + 1 };
+
     /// Adds a free at the end, in reserved room, which needs no memory.
     fn push_free(&mut self, slot: u8, generation: u32)
         requires room { 0 < room self.old }
@@ -66,8 +89,8 @@ pub trait Log: Drop {
         ensures { result ≡ length (changes self.now) };
 }
 
-/// A log that keeps all its changes, and drops none: it can be read and audited. A change takes 16 bytes, and a put the
-/// words of its object besides, which stand in a list of their own.
+/// A log that keeps all its changes, and drops none: it can be read and audited. A change takes 16 bytes, and a put or a set
+/// the words of its object besides, which stand in a list of their own.
 #[derive(Drop)]
 pub struct Kept {
     changes: Vec<Stored>,
@@ -100,6 +123,20 @@ impl Kept {
                     value,
                 }
             }
+            Stored::Set {
+                slot,
+                class,
+                generation,
+                first,
+            } => {
+                let words = run(self.words.as_slice(), first, class);
+                let value = Object::of(class, words);
+                Change::Set {
+                    slot,
+                    generation,
+                    value,
+                }
+            }
             Stored::Free { slot, generation } => Change::Free { slot, generation },
         }
     }
@@ -118,6 +155,19 @@ impl Kept {
             } => {
                 let words = run(self.words.as_slice(), first, class);
                 ChangeView::Put {
+                    slot,
+                    generation,
+                    words,
+                }
+            }
+            Stored::Set {
+                slot,
+                class,
+                generation,
+                first,
+            } => {
+                let words = run(self.words.as_slice(), first, class);
+                ChangeView::Set {
                     slot,
                     generation,
                     words,
@@ -155,6 +205,21 @@ impl Log for Kept {
         let first = self.words.len();
         push_words(&mut self.words, words);
         self.changes.push_reserved(Stored::Put {
+            slot,
+            class,
+            generation,
+            first,
+        });
+    }
+
+    fn reserve_set(&mut self, more: usize, words: usize) -> Result<(), AllocError> {
+        self.reserve(more, words)
+    }
+
+    fn push_set(&mut self, slot: u8, generation: u32, class: Class, words: &[u128]) {
+        let first = self.words.len();
+        push_words(&mut self.words, words);
+        self.changes.push_reserved(Stored::Set {
             slot,
             class,
             generation,
@@ -202,6 +267,25 @@ impl Log for Counted {
     fn push_put(&mut self, slot: u8, generation: u32, class: Class, words: &[u128]) {
         let value = Object::of(class, words);
         let change = Change::Put {
+            slot,
+            generation,
+            value,
+        };
+        self.history = History::with(&self.history, &change);
+        self.len += 1;
+    }
+
+    fn reserve_set(&mut self, more: usize, _words: usize) -> Result<(), AllocError> {
+        if self.len.saturating_add(more) <= 1 << 63 {
+            Ok(())
+        } else {
+            Err(AllocError)
+        }
+    }
+
+    fn push_set(&mut self, slot: u8, generation: u32, class: Class, words: &[u128]) {
+        let value = Object::of(class, words);
+        let change = Change::Set {
             slot,
             generation,
             value,

@@ -150,7 +150,10 @@ fn words_of(call: &Call) -> &[u128]
     ensures { result.now ≡ call_words call.now }
 {
     match call {
-        Call::Put { value } | Call::Found { value } => value.words(),
+        Call::Put { value }
+        | Call::Found { value }
+        | Call::Set { value }
+        | Call::NotSet { value } => value.words(),
         Call::NotFound | Call::Freed | Call::NotFreed => &[],
     }
 }
@@ -164,6 +167,8 @@ fn stored(call: &Call) -> StoredCall
         Call::Put { value } => StoredCall::Put(value.class()),
         Call::Found { value } => StoredCall::Found(value.class()),
         Call::NotFound => StoredCall::NotFound,
+        Call::Set { value } => StoredCall::Set(value.class()),
+        Call::NotSet { value } => StoredCall::NotSet(value.class()),
         Call::Freed => StoredCall::Freed,
         Call::NotFreed => StoredCall::NotFreed,
     }
@@ -182,6 +187,12 @@ fn call_at(call: StoredCall, words: &[u128], first: usize) -> CallView<'_>
             words: run(words, first, class),
         },
         StoredCall::NotFound => CallView::NotFound,
+        StoredCall::Set(class) => CallView::Set {
+            words: run(words, first, class),
+        },
+        StoredCall::NotSet(class) => CallView::NotSet {
+            words: run(words, first, class),
+        },
         StoredCall::Freed => CallView::Freed,
         StoredCall::NotFreed => CallView::NotFreed,
     }
@@ -200,6 +211,12 @@ fn copied_call_at(call: StoredCall, words: &[u128], first: usize) -> Call
             value: Object::of(class, run(words, first, class)),
         },
         StoredCall::NotFound => Call::NotFound,
+        StoredCall::Set(class) => Call::Set {
+            value: Object::of(class, run(words, first, class)),
+        },
+        StoredCall::NotSet(class) => Call::NotSet {
+            value: Object::of(class, run(words, first, class)),
+        },
         StoredCall::Freed => Call::Freed,
         StoredCall::NotFreed => Call::NotFreed,
     }

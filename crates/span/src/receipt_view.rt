@@ -10,6 +10,10 @@ pub enum CallView<'a> {
     Found { words: &'a [u128] },
     /// A look-up that found nothing.
     NotFound,
+    /// A set to an object of these words that was done.
+    Set { words: &'a [u128] },
+    /// A set to an object of these words that was not done, since the key was not live, or its object had another class.
+    NotSet { words: &'a [u128] },
     /// A free that was done.
     Freed,
     /// A free that was not done, since the key was not live.

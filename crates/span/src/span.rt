@@ -52,6 +52,7 @@ impl<L: Log> Span<L> {
     ghost use Rattle.span.specs.Classes.{slots_in, width_of};
     ghost use Rattle.span.specs.Log.{IsLegal, IsOfClass, live_slots, worn_slots, puts_of, Holds, was_issued};
     ghost use Rattle.span.specs.Order.{HoldsNoneFrom, IsFirstHeld};
+    ghost use Rattle.span.specs.State.{IsSettable};
 
     /// A span to which nothing was done yet, whose log is kept or counted as its type says: as [`Span::new`]. Takes
     /// no memory.
@@ -144,6 +145,54 @@ impl<L: Log> Span<L> {
             slot,
             generation,
         })
+    }
+
+    /// Sets the object of the slot to these words, where the slot is live at the generation and its object has as many, and
+    /// says whether it was: for a caller that found the span by its id. It grows a log that is kept for this set and
+    /// for the frees of all live slots.
+    ///
+    /// # Errors
+    ///
+    /// `AllocError` in place of `true`, where memory runs out. A log that is only counted takes none, and refuses a set after
+    /// 2^63 changes alone. The span is then as before.
+    pub fn set_held(
+        &mut self,
+        slot: u8,
+        generation: u32,
+        words: &[u128],
+    ) -> Result<bool, AllocError>
+        ensures found { IfOk result (λ done. IsTrue done ↔ IsSettable self.old slot generation words.now) }
+        ensures set { IfOk result (λ done. OnTrue done (self.new ≡ record self.old {
+          log = self.old.log ++ Change.Set slot generation words.now ∷ [];
+        })) }
+        ensures unknown { IfOk result (λ done. OnFalse done (self.new ≡ self.old)) }
+        ensures refused { OnErr result (IsSettable self.old slot generation words.now) }
+        ensures err { OnErr result (self.new ≡ self.old) }
+        ensures legal { IsLegal self.new.gens self.new.log }
+        ensures of_class { IsOfClass self.new.class self.new.log }
+    {
+        let _ = &self.log;
+        if words.len() != self.class.words() || !self.holds(slot, generation) {
+            return Ok(false);
+        }
+        self.set_at(slot, generation, words)?;
+        Ok(true)
+    }
+
+    // Sets the object of the slot, which is live at the generation, and whose object has as many words.
+    fn set_at(&mut self, slot: u8, generation: u32, words: &[u128]) -> Result<(), AllocError>
+        requires { IsSettable self.old slot generation words.now }
+        ensures ok { OnOk result (self.new ≡ record self.old {
+          log = self.old.log ++ Change.Set slot generation words.now ∷ [];
+        }) }
+        ensures err { OnErr result (self.new ≡ self.old) }
+        ensures legal { IsLegal self.new.gens self.new.log }
+        ensures of_class { IsOfClass self.new.class self.new.log }
+    {
+        self.log
+            .reserve_set(self.live.count() as usize + 1, words.len())?;
+        self.log.push_set(slot, generation, self.class, words);
+        Ok(())
     }
 
     /// Frees the key where it is of this span and live, and says whether it was. Takes no memory.

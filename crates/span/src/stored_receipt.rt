@@ -9,6 +9,8 @@ pub(crate) enum StoredCall {
     Put(Class),
     Found(Class),
     NotFound,
+    Set(Class),
+    NotSet(Class),
     Freed,
     NotFreed,
 }

@@ -8,6 +8,7 @@ use std::alloc::Global;
 mod classes;
 mod plans;
 mod retiring;
+mod setting;
 
 fn key(shard: u32, serial: u32, slot: u8, generation: u32) -> Option<Key> {
     Key::new(SpanId::new(shard, serial)?, slot, generation)
@@ -34,6 +35,7 @@ fn new_core(alloc: Global, shards: u32, pages: usize) -> Option<Core> {
 enum Told {
     Issued(Key),
     Found(Option<Object>),
+    Replaced(bool),
     Freed(bool),
     Sent,
     Settled(Option<Key>),
@@ -57,6 +59,7 @@ fn tell(reply: &Reply) -> Told {
     match reply {
         Reply::Issued(key) => Told::Issued(*key),
         Reply::Found(value) => Told::Found(*value),
+        Reply::Replaced(done) => Told::Replaced(*done),
         Reply::Freed(done) => Told::Freed(*done),
         Reply::Sent => Told::Sent,
         Reply::Settled(key) => Told::Settled(*key),
@@ -327,6 +330,10 @@ fn is_alike_with_no_log(alloc: Global) -> Option<bool> {
         put(0, 11),
         put(1, 12),
         put(2, 13),
+        Event::Set {
+            key: folded,
+            value: Object::c16(16),
+        },
         Event::Free { key: freed },
         Event::Free { key: freed },
         Event::Get { key: freed },

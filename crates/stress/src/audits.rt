@@ -16,6 +16,15 @@ fn put_of(slot: u8, value: Object) -> Change {
     }
 }
 
+// A set of slot 0 to the object, at generation 1.
+fn set_to(value: Object) -> Change {
+    Change::Set {
+        slot: 0,
+        generation: 1,
+        value,
+    }
+}
+
 const FREE: Change = Change::Free {
     slot: 0,
     generation: 1,
@@ -57,6 +66,10 @@ fn get(key: Key, section: u64, at: usize, found: Option<Object>) -> Receipt {
     receipt(key, section, at, Call::look_up(found))
 }
 
+fn set(key: Key, at: usize, value: Object, done: bool) -> Receipt {
+    receipt(key, 0, at, Call::set(value, done))
+}
+
 fn free(key: Key, section: u64, at: usize, done: bool) -> Receipt {
     receipt(key, section, at, Call::free(done))
 }
@@ -86,6 +99,14 @@ fn add_change<L: Log>(log: &mut L, change: &Change) -> Result<(), Fail> {
         } => {
             make_room(log, value.words().len())?;
             log.push_put(*slot, *generation, value.class(), value.words());
+        }
+        Change::Set {
+            slot,
+            generation,
+            value,
+        } => {
+            make_room(log, value.words().len())?;
+            log.push_set(*slot, *generation, value.class(), value.words());
         }
         Change::Free { slot, generation } => {
             make_room(log, 0)?;
@@ -242,6 +263,59 @@ fn causes_of_others(alloc: Global) -> Result<[Option<AuditCause>; 4], Fail> {
     ])
 }
 
+// The calls of a worker on the key, which holds 5 until it is set to the object at place 1.
+fn calls_with_set(key: Key, value: Object) -> [Receipt; 5] {
+    [
+        put(key, 0, 0, Object::c16(5)),
+        get(key, 0, 1, Some(Object::c16(5))),
+        set(key, 1, value, true),
+        free(key, 0, 2, true),
+        get(key, 0, 3, None),
+    ]
+}
+
+// The answer to a log of a put of 5, a set to 8 and a free, with the set's receipt naming the object, and a second list.
+fn cause_of_set(
+    alloc: Global,
+    object: Object,
+    second: &[Receipt],
+) -> Result<Option<AuditCause>, Fail> {
+    let log = [put_of(0, Object::c16(5)), set_to(Object::c16(8)), FREE];
+    let first = calls_with_set(key_of(0)?, object);
+    cause(alloc, Class::C16, &log, &first, second)
+}
+
+// The answers to honest receipts of a set, to one that names another object, to a put in the place of a set, to a set in the
+// place of a put, to a set of a slot that is not live, and to one of another class.
+fn causes_of_sets(alloc: Global) -> Result<[Option<AuditCause>; 6], Fail> {
+    let ([one, four, _], key, class) = (objects()?, key_of(0)?, Class::C16);
+    let (put_0, set_1) = (put(key, 0, 0, one), set(key, 1, one, true));
+    let (log, again) = ([put_of(0, one), set_to(one)], put(key, 0, 1, one));
+    Ok([
+        cause_of_set(alloc, Object::c16(8), &[])?,
+        cause_of_set(alloc, Object::c16(9), &[])?,
+        cause(alloc, class, &log, &[put_0, again], &[])?,
+        cause(alloc, class, &log, &[set(key, 0, one, true), set_1], &[])?,
+        cause(alloc, class, &[log[1], log[0]], &[put_0, set_1], &[])?,
+        cause(alloc, class, &[log[0], set_to(four)], &[put_0], &[])?,
+    ])
+}
+
+// The answers, beside honest receipts of a set to 8, to another call: a look-up after the set that finds 8, and one that finds 5,
+// a set that is not done since the key is not live, one since its object has another class, and one for no reason, and one that is
+// done and makes no change.
+fn causes_beside_set(alloc: Global) -> Result<[Option<AuditCause>; 6], Fail> {
+    let ([one, four, _], key, eight) = (objects()?, key_of(0)?, Object::c16(8));
+    Ok([
+        cause_of_set(alloc, eight, &[get(key, 0, 2, Some(eight))])?,
+        cause_of_set(alloc, eight, &[get(key, 0, 2, Some(one))])?,
+        cause_of_set(alloc, eight, &[set(key, 3, one, false)])?,
+        cause_of_set(alloc, eight, &[set(key, 2, four, false)])?,
+        cause_of_set(alloc, eight, &[set(key, 2, one, false)])?,
+        cause_of_set(alloc, eight, &[set(key, 3, one, true)])?,
+    ])
+}
+
 // The answer to a log of one put of the object at the slot, in a span of the class.
 fn cause_at(
     alloc: Global,
@@ -309,6 +383,26 @@ fn compares_all_words(rt: HostRuntime) -> Result<(), Fail> {
         Some(AuditCause::Change),
     ];
     assert_eq!(rt; causes_of_others(rt.alloc())?, wanted);
+    Ok(())
+}
+
+#[test]
+fn knows_a_set_in_place(rt: HostRuntime) -> Result<(), Fail> {
+    let (log, change) = (Some(AuditCause::Log), Some(AuditCause::Change));
+    assert_eq!(rt;
+        causes_of_sets(rt.alloc())?,
+        [None, change, change, change, log, log]
+    );
+    Ok(())
+}
+
+#[test]
+fn asks_what_a_set_answers(rt: HostRuntime) -> Result<(), Fail> {
+    let (reply, change) = (Some(AuditCause::Reply), Some(AuditCause::Change));
+    assert_eq!(rt;
+        causes_beside_set(rt.alloc())?,
+        [None, reply, None, None, reply, change]
+    );
     Ok(())
 }
 

@@ -79,6 +79,13 @@ fn get<G: Gate, R: Wait>(rt: &R, arena: &Arena<G, Counted>, seat: &mut Seat, key
     seat.get(rt, arena, key).0 == Some(Object::c16(7))
 }
 
+fn set<G: Gate, R: Wait>(rt: &R, arena: &Arena<G, Counted>, seat: &mut Seat, key: &Key) -> bool
+    requires { seat.old.limits ≡ arena.now.limits }
+    ensures { seat.new.limits ≡ seat.old.limits }
+{
+    matches!(seat.set(rt, arena, key, Object::c16(8)), Ok((true, _)))
+}
+
 fn free<G: Gate, R: Wait>(rt: &R, arena: &Arena<G, Counted>, seat: &mut Seat, key: &Key) -> bool
     requires { seat.old.limits ≡ arena.now.limits }
     ensures { seat.new.limits ≡ seat.old.limits }
@@ -110,15 +117,15 @@ fn end<G: Gate, R: Wait>(rt: &R, arena: &Arena<G, Counted>, seat: &mut Seat) -> 
     seat.end(rt, arena).is_ok()
 }
 
-// How often each shard was entered so far, after a put of each worker, a look-up, a free and a tend of keys in the first shard,
-// an end of that shard, and a look-up in the pool.
+// How often each shard was entered so far, after a put of each worker, a look-up, a set, a free and a tend of keys in the first
+// shard, an end of that shard, and a look-up in the pool.
 fn entered<R: Wait>(
     rt: &R,
     arena: &Arena<Counting<'_>, Counted>,
     passes: &Passes,
     first: &mut Seat,
     second: &mut Seat,
-) -> Option<[(u64, u64); 6]>
+) -> Option<[(u64, u64); 7]>
     requires first { first.old.limits ≡ arena.now.limits }
     requires second { second.old.limits ≡ arena.now.limits }
 {
@@ -129,6 +136,8 @@ fn entered<R: Wait>(
     let put = passes.so_far();
     let found = get(rt, arena, second, &key);
     let looked_up = passes.so_far();
+    let replaced = set(rt, arena, second, &key);
+    let after_set = passes.so_far();
     let freed = free(rt, arena, second, &key);
     let after_free = passes.so_far();
     let left = leave(second, later);
@@ -137,12 +146,13 @@ fn entered<R: Wait>(
     let ended = end(rt, arena, first);
     let after_end = passes.so_far();
     let pooled = get(rt, arena, second, &kept);
-    if !(found && freed && left && tended == Some(1) && ended && pooled) {
+    if !(found && replaced && freed && left && tended == Some(1) && ended && pooled) {
         return None;
     }
     Some([
         put,
         looked_up,
+        after_set,
         after_free,
         after_tend,
         after_end,
@@ -151,7 +161,7 @@ fn entered<R: Wait>(
 }
 
 // The same of a new arena.
-fn entered_anew<R: Wait>(rt: &R, alloc: Global) -> Option<[(u64, u64); 6]> {
+fn entered_anew<R: Wait>(rt: &R, alloc: Global) -> Option<[(u64, u64); 7]> {
     let passes = Passes {
         first: AtomicU64::new(0),
         second: AtomicU64::new(0),
@@ -173,7 +183,7 @@ fn passes_the_gate(rt: HostRuntime) -> Result<(), Fail> {
     };
     assert_eq!(rt;
         entered,
-        Some([(3, 1), (4, 1), (5, 1), (6, 1), (6, 1), (6, 1)])
+        Some([(3, 1), (4, 1), (5, 1), (6, 1), (7, 1), (7, 1), (7, 1)])
     );
     Ok(())
 }

@@ -123,6 +123,13 @@ fn get<R: Wait>(rt: &R, arena: &Arena<Holding<'_>, Counted>, seat: &mut Seat, ke
     seat.get(rt, arena, key).0 == Some(Object::c16(7))
 }
 
+fn set<R: Wait>(rt: &R, arena: &Arena<Holding<'_>, Counted>, seat: &mut Seat, key: &Key) -> bool
+    requires { seat.old.limits ≡ arena.now.limits }
+    ensures { seat.new.limits ≡ seat.old.limits }
+{
+    matches!(seat.set(rt, arena, key, Object::c16(8)), Ok((true, _)))
+}
+
 fn free<R: Wait>(rt: &R, arena: &Arena<Holding<'_>, Counted>, seat: &mut Seat, key: &Key) -> bool
     requires { seat.old.limits ≡ arena.now.limits }
     ensures { seat.new.limits ≡ seat.old.limits }
@@ -142,6 +149,7 @@ fn end<R: Wait>(rt: &R, arena: &Arena<Holding<'_>, Counted>, seat: &mut Seat) ->
 enum Asked {
     Put,
     LookUp,
+    Set,
     Free,
     Tend,
 }
@@ -175,6 +183,7 @@ fn ask<R: Wait>(
             None => None,
         },
         Asked::LookUp => Some(get(rt, arena, seat, &key)),
+        Asked::Set => Some(set(rt, arena, seat, &key)),
         Asked::Free => Some(free(rt, arena, seat, &key)),
         Asked::Tend => Some(seat.tend(rt, arena, &mut Dropped::new()) == Ok(1)),
     }
@@ -272,10 +281,11 @@ fn leaves_the_pool_to_others(rt: HostRuntime) -> Result<(), Fail> {
     let alone = [
         is_alone(&rt, rt.alloc(), Asked::Put),
         is_alone(&rt, rt.alloc(), Asked::LookUp),
+        is_alone(&rt, rt.alloc(), Asked::Set),
         is_alone(&rt, rt.alloc(), Asked::Free),
         is_alone(&rt, rt.alloc(), Asked::Tend),
     ];
-    assert_eq!(rt; alone, [Some(true); 4]);
+    assert_eq!(rt; alone, [Some(true); 5]);
     Ok(())
 }
 

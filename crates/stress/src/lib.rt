@@ -33,6 +33,8 @@ mod runs;
 #[cfg(test)]
 mod sections;
 #[cfg(test)]
+mod sets;
+#[cfg(test)]
 mod steward;
 #[cfg(test)]
 mod tends;

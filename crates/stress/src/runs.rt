@@ -43,6 +43,8 @@ pub struct Told {
     pub adopted: usize,
     /// How many groups of running shards were retired.
     pub retired: usize,
+    /// How many objects were set in place.
+    pub replaced: usize,
     /// How many keys were left to the threads of their shards.
     pub sent: usize,
     /// How many of them were taken from the rings, by these threads or when the arena was ended.
@@ -162,6 +164,15 @@ fn moves_of(workers: &[Worker<'_>]) -> (usize, usize, usize) {
     (ended, adopted, retired)
 }
 
+// How many objects were set in place.
+fn replaced_by(workers: &[Worker<'_>]) -> usize {
+    let mut replaced = 0usize;
+    for worker in workers {
+        replaced = replaced.saturating_add(worker.replaced);
+    }
+    replaced
+}
+
 // The workers' seats, and their receipts, a list for each.
 fn taken_apart(
     alloc: Global,
@@ -231,6 +242,7 @@ pub fn run<R: Threads + Wait + Sync>(
     let marks = keeper.marks;
     let trouble = trouble_of(workers.as_slice());
     let (ended, adopted, retired) = moves_of(workers.as_slice());
+    let replaced = replaced_by(workers.as_slice());
     let (sent, taken) = deferred_of(workers.as_slice());
     let (seats, mut lists) = taken_apart(alloc, workers)?;
     drop(keeper);
@@ -249,6 +261,7 @@ pub fn run<R: Threads + Wait + Sync>(
         ended,
         adopted,
         retired,
+        replaced,
         sent,
         taken,
         verdict,

@@ -15,6 +15,11 @@ fn all_taken(told: &Told) -> bool {
     told.sent > 1000 && told.taken == told.sent
 }
 
+// Whether objects were set in place, each of which the audit then held against the logs.
+fn some_replaced(told: &Told) -> bool {
+    told.replaced > 1000
+}
+
 // What it came to.
 fn summary(told: &Told) -> (Option<Trouble>, Result<(), AuditError>, [usize; 4]) {
     let marks = told.marks;
@@ -31,14 +36,15 @@ fn marks_between_sections(rt: HostRuntime) -> Result<(), Fail> {
     assert_eq!(rt; summary(&told), wanted(10));
     // Nobody is in the way of an end or a retirement, and the first plan always finds groups that fit.
     let moved = told.retired > 0 && told.marks.folded > 0;
-    let came = (told.ended, moved, all_taken(&told));
-    assert_eq!(rt; came, (4, true, true));
+    let came = (told.ended, moved, all_taken(&told), some_replaced(&told));
+    assert_eq!(rt; came, (4, true, true, true));
     Ok(())
 }
 
 #[test]
 fn marks_beside_sections(rt: HostRuntime) -> Result<(), Fail> {
     let told = run(&rt, rt.alloc(), Turn::Beside)?;
-    assert_eq!(rt; (summary(&told), all_taken(&told)), (wanted(200), true));
+    let came = (all_taken(&told), some_replaced(&told));
+    assert_eq!(rt; (summary(&told), came), (wanted(200), (true, true)));
     Ok(())
 }

@@ -44,6 +44,8 @@ pub struct Worker<'a> {
     pub adopted: usize,
     /// How many groups of its shard it retired.
     pub retired: usize,
+    /// How many objects it set in place.
+    pub replaced: usize,
     /// How many keys it left to the threads of their shards.
     pub sent: usize,
     /// How many keys it took from the rings of its shard.
@@ -71,6 +73,7 @@ impl<'a> Worker<'a> {
             has_ended: false,
             adopted: 0,
             retired: 0,
+            replaced: 0,
             sent: 0,
             taken: 0,
             trouble: None,
@@ -123,6 +126,7 @@ impl<'a> Worker<'a> {
         match word % 16 {
             0 | 1 => self.get(rt, old, word / 16),
             2 => self.free(rt, old, word / 16),
+            3 => self.set(rt, old, word / 16),
             _ if turn < 300 => self.put(rt, word),
             _ => self.free(rt, old, word / 16),
         }
@@ -158,16 +162,23 @@ impl<'a> Worker<'a> {
     fn get<R: Wait>(&mut self, rt: &R, old: &[Key], word: u32) -> Result<(), Trouble>
         ensures { self.new.seat.table ≡ self.old.seat.table }
     {
-        let last = self.keys.last().copied();
-        let key = if word % 2 == 0 {
-            last
-        } else {
-            old_key(old, word / 2)
-        };
-        let Some(key) = key else {
+        let Some(key) = last_or_old(self.keys.as_slice(), old, word) else {
             return Ok(());
         };
         let (_, receipt) = self.seat.get(rt, self.arena, &key);
+        self.receipts.push(&receipt)?;
+        Ok(())
+    }
+
+    // Sets a key of the section before, or the last of its own, whatever class its object has.
+    fn set<R: Wait>(&mut self, rt: &R, old: &[Key], word: u32) -> Result<(), Trouble>
+        ensures { self.new.seat.table ≡ self.old.seat.table }
+    {
+        let Some(key) = last_or_old(self.keys.as_slice(), old, word) else {
+            return Ok(());
+        };
+        let (done, receipt) = self.seat.set(rt, self.arena, &key, object_of(word))?;
+        self.replaced = self.replaced.saturating_add(usize::from(done));
         self.receipts.push(&receipt)?;
         Ok(())
     }
@@ -253,6 +264,15 @@ fn object_of(number: u32) -> Object {
         0 => Object::of(Class::C256, &[word; 16]),
         1..=3 => Object::of(Class::C64, &[word, word + 1, word + 2, word + 3]),
         _ => Object::c16(word),
+    }
+}
+
+// The last of a worker's own keys, or one of those that all were given in the section before.
+fn last_or_old(own: &[Key], old: &[Key], word: u32) -> Option<Key> {
+    if word % 2 == 0 {
+        own.last().copied()
+    } else {
+        old_key(old, word / 2)
     }
 }
 

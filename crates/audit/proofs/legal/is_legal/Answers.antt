@@ -24,7 +24,8 @@ returns-then-not-is_of_class c =
 pub returns-then-not-may_follow : goal.returns-then-not-may_follow
 returns-then-not-may_follow c =
     let changes = kept_changes c.args.log.now in
-    let follows = c.may_follow.ensures (take c.loop-i.i changes) c.loop-i.invariant.held c.loop-i.invariant.issued in (
+    let of_class = c.is_of_class.ensures.0 c.if-not-is_of_class.false in
+    let follows = c.may_follow.ensures c.args.class (take c.loop-i.i changes) c.loop-i.invariant.of_class of_class c.loop-i.invariant.held c.loop-i.invariant.issued in (
       λ so. absurd cc,
       λ legal. absurd (let e : false ≡ true = sym c.if-not-may_follow.true ∙ follows.1 (legal_at c.args.gens changes c.loop-i.i (viewed c.view-change.result) legal.0 c.view-change.ensures) in cc),
     )
@@ -35,7 +36,7 @@ loop-i-preserved c =
     let before = take c.loop-i.i changes in
     let change = viewed c.view-change.result in
     let of_class = c.is_of_class.ensures.0 c.if-not-is_of_class.false in
-    let fits = (c.may_follow.ensures before c.loop-i.invariant.held c.loop-i.invariant.issued).0 c.if-not-may_follow.false in
+    let fits = (c.may_follow.ensures c.args.class before c.loop-i.invariant.of_class of_class c.loop-i.invariant.held c.loop-i.invariant.issued).0 c.if-not-may_follow.false in
     let more = sym (take_more changes c.loop-i.i change c.view-change.ensures) in
     record {
       legal = subst (λ (l : List Change). IsLegal c.args.gens l) more (IsLegal-push c.args.gens before change c.loop-i.invariant.legal fits);

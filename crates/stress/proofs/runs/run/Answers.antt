@@ -9,6 +9,6 @@ finish-requires-clause-seats g c =
     let has = c.has_all.ensures.0 (search rules) in
     record {
       each = search rules;
-      in_order = rw c.as_slice-4.ensures.value at has.1;
+      in_order = rw c.as_slice-5.ensures.value at has.1;
       of_table = All-same (λ seat. seat.table) (λ seat. seat.table) c.in-Ok.seats.items c.in_ok-seats.seats.items c.in-Ok.arena.table same opened.of_table;
     }

@@ -1,22 +1,16 @@
-use Rattle.std.proofs.Common.{◌≡◌, ◌∙◌, ◌<◌, ℕ, length, Some, ap, refl, slice_get, subst, sym}
+use Rattle.std.proofs.Common.{◌≡◌, ◌∙◌, ◌<◌, Some, ap, refl, slice_get, subst, sym}
 use Rattle.std.proofs.lemmas.Option.{slice_get_within}
 use Rattle.span.specs.Ids.{rank}
-use Rattle.span.specs.declared.id.SpanId.{SpanId}
 use Rattle.groups.specs.Spans.{with_free_at}
 use Rattle.groups.proofs.Lists.{there_at}
-use Rattle.abandoned.specs.Groups.{FreesIn, GroupsState, HasHeadAt, standing}
+use Rattle.abandoned.specs.Groups.{FreesIn, GroupsState, standing}
 use Rattle.abandoned.specs.GroupsKept.{state_of}
 use Rattle.abandoned.specs.Ranked.{RankedState}
-use Rattle.abandoned.specs.State.{PooledState}
 use Rattle.groups.specs.Group.{IsHeadOf, spans_of}
-use Rattle.abandoned.proofs.FreedPlace.{FreesIn-ranked, on_false, on_true, places-kept, there}
+use Rattle.abandoned.proofs.FreedPlace.{FreesIn-ranked, on_false, on_true, places-kept, seen, there}
 use Rattle.abandoned.proofs.GroupPlaces.{HaveSize-same, IsHeadOf-places, KnowsPaged-marked, place_within}
 use Rattle.abandoned.proofs.Places.{before}
 use Rattle.abandoned.proofs.by_head.Groups.free.Goals as goal
-
--- the group of the head, as the fields show it
-seen : (inside outside : GroupsState) → inside ≡ outside → (head : SpanId) (place : ℕ) → (group : PooledState) × HasHeadAt outside.groups head group × (place < length (spans_of group)) → (group : PooledState) × HasHeadAt inside.groups head group × (place < length (spans_of group))
-seen inside outside same head place here = subst (λ (s : GroupsState). (group : PooledState) × HasHeadAt s.groups head group × (place < length (spans_of group))) (sym same) here
 
 pub free-freed-requires-clause-here : goal.free-freed-requires-clause-here
 free-freed-requires-clause-here g c =

@@ -1,36 +1,16 @@
-use Rattle.std.proofs.Common.{◌≡◌, ◌∙◌, ◌<◌, List, ℕ, Some, ap, get_or, length, length-set, refl, set, slice_get, subst, sym, arith}
+use Rattle.std.proofs.Common.{◌≡◌, ◌∙◌, ◌<◌, List, Some, ap, length, length-set, refl, set, slice_get, subst, sym, arith}
 use Rattle.groups.specs.Group.{spans_of, with_span}
 use Rattle.groups.specs.Spans.{with_free_at}
-use Rattle.groups.proofs.Lists.{read_at, same_some, set-same, there_at}
+use Rattle.groups.proofs.Lists.{set-same, there_at}
 use Rattle.span.specs.Ids.{rank}
 use Rattle.abandoned.specs.Calls.{GivesUp}
 use Rattle.abandoned.specs.Groups.{standing}
-use Rattle.abandoned.specs.Ranked.{IsFoundAt, RankedState, are_ranked}
+use Rattle.abandoned.specs.Ranked.{RankedState, are_ranked}
 use Rattle.abandoned.specs.State.{PooledState}
 use Rattle.abandoned.proofs.FreedPlace.{head-free, on_false, on_true}
-use Rattle.abandoned.proofs.RankedGroups.{AreFound-change, count-change, found-there, ranked-change}
+use Rattle.abandoned.proofs.RankedGroups.{AreFound-change, count-change, ranked-change}
+use Rattle.abandoned.proofs.ReadGroup.{one_group, read_rank, read_ranked, read_there}
 use Rattle.abandoned.proofs.by_rank.ByRank.free.Goals as goal
-
--- the group that was read at the place that was found
-module _ (groups seen : List PooledState) (index index_seen : List ℕ) (seen_is : seen ≡ groups) (index_is : index_seen ≡ index) (number place : ℕ) (found : IsFoundAt seen index_seen number place) (read : PooledState) (read_is : read ≡ get_or groups place read) where
-  found_here : IsFoundAt groups index number place
-  found_here = subst (λ (gs : List PooledState). IsFoundAt gs index number place) seen_is (subst (λ (ix : List ℕ). IsFoundAt seen ix number place) index_is found)
-
-  same_read : found_here.0 ≡ read
-  same_read = same_some (sym found_here.1 ∙ read_at groups place found_here.0 read found_here.1 read_is)
-
-  read_there : slice_get groups place ≡ Some read
-  read_there = read_at groups place found_here.0 read found_here.1 read_is
-
-  read_rank : rank read.head.id ≡ number
-  read_rank = ap (λ (g : PooledState). rank g.head.id) (sym same_read) ∙ found_here.2
-
-  module _ (room : ℕ) (now : RankedState) (view_is : record { by_rank = are_ranked groups 0 index; room = room } ≡ now) where
-    read_ranked : slice_get now.by_rank number ≡ Some (Some read)
-    read_ranked = ap (λ (r : RankedState). slice_get r.by_rank number) (sym view_is) ∙ found-there groups index number place found_here ∙ ap (λ g. Some (Some g)) same_read
-
-    one_group : (group : PooledState) → slice_get now.by_rank number ≡ Some (Some group) → group ≡ read
-    one_group group there = same_some (same_some (sym there ∙ read_ranked))
 
 pub free-requires-clause-place : goal.free-requires-clause-place
 free-requires-clause-place g c =

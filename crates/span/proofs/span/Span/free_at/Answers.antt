@@ -1,4 +1,4 @@
-use Rattle.std.proofs.Common.{ℕ, ◌≡◌, ◌+◌, ◌≤◌, ◌<◌, true, arith, sym, subst, List, length, length-append, ◌*◌, ◌++◌, ◌∷◌, []}
+use Rattle.std.proofs.Common.{ℕ, ◌^◌, ◌≡◌, ◌+◌, ◌≤◌, ◌<◌, true, arith, sym, subst, List, length, length-append, ◌*◌, ◌++◌, ◌∷◌, []}
 use Rattle.std.specs.FinSet as set
 use Rattle.span.specs.Log.{Holds, all_puts}
 use Rattle.span.specs.State.{SpanState}
@@ -25,13 +25,13 @@ module _ {class : Class} {gens : ℕ} {live worn : SlotSet} {generations : Gener
   room_after_free : set.len (set.remove live slot) + 1 ≤ room
   room_after_free = omega (arith, kept.room_for_frees, some_member live slot member, len-remove_member live slot member)
 
-  count_after_free : length (log ++ Free slot generation ∷ []) + set.len (set.remove live slot) ≡ 2 * all_puts (log ++ Free slot generation ∷ [])
+  count_after_free : length (log ++ Free slot generation ∷ []) + set.len (set.remove live slot) ≤ 2 * all_puts (log ++ Free slot generation ∷ []) + 2 ^ 63
   count_after_free =
-      omega (arith, kept.freed_once, all_puts-free log slot generation, length-append log (Free slot generation ∷ []), some_member live slot member, len-remove_member live slot member)
+      omega (arith, kept.few_sets, all_puts-free log slot generation, length-append log (Free slot generation ∷ []), some_member live slot member, len-remove_member live slot member)
 
 pub push_free-requires-clause-in_range : goal.push_free-requires-clause-in_range
 push_free-requires-clause-in_range g c =
-    omega (arith, c.self.invariant.freed_once, c.self.invariant.gens_fit, all_puts-le _ _ c.self.invariant.follows.legal)
+    omega (arith, c.self.invariant.few_sets, c.self.invariant.gens_fit, all_puts-le _ _ c.self.invariant.follows.legal)
 
 pub push_free-requires-clause-room : goal.push_free-requires-clause-room
 push_free-requires-clause-room g c =
@@ -49,7 +49,7 @@ invariant_of-self g c =
       all_or_none = c.self.invariant.all_or_none;
       gens_fit = c.self.invariant.gens_fit;
       of_class = rw c.push_free.ensures.changes (IsOfClass-push inside.class (g.L.Log.changes inside.log) _ c.self.invariant.of_class tt);
-      freed_once = rw (c.push_free.ensures.changes, c.remove.ensures)
+      few_sets = rw (c.push_free.ensures.changes, c.remove.ensures)
           (count_after_free c.self.invariant c.args.slot c.args.generation c.ranges.slot.fits holds);
       room_for_frees = rw c.remove.ensures
           (omega (arith, c.push_free.ensures.room, room_after_free c.self.invariant c.args.slot c.args.generation c.ranges.slot.fits holds));

@@ -1,4 +1,4 @@
-use Rattle.std.proofs.Common.{◌<◌, ◌≤◌, ◌+◌, ◌≡◌, ◌∙◌, ℕ, List, length, length-append, ◌*◌, ◌++◌, ◌∷◌, [], get_or, ap, arith, sym, subst, false}
+use Rattle.std.proofs.Common.{◌^◌, ◌<◌, ◌≤◌, ◌+◌, ◌≡◌, ◌∙◌, ℕ, List, length, length-append, ◌*◌, ◌++◌, ◌∷◌, [], get_or, ap, arith, sym, subst, false}
 use Rattle.std.specs.FinSet as set
 use Rattle.span.specs.Log.{Value, puts_of, was_issued, worn_slots, live_slots, all_puts}
 use Rattle.span.specs.Kept.{IsKept}
@@ -32,9 +32,9 @@ module _ {id : SpanId} {class : Class} {gens : ℕ} {live worn : SlotSet} {kept_
   one_more : set.len (set.insert live slot) ≡ set.len live + 1
   one_more = len-insert_new live slot (ap (λ l. set.contains l slot) kept.follows.live_is ∙ unused)
 
-  count_after_put : (generation : ℕ) (value : Value) → length (log ++ Put slot generation value ∷ []) + set.len (set.insert live slot) ≡ 2 * all_puts (log ++ Put slot generation value ∷ [])
+  count_after_put : (generation : ℕ) (value : Value) → length (log ++ Put slot generation value ∷ []) + set.len (set.insert live slot) ≤ 2 * all_puts (log ++ Put slot generation value ∷ []) + 2 ^ 63
   count_after_put generation value =
-      omega (arith, kept.freed_once, one_more, all_puts-put log slot generation value within, length-append log (Put slot generation value ∷ []))
+      omega (arith, kept.few_sets, one_more, all_puts-put log slot generation value within, length-append log (Put slot generation value ∷ []))
 
   -- the generations after room was made for them give the slot's next one
   module _ (generations : List ℕ) (same : (q : ℕ) → get_or generations q 0 ≡ get_or (last_given kept_generations) q 0) where
@@ -70,7 +70,7 @@ give_next-generation-requires-clause-in_range g c =
 pub push_put-requires-clause-in_range : goal.push_put-requires-clause-in_range
 push_put-requires-clause-in_range g c =
     rw c.in_ok-reserve.ensures.changes
-    (omega (arith, c.self.invariant.freed_once, c.self.invariant.gens_fit, all_puts-le _ _ c.self.invariant.follows.legal))
+    (omega (arith, c.self.invariant.few_sets, c.self.invariant.gens_fit, all_puts-le _ _ c.self.invariant.follows.legal))
 
 pub invariant_of-self-2 : goal.invariant_of-self-2
 invariant_of-self-2 g c =
@@ -91,7 +91,7 @@ invariant_of-self-2 g c =
         all_or_none = c.give_next-generation.ensures.all_or_none s.class c.in_ok-reserve_all.ensures.all_or_none;
         gens_fit = c.self.invariant.gens_fit;
         of_class = rw (c.push_put.ensures.changes, c.in_ok-reserve.ensures.changes) (IsOfClass-push s.class (g.L.Log.changes s.log) _ c.self.invariant.of_class (put_fits {slot = c.args.slot} c.args.words.now c.self.view_is c.requires.on_page c.requires.width));
-        freed_once = rw (c.push_put.ensures.changes, c.in_ok-reserve.ensures.changes, c.insert.ensures) (counted _ c.args.words.now);
+        few_sets = rw (c.push_put.ensures.changes, c.in_ok-reserve.ensures.changes, c.insert.ensures) (counted _ c.args.words.now);
         room_for_frees = rw c.insert.ensures (omega (arith, one, c.count.ensures.count, c.in_ok-reserve.ensures.ok, c.push_put.ensures.room));
       })
       | else-generation-self w ↦ subst (λ (s : Inside g.row.L.Denot). IsKept s.class s.gens s.live s.worn s.generations (g.L.Log.changes s.log) (g.L.Log.room s.log)) (sym w.self-inside-is) (record {
@@ -101,7 +101,7 @@ invariant_of-self-2 g c =
         all_or_none = c.give_next-generation.ensures.all_or_none s.class c.in_ok-reserve_all.ensures.all_or_none;
         gens_fit = c.self.invariant.gens_fit;
         of_class = rw (c.push_put.ensures.changes, c.in_ok-reserve.ensures.changes) (IsOfClass-push s.class (g.L.Log.changes s.log) _ c.self.invariant.of_class (put_fits {slot = c.args.slot} c.args.words.now c.self.view_is c.requires.on_page c.requires.width));
-        freed_once = rw (c.push_put.ensures.changes, c.in_ok-reserve.ensures.changes, c.insert.ensures) (counted _ c.args.words.now);
+        few_sets = rw (c.push_put.ensures.changes, c.in_ok-reserve.ensures.changes, c.insert.ensures) (counted _ c.args.words.now);
         room_for_frees = rw c.insert.ensures (omega (arith, one, c.count.ensures.count, c.in_ok-reserve.ensures.ok, c.push_put.ensures.room));
       })
     ]

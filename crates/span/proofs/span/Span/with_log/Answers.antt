@@ -12,6 +12,6 @@ invariant_of-result g c = record {
   all_or_none = c.new.ensures.all_or_none c.args.class;
   gens_fit = c.ranges.gens.fits;
   of_class = rw c.new-2.ensures tt;
-  freed_once = rw (c.new-2.ensures, c.empty.ensures, set.len-empty nat_cmp) (omega (arith, all_puts-empty));
+  few_sets = rw (c.new-2.ensures, c.empty.ensures, set.len-empty nat_cmp) (omega (arith, all_puts-empty));
   room_for_frees = rw (c.empty.ensures, set.len-empty nat_cmp) (omega arith);
 }

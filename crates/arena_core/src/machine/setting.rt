@@ -1,0 +1,106 @@
+// Sets in place, wherever the span of a key is.
+ghost use Rattle.std.specs.Prelude.{◌≡◌, ◌≢◌, IfOk, MatchResult};
+ghost use Rattle.shard.specs.Calls.{was_replaced};
+ghost use Rattle.arena_core.specs.Moved.{StandsIn, StandsInNoOther};
+ghost use Rattle.arena_core.specs.Plain.{PlainStep};
+ghost use Rattle.arena_core.specs.Sound.{IsSound};
+ghost use Rattle.arena_core.specs.State.{shown};
+ghost use Rattle.arena_core.specs.Step.{CoreStep};
+ghost use Rattle.arena_core.specs.declared.event.Event.TheVariants as event;
+ghost use Rattle.arena_core.specs.declared.reply.Reply.TheVariants as reply;
+
+use super::Core;
+use crate::reply::Refusal;
+use shard::Replaced;
+use span::{Key, Log};
+
+impl<L: Log> Core<L> {
+    /// Sets the key to the object of these words, where it is live and its object has as many words, and says whether it did:
+    /// what [`Core::step`] does with [`Event::Set`]. The words go to the page where the object stands, also while a plan is
+    /// open. Any number of words may be given. A free of the key takes no memory afterwards, as before.
+    ///
+    /// It is refused by [`Refusal::OutOfMemory`] alone, and only in place of `true`, where the log of the key's span could not
+    /// grow. A log that is only counted takes no memory, and refuses a set after 2^63 changes alone.
+    ///
+    /// [`Event::Set`]: crate::Event::Set
+    #[inline(always)]
+    pub fn set(&mut self, key: &Key, words: &[u128]) -> Result<bool, Refusal>
+        ensures exact { MatchResult result
+            (λ done. CoreStep self.old (event.Set key.now words.now) (reply.Replaced done) self.new)
+            (λ refusal. CoreStep self.old (event.Set key.now words.now)
+            (reply.Refused refusal) self.new) }
+        ensures plain { MatchResult result
+            (λ done. PlainStep self.old.limits (shown self.old) (event.Set key.now words.now)
+            (reply.Replaced done) (shown self.new))
+            (λ refusal. PlainStep self.old.limits (shown self.old) (event.Set key.now words.now)
+            (reply.Refused refusal) (shown self.new)) }
+        ensures sound { IsSound self.new }
+    {
+        let Some(shard) = self.shards.get_mut(key.span.shard as usize) else {
+            return Ok(false);
+        };
+        let replaced = shard.set(key, words)?;
+        if matches!(replaced, Replaced::NotHere) {
+            return self.set_moved(key, words);
+        }
+        Ok(was_set(replaced))
+    }
+
+    // Sets the key, where it may be set, and the shard that opened its span does not have the span.
+    fn set_moved(&mut self, key: &Key, words: &[u128]) -> Result<bool, Refusal>
+        requires { StandsIn self.old.shards key.now.span key.now.span.shard → ⊥ }
+        ensures exact { MatchResult result
+            (λ done. CoreStep self.old (event.Set key.now words.now) (reply.Replaced done) self.new)
+            (λ refusal. CoreStep self.old (event.Set key.now words.now)
+            (reply.Refused refusal) self.new) }
+        ensures plain { MatchResult result
+            (λ done. PlainStep self.old.limits (shown self.old) (event.Set key.now words.now)
+            (reply.Replaced done) (shown self.new))
+            (λ refusal. PlainStep self.old.limits (shown self.old) (event.Set key.now words.now)
+            (reply.Refused refusal) (shown self.new)) }
+        ensures sound { IsSound self.new }
+    {
+        let replaced = self.set_taken_in(key, words)?;
+        if matches!(replaced, Replaced::NotHere) {
+            let pooled = self.pool.set(key, words)?;
+            return Ok(was_set(pooled));
+        }
+        Ok(was_set(replaced))
+    }
+
+    // Sets the key in the shard that took its span in last, if one did.
+    fn set_taken_in(&mut self, key: &Key, words: &[u128]) -> Result<Replaced, Refusal>
+        ensures exact { MatchResult result
+            (λ answer. answer ≢ Replaced.NotHere → CoreStep self.old
+            (event.Set key.now words.now) (reply.Replaced (was_replaced answer)) self.new)
+            (λ refusal. CoreStep self.old (event.Set key.now words.now)
+            (reply.Refused refusal) self.new) }
+        ensures plain { MatchResult result
+            (λ answer. answer ≢ Replaced.NotHere → PlainStep self.old.limits (shown self.old)
+            (event.Set key.now words.now) (reply.Replaced (was_replaced answer)) (shown self.new))
+            (λ refusal. PlainStep self.old.limits (shown self.old) (event.Set key.now words.now)
+            (reply.Refused refusal) (shown self.new)) }
+        ensures sound { IsSound self.new }
+        ensures not_here { IfOk result (λ answer. answer ≡ Replaced.NotHere
+            → StandsInNoOther self.old.shards key.now.span × (self.new ≡ self.old)) }
+    {
+        let Some(number) = self.whereabouts.shard_of(key.span) else {
+            return Ok(Replaced::NotHere);
+        };
+        let Some(shard) = self.shards.get_mut(number) else {
+            return Ok(Replaced::NotHere);
+        };
+        let replaced = shard.set(key, words)?;
+        Ok(replaced)
+    }
+}
+
+// Whether the set was done.
+fn was_set(replaced: Replaced) -> bool
+    ensures { result ≡ was_replaced replaced }
+{
+    match replaced {
+        Replaced::Yes(_) => true,
+        Replaced::No(_) | Replaced::NotHere => false,
+    }
+}

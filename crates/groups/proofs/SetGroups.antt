@@ -1,0 +1,181 @@
+-- A group stays sound where one of its spans is set in place, and so does each group on another page.
+use Rattle.std.proofs.Common.{zero, suc, ◌≡◌, ℕ, ◌<◌, ◌⊎◌, ◌++◌, ◌∷◌, [], length, Bool, true, false, IsTrue, ◌↔◌, List, Option, Some, None, MatchOption, IsSomeAnd, is_some, set, slice_get, ap, sym, subst, ◌∙◌, refl, inl, inr, eqb, eq-eqb, eqb-true, if◌then◌else◌}
+use Rattle.std.specs.Bool.{OnTrue, OnFalse}
+use Rattle.std.specs.FinMap as map
+use Rattle.std.specs.FinSet.{contains, empty}
+use Rattle.std.proofs.lemmas.Bool.{cases_eq, false_from_ne_true, ne_eqb}
+use Rattle.bitmap.specs.Slots.{SlotSet}
+use Rattle.bitmap.specs.Operations.{AreDisjoint-at}
+use Rattle.span.specs.Classes.{slots_in, width_of}
+use Rattle.span.specs.Log.{Held, Holds, IsLegal, IsOfClass, Value, live_slots, replay, value_if, value_in}
+use Rattle.span.specs.PlainMap.{has_as_many}
+use Rattle.span.specs.State.{IsSettable, SpanState}
+use Rattle.span.specs.declared.change.Change.{Change}
+use Rattle.span.specs.declared.change.Change.TheVariants.{Set}
+use Rattle.span.specs.declared.class.Class.{Class}
+use Rattle.span.proofs.Changes.{IsLegal-push, get-set}
+use Rattle.span.proofs.OfClass.{Fits-replay, Holds-on_page, IsOfClass-push}
+use Rattle.span.proofs.Slots.{contains-live_slots}
+use Rattle.page_table.specs.State.{TableState, object_at, with_object, words_of}
+use Rattle.page_table.proofs.Words.{object_in-set_object_other, object_in-set_object_same}
+use Rattle.groups.specs.Group.{Group, spans_of, with_span}
+use Rattle.groups.specs.Sound.{AreOnPage, IsOnPage, IsSoundGroup}
+use Rattle.groups.specs.SpansKept.{IsKept}
+use Rattle.groups.specs.Spans.{AreApart, AreSpansOf, IsSpanOf, union_of, with_set_at}
+use Rattle.groups.proofs.Lists.{cases-set, same_some, set-same}
+use Rattle.groups.proofs.Sound.{IsSoundGroup-same}
+use Rattle.groups.proofs.Standing.{AreSpansOf-with_span, page-with_span, spans_of-with_span}
+use Rattle.groups.proofs.Tables.{HasPage-with_object, get-insert_other, words_of-with_object_same}
+use Rattle.groups.proofs.Unions.{keep_held, live_if_held, member_of_union}
+
+-- a slot is live in one of the spans alone
+apart_at : (spans : List SpanState) (i j : ℕ) (a b : SpanState) (q : ℕ) → AreApart spans → slice_get spans i ≡ Some a → slice_get spans j ≡ Some b → (i ≡ j → ⊥)
+    → contains (live_slots a.log) q ≡ true → contains (live_slots b.log) q ≡ true → ⊥
+apart_at [] i j a b q apart at_i at_j differ in_a in_b = absurd cc
+apart_at (first ∷ rest) zero zero a b q apart at_i at_j differ in_a in_b = differ refl
+apart_at (first ∷ rest) zero (suc j) a b q apart at_i at_j differ in_a in_b =
+    AreDisjoint-at (live_slots first.log) (union_of rest) apart.0 q (ap (λ (s : SpanState). contains (live_slots s.log) q) (same_some at_i) ∙ in_a) (member_of_union rest j b q at_j in_b)
+apart_at (first ∷ rest) (suc i) zero a b q apart at_i at_j differ in_a in_b =
+    AreDisjoint-at (live_slots first.log) (union_of rest) apart.0 q (ap (λ (s : SpanState). contains (live_slots s.log) q) (same_some at_j) ∙ in_b) (member_of_union rest i a q at_i in_a)
+apart_at (first ∷ rest) (suc i) (suc j) a b q apart at_i at_j differ in_a in_b = apart_at rest i j a b q apart.1 at_i at_j (λ e. differ (ap suc e)) in_a in_b
+
+-- a set of a live slot to as many words as the class has is legal
+pub IsLegal-set : (class : Class) (gens : ℕ) (log : List Change) (slot generation : ℕ) (value : Value) → IsLegal gens log → IsOfClass class log → Holds log slot generation → length value ≡ width_of class
+    → IsLegal gens (log ++ Set slot generation value ∷ [])
+IsLegal-set class gens log slot generation value legal of_class holds wide = IsLegal-push gens log _ legal (fits (map.get (replay log) slot) refl holds)
+  where
+    fits : (o : Option Held) → map.get (replay log) slot ≡ o → IsSomeAnd o (λ held. held.generation ≡ generation)
+        → IsSomeAnd o (λ held. (held.generation ≡ generation) × (length held.value ≡ length value))
+    fits None e h = absurd h
+    fits (Some held) e h = (h, (Fits-replay class log of_class slot held e).1 ∙ sym wide)
+
+-- a span may be set just where its log leaves a value of as many words
+module _ (span : SpanState) (slot generation : ℕ) (value : Value) (of_class : IsOfClass span.class span.log) where
+  pub has_as_many-settable : IsSettable span slot generation value → has_as_many value (value_in span.log slot generation) ≡ true
+  has_as_many-settable settable = found (map.get (replay span.log) slot) refl settable.0
+    where
+      found : (o : Option Held) → map.get (replay span.log) slot ≡ o → IsSomeAnd o (λ held. held.generation ≡ generation) → has_as_many value (value_if generation o) ≡ true
+      found None e h = absurd h
+      found (Some held) e h = rw (eq-eqb held.generation generation h) (eq-eqb _ _ ((Fits-replay span.class span.log of_class slot held e).1 ∙ sym settable.1))
+
+  pub settable-has_as_many : has_as_many value (value_in span.log slot generation) ≡ true → IsSettable span slot generation value
+  settable-has_as_many may = found (map.get (replay span.log) slot) refl may
+    where
+      found : (o : Option Held) → map.get (replay span.log) slot ≡ o → has_as_many value (value_if generation o) ≡ true → IsSettable span slot generation value
+      found None e h = absurd cc
+      found (Some held) e h = by_test (eqb held.generation generation) refl h
+        where
+          by_test : (b : Bool) → eqb held.generation generation ≡ b → has_as_many value (if b then Some held.value else None) ≡ true → IsSettable span slot generation value
+          by_test true same long = (
+            subst (λ (o : Option Held). IsSomeAnd o (λ held. held.generation ≡ generation)) (sym e) (eqb-true held.generation generation same),
+            sym (eqb-true _ _ long) ∙ (Fits-replay span.class span.log of_class slot held e).1,
+          )
+          by_test false same long = absurd cc
+
+  pub has_as_many-not : (IsSettable span slot generation value → ⊥) → has_as_many value (value_in span.log slot generation) ≡ false
+  has_as_many-not not = false_from_ne_true (has_as_many value (value_in span.log slot generation)) (λ may. not (settable-has_as_many may))
+
+-- what is kept beside the spans stays so, whether the set was done or not
+pub IsKept-set : (spans : List SpanState) (occupied : SlotSet) → IsKept spans occupied → (place : ℕ) (span : SpanState) → slice_get spans place ≡ Some span
+    → (slot generation : ℕ) (value : Value) (done : Bool) (after : SpanState) → IsTrue done ↔ IsSettable span slot generation value
+    → OnTrue done (after ≡ with_set_at span slot generation value) → OnFalse done (after ≡ span) → IsKept (set spans place after) occupied
+IsKept-set spans occupied kept place span here slot generation value true after found is unknown =
+    let same = keep_held spans place span slot generation value here (found.0 refl).0 kept.apart in
+    subst (λ (s : SpanState). IsKept (set spans place s) occupied) (sym is) (record { occupied_is = kept.occupied_is ∙ sym same.0; apart = same.1 })
+IsKept-set spans occupied kept place span here slot generation value false after found is unknown =
+    subst (λ l. IsKept l occupied) (sym (ap (λ s. set spans place s) unknown ∙ set-same spans place span here)) kept
+
+module _ {Page Closed : Type 0} (page_of : Page → Option ℕ) (table : TableState) (group : Group Page Closed) (sound : IsSoundGroup page_of table group) (page : ℕ) (paged : page_of group.page ≡ Some page)
+    (place : ℕ) (span : SpanState) (here : slice_get (spans_of group) place ≡ Some span) (slot generation : ℕ) (value : Value) (settable : IsSettable span slot generation value) where
+  abbrev changed : SpanState
+  changed = with_set_at span slot generation value
+
+  abbrev after : Group Page Closed
+  after = with_span group place changed
+
+  abbrev table_now : TableState
+  table_now = with_object table page span.class slot value
+
+  its : IsSpanOf group.head.class span
+  its = sound.classes place span here
+
+  of_class : IsOfClass span.class span.log
+  of_class = subst (λ c. IsOfClass c span.log) (sym its.class_is) its.of_class
+
+  on_page : slot < slots_in span.class
+  on_page = Holds-on_page span.class span.log slot generation of_class settable.0
+
+  before : AreOnPage table (spans_of group) page
+  before = subst (λ o. MatchOption o (union_of (spans_of group) ≡ empty) (AreOnPage table (spans_of group))) paged sound.page
+
+  object_here : object_at table_now page span.class slot ≡ value
+  object_here = rw (words_of-with_object_same table page span.class slot value) (object_in-set_object_same (words_of table page) span.class slot value on_page settable.1)
+
+  object_other : (q : ℕ) → q < slots_in span.class → (q ≡ slot → ⊥) → object_at table_now page span.class q ≡ object_at table page span.class q
+  object_other q low other = rw (words_of-with_object_same table page span.class slot value) (object_in-set_object_other (words_of table page) span.class slot value q low other)
+
+  -- what a span of the group holds at another slot stays
+  stored_other : (at : ℕ) (other : SpanState) → slice_get (spans_of group) at ≡ Some other → (q : ℕ) (held : Held) → map.get (replay other.log) q ≡ Some held → (q ≡ slot → ⊥) → object_at table_now page other.class q ≡ held.value
+  stored_other at other there q held is differ =
+      let of_other = sound.classes at other there in
+      let same : other.class ≡ span.class = of_other.class_is ∙ sym its.class_is in
+      let low : q < slots_in span.class = subst (λ c. q < slots_in c) (sym its.class_is) (Fits-replay group.head.class other.log of_other.of_class q held is).0 in
+      let was : object_at table page span.class q ≡ held.value = subst (λ c. object_at table page c q ≡ held.value) same ((before.each at other there).stored q held is) in
+      subst (λ c. object_at table_now page c q ≡ held.value) (sym same) (object_other q low differ ∙ was)
+
+  changed_now : IsOnPage table_now page changed
+  changed_now = record {
+    mapped = (before.each place span here).mapped;
+    stored = λ q held is. elim (cases_eq q slot) [
+      | inl same ↦
+          let put : Some (record { generation = generation; value = value }) ≡ Some held = sym (get-set span.log slot generation value q ∙ rw (eq-eqb q slot same) refl) ∙ is in
+          ap (object_at table_now page span.class) same ∙ object_here ∙ ap (λ (h : Held). h.value) (same_some put)
+      | inr differ ↦ stored_other place span here q held (sym (get-set span.log slot generation value q ∙ rw (ne_eqb q slot differ) refl) ∙ is) differ
+    ];
+  }
+
+  other_now : (at : ℕ) (other : SpanState) → (at ≡ place → ⊥) → slice_get (spans_of group) at ≡ Some other → IsOnPage table_now page other
+  other_now at other apart there =
+      let was = before.each at other there in
+      record {
+        mapped = was.mapped;
+        stored = λ q held is. stored_other at other there q held is (λ same. apart_at (spans_of group) at place other span q sound.apart there here apart
+            (contains-live_slots other.log q ∙ ap is_some is)
+            (ap (contains (live_slots span.log)) same ∙ live_if_held span.log slot generation settable.0));
+      }
+
+  -- a span of the group after the set is the changed one, or was there before
+  changed_or_kept : (at : ℕ) (other : SpanState) → slice_get (spans_of after) at ≡ Some other → ((at ≡ place) × (changed ≡ other)) ⊎ ((at ≡ place → ⊥) × (slice_get (spans_of group) at ≡ Some other))
+  changed_or_kept at other there = cases-set (spans_of group) place changed at other (ap (λ spans. slice_get spans at) (sym (spans_of-with_span group place changed)) ∙ there)
+
+  all_now : AreOnPage table_now (spans_of after) page
+  all_now = record {
+    has_page = HasPage-with_object table page span.class slot value page before.has_page;
+    each = λ at other there. elim (changed_or_kept at other there) [
+      | inl this ↦ subst (IsOnPage table_now page) this.1 changed_now
+      | inr that ↦ other_now at other that.0 that.1
+    ];
+  }
+
+  pub IsSoundGroup-set : IsSoundGroup page_of table_now after
+  IsSoundGroup-set = record {
+    apart = subst AreApart (sym (spans_of-with_span group place changed)) (keep_held (spans_of group) place span slot generation value here settable.0 sound.apart).1;
+    legal = λ at other there. elim (changed_or_kept at other there) [
+      | inl this ↦ subst (λ (s : SpanState). IsLegal s.gens s.log) this.1 (IsLegal-set span.class span.gens span.log slot generation value (sound.legal place span here) of_class settable.0 settable.1)
+      | inr that ↦ sound.legal at other that.1
+    ];
+    classes = AreSpansOf-with_span group place changed sound.classes (record {
+      class_is = its.class_is;
+      of_class = IsOfClass-push group.head.class span.log _ its.of_class (subst (λ c. (slot < slots_in c) × (length value ≡ width_of c)) its.class_is (on_page, settable.1));
+    });
+    page = subst (λ o. MatchOption o (union_of (spans_of after) ≡ empty) (AreOnPage table_now (spans_of after))) (sym (ap page_of (page-with_span group place changed) ∙ paged)) all_now;
+  }
+
+-- a group on another page
+pub IsSoundGroup-set_elsewhere : {Page Closed : Type 0} (page_of : Page → Option ℕ) (table : TableState) (page : ℕ) (class : Class) (slot : ℕ) (value : Value) (group : Group Page Closed)
+    → ((other : ℕ) → page_of group.page ≡ Some other → other ≡ page → ⊥) → IsSoundGroup page_of table group → IsSoundGroup page_of (with_object table page class slot value) group
+IsSoundGroup-set_elsewhere page_of table page class slot value group apart =
+    IsSoundGroup-same page_of table (with_object table page class slot value) group (λ other is. record {
+      words = get-insert_other table.pages page _ other (apart other is);
+      mapped = λ at span there. refl;
+    })

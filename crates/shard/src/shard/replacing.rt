@@ -1,0 +1,55 @@
+// Sets in place.
+ghost use Rattle.std.specs.Prelude.{◌≡◌, IfOk, OnErr, if◌then◌else◌, true};
+ghost use Rattle.span.specs.PlainMap as plain;
+ghost use Rattle.shard.specs.Calls.{Sets, was_replaced};
+ghost use Rattle.shard.specs.Shown.{shown};
+ghost use Rattle.shard.specs.Sound.{IsSound};
+
+use crate::shard::Shard;
+use span::{Key, Log};
+use std::alloc::AllocError;
+
+/// What a set did. A `usize` is the number of changes that the log of the key's span had before.
+#[derive(Clone, Copy, PartialEq, Eq, Debug)]
+pub enum Replaced {
+    /// The key was live, and its object has been replaced.
+    Yes(usize),
+    /// The span is here, and the key was not live, or its object has another class.
+    No(usize),
+    /// The shard has no such span.
+    NotHere,
+}
+
+impl<L: Log> Shard<L> {
+    /// Sets the key's object to these words in place, where the key is live here and its object has as many. A closed group
+    /// takes sets, and so does a guest. A free of the key takes no memory afterwards, as before.
+    ///
+    /// # Errors
+    ///
+    /// `AllocError` in place of `Yes`, where the span's log could not grow. The shard is then as it was. A log that is only
+    /// counted takes no memory, and refuses a set after 2^63 changes alone.
+    pub fn set(&mut self, key: &Key, words: &[u128]) -> Result<Replaced, AllocError>
+        ensures step { IfOk result (λ answer. Sets self.old key.now words.now answer self.new) }
+        ensures found { IfOk result (λ answer. was_replaced answer
+            ≡ plain.may_set (shown self.old) key.now words.now) }
+        ensures plain { IfOk result (λ answer. shown self.new
+            ≡ (if was_replaced answer then plain.with_value (shown self.old) key.now words.now
+            else shown self.old)) }
+        ensures sound { IsSound self.new }
+        ensures refused { OnErr result (plain.may_set (shown self.old) key.now words.now ≡ true) }
+        ensures err { OnErr result (self.new ≡ self.old) }
+    {
+        let Some((index, place)) = self.find(key.span) else {
+            return Ok(Replaced::NotHere);
+        };
+        let group = &mut self.groups[index];
+        let span = group.span_at(place);
+        let at = span.changes();
+        let class = span.class();
+        if !group.set(place, key.slot, key.generation, words)? {
+            return Ok(Replaced::No(at));
+        }
+        self.table.set_at(group.page(), class, key.slot, words);
+        Ok(Replaced::Yes(at))
+    }
+}
