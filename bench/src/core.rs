@@ -17,6 +17,7 @@ type Page = [u128; 256];
 #[allow(dead_code)]
 enum Change {
     Put { slot: u8, generation: u32, first: usize },
+    Set { slot: u8, generation: u32, first: usize },
     Free { slot: u8, generation: u32 },
 }
 
@@ -25,10 +26,19 @@ struct Span {
     worn: Slots,
     generations: Box<[u32]>,
     log: Vec<Change>,
-    /// The words of what was put, in order.
+    /// The words of what was put and set, in order.
     words: Vec<u128>,
     /// The place of its group among all groups.
     group: usize,
+}
+
+impl Span {
+    /// Keeps the words of a change; the place of the first.
+    fn keep_words(&mut self, class: Class, base: u128) -> usize {
+        let first = self.words.len();
+        self.words.extend((0..class.words() as u128).map(|k| base + k));
+        first
+    }
 }
 
 enum Home {
@@ -45,6 +55,17 @@ struct Group {
     page: Option<Box<Page>>,
     home: Home,
     closed: bool,
+}
+
+impl Group {
+    /// Writes the object of a slot, whose words count up from a base.
+    fn write(&mut self, slot: u8, base: u128) {
+        if let Some(page) = &mut self.page {
+            for (word, k) in page[words_of(self.class, slot)].iter_mut().zip(0..) {
+                *word = base + k;
+            }
+        }
+    }
 }
 
 #[derive(Default)]
@@ -160,11 +181,7 @@ impl<const LOG: bool> Core<LOG> {
         let group = &mut self.groups[group];
         let id = group.spans[0];
         group.occupied.insert(slot);
-        if let Some(page) = &mut group.page {
-            for (word, k) in page[words_of(class, slot)].iter_mut().zip(0..) {
-                *word = base + k;
-            }
-        }
+        group.write(slot, base);
         let span = &mut self.spans[usize::from(id.shard)][usize::from(id.serial)];
         let generation = span.generations[usize::from(slot)] + 1;
         span.generations[usize::from(slot)] = generation;
@@ -173,8 +190,7 @@ impl<const LOG: bool> Core<LOG> {
             span.worn.insert(slot);
         }
         if LOG {
-            let first = span.words.len();
-            span.words.extend((0..class.words() as u128).map(|k| base + k));
+            let first = span.keep_words(class, base);
             span.log.push(Change::Put {
                 slot,
                 generation,
@@ -281,6 +297,26 @@ impl<const LOG: bool> Core<LOG> {
     pub fn get(&self, key: Key) -> Option<&[u128]> {
         let group = &self.groups[self.find(key)?.group];
         group.page.as_ref().map(|page| &page[words_of(group.class, key.slot)])
+    }
+
+    /// Sets the key to the object of its class whose words count up from a base, where it is live.
+    pub fn set(&mut self, key: Key, base: u128) -> bool {
+        let Some(place) = self.find(key).map(|span| span.group) else {
+            return false;
+        };
+        let group = &mut self.groups[place];
+        group.write(key.slot, base);
+        let class = group.class;
+        if LOG {
+            let span = self.span_mut(key.span);
+            let first = span.keep_words(class, base);
+            span.log.push(Change::Set {
+                slot: key.slot,
+                generation: key.generation,
+                first,
+            });
+        }
+        true
     }
 
     pub fn free(&mut self, key: Key) -> bool {

@@ -17,6 +17,8 @@ struct Draw {
     random: Random,
     /// The verbs' ends of the classes that the version has.
     classes: &'static [&'static str],
+    /// Whether the version has sets.
+    sets: bool,
     text: String,
     shards: usize,
     ended: Vec<bool>,
@@ -39,14 +41,12 @@ pub fn text(seed: u64) -> Vec<u8> {
     let gens = [1, 2, 3, 9, u32::MAX][random.below(5)];
     let ring = 1 + random.below(3);
     let lines = 5 + random.below(80);
-    let (version, classes): (u8, &[&str]) = if seed % 4 < 3 {
-        (2, &["", "", "64", "256"])
-    } else {
-        (1, &[""])
-    };
+    let version = [3, 3, 2, 1][seed as usize % 4];
+    let classes: &[&str] = if version > 1 { &["", "", "64", "256"] } else { &[""] };
     let mut draw = Draw {
         random,
         classes,
+        sets: version > 2,
         text: header_with(version, shards, pages, ring, gens),
         shards,
         ended: vec![false; shards],
@@ -144,6 +144,10 @@ impl Draw {
         });
     }
 
+    fn value(&mut self) -> u128 {
+        [self.random.draw() as u128, u128::MAX - 500, 0][self.random.below(3)]
+    }
+
     fn class(&mut self) -> &'static str {
         self.classes[self.random.below(self.classes.len())]
     }
@@ -170,7 +174,7 @@ impl Draw {
 
     fn bind(&mut self, thread: usize, count: Option<usize>) {
         let name = format!("n{}", self.bound.len());
-        let value = [self.random.draw() as u128, u128::MAX - 500, 0][self.random.below(3)];
+        let value = self.value();
         let class = self.class();
         match count {
             None => self.say(format_args!("{thread} put{class} {name} {value}")),
@@ -184,7 +188,7 @@ impl Draw {
         });
     }
 
-    /// Reads, frees, sends off or sweeps a name that this thread may know.
+    /// Reads, sets, frees, sends off or sweeps a name that this thread may know.
     fn use_key(&mut self, thread: usize) {
         let (section, careless) = (self.section, self.careless && self.random.one_in(8));
         let known = |b: &&Bound| careless || b.thread == thread || b.section < section;
@@ -194,24 +198,33 @@ impl Draw {
         }
         let bound = known[self.random.below(known.len())];
         let (name, count) = (bound.name.clone(), bound.count);
-        let word = ["get", "free", "later"][self.random.below(3)];
-        match count {
-            None => self.say(format_args!("{thread} {word} {name}")),
+        let key = match count {
+            None => name,
             Some(count) if self.random.one_in(3) => {
                 let to = self.random.below(count + 1);
                 let from = self.random.below(to + 1);
                 self.say(format_args!("{thread} sweep {name} {from} {to}"));
+                return;
             }
-            Some(count) => {
-                let at = self.random.below(count);
-                self.say(format_args!("{thread} {word} {name}.{at}"));
-            }
+            Some(count) => format!("{name}.{}", self.random.below(count)),
+        };
+        if self.sets && self.random.one_in(3) {
+            // The last word of a wide object may be too great then.
+            let value = if careless {
+                u128::MAX - self.random.below(20) as u128
+            } else {
+                self.value()
+            };
+            self.say(format_args!("{thread} set {key} {value}"));
+        } else {
+            let word = ["get", "free", "later"][self.random.below(3)];
+            self.say(format_args!("{thread} {word} {key}"));
         }
     }
 }
 
 /// Words that stand where others should.
-const WORDS: [&str; 30] = [
+const WORDS: [&str; 31] = [
     "0",
     "1",
     "63",
@@ -228,6 +241,7 @@ const WORDS: [&str; 30] = [
     "put256",
     "fill64",
     "fill256",
+    "set",
     "end",
     "later",
     "tend",

@@ -95,6 +95,7 @@ impl Run<'_> {
                 }
             }
             Call::Get { key } => self.get(number, key),
+            Call::Set { key, value } => self.set(number, key, value),
             Call::Free { key } => self.free(number, key),
             Call::Sweep { from, to } => (from..to).for_each(|key| self.free(number, key)),
             Call::Later { key } => self.later(number, thread, key),
@@ -149,13 +150,14 @@ impl Run<'_> {
         });
     }
 
+    fn set(&mut self, number: usize, place: usize, value: u128) {
+        let done = self.keys[place].map(|key| self.core.set(key, value));
+        self.reply(number, |out| out.extend_from_slice(word_of(done)));
+    }
+
     fn free(&mut self, number: usize, place: usize) {
-        let text: &[u8] = match self.keys[place].map(|key| self.core.free(key)) {
-            None => b"unbound",
-            Some(false) => b"no",
-            Some(true) => b"yes",
-        };
-        self.reply(number, |out| out.extend_from_slice(text));
+        let done = self.keys[place].map(|key| self.core.free(key));
+        self.reply(number, |out| out.extend_from_slice(word_of(done)));
     }
 
     fn later(&mut self, number: usize, thread: usize, place: usize) {
@@ -270,6 +272,15 @@ impl Run<'_> {
     fn say(&mut self, text: std::fmt::Arguments) {
         // A Vec takes all that it is given.
         let _ = self.out.write_fmt(text);
+    }
+}
+
+/// Whether a set or a free was done; none where there is no key.
+fn word_of(done: Option<bool>) -> &'static [u8] {
+    match done {
+        None => b"unbound",
+        Some(false) => b"no",
+        Some(true) => b"yes",
     }
 }
 

@@ -71,6 +71,11 @@ pub enum Call {
     Get {
         key: usize,
     },
+    /// To the object of the key's own class.
+    Set {
+        key: usize,
+        value: u128,
+    },
     Free {
         key: usize,
     },
@@ -152,6 +157,7 @@ enum Spelled<'t> {
     Put(Class, &'t [u8], Number),
     Fill(Class, &'t [u8], Number, Number),
     Get(Reference<'t>),
+    Set(Reference<'t>, Number),
     Free(Reference<'t>),
     Sweep(&'t [u8], Number, Number),
     Later(Reference<'t>),
@@ -170,14 +176,14 @@ fn name_of(word: &[u8]) -> Option<&[u8]> {
     is_name(word).then_some(word)
 }
 
-/// The verb of a put or a fill, and the class of what it puts. The wide ones are words of version 2 alone.
+/// The verb of a put or a fill, and the class of what it puts. Version 1 has no wide ones.
 fn binding_verb<'t>(verb: &'t [u8], version: Version) -> Option<(&'t [u8], Class)> {
     let (verb, class) = match verb {
         [verb @ .., b'2', b'5', b'6'] => (verb, Class::C256),
         [verb @ .., b'6', b'4'] => (verb, Class::C64),
         verb => (verb, Class::C16),
     };
-    (class == Class::C16 || version == Version::Two).then_some((verb, class))
+    (class == Class::C16 || version != Version::One).then_some((verb, class))
 }
 
 fn form_of(line: &[u8], version: Version) -> Option<Form<'_>> {
@@ -191,6 +197,7 @@ fn form_of(line: &[u8], version: Version) -> Option<Form<'_>> {
         [b"mark"] => return Some(Form::Mark),
         [b"adopt", shard] => return Some(Form::Adopt(Number::of(shard)?)),
         [_, b"get", key] => Spelled::Get(Reference::of(key)?),
+        [_, b"set", key, value] if version == Version::Three => Spelled::Set(Reference::of(key)?, Number::of(value)?),
         [_, b"free", key] => Spelled::Free(Reference::of(key)?),
         [_, b"sweep", name, from, to] => Spelled::Sweep(name_of(name)?, Number::of(from)?, Number::of(to)?),
         [_, b"later", key] => Spelled::Later(Reference::of(key)?),
@@ -213,6 +220,7 @@ fn form_of(line: &[u8], version: Version) -> Option<Form<'_>> {
 struct Binding {
     first: usize,
     count: Option<u32>,
+    class: Class,
     thread: usize,
     section: usize,
 }
@@ -236,11 +244,12 @@ impl<'t> Reader<'t> {
         Ok(thread)
     }
 
-    fn bind(&mut self, name: &'t [u8], count: Option<u32>, thread: usize) -> Result<usize, Cause> {
+    fn bind(&mut self, name: &'t [u8], count: Option<u32>, class: Class, thread: usize) -> Result<usize, Cause> {
         let first = self.keys;
         let binding = Binding {
             first,
             count,
+            class,
             thread,
             section: self.section,
         };
@@ -250,6 +259,15 @@ impl<'t> Reader<'t> {
         };
         self.keys += count.unwrap_or(1) as usize;
         Ok(first)
+    }
+
+    /// The class of what a line puts under the reference, where the line is of its kind: a put without an index, or a fill with one.
+    /// Else that of one word.
+    fn class(&self, reference: Reference) -> Class {
+        match self.names.get(reference.name) {
+            Some(binding) if binding.count.is_some() == reference.index.is_some() => binding.class,
+            _ => Class::C16,
+        }
     }
 
     /// What a name is bound to; `Early` comes after all that is unknown, so the caller asks for it.
@@ -292,7 +310,7 @@ impl<'t> Reader<'t> {
             Spelled::Put(class, name, value) => {
                 let value = base(class, value).ok_or(Cause::Limit)?;
                 Call::Put {
-                    key: self.bind(name, None, thread)?,
+                    key: self.bind(name, None, class, thread)?,
                     class,
                     value,
                 }
@@ -300,13 +318,17 @@ impl<'t> Reader<'t> {
             Spelled::Fill(class, name, count, value) => {
                 let (count, value) = fill_numbers(class, count, value).ok_or(Cause::Limit)?;
                 Call::Fill {
-                    first: self.bind(name, Some(count), thread)?,
+                    first: self.bind(name, Some(count), class, thread)?,
                     class,
                     count,
                     value,
                 }
             }
             Spelled::Get(key) => Call::Get {
+                key: self.key(key, thread)?,
+            },
+            Spelled::Set(key, value) => Call::Set {
+                value: base(self.class(key), value).ok_or(Cause::Limit)?,
                 key: self.key(key, thread)?,
             },
             Spelled::Free(key) => Call::Free {
@@ -324,6 +346,17 @@ impl<'t> Reader<'t> {
         })
     }
 
+    /// The limits stand before all other causes that need the lines above.
+    fn check_limits(&self, spelled: &Spelled) -> Result<(), Cause> {
+        let within = match spelled {
+            Spelled::Put(class, _, value) => base(*class, *value).is_some(),
+            Spelled::Fill(class, _, count, value) => fill_numbers(*class, *count, *value).is_some(),
+            Spelled::Set(key, value) => base(self.class(*key), *value).is_some(),
+            _ => true,
+        };
+        within.then_some(()).ok_or(Cause::Limit)
+    }
+
     fn line(&mut self, form: Form<'t>) -> Result<Line, Cause> {
         match form {
             Form::Mark => {
@@ -337,7 +370,7 @@ impl<'t> Reader<'t> {
                 Ok(Line::Adopt { shard })
             }
             Form::Call(thread, spelled) => {
-                check_limits(&spelled)?;
+                self.check_limits(&spelled)?;
                 let thread = self.thread(thread)?;
                 if self.awaits_mark {
                     return Err(Cause::Adopt);
@@ -360,20 +393,6 @@ fn fill_numbers(class: Class, count: Number, value: Number) -> Option<(u32, u128
     Some((count as u32, value))
 }
 
-/// The limits stand before all causes that need the lines above.
-fn check_limits(spelled: &Spelled) -> Result<(), Cause> {
-    let within = match spelled {
-        Spelled::Put(class, _, value) => base(*class, *value).is_some(),
-        Spelled::Fill(class, _, count, value) => fill_numbers(*class, *count, *value).is_some(),
-        _ => true,
-    };
-    if within {
-        Ok(())
-    } else {
-        Err(Cause::Limit)
-    }
-}
-
 fn header_number(line: Option<&[u8]>, word: &str, most: u128) -> Result<u128, Cause> {
     let rest = line.and_then(|line| line.strip_prefix(word.as_bytes()));
     let number = rest.and_then(|rest| Number::of(rest.strip_prefix(b" ")?));
@@ -384,12 +403,14 @@ fn header_number(line: Option<&[u8]>, word: &str, most: u128) -> Result<u128, Ca
 enum Version {
     One,
     Two,
+    Three,
 }
 
 fn header<'t>(lines: &mut impl Iterator<Item = &'t [u8]>) -> Result<(Version, Header), Fault> {
     let version = match lines.next() {
         Some(b"mesh 1") => Version::One,
         Some(b"mesh 2") => Version::Two,
+        Some(b"mesh 3") => Version::Three,
         _ => {
             return Err(Fault {
                 line: 1,

@@ -1,14 +1,14 @@
 -- What calls on keys are told, by what is known of the keys that puts gave.
-use Rattle.std.proofs.Common.{◌≡◌, ◌∙◌, ◌++◌, ℕ, Bool, true, List, [], ◌∷◌, Option, None, Some, ap, inl, inr, refl, set, slice_get, subst, sym}
+use Rattle.std.proofs.Common.{◌≡◌, ◌∙◌, ◌++◌, ℕ, Bool, false, true, List, [], ◌∷◌, Option, None, Some, ap, inl, inr, refl, set, slice_get, subst, sym}
 use Rattle.span.specs.Log.{Value}
 use Rattle.std.specs.List.{AllByRecursion}
 use Rattle.std.proofs.lemmas.Bool.Decides.{eqb_tells}
 use Rattle.marks.proofs.Lists.{slice_get-set_other, slice_get-set_same}
-use Rattle.arena.specs.Receipts.{free_receipt, get_receipt, put_receipt}
-use Rattle.span.specs.Receipts.{free, look_up}
+use Rattle.arena.specs.Receipts.{free_receipt, get_receipt, put_receipt, set_receipt}
+use Rattle.span.specs.Receipts.{free, look_up, set as set_call}
 use Rattle.span.specs.declared.key.Key.{Key}
 use Rattle.span.specs.declared.receipt.Receipt.{Receipt}
-use Rattle.thread_runner.specs.Asked.{Answers, Asked, Called, Frees, Gets, GivenKeys, IsLeft, Outcome, Puts, is_look_up, is_sending}
+use Rattle.thread_runner.specs.Asked.{Answers, Asked, Called, Frees, Gets, GivenKeys, IsLeft, IsSetTo, Outcome, Puts, Sets, is_look_up, is_sending}
 use Rattle.thread_runner.specs.Followed.{entries_on, receipts_from}
 use Rattle.thread_runner.specs.Grown.{Grows, Tells}
 use Rattle.thread_runner.specs.Known.{AreFresh, AreKept, AreKnown, given_by}
@@ -89,6 +89,18 @@ pub Answers-get : (given : GivenKeys) (section thread place : ℕ) (value : Opti
 Answers-get given section thread place value key receipt is known = (
   record { by = ap (λ (r : Receipt). r.worker) is; in_section = ap (λ (r : Receipt). r.section) is; of_key = known ∙ ap (λ (r : Receipt). Some r.key) (sym is) },
   ap (λ (r : Receipt). is_look_up r.call) is ∙ is_look_up-look_up value,
+)
+
+IsSetTo-set : (value : Value) (done : Bool) → IsSetTo value (set_call value done)
+IsSetTo-set value true = refl
+IsSetTo-set value false = refl
+
+-- the receipt of a set
+pub Answers-set : (given : GivenKeys) (section thread place : ℕ) (value : Value) (done : Bool) (key : Key) (receipt : Receipt) → receipt ≡ set_receipt thread section key value done receipt.at → given place ≡ Some key
+    → Answers given section thread (Sets place value) (Called receipt)
+Answers-set given section thread place value done key receipt is known = (
+  record { by = ap (λ (r : Receipt). r.worker) is; in_section = ap (λ (r : Receipt). r.section) is; of_key = known ∙ ap (λ (r : Receipt). Some r.key) (sym is) },
+  subst (λ (r : Receipt). IsSetTo value r.call) (sym is) (IsSetTo-set value done),
 )
 
 -- the receipt of a free

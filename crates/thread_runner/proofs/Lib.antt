@@ -7,5 +7,6 @@ mod Following
 mod Counting
 mod Each
 mod Knowing
+mod LiveSlots
 mod Numbering
 mod Lists

@@ -11,7 +11,7 @@ use Rattle.trace_text.specs.Causes.{keys_in}
 use Rattle.trace_text.specs.Objects.{counted_from}
 use Rattle.trace_text.specs.Places.{first_of}
 use Rattle.trace_text.specs.declared.line.Call.{Call as LineCall}
-use Rattle.trace_text.specs.declared.line.Call.TheVariants.{Put, Fill, Get, Free, Sweep, Later, Tend, End}
+use Rattle.trace_text.specs.declared.line.Call.TheVariants.{Put, Fill, Get, Set, Free, Sweep, Later, Tend, End}
 use Rattle.trace_text.specs.declared.line.Line.{Line}
 use Rattle.trace_text.specs.declared.line.Line.TheVariants as line
 use Rattle.trace_text.specs.declared.name.Reference.{Reference}
@@ -27,6 +27,8 @@ pub data Asked : Type 0 where
   Puts : (place : ℕ) → Value → Asked
   -- a look-up of the key of that place
   Gets : ℕ → Asked
+  -- a set of it to the object
+  Sets : ℕ → Value → Asked
   -- a free of it
   Frees : ℕ → Asked
   -- that it be left to be freed later
@@ -47,6 +49,7 @@ abbrev pub asked_by : List Line → LineCall → List Asked
 asked_by above (Put name class value) = Puts (keys_in above) (counted_from class value) ∷ []
 asked_by above (Fill name class count value) = map (λ i. Puts (keys_in above + i) (counted_from class (value + i))) (range_with_len 0 count)
 asked_by above (Get key) = Gets (place_named above key) ∷ []
+asked_by above (Set key class value) = Sets (place_named above key) (counted_from class value) ∷ []
 asked_by above (Free key) = Frees (place_named above key) ∷ []
 asked_by above (Sweep name from to) = map (λ i. Frees (first_of above name + i)) (range_with_len from (to - from))
 asked_by above (Later key) = Leaves (place_named above key) ∷ []
@@ -112,6 +115,12 @@ is_look_up (call.Found value) = true
 is_look_up call.NotFound = true
 is_look_up call = false
 
+-- the call was a set to the object
+abbrev pub IsSetTo : Value → Call → Type 0
+IsSetTo value (call.Set to) = to ≡ value
+IsSetTo value (call.NotSet to) = to ≡ value
+IsSetTo value call = ⊥
+
 -- a key was sent off, or its ring had no room
 abbrev pub is_sending : Other → Bool
 is_sending other.Sent = true
@@ -153,6 +162,8 @@ Answers given section thread (Puts place value) (Called receipt) = IsCallOn give
 Answers given section thread (Puts place value) (Said what) = (given place ≡ None) × (what ≡ other.PagesSpent)
 Answers given section thread (Gets place) (Called receipt) = IsCallOn given section thread place receipt × (is_look_up receipt.call ≡ true)
 Answers given section thread (Gets place) (Said what) = (given place ≡ None) × (what ≡ other.Unbound)
+Answers given section thread (Sets place value) (Called receipt) = IsCallOn given section thread place receipt × IsSetTo value receipt.call
+Answers given section thread (Sets place value) (Said what) = (given place ≡ None) × (what ≡ other.Unbound)
 Answers given section thread (Frees place) (Called receipt) = IsCallOn given section thread place receipt × (is_free receipt.call ≡ true)
 Answers given section thread (Frees place) (Said what) = (given place ≡ None) × (what ≡ other.Unbound)
 Answers given section thread (Leaves place) (Said what) = IsLeft (given place) what

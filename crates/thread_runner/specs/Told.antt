@@ -21,6 +21,8 @@ abbrev pub answer_by : Key → Call → Answer
 answer_by key (call.Put value) = answer.Key key
 answer_by key (call.Found value) = answer.Value value
 answer_by key call.NotFound = answer.Absent
+answer_by key (call.Set value) = answer.Replaced
+answer_by key (call.NotSet value) = answer.NotReplaced
 answer_by key call.Freed = answer.Freed
 answer_by key call.NotFreed = answer.NotFreed
 

@@ -8,7 +8,7 @@ ghost use Rattle.trace_text.specs.declared.line.Line.{Line};
 ghost use Rattle.trace_text.specs.Causes.{is_adopt, is_call_over, keys_in};
 ghost use Rattle.trace_text.specs.Objects.{counted_from, last_word};
 ghost use Rattle.trace_text.specs.Places.{place_by};
-ghost use Rattle.thread_runner.specs.Asked.{Called, Frees, Gets, GivenKeys, Leaves, Puts, Said, Tends, asked_at, asked_by, is_adoption};
+ghost use Rattle.thread_runner.specs.Asked.{Called, Frees, Gets, GivenKeys, Leaves, Puts, Said, Sets, Tends, asked_at, asked_by, is_adoption};
 ghost use Rattle.thread_runner.specs.Followed.{entries_on};
 ghost use Rattle.thread_runner.specs.Grown.{Grows, IsEmptyDiary, TakesIn, Tells, TellsAdoption};
 ghost use Rattle.thread_runner.specs.Known.{AreFresh, AreKept, AreKnown};
@@ -20,7 +20,7 @@ use crate::layout::Text;
 use abandoned::{AdoptError, ReceiveError};
 use arena::{Arena, Gate, Seat};
 use shard::PutError;
-use span::{Class, Key, Receipt, SpanId};
+use span::{Class, Key, Object, Receipt, SpanId};
 use std::alloc::{AllocError, Global};
 use std::ops::Range;
 use std::sync::Wait;
@@ -189,6 +189,10 @@ impl<'a, G: Gate> Caller<'a, G> {
                 ..
             } => self.fill(rt, number, binds, *class, *count, *value),
             Call::Get { key } => self.get(rt, text, keys, number, place_of(reads, key.index)?),
+            Call::Set { key, class, value } => {
+                let place = place_of(reads, key.index)?;
+                self.set(rt, text, keys, number, place, counting_from(*class, *value))
+            }
             Call::Free { key } => self.free(rt, text, keys, number, place_of(reads, key.index)?),
             Call::Sweep { from, to, .. } => self.sweep(rt, text, keys, number, reads, *from..*to),
             Call::Later { key } => self.later(text, keys, number, place_of(reads, key.index)?),
@@ -341,6 +345,32 @@ impl<'a, G: Gate> Caller<'a, G> {
             return self.other(number, Other::Unbound);
         };
         let (_, receipt) = self.seat.get(rt, self.arena, &key);
+        self.keep(number, receipt)
+    }
+
+    // Sets the key of that place to the object, where it was given out.
+    fn set<R: Wait>(
+        &mut self,
+        rt: &R,
+        text: &Text<'_>,
+        keys: &Keys,
+        number: usize,
+        place: usize,
+        value: Object,
+    ) -> Result<(), Halt>
+        ensures told { OnOk result (Tells self.old.seat.section self.old.seat.worker number
+            (Sets place value ∷ [])
+            (AreKnown keys.now.kept.items self.old.fresh.items)
+            (AreKnown keys.now.kept.items self.new.fresh.items)
+            self.old.diary self.new.diary) }
+        ensures thread { self.new.seat.worker ≡ self.old.seat.worker }
+        ensures table { self.new.seat.table ≡ self.old.seat.table }
+        ensures section { self.new.seat.section ≡ self.old.seat.section }
+    {
+        let Some(key) = self.key_at(text, keys, place)? else {
+            return self.other(number, Other::Unbound);
+        };
+        let (_, receipt) = self.seat.set(rt, self.arena, &key, value)?;
         self.keep(number, receipt)
     }
 

@@ -186,6 +186,8 @@ fn answer_of(receipt: &Receipt) -> Answer
         Call::Put { .. } => Answer::Key(receipt.key),
         Call::Found { value } => Answer::Value(value),
         Call::NotFound => Answer::Absent,
+        Call::Set { .. } => Answer::Replaced,
+        Call::NotSet { .. } => Answer::NotReplaced,
         Call::Freed => Answer::Freed,
         Call::NotFreed => Answer::NotFreed,
     }

@@ -202,7 +202,7 @@ fn keys_by(call: &Call) -> usize
     match call {
         Call::Put { .. } => 1,
         Call::Fill { count, .. } => *count as usize,
-        Call::Get { .. } | Call::Free { .. } | Call::Sweep { .. } => 0,
+        Call::Get { .. } | Call::Set { .. } | Call::Free { .. } | Call::Sweep { .. } => 0,
         Call::Later { .. } | Call::Tend | Call::End => 0,
     }
 }

@@ -19,6 +19,8 @@ fn enter(live: &mut Bits256, change: ChangeView<'_>)
 {
     match change {
         ChangeView::Put { slot, .. } => live.insert(slot),
+        // It is live already.
+        ChangeView::Set { slot, .. } => live.insert(slot),
         ChangeView::Free { slot, .. } => live.remove(slot),
     }
 }

@@ -20,7 +20,7 @@ use Rattle.trace_runner.specs.declared.plans.Plans.{Plans}
 use Rattle.trace_text.specs.declared.line.Call.{Call}
 use Rattle.trace_text.specs.declared.line.Line.TheVariants as line
 use Rattle.arena_core.specs.declared.event.Event.{Event}
-use Rattle.arena_core.specs.declared.event.Event.TheVariants.{Put, Get, Free, Later, Settle, End, Retire, Adopt, Mark, Step, Close}
+use Rattle.arena_core.specs.declared.event.Event.TheVariants.{Put, Get, Set, Free, Later, Settle, End, Retire, Adopt, Mark, Step, Close}
 use Rattle.arena_core.specs.declared.reply.Reply.TheVariants.{ShardEnded}
 use Rattle.arena_core.specs.declared.reply.Reply.{Reply}
 use Rattle.span.specs.PlainMap.{PlainMap}
@@ -67,6 +67,7 @@ all_called-append first second = flat_map-append (λ (m : Made). m.called) first
 erased-one : (limits : Limits) (a b : PlainMap) (event : Event) (reply : Reply) → ErasedStep limits a event reply b → PlainRun limits a (erased (event ∷ []) (reply ∷ [])) b
 erased-one limits a b (Put shard value) reply step = (b, step, refl)
 erased-one limits a b (Get key) reply step = (b, step, refl)
+erased-one limits a b (Set key value) reply step = (b, step, refl)
 erased-one limits a b (Free key) reply step = (b, step, refl)
 erased-one limits a b (Later worker key) reply step = (b, step, refl)
 erased-one limits a b (Settle worker shard) reply step = (b, step, refl)

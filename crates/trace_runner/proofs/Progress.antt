@@ -23,7 +23,7 @@ use Rattle.trace_runner.specs.News.{News, news_of, no_news, with_all_made, with_
 use Rattle.trace_runner.specs.Runs.{DoLines, Does, IsRun, asked_by, calls_at, calls_in, ends_asked, finishing, pairs_left_of, planning_at, rings_asked, settling_at}
 use Rattle.trace_runner.specs.declared.plans.Plans.{Plans}
 use Rattle.trace_text.specs.declared.header.Header.{Header}
-use Rattle.trace_text.specs.declared.line.Call.TheVariants.{Put, Fill, Get, Free, Sweep, Later, Tend, End}
+use Rattle.trace_text.specs.declared.line.Call.TheVariants.{Put, Fill, Get, Set, Free, Sweep, Later, Tend, End}
 use Rattle.trace_text.specs.declared.line.Line.{Line}
 use Rattle.trace_text.specs.declared.line.Line.TheVariants as line
 use Rattle.trace_runner.proofs.Barriers.{has_ended-open, has_ended-open-push}
@@ -90,6 +90,7 @@ ends-thread line.Silent t e = cc
 ends-thread (line.Call thread (Put name class v)) t e = cc
 ends-thread (line.Call thread (Fill name class n v)) t e = cc
 ends-thread (line.Call thread (Get key)) t e = cc
+ends-thread (line.Call thread (Set key class v)) t e = cc
 ends-thread (line.Call thread (Free key)) t e = cc
 ends-thread (line.Call thread (Sweep name from to)) t e = cc
 ends-thread (line.Call thread (Later key)) t e = cc

@@ -9,13 +9,14 @@ use Rattle.std.proofs.lemmas.List.{append-nil, length-map, map-append, take-appe
 use Rattle.std.proofs.lemmas.List.Elements.{filter-append}
 use Rattle.std.proofs.lemmas.List.FromFn.{length-range_with_len}
 use Rattle.std.proofs.lemmas.Option.{slice_get-map}
+use Rattle.span.specs.declared.class.Class.{Class}
 use Rattle.span.specs.declared.key.Key.{Key}
 use Rattle.arena_core.specs.State.{CoreState}
 use Rattle.arena_core.specs.declared.event.Event.{Event}
 use Rattle.arena_core.specs.declared.event.Event.TheVariants as event
 use Rattle.arena_core.specs.declared.reply.Refusal.TheVariants.{NothingToAdopt, RingFull}
 use Rattle.arena_core.specs.declared.reply.Reply.{Reply}
-use Rattle.arena_core.specs.declared.reply.Reply.TheVariants.{Issued, Found, Freed, Refused, Sent}
+use Rattle.arena_core.specs.declared.reply.Reply.TheVariants.{Issued, Found, Replaced, Freed, Refused, Sent}
 use Rattle.trace_runner.specs.Kept.{FindsAt, FindsOne, Kept, Recalls, is_put, keeping, kept_none, kept_of, keys_of}
 use Rattle.trace_runner.specs.Made.{Asked, Calls, Did, Made, asked_of, one_call}
 use Rattle.trace_runner.specs.Answers.{answer_told, on_line, put_told, told_of}
@@ -30,7 +31,7 @@ use Rattle.trace_text.specs.Places.{first_of, place_at}
 use Rattle.trace_text.specs.declared.header.Header.{Header}
 use Rattle.trace_text.specs.declared.line.Binding.{Binding}
 use Rattle.trace_text.specs.Objects.{counted_from}
-use Rattle.trace_text.specs.declared.line.Call.TheVariants.{Put, Fill, Get, Free, Sweep, Later, Tend, End}
+use Rattle.trace_text.specs.declared.line.Call.TheVariants.{Put, Fill, Get, Set, Free, Sweep, Later, Tend, End}
 use Rattle.trace_text.specs.declared.line.Keys.{Keys}
 use Rattle.trace_text.specs.declared.line.Keys.TheVariants.{One, Many}
 use Rattle.trace_text.specs.declared.line.Line.{Line}
@@ -119,6 +120,8 @@ pub answer_key-told : (event : Event) (reply : Reply) (core : CoreState) → ans
 answer_key-told event (Issued key) core = refl
 answer_key-told event (Found (Some value)) core = refl
 answer_key-told event (Found None) core = refl
+answer_key-told event (Replaced true) core = refl
+answer_key-told event (Replaced false) core = refl
 answer_key-told event (Freed true) core = refl
 answer_key-told event (Freed false) core = refl
 answer_key-told event (Refused NothingToAdopt) core = refl
@@ -176,6 +179,10 @@ get_is_no_put : (o : Option Key) → is_put (on_key event.Get o) ≡ false
 get_is_no_put None = refl
 get_is_no_put (Some key) = refl
 
+set_is_no_put : (value : List ℕ) (o : Option Key) → is_put (on_key (λ k. event.Set k value) o) ≡ false
+set_is_no_put value None = refl
+set_is_no_put value (Some key) = refl
+
 free_is_no_put : (o : Option Key) → is_put (on_key event.Free o) ≡ false
 free_is_no_put None = refl
 free_is_no_put (Some key) = refl
@@ -206,6 +213,7 @@ Keyed-asked shards all done (line.Call t (Fill name class n v)) made is = (
   sym (length-map made asked_of) ∙ ap length is ∙ length-map (range_with_len 0 n) (λ i. Calls (event.Put t (counted_from class (v + i)))) ∙ length-range_with_len 0 n,
 )
 Keyed-asked shards all done (line.Call t (Get key)) made is = asks_none made _ is (get_is_no_put _, tt)
+Keyed-asked shards all done (line.Call t (Set key class v)) made is = asks_none made _ is (set_is_no_put (counted_from class v) _, tt)
 Keyed-asked shards all done (line.Call t (Free key)) made is = asks_none made _ is (free_is_no_put _, tt)
 Keyed-asked shards all done (line.Call t (Sweep name from to)) made is = asks_none made _ is (NoPuts-map _ (λ place. free_is_no_put _) (range_with_len from (to - from)))
 Keyed-asked shards all done (line.Call t (Later key)) made is = asks_none made _ is (later_is_no_put t _, tt)
@@ -222,6 +230,7 @@ length-Keyed (line.Adopt s) made keyed = ap length keyed
 length-Keyed (line.Call t (Put name class v)) made keyed = as_many made 1 keyed
 length-Keyed (line.Call t (Fill name class n v)) made keyed = as_many made n keyed
 length-Keyed (line.Call t (Get key)) made keyed = ap length keyed
+length-Keyed (line.Call t (Set key class v)) made keyed = ap length keyed
 length-Keyed (line.Call t (Free key)) made keyed = ap length keyed
 length-Keyed (line.Call t (Sweep name from to)) made keyed = ap length keyed
 length-Keyed (line.Call t (Later key)) made keyed = ap length keyed
@@ -256,9 +265,9 @@ record IsBound (place first : ℕ) (made : List Made) (b : Binding) : Type 0 whe
   count_is : key_count b.keys ≡ length made
   keys_are : keys_of made ≡ map key_made made
 
-by_record : (place section first thread n : ℕ) (keys : Keys) (made : List Made) (b : Binding) → Some (record { keys = keys; thread = thread; section = section; line = place; first = first }) ≡ Some b
+by_record : (place section first thread n : ℕ) (class : Class) (keys : Keys) (made : List Made) (b : Binding) → Some (record { keys = keys; class = class; thread = thread; section = section; line = place; first = first }) ≡ Some b
     → key_count keys ≡ n → (keys_of made ≡ map key_made made) × (length made ≡ n) → IsBound place first made b
-by_record place section first thread n keys made b is count keyed =
+by_record place section first thread n class keys made b is count keyed =
     let line_is : place ≡ b.line = ap (λ o. option_map_or (λ (x : Binding). x.line) o place) is in
     let first_is : first ≡ b.first = ap (λ o. option_map_or (λ (x : Binding). x.first) o first) is in
     let keys_is : keys ≡ b.keys = ap (λ o. option_map_or (λ (x : Binding). x.keys) o keys) is in
@@ -269,14 +278,15 @@ IsBound-at place section first name line.Silent made b keyed e = cc
 IsBound-at place section first name line.Mark made b keyed e = cc
 IsBound-at place section first name (line.Adopt s) made b keyed e = cc
 IsBound-at place section first name (line.Call t (Put bound class v)) made b keyed e = elim (chosen (bytes_eq bound name) _ _ (Some b) e) [
-  | inl p ↦ by_record place section first t 1 One made b p.1 refl keyed
+  | inl p ↦ by_record place section first t 1 class One made b p.1 refl keyed
   | inr p ↦ cc p.1
 ]
 IsBound-at place section first name (line.Call t (Fill bound class n v)) made b keyed e = elim (chosen (bytes_eq bound name) _ _ (Some b) e) [
-  | inl p ↦ by_record place section first t n (Many n) made b p.1 refl keyed
+  | inl p ↦ by_record place section first t n class (Many n) made b p.1 refl keyed
   | inr p ↦ cc p.1
 ]
 IsBound-at place section first name (line.Call t (Get key)) made b keyed e = cc
+IsBound-at place section first name (line.Call t (Set key class v)) made b keyed e = cc
 IsBound-at place section first name (line.Call t (Free key)) made b keyed e = cc
 IsBound-at place section first name (line.Call t (Sweep bound from to)) made b keyed e = cc
 IsBound-at place section first name (line.Call t (Later key)) made b keyed e = cc
@@ -374,6 +384,9 @@ module _ (h : Header) (lines : List Line) (n : ℕ) (done : List Did) (keys : Li
       one_found key.name b (unwrap_or key.index 0) is (below_count key.index b.keys has)
   FindsAt-fine (line.Call t (Get key)) fine =
       let (b, is, has) = known (has_key key.index) (binding_of key.name (take n lines)) (all_fine h (take n lines) (line.Call t (Get key)) fine).known in
+      one_found key.name b (unwrap_or key.index 0) is (below_count key.index b.keys has)
+  FindsAt-fine (line.Call t (Set key class v)) fine =
+      let (b, is, has) = known (has_key key.index) (binding_of key.name (take n lines)) (all_fine h (take n lines) (line.Call t (Set key class v)) fine).known in
       one_found key.name b (unwrap_or key.index 0) is (below_count key.index b.keys has)
   FindsAt-fine (line.Call t (Free key)) fine =
       let (b, is, has) = known (has_key key.index) (binding_of key.name (take n lines)) (all_fine h (take n lines) (line.Call t (Free key)) fine).known in

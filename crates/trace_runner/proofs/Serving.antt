@@ -4,19 +4,20 @@ use Rattle.std.specs.Option.{option_map_or}
 use Rattle.std.proofs.lemmas.Bool.Decides.{nat_tests}
 use Rattle.std.proofs.lemmas.Bool.{cases_Bool, eqb-true}
 use Rattle.shard.specs.State.{ShardState}
-use Rattle.shard.specs.Calls.{Puts, Frees}
+use Rattle.shard.specs.Calls.{Puts, Frees, Sets}
 use Rattle.shard.specs.declared.shard.Freed.TheVariants.{Yes}
+use Rattle.shard.specs.declared.shard.replacing.Replaced.TheVariants as replaced
 use Rattle.span.specs.Classes.{class_of}
 use Rattle.span.specs.Log.{Value}
 use Rattle.span.specs.declared.class.Class.{Class}
 use Rattle.span.specs.declared.key.Key.{Key}
 use Rattle.arena_core.specs.State.{CoreState, with_shard}
 use Rattle.arena_core.specs.Step.{CoreStep}
-use Rattle.trace_runner.specs.Recalls.{EndsOne, IsOpen, IsPutServed, IsServed, KeepsPlan, KeepsShards, MayCall, ended_at, reply_to_put}
+use Rattle.trace_runner.specs.Recalls.{EndsOne, IsOpen, IsPutServed, IsServed, IsSetServed, KeepsPlan, KeepsShards, MayCall, ended_at, reply_to_put}
 use Rattle.arena_core.specs.declared.event.Event.{Event}
-use Rattle.arena_core.specs.declared.event.Event.TheVariants.{Put, Get, Free, Later, Settle, End, Retire, Adopt, Mark, Step, Close}
+use Rattle.arena_core.specs.declared.event.Event.TheVariants.{Put, Get, Set, Free, Later, Settle, End, Retire, Adopt, Mark, Step, Close}
 use Rattle.arena_core.specs.declared.reply.Reply.{Reply}
-use Rattle.arena_core.specs.declared.reply.Reply.TheVariants.{Issued, Found, Freed, Sent, ShardEnded, Adopted, Refused}
+use Rattle.arena_core.specs.declared.reply.Reply.TheVariants.{Issued, Found, Replaced, Freed, Sent, ShardEnded, Adopted, Refused}
 use Rattle.arena_core.specs.declared.reply.Refusal.{Refusal}
 use Rattle.arena_core.specs.declared.reply.Refusal.TheVariants.{OutOfMemory, PagesSpent, Ended, PlanOpen, NothingToAdopt, RingFull, Config}
 
@@ -70,6 +71,9 @@ ended-Puts : (old new : ShardState) (class : Class) (value : Value) (key : Key) 
 ended-Puts old new class value key at (running, inl (index, group, room, span, generation, count, is)) = ap (λ (s : ShardState). s.ended) is
 ended-Puts old new class value key at (running, inr (full, pages, opened, (shard, serial, slot, generation, count, (page, index, fresh, place, is)))) = ap (λ (s : ShardState). s.ended) is
 
+ended-Sets : (old new : ShardState) (key : Key) (value : Value) (at : ℕ) → Sets old key value (replaced.Yes at) new → new.ended ≡ old.ended
+ended-Sets old new key value at (index, place, group, span, here, settable, count, is) = ap (λ (s : ShardState). s.ended) is
+
 ended-Frees : (old new : ShardState) (key : Key) (at : ℕ) → Frees old key (Yes at) new → new.ended ≡ old.ended
 ended-Frees old new key at (index, place, group, span, here, holds, count, is) = ap (λ (s : ShardState). s.ended) is
 
@@ -86,6 +90,10 @@ KeepsPlan-step old new (Put shard value) (Refused Ended) may step = KeepsPlan-sa
 KeepsPlan-step old new (Put shard value) (Refused PagesSpent) may step = KeepsPlan-same old new step.1
 KeepsPlan-step old new (Put shard value) (Refused OutOfMemory) may step = KeepsPlan-same old new step.1
 KeepsPlan-step old new (Get key) (Found value) may step = KeepsPlan-same old new step.1
+KeepsPlan-step old new (Set key value) (Replaced true) may (inl step) = subst (KeepsPlan old) (sym step.rest) (record { shards = KeepsShards-with_shard old step.number step.before step.after step.here (ended-Sets step.before step.after key value step.at step.sets); plan = refl })
+KeepsPlan-step old new (Set key value) (Replaced true) may (inr step) = subst (KeepsPlan old) (sym step.rest) (record { shards = record { limits = refl; ended = λ number. refl }; plan = refl })
+KeepsPlan-step old new (Set key value) (Replaced false) may step = KeepsPlan-same old new step.1
+KeepsPlan-step old new (Set key value) (Refused OutOfMemory) may step = KeepsPlan-same old new step.1
 KeepsPlan-step old new (Free key) (Freed true) may (inl step) = subst (KeepsPlan old) (sym step.rest) (record { shards = KeepsShards-with_shard old step.number step.before step.after step.here (ended-Frees step.before step.after key step.at step.frees); plan = refl })
 KeepsPlan-step old new (Free key) (Freed true) may (inr step) = subst (KeepsPlan old) (sym step.rest) (record { shards = record { limits = refl; ended = λ number. refl }; plan = refl })
 KeepsPlan-step old new (Free key) (Freed false) may step = KeepsPlan-same old new step.1
@@ -133,6 +141,8 @@ IsServed-step old new (Put shard value) (Refused PagesSpent) may step = tt
 IsServed-step old new (Put shard value) (Refused OutOfMemory) may step = tt
 IsServed-step old new (Put shard value) (Issued key) may step = tt
 IsServed-step old new (Get key) (Found value) may step = tt
+IsServed-step old new (Set key value) (Replaced done) may step = tt
+IsServed-step old new (Set key value) (Refused OutOfMemory) may step = tt
 IsServed-step old new (Free key) (Freed freed) may step = tt
 IsServed-step old new (Later worker key) Sent may step = tt
 IsServed-step old new (Later worker key) (Refused RingFull) may step = tt
@@ -172,3 +182,19 @@ pub KeepsPlan-put : (old new : CoreState) (shard : ℕ) (value : Value) (put : R
     → MatchResult put (λ key. CoreStep old (Put shard value) (Issued key) new) (λ refusal. CoreStep old (Put shard value) (Refused refusal) new)
     → KeepsPlan old new
 KeepsPlan-put old new shard value put may step = KeepsPlan-step old new (Put shard value) (reply_to_put put) may (CoreStep-put old new shard value put step)
+
+-- ---- the core's own call of a set
+
+-- of a set only this refusal comes
+pub IsSetServed-step : (old new : CoreState) (key : Key) (value : Value) (answer : Result Bool Refusal)
+    → MatchResult answer (λ done. CoreStep old (Set key value) (Replaced done) new) (λ refusal. CoreStep old (Set key value) (Refused refusal) new)
+    → IsSetServed answer
+IsSetServed-step old new key value (Ok done) step = tt
+IsSetServed-step old new key value (Err OutOfMemory) step = tt
+IsSetServed-step old new key value (Err cause) step = absurd step
+
+pub KeepsPlan-set : (old new : CoreState) (key : Key) (value : Value) (answer : Result Bool Refusal)
+    → MatchResult answer (λ done. CoreStep old (Set key value) (Replaced done) new) (λ refusal. CoreStep old (Set key value) (Refused refusal) new)
+    → KeepsPlan old new
+KeepsPlan-set old new key value (Ok done) step = KeepsPlan-step old new (Set key value) (Replaced done) tt step
+KeepsPlan-set old new key value (Err refusal) step = KeepsPlan-step old new (Set key value) (Refused refusal) tt step

@@ -3,7 +3,7 @@ use Rattle.std.specs.Prelude.{ℕ, Bool, true, false, List, ◌∷◌, map, Opti
 use Rattle.span.specs.declared.key.Key.{Key}
 use Rattle.arena_core.specs.declared.reply.Refusal.TheVariants.{NothingToAdopt, RingFull}
 use Rattle.arena_core.specs.declared.reply.Reply.{Reply}
-use Rattle.arena_core.specs.declared.reply.Reply.TheVariants.{Issued, Found, Freed, Sent, ShardEnded, Adopted, Refused}
+use Rattle.arena_core.specs.declared.reply.Reply.TheVariants.{Issued, Found, Replaced, Freed, Sent, ShardEnded, Adopted, Refused}
 use Rattle.trace_runner.specs.Made.{Asked, Calls, Leaves, Tends, CalledEvent, Called, Made, keys_taken}
 use Rattle.trace_runner.specs.Report.{answers_text}
 use Rattle.trace_runner.specs.declared.report.Answer.{Answer}
@@ -15,6 +15,8 @@ abbrev pub answer_told : Reply → Answer
 answer_told (Issued key) = answer.Key key
 answer_told (Found (Some value)) = answer.Value value
 answer_told (Found None) = answer.Absent
+answer_told (Replaced true) = answer.Replaced
+answer_told (Replaced false) = answer.NotReplaced
 answer_told (Freed true) = answer.Freed
 answer_told (Freed false) = answer.NotFreed
 answer_told Sent = answer.Sent

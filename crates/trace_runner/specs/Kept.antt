@@ -10,7 +10,7 @@ use Rattle.trace_text.specs.Causes.{binding_of}
 use Rattle.trace_text.specs.Earlier.{key_count}
 use Rattle.trace_text.specs.declared.line.Binding.{Binding}
 use Rattle.trace_text.specs.declared.line.Call.{Call}
-use Rattle.trace_text.specs.declared.line.Call.TheVariants.{Get, Free, Sweep, Later}
+use Rattle.trace_text.specs.declared.line.Call.TheVariants.{Get, Set, Free, Sweep, Later}
 use Rattle.trace_text.specs.declared.line.Line.{Line}
 use Rattle.trace_text.specs.declared.line.Line.TheVariants as line
 use Rattle.arena_core.specs.declared.event.Event.TheVariants.{Put}
@@ -67,9 +67,10 @@ AreHome shards keys = AllByRecursion (IsHome shards) keys
 abbrev pub FindsOne : List Line → List Did → List (Option Key) → (first : ℕ) → List ℕ → ℕ → Type 0
 FindsOne lines done keys first name place = slice_get keys (first + place) ≡ Some (key_at lines done name place)
 
--- so do all keys that the call reads, frees or sends off
+-- so do all keys that the call reads, sets, frees or sends off
 abbrev pub Finds : List Line → List Did → List (Option Key) → (first : ℕ) → Call → Type 0
 Finds lines done keys first (Get key) = FindsOne lines done keys first key.name (unwrap_or key.index 0)
+Finds lines done keys first (Set key class value) = FindsOne lines done keys first key.name (unwrap_or key.index 0)
 Finds lines done keys first (Free key) = FindsOne lines done keys first key.name (unwrap_or key.index 0)
 Finds lines done keys first (Later key) = FindsOne lines done keys first key.name (unwrap_or key.index 0)
 Finds lines done keys first (Sweep name from to) = (place : ℕ) → from ≤ place → place < to → FindsOne lines done keys first name place

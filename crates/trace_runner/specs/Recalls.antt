@@ -113,6 +113,12 @@ IsPutServed (Err PagesSpent) = Unit {0}
 IsPutServed (Err OutOfMemory) = Unit {0}
 IsPutServed (Err cause) = ⊥
 
+-- a set said whether it was done, or an allocation was refused
+abbrev pub IsSetServed : Result Bool Refusal → Type 0
+IsSetServed (Ok done) = Unit {0}
+IsSetServed (Err OutOfMemory) = Unit {0}
+IsSetServed (Err cause) = ⊥
+
 -- the shard that was asked for is there and has not ended, and no plan is spoken of
 abbrev pub IsServed : Reply → Type 0
 IsServed (Refused Ended) = ⊥

@@ -18,7 +18,7 @@ use Rattle.arena_core.specs.declared.reply.Reply.{Reply}
 use Rattle.arena_core.specs.declared.reply.Reply.TheVariants.{Issued, NoPairLeft, NoPlan, Refused}
 use Rattle.trace_text.specs.declared.line.Binding.{Binding}
 use Rattle.trace_text.specs.declared.line.Call.{Call}
-use Rattle.trace_text.specs.declared.line.Call.TheVariants.{Put, Fill, Get, Free, Sweep, Later, Tend, End}
+use Rattle.trace_text.specs.declared.line.Call.TheVariants.{Put, Fill, Get, Set, Free, Sweep, Later, Tend, End}
 use Rattle.trace_text.specs.declared.line.Line.{Line}
 use Rattle.trace_text.specs.declared.line.Line.TheVariants as line
 use Rattle.trace_text.specs.declared.name.Reference.{Reference}
@@ -56,6 +56,7 @@ abbrev pub asked_by_call : (shards : ℕ) → List Line → List Did → ℕ →
 asked_by_call shards lines done thread (Put name class value) = Calls (event.Put thread (counted_from class value)) ∷ []
 asked_by_call shards lines done thread (Fill name class count value) = map (λ i. Calls (event.Put thread (counted_from class (value + i)))) (range_with_len 0 count)
 asked_by_call shards lines done thread (Get key) = on_key event.Get (key_of lines done key) ∷ []
+asked_by_call shards lines done thread (Set key class value) = on_key (λ k. event.Set k (counted_from class value)) (key_of lines done key) ∷ []
 asked_by_call shards lines done thread (Free key) = on_key event.Free (key_of lines done key) ∷ []
 asked_by_call shards lines done thread (Sweep name from to) = map (λ place. on_key event.Free (key_at lines done name place)) (range_with_len from (to - from))
 asked_by_call shards lines done thread (Later key) = on_key (event.Later thread) (key_of lines done key) ∷ []

@@ -1,4 +1,4 @@
-//! Reads traces of puts, gets and frees by threads that end, runs them, and reports what each call answered and what
+//! Reads traces of puts, gets, sets and frees by threads that end, runs them, and reports what each call answered and what
 //! the run left. Beside that it checks certificates of plans.
 //!
 //! A trace is a text with one call on a line, in sections that marks part. [`replay_serial`] reads it and runs its calls on

@@ -1,7 +1,7 @@
 //! What a run keeps of the replies to its lines, and the report as it is told.
 
 ghost use Rattle.std.specs.Prelude.{◌≡◌, ◌+◌, ◌++◌, ◌^◌, ◌≤◌, ◌∷◌, [], ℕ, IfOk, IfSome, OnErr, Option, OnOk, Some, length, option_map, slice_get, if◌then◌else◌};
-ghost use Rattle.arena_core.specs.declared.reply.Reply.TheVariants.{Found, Freed};
+ghost use Rattle.arena_core.specs.declared.reply.Reply.TheVariants.{Found, Freed, Replaced};
 ghost use Rattle.span.specs.Classes.{IsObject};
 ghost use Rattle.span.specs.declared.key.Key.{Key};
 ghost use Rattle.trace_runner.specs.Kept.{AreHome, IsHome, kept_in, kept_none};
@@ -108,6 +108,23 @@ impl Replies {
         }
     }
 
+    /// The same for a set: whether it was done.
+    pub(crate) fn tell_set(&mut self, line: usize, replaced: bool) -> Result<(), AllocError>
+        ensures count { OnOk result ((kept_in self.new).count ≡ (kept_in self.old).count + 1) }
+        ensures text { OnOk result (self.new.text.items ≡ self.old.text.items
+            ++ (if self.old.asked then answer_line (record {
+              line = line;
+              answer = answer_told (Replaced replaced);
+            }) else [])) }
+        ensures keys { self.new.keys ≡ self.old.keys }
+        ensures asked { self.new.asked ≡ self.old.asked }
+    {
+        if !self.asked {
+            return self.count_one();
+        }
+        self.tell(line, &answer_to_set(replaced))
+    }
+
     /// The same for a free: whether the key was live.
     pub(crate) fn tell_free(&mut self, line: usize, freed: bool) -> Result<(), AllocError>
         ensures count { OnOk result ((kept_in self.new).count ≡ (kept_in self.old).count + 1) }
@@ -122,12 +139,7 @@ impl Replies {
         if !self.asked {
             return self.count_one();
         }
-        let answer = if freed {
-            Answer::Freed
-        } else {
-            Answer::NotFreed
-        };
-        self.tell(line, &answer)
+        self.tell(line, &answer_to_free(freed))
     }
 
     // Counts an answer that the report doesn't tell. An answer has the room of an object, so none is made.
@@ -194,5 +206,27 @@ fn answer_to_put(key: Option<Key>) -> Answer
     match key {
         Some(key) => Answer::Key(key),
         None => Answer::PagesSpent,
+    }
+}
+
+/// What the report tells of a set.
+pub(crate) fn answer_to_set(replaced: bool) -> Answer
+    ensures { result ≡ answer_told (Replaced replaced) }
+{
+    if replaced {
+        Answer::Replaced
+    } else {
+        Answer::NotReplaced
+    }
+}
+
+/// What the report tells of a free.
+pub(crate) fn answer_to_free(freed: bool) -> Answer
+    ensures { result ≡ answer_told (Freed freed) }
+{
+    if freed {
+        Answer::Freed
+    } else {
+        Answer::NotFreed
     }
 }

@@ -19,6 +19,10 @@ pub enum Answer {
     Value(Object),
     /// A look-up found no object under its key.
     Absent,
+    /// A set replaced the object under its key.
+    Replaced,
+    /// A set found no object of its class under its key.
+    NotReplaced,
     /// A free took the object out.
     Freed,
     /// A free found no object under its key.

@@ -1,11 +1,11 @@
 //! Runs the lines of a trace on a core.
 
-ghost use Rattle.std.specs.Prelude.{◌≡◌, ◌+◌, ◌-◌, ◌≤◌, ◌^◌, ◌<◌, ◌&&◌, ◌||◌, ◌==◌, ◌++◌, [], ◌∷◌, true, false, not, List, ℕ, Bool, Some, None, filter, map, OnOk, IfOk, length, nat_lt, slice_get, take, unwrap_or, if◌then◌else◌};
+ghost use Rattle.std.specs.Prelude.{◌≡◌, ◌+◌, ◌-◌, ◌≤◌, ◌^◌, ◌<◌, ◌&&◌, ◌||◌, ◌==◌, ◌++◌, [], ◌∷◌, true, false, not, List, ℕ, Bool, Some, None, filter, map, OnOk, IfOk, Ok, length, nat_lt, slice_get, take, unwrap_or, if◌then◌else◌};
 ghost use Rattle.std.specs.List.{range_with_len};
 ghost use Rattle.arena_core.specs.State.{CoreState};
 ghost use Rattle.trace_runner.specs.Barrier.{is_barrier};
 ghost use Rattle.trace_runner.specs.Kept.{AreHome, Finds, FindsAt, FindsOne, IsHome, is_put, kept_in};
-ghost use Rattle.trace_runner.specs.Recalls.{CanLeave, Carries, EndsBelow, EndsOne, HasCome, IsOpen, IsPutServed, IsReady, IsServed, KeepsPlan, KnowsPlan, Makes, MakesLine, MayCall, Serves, has, news_at, reply_to_put, settling_with};
+ghost use Rattle.trace_runner.specs.Recalls.{CanLeave, Carries, EndsBelow, EndsOne, HasCome, IsOpen, IsPutServed, IsReady, IsServed, IsSetServed, KeepsPlan, KnowsPlan, Makes, MakesLine, MayCall, Serves, has, news_at, reply_to_put, settling_with};
 ghost use Rattle.span.specs.Classes.{width_of};
 ghost use Rattle.trace_text.specs.Objects.{counted_from, last_word};
 ghost use Rattle.trace_text.specs.Places.{place_at};
@@ -19,7 +19,7 @@ ghost use Rattle.arena_core.specs.declared.event.Event.TheVariants as event;
 ghost use Rattle.arena_core.specs.declared.reply.Reply.TheVariants as reply;
 
 use crate::plans::Plans;
-use crate::replies::Replies;
+use crate::replies::{Replies, answer_to_free, answer_to_set};
 use crate::report::Answer;
 use crate::rings::{settle_rings, settle_shard};
 use arena_core::{Core, Event, Refusal, Reply};
@@ -176,6 +176,48 @@ impl<'t> Run<'t> {
             → IsHome shards result }
     {
         self.replies.key(first, reference.index.unwrap_or(0))
+    }
+
+    /// Sets the key, where it was given out, to the object of the class that counts up from that base.
+    fn set(
+        &mut self,
+        number: usize,
+        key: Option<Key>,
+        class: Class,
+        base: u128,
+    ) -> Result<(), AllocError>
+        requires within { last_word class base < 2 ^ 128 }
+        ensures made { OnOk result (Makes number
+            (on_key (λ k. event.Set k (counted_from class base)) key ∷ []) self.old.core
+            (kept_in self.old.replies) self.new.core (kept_in self.new.replies)) }
+        ensures shards { KeepsPlan self.old.core self.new.core }
+        ensures plans { self.new.plans ≡ self.old.plans }
+        ensures leaving { self.new.leaving ≡ self.old.leaving }
+        ensures trace { self.new.trace.now ≡ self.old.trace.now }
+    {
+        let Some(key) = key else {
+            return self.skip(number);
+        };
+        match class {
+            Class::C16 => self.set_key(number, key, &count_from::<1>(base)),
+            Class::C64 => self.set_key(number, key, &count_from::<4>(base)),
+            Class::C256 => self.set_key(number, key, &count_from::<16>(base)),
+        }
+    }
+
+    // Sets a key that was given out to the object of these words, by the core's own call, as a put does.
+    fn set_key(&mut self, number: usize, key: Key, words: &[u128]) -> Result<(), AllocError>
+        ensures made { OnOk result (Makes number (Calls (event.Set key words.now) ∷ [])
+            self.old.core (kept_in self.old.replies) self.new.core (kept_in self.new.replies)) }
+        ensures shards { KeepsPlan self.old.core self.new.core }
+        ensures plans { self.new.plans ≡ self.old.plans }
+        ensures leaving { self.new.leaving ≡ self.old.leaving }
+        ensures trace { self.new.trace.now ≡ self.old.trace.now }
+    {
+        let set = self.core.set(&key, words);
+        let replaced = was_replaced(set)?;
+        self.replies.tell_set(number, replaced)?;
+        Ok(())
     }
 
     /// Frees the key, where it was given out.
@@ -357,6 +399,10 @@ impl<'t> Run<'t> {
             Call::Get { key } => {
                 let key = self.key_of(first, key);
                 self.get(number, key)
+            }
+            Call::Set { key, class, value } => {
+                let key = self.key_of(first, key);
+                self.set(number, key, *class, *value)
             }
             Call::Free { key } => {
                 let key = self.key_of(first, key);
@@ -611,6 +657,7 @@ fn answer_to(reply: Reply) -> Result<Answer, AllocError>
     match reply {
         Reply::Issued(key) => Ok(Answer::Key(key)),
         Reply::Found(found) => Ok(answer_to_look_up(found)),
+        Reply::Replaced(replaced) => Ok(answer_to_set(replaced)),
         Reply::Freed(freed) => Ok(answer_to_free(freed)),
         Reply::Sent => Ok(Answer::Sent),
         Reply::ShardEnded => Ok(Answer::Ended),
@@ -656,6 +703,19 @@ fn key_of_put(put: Result<Key, Refusal>) -> Result<Option<Key>, AllocError>
     }
 }
 
+/// Whether a set was done. Running out of memory ends the run.
+fn was_replaced(set: Result<bool, Refusal>) -> Result<bool, AllocError>
+    requires { IsSetServed set }
+    ensures { IfOk result (λ replaced. set ≡ Ok replaced) }
+{
+    match set {
+        Ok(replaced) => Ok(replaced),
+        Err(Refusal::OutOfMemory) => Err(AllocError),
+        // No other refusal comes of a set.
+        Err(_) => unreachable!(),
+    }
+}
+
 /// What the report tells of a look-up.
 fn answer_to_look_up(found: Option<Object>) -> Answer
     ensures { result ≡ answer_told (reply.Found found) }
@@ -663,16 +723,5 @@ fn answer_to_look_up(found: Option<Object>) -> Answer
     match found {
         Some(object) => Answer::Value(object),
         None => Answer::Absent,
-    }
-}
-
-/// What the report tells of a free.
-fn answer_to_free(freed: bool) -> Answer
-    ensures { result ≡ answer_told (reply.Freed freed) }
-{
-    if freed {
-        Answer::Freed
-    } else {
-        Answer::NotFreed
     }
 }

@@ -1,7 +1,7 @@
 -- The first cause of a line, where it is asked last whether the line binds a name again.
 use Rattle.std.proofs.Common.{◌≡◌, Bool, true, false, List, ℕ, Option, Some, None, Ok, refl}
 use Rattle.std.specs.Prelude.{if◌then◌else◌}
-use Rattle.trace_text.specs.Causes.{binds_again, first_cause, is_call, is_call_of, reads_early, reads_unknown}
+use Rattle.trace_text.specs.Causes.{binds_again, classed, first_cause, is_call, is_call_of, reads_early, reads_unknown}
 use Rattle.trace_text.specs.Earlier.{Few}
 use Rattle.trace_text.specs.Form.{form_of}
 use Rattle.trace_text.specs.Header.{IsWithinLimits}
@@ -9,7 +9,7 @@ use Rattle.trace_text.specs.Within.{IsNextUnlessBound, cause_but_bound, within}
 use Rattle.trace_text.specs.declared.cause.Cause.{Cause}
 use Rattle.trace_text.specs.declared.cause.Cause.TheVariants.{Limit, Thread, Ended, Adopt, Bound, Unknown, Early}
 use Rattle.trace_text.specs.declared.header.Header.{Header}
-use Rattle.trace_text.specs.declared.line.Call.TheVariants.{Put, Fill, Get, Free, Sweep, Later, Tend, End}
+use Rattle.trace_text.specs.declared.line.Call.TheVariants.{Put, Fill, Get, Set, Free, Sweep, Later, Tend, End}
 use Rattle.trace_text.specs.declared.line.Line.{Line}
 use Rattle.trace_text.specs.declared.line.Line.TheVariants as line
 use Rattle.trace_text.proofs.Texts.{fine_line, refused_line}
@@ -63,6 +63,7 @@ known before (line.Adopt s) binds = refl
 known before (line.Call t (Put n class v)) binds = refl
 known before (line.Call t (Fill n class k v)) binds = refl
 known before (line.Call t (Get k)) binds = cc
+known before (line.Call t (Set k class v)) binds = cc
 known before (line.Call t (Free k)) binds = cc
 known before (line.Call t (Sweep n a b)) binds = cc
 known before (line.Call t (Later k)) binds = cc
@@ -76,6 +77,7 @@ late before (line.Adopt s) binds = refl
 late before (line.Call t (Put n class v)) binds = refl
 late before (line.Call t (Fill n class k v)) binds = refl
 late before (line.Call t (Get k)) binds = cc
+late before (line.Call t (Set k class v)) binds = cc
 late before (line.Call t (Free k)) binds = cc
 late before (line.Call t (Sweep n a b)) binds = cc
 late before (line.Call t (Later k)) binds = cc
@@ -87,9 +89,9 @@ pub first_cause-other : (h : Header) (before : List Line) (l : Line) (c : Cause)
 first_cause-other h before l c = all-other _ _ _ _ _ _ _ c (known before l) (late before l)
 
 -- a line that is read and has no other cause is the next one, unless it binds a name again
-pub next_unless_bound : (h : Header) (before : List Line) (bytes : List ℕ) (l : Line) → IsWithinLimits h → Few before → within (form_of h.version bytes) ≡ Ok l
-    → cause_but_bound h before l ≡ None → IsNextUnlessBound h before bytes l
-next_unless_bound h before bytes l limits few read none = (
-  (λ fresh. fine_line h before bytes l limits few read (all-none _ _ _ _ _ _ _ none fresh)),
-  (λ again. refused_line h before bytes l Bound limits few read (all-bound _ _ _ _ _ _ _ none again)),
+pub next_unless_bound : (h : Header) (before : List Line) (bytes : List ℕ) (l given : Line) → IsWithinLimits h → Few before → within (form_of h.version bytes) ≡ Ok l → given ≡ classed before l
+    → cause_but_bound h before given ≡ None → IsNextUnlessBound h before bytes given
+next_unless_bound h before bytes l given limits few read is none = (
+  (λ fresh. fine_line h before bytes l given limits few read is (all-none _ _ _ _ _ _ _ none fresh)),
+  (λ again. refused_line h before bytes l given Bound limits few read is (all-bound _ _ _ _ _ _ _ none again)),
 )

@@ -17,7 +17,7 @@ use Rattle.trace_text.specs.Causes.{bound_name, read_name, has_key, has_range, h
 use Rattle.trace_text.specs.declared.header.Header.{Header}
 use Rattle.trace_text.specs.declared.name.Reference.{Reference}
 use Rattle.trace_text.specs.declared.line.Call.{Call}
-use Rattle.trace_text.specs.declared.line.Call.TheVariants.{Put, Fill, Get, Free, Sweep, Later, Tend, End}
+use Rattle.trace_text.specs.declared.line.Call.TheVariants.{Put, Fill, Get, Set, Free, Sweep, Later, Tend, End}
 use Rattle.trace_text.specs.declared.line.Line.{Line}
 use Rattle.trace_text.specs.declared.line.Line.TheVariants as line
 use Rattle.trace_text.specs.declared.line.Keys.{Keys}
@@ -90,6 +90,7 @@ has_keys-clip : (c : Call) (keys : Keys) → IsFew keys → has_keys (clip_call 
 has_keys-clip (Put name class v) keys few = refl
 has_keys-clip (Fill name class n v) keys few = refl
 has_keys-clip (Get key) keys few = has_key-clip key.index keys few
+has_keys-clip (Set key class v) keys few = has_key-clip key.index keys few
 has_keys-clip (Free key) keys few = has_key-clip key.index keys few
 has_keys-clip (Sweep name from to) keys few = has_range-clip from to keys few
 has_keys-clip (Later key) keys few = has_key-clip key.index keys few
@@ -100,6 +101,7 @@ read_name-clip : (c : Call) → read_name (clip_call c) ≡ read_name c
 read_name-clip (Put name class v) = refl
 read_name-clip (Fill name class n v) = refl
 read_name-clip (Get key) = refl
+read_name-clip (Set key class v) = refl
 read_name-clip (Free key) = refl
 read_name-clip (Sweep name from to) = refl
 read_name-clip (Later key) = refl
@@ -110,6 +112,7 @@ bound_name-clip : (c : Call) → bound_name (clip_call c) ≡ bound_name c
 bound_name-clip (Put name class v) = refl
 bound_name-clip (Fill name class n v) = refl
 bound_name-clip (Get key) = refl
+bound_name-clip (Set key class v) = refl
 bound_name-clip (Free key) = refl
 bound_name-clip (Sweep name from to) = refl
 bound_name-clip (Later key) = refl
@@ -120,6 +123,7 @@ over-clip : (before : List Line) (c : Call) → is_call_over before (clip_call c
 over-clip before (Put name class v) = refl
 over-clip before (Fill name class n v) = clip-count class n v
 over-clip before (Get key) = refl
+over-clip before (Set key class v) = refl
 over-clip before (Free key) = refl
 over-clip before (Sweep name from to) = refl
 over-clip before (Later key) = refl
@@ -134,6 +138,7 @@ over-value before (line.Adopt s) over = cc
 over-value before (line.Call t (Put name class v)) over = word-over class v over
 over-value before (line.Call t (Fill name class n v)) over = last-over class n v over
 over-value before (line.Call t (Get key)) over = cc
+over-value before (line.Call t (Set key class v)) over = word-over class v over
 over-value before (line.Call t (Free key)) over = cc
 over-value before (line.Call t (Sweep name from to)) over = cc
 over-value before (line.Call t (Later key)) over = cc
@@ -236,6 +241,7 @@ call_known : (before : List Line) (c : Call) → Few before → is_call_over bef
 call_known before (Put name class v) few within known = refl
 call_known before (Fill name class n v) few within known = ap (λ k. Fill name class k v) (clip-count_near class n v within)
 call_known before (Get key) few within known = ap Get (same_reference key (key_known key.index (binding_of key.name before) (few key.name) known))
+call_known before (Set key class v) few within known = ap (λ k. Set k class v) (same_reference key (key_known key.index (binding_of key.name before) (few key.name) known))
 call_known before (Free key) few within known = ap Free (same_reference key (key_known key.index (binding_of key.name before) (few key.name) known))
 call_known before (Later key) few within known = ap Later (same_reference key (key_known key.index (binding_of key.name before) (few key.name) known))
 call_known before Tend few within known = refl

@@ -7,22 +7,26 @@ use Rattle.trace_text.specs.declared.cause.Cause.{Cause}
 use Rattle.trace_text.specs.declared.cause.ParseError.{ParseError}
 use Rattle.trace_text.specs.declared.cause.ParseError.TheVariants.{OutOfMemory, BadTrace}
 use Rattle.trace_text.specs.declared.trace.Trace.{Trace}
-use Rattle.trace_text.specs.Form.{HasForm}
-use Rattle.trace_text.specs.Causes.{BeginsAtFault, HasCause, IsNextLine, AreReadAs, awaits_mark, first_cause}
+use Rattle.trace_text.specs.Causes.{BeginsAtFault, HasCause, IsNextLine, AreReadAs, SaysAfter, awaits_mark, classed, first_cause}
 use Rattle.trace_text.specs.Words.{lines_of}
 use Rattle.trace_text.specs.Trace.{Spells, IsTrace, IsFault, IsFaultAt, IsReadAs}
 use Rattle.trace_text.proofs.Heads.{HasHeader-fine, HasHeader-same}
-use Rattle.trace_text.proofs.Lines.{form_again}
+use Rattle.trace_text.proofs.Lines.{form_again, plain}
+use Rattle.trace_text.proofs.Classed.{classed-plain}
 
--- bytes have the form of one line
-same_line : (version : Version) (bytes : List ℕ) (v w : Line) → HasForm version v bytes → HasForm version w bytes → v ≡ w
-same_line version bytes v w hv hw = let e = form_again version v bytes hv in let f = form_again version w bytes hw in cc
+-- after the same lines bytes say one line
+same_line : (version : Version) (before : List Line) (bytes : List ℕ) (v w : Line) → SaysAfter version before bytes v → SaysAfter version before bytes w → v ≡ w
+same_line version before bytes v w hv hw =
+    let e = form_again version v bytes hv.0 in
+    let f = form_again version w bytes hw.0 in
+    let same : plain v ≡ plain w = cc in
+    hv.1 ∙ sym (classed-plain before v) ∙ ap (classed before) same ∙ classed-plain before w ∙ sym hw.1
 
 -- bytes that are the next line are not at fault
 next_or_fault : (h : Header) (before : List Line) (bytes : List ℕ) (l : Line) (c : Cause) → IsNextLine h before bytes l → HasCause h before bytes c → ⊥
-next_or_fault h before bytes l c next (inl none) = none.1 l next.0
+next_or_fault h before bytes l c next (inl none) = none.1 l next.0.0
 next_or_fault h before bytes l c next (inr (w, form, first)) =
-    let one : w ≡ l = same_line h.version bytes w l form next.0 in
+    let one : w ≡ l = same_line h.version before bytes w l form next.0 in
     let clash : Some c ≡ None = sym first ∙ ap (first_cause h before) one ∙ next.1 in cc
 
 -- lines of which neither one nor the end is at fault, and of which one is, or the end
@@ -37,7 +41,7 @@ read_or_fault h before [] (bytes ∷ below) (l ∷ ls) (m ∷ ms) c all settled 
 read_or_fault h before (t ∷ ts) rest [] ms c all settled fine fault = absurd all
 read_or_fault h before (t ∷ ts) rest (l ∷ ls) [] c all settled fine fault = absurd fine
 read_or_fault h before (t ∷ ts) rest (l ∷ ls) (m ∷ ms) c all settled fine fault =
-    let one : l ≡ m = same_line h.version t l m all.0.0 fine.0.0 in
+    let one : l ≡ m = same_line h.version before t l m all.0.0 fine.0.0 in
     let P : Line → Type 0 = λ x. AreReadAs h (before ++ x ∷ []) (ts ++ rest) ls in
     let Q : Line → Type 0 = λ x. awaits_mark (before ++ x ∷ ls) ≡ false in
     read_or_fault h (before ++ m ∷ []) ts rest ls ms c (subst P one all.1) (rw append_assoc (subst Q one settled)) fine.1 (rw append_assoc fault)
@@ -58,7 +62,7 @@ same_lines h before [] [] (m ∷ ms) a b = absurd b
 same_lines h before (t ∷ ts) [] ms a b = absurd a
 same_lines h before (t ∷ ts) (l ∷ ls) [] a b = absurd b
 same_lines h before (t ∷ ts) (l ∷ ls) (m ∷ ms) a b =
-    let one : m ≡ l = same_line h.version t m l b.0.0 a.0.0 in
+    let one : m ≡ l = same_line h.version before t m l b.0.0 a.0.0 in
     let P : Line → Type 0 = λ x. AreReadAs h (before ++ x ∷ []) ts ms in
     let more = same_lines h (before ++ l ∷ []) ts ls ms a.1 (subst P one b.1) in cc
 

@@ -1,7 +1,7 @@
 -- Lines by their number of words.
 use Rattle.std.proofs.Common.{◌≡◌, ℕ, ◌<◌, List, [], ◌∷◌, length, get_or, Bor, None, refl, arith}
 use Rattle.certificate.specs.Words.{contents_of}
-use Rattle.trace_text.specs.Form.{counted_call, form_of_words, thread_line, value_call}
+use Rattle.trace_text.specs.Form.{counted_call, form_of_words, thread_line, valued_call}
 use Rattle.trace_text.specs.declared.header.Version.{Version}
 
 pub form_of_words-none : (version : Version) (words : List (List ℕ)) → length words < 1 → form_of_words version words ≡ None
@@ -9,7 +9,7 @@ form_of_words-none version [] few = refl
 form_of_words-none version (a ∷ more) few = absurd (omega arith)
 
 pub form_of_words-four : (version : Version) (words : List (Bor (List ℕ))) (p q r s : Bor (List ℕ)) → length words ≡ 4
-    → thread_line version (get_or words 0 p).now (get_or words 1 q).now (value_call (get_or words 1 q).now (get_or words 2 r).now (get_or words 3 s).now) ≡ form_of_words version (contents_of words)
+    → thread_line version (get_or words 0 p).now (get_or words 1 q).now (valued_call (get_or words 1 q).now (get_or words 2 r).now (get_or words 3 s).now) ≡ form_of_words version (contents_of words)
 form_of_words-four version [] p q r s four = absurd (omega arith)
 form_of_words-four version (a ∷ []) p q r s four = absurd (omega arith)
 form_of_words-four version (a ∷ b ∷ []) p q r s four = absurd (omega arith)

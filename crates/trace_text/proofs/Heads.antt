@@ -11,7 +11,7 @@ use Rattle.trace_text.specs.Number.{IsOutside, KeepsNumber}
 use Rattle.trace_text.specs.Words.{words_of}
 use Rattle.trace_text.specs.declared.header.Header.{Header}
 use Rattle.trace_text.specs.declared.header.Version.{Version}
-use Rattle.trace_text.specs.declared.header.Version.TheVariants.{One, Two}
+use Rattle.trace_text.specs.declared.header.Version.TheVariants.{One, Two, Three}
 use Rattle.trace_text.specs.declared.numeral.Number.{Number}
 use Rattle.trace_text.specs.declared.cause.Cause.{Cause}
 use Rattle.trace_text.specs.declared.cause.Cause.TheVariants as cause
@@ -76,8 +76,13 @@ size_range word most n (line ∷ lines) below begin = begin.0.1
 opening_of-same : (version other : Version) → opening_of version ≡ opening_of other → version ≡ other
 opening_of-same One One same = refl
 opening_of-same One Two same = let clash : 49 ≡ 50 = ap (λ bytes. get_or bytes 5 0) same in absurd (omega (arith, clash))
+opening_of-same One Three same = let clash : 49 ≡ 51 = ap (λ bytes. get_or bytes 5 0) same in absurd (omega (arith, clash))
 opening_of-same Two One same = let clash : 50 ≡ 49 = ap (λ bytes. get_or bytes 5 0) same in absurd (omega (arith, clash))
 opening_of-same Two Two same = refl
+opening_of-same Two Three same = let clash : 50 ≡ 51 = ap (λ bytes. get_or bytes 5 0) same in absurd (omega (arith, clash))
+opening_of-same Three One same = let clash : 51 ≡ 49 = ap (λ bytes. get_or bytes 5 0) same in absurd (omega (arith, clash))
+opening_of-same Three Two same = let clash : 51 ≡ 50 = ap (λ bytes. get_or bytes 5 0) same in absurd (omega (arith, clash))
+opening_of-same Three Three same = refl
 
 -- a line that says no version is no first line
 pub opening_fault : (lines below : List (List ℕ)) (line : List ℕ) → lines ≡ line ∷ below → ((version : Version) → line ≡ opening_of version → ⊥) → IsAtFault Opening lines cause.Header
@@ -105,11 +110,12 @@ BeginWith-same (f ∷ fs) (n ∷ ns) (m ∷ ms) (line ∷ lines) below other a b
 
 -- the version of a number
 abbrev of_number : ℕ → Version
-of_number n = if n == 2 then Two else One
+of_number n = if n == 3 then Three else (if n == 2 then Two else One)
 
 of_number_of : (version : Version) → of_number (number_of version) ≡ version
 of_number_of One = refl
 of_number_of Two = refl
+of_number_of Three = refl
 
 -- the header of these numbers
 abbrev of_numbers : List ℕ → Header

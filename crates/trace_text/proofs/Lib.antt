@@ -7,6 +7,7 @@ pub mod Lines
 pub mod Clips
 pub mod Bindings
 mod BoundAgain
+mod Classed
 pub mod Knowing
 pub mod Placing
 pub mod Texts

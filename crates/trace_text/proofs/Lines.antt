@@ -15,14 +15,14 @@ use Rattle.span.specs.declared.class.Class.TheVariants.{C16, C64, C256}
 use Rattle.trace_text.specs.declared.header.Version.{Version}
 use Rattle.trace_text.specs.declared.name.Reference.{Reference}
 use Rattle.trace_text.specs.declared.line.Call.{Call}
-use Rattle.trace_text.specs.declared.line.Call.TheVariants.{Put, Fill, Get, Free, Sweep, Later, Tend, End}
+use Rattle.trace_text.specs.declared.line.Call.TheVariants.{Put, Fill, Get, Set, Free, Sweep, Later, Tend, End}
 use Rattle.trace_text.specs.declared.line.Line.{Line}
 use Rattle.trace_text.specs.declared.line.Line.TheVariants as line
 use Rattle.certificate.specs.Number.{number_in, is_numeral}
 use Rattle.trace_text.specs.Name.{is_name}
 use Rattle.trace_text.specs.Reference.{reference_in}
 use Rattle.trace_text.specs.Words.{words_of}
-use Rattle.trace_text.specs.Form.{Word, Verb, Number, Named, Refers, IsWord, AreWords, SaysLine, HasForm, has_verb, class_filled, class_put, fill_verb, put_verb, verb_of, words_of_call, bare_call, key_call, with_name, value_call, with_two, counted_call, thread_line, one_word, two_words, form_of_words, form_of}
+use Rattle.trace_text.specs.Form.{Word, Verb, Number, Named, Refers, IsWord, AreWords, SaysLine, HasForm, has_verb, class_filled, class_put, fill_verb, put_verb, set_verb, verb_of, words_of_call, bare_call, key_call, with_name, value_call, set_call, valued_call, with_two, counted_call, thread_line, one_word, two_words, form_of_words, form_of}
 
 -- which way a test went
 pub chosen : {X : Type 0} (b : Bool) (x y z : X) → cond b x y ≡ z → ((b ≡ true) × (x ≡ z)) ⊎ ((b ≡ false) × (y ≡ z))
@@ -99,6 +99,17 @@ value_found verb name value w e = option_and_then_some (λ class. option_and_the
     (λ v is then. let parts = cond_some (is_name name) (Put name class v) w then in
     subst (SaysCall (verb ∷ name ∷ value ∷ [])) parts.1 (class_put-found verb class its, ((refl, parts.0), (is, tt)))))
 
+set_found : (verb key value : List ℕ) (w : Call) → verb ≡ set_verb → set_call key value ≡ Some w → SaysCall (verb ∷ key ∷ value ∷ []) w
+set_found verb key value w is e = option_and_then_some (λ v. option_map (λ k. Set k C16 v) (reference_in key)) (number_in value) w e
+    (λ v its call. let parts = mapped (λ k. Set k C16 v) (reference_in key) w call in
+    subst (SaysCall (verb ∷ key ∷ value ∷ [])) parts.2 (is, (parts.1, (its, tt))))
+
+valued_found : (verb target value : List ℕ) (w : Call) → valued_call verb target value ≡ Some w → SaysCall (verb ∷ target ∷ value ∷ []) w
+valued_found verb target value w e = elim (chosen (bytes_eq verb set_verb) _ _ (Some w) e) [
+  | inl p ↦ set_found verb target value w (same_bytes verb set_verb p.0) p.1
+  | inr p ↦ value_found verb target value w p.1
+]
+
 -- a call with a name and two numbers, by its verb
 two_found : (call : List ℕ → ℕ → ℕ → Call) (verb name first second text : List ℕ) (w : Call) → ((n : List ℕ) (a b : ℕ) → words_of_call (call n a b) ≡ Verb text ∷ Named n ∷ Number a ∷ Number b ∷ []) → verb ≡ text → with_two call name first second ≡ Some w → SaysCall (verb ∷ name ∷ first ∷ second ∷ []) w
 two_found call verb name first second text w says is e =
@@ -143,7 +154,7 @@ words_found version [] w e = cc
 words_found version (a ∷ []) w e = one_found version a w e
 words_found version (a ∷ b ∷ []) w e = two_words_found version a b w e
 words_found version (a ∷ b ∷ c ∷ []) w e = thread_found version a b (key_call b c) (c ∷ []) w e (key_found b c)
-words_found version (a ∷ b ∷ c ∷ d ∷ []) w e = thread_found version a b (value_call b c d) (c ∷ d ∷ []) w e (value_found b c d)
+words_found version (a ∷ b ∷ c ∷ d ∷ []) w e = thread_found version a b (valued_call b c d) (c ∷ d ∷ []) w e (valued_found b c d)
 words_found version (a ∷ b ∷ c ∷ d ∷ f ∷ []) w e = thread_found version a b (counted_call b c d f) (c ∷ d ∷ f ∷ []) w e (counted_found b c d f)
 words_found version (a ∷ b ∷ c ∷ d ∷ f ∷ g ∷ more) w e = cc
 
@@ -165,6 +176,16 @@ form_found version (b ∷ bs) w e = elim (chosen (b == 35) _ _ (Some w) e) [
 ]
 
 -- ---- what has a form is read
+
+-- a set as its words alone say it, which are those of any class
+abbrev pub plain_call : Call → Call
+plain_call (Set key class value) = Set key C16 value
+plain_call call = call
+
+-- the same for a line
+abbrev pub plain : Line → Line
+plain (line.Call thread call) = line.Call thread (plain_call call)
+plain w = w
 
 -- the words, by their number
 four : (words : List (List ℕ)) (p q r s : Word) → AreWords words (p ∷ q ∷ r ∷ s ∷ []) → (a : List ℕ) × (b : List ℕ) × (c : List ℕ) × (d : List ℕ) × (words ≡ a ∷ b ∷ c ∷ d ∷ []) × IsWord a p × IsWord b q × IsWord c r × IsWord d s
@@ -232,6 +253,14 @@ class_put-again C256 = refl
 value_again : (class : Class) (name value : List ℕ) (v : ℕ) (bytes : List ℕ) → (bytes ≡ name) × (is_name name ≡ true) → number_in value ≡ Some v → value_call (put_verb class) bytes value ≡ Some (Put name class v)
 value_again class name value v bytes named is = rw (class_put-again class, is) (named_again name bytes (λ n. Put n class v) named)
 
+valued_again : (class : Class) (name value : List ℕ) (v : ℕ) (bytes : List ℕ) → (bytes ≡ name) × (is_name name ≡ true) → number_in value ≡ Some v → valued_call (put_verb class) bytes value ≡ Some (Put name class v)
+valued_again C16 name value v bytes named is = value_again C16 name value v bytes named is
+valued_again C64 name value v bytes named is = value_again C64 name value v bytes named is
+valued_again C256 name value v bytes named is = value_again C256 name value v bytes named is
+
+set_again : (key : Reference) (bytes value : List ℕ) (v : ℕ) → reference_in bytes ≡ Some key → number_in value ≡ Some v → valued_call set_verb bytes value ≡ Some (Set key C16 v)
+set_again key bytes value v refers is = rw (is, refers) refl
+
 two_again : (call : List ℕ → ℕ → ℕ → Call) (name bytes first second : List ℕ) (a b : ℕ) → (bytes ≡ name) × (is_name name ≡ true) → number_in first ≡ Some a → number_in second ≡ Some b → with_two call bytes first second ≡ Some (call name a b)
 two_again call name bytes first second a b named fst snd = rw (fst, snd) (named_again name bytes (λ n. call n a b) named)
 
@@ -241,9 +270,11 @@ fill_again C64 name bytes first second n v named fst snd = two_again (λ m a b. 
 fill_again C256 name bytes first second n v named fst snd = two_again (λ m a b. Fill m C256 a b) name bytes first second n v named fst snd
 
 -- a line whose words say a thread's call is read as that
-call_again : (version : Version) (words : List (List ℕ)) (t : ℕ) (c : Call) → SaysLine version (line.Call t c) words → form_of_words version words ≡ Some (line.Call t c)
+call_again : (version : Version) (words : List (List ℕ)) (t : ℕ) (c : Call) → SaysLine version (line.Call t c) words → form_of_words version words ≡ Some (line.Call t (plain_call c))
 call_again version words t (Put name class v) says = let w = one_more words (Number t) _ says.1 in let u = three w.1 _ _ _ w.4 in
-    rw (w.2, u.3, u.4) (thread_again version w.0 _ t _ (Put name class v) says.0 refl w.3 (value_again class name u.2 v u.1 u.5 u.6))
+    rw (w.2, u.3, u.4) (thread_again version w.0 _ t _ (Put name class v) says.0 refl w.3 (valued_again class name u.2 v u.1 u.5 u.6))
+call_again version words t (Set key class v) says = let w = one_more words (Number t) _ says.1 in let u = three w.1 _ _ _ w.4 in
+    rw (w.2, u.3, u.4) (thread_again version w.0 _ t _ (Set key C16 v) says.0 refl w.3 (set_again key u.1 u.2 v u.5 u.6))
 call_again version words t (Fill name class n v) says = let w = one_more words (Number t) _ says.1 in let u = four w.1 _ _ _ _ w.4 in
     rw (w.2, u.4, u.5) (thread_again version w.0 _ t _ (Fill name class n v) says.0 refl w.3 (fill_again class name u.1 u.2 u.3 n v u.6 u.7 u.8))
 call_again version words t (Sweep name from to) says = let w = one_more words (Number t) _ says.1 in let u = four w.1 _ _ _ _ w.4 in
@@ -266,7 +297,7 @@ mark_again : (version : Version) (words : List (List ℕ)) (a : List ℕ) → wo
 mark_again version words a split is = rw (split, is) refl
 
 -- the first byte of a line of words is no `#`
-words_again : (version : Version) (words : List (List ℕ)) (w : Line) → SaysLine version w words → (form_of_words version words ≡ Some w) × (first : List ℕ) × (more : List (List ℕ)) × (words ≡ first ∷ more) × (0 < length first) × (35 < slice_index first 0)
+words_again : (version : Version) (words : List (List ℕ)) (w : Line) → SaysLine version w words → (form_of_words version words ≡ Some (plain w)) × (first : List ℕ) × (more : List (List ℕ)) × (words ≡ first ∷ more) × (0 < length first) × (35 < slice_index first 0)
 words_again version words line.Silent says = absurd says
 words_again version words (line.Adopt s) says = let u = two words _ _ says in
     (adopt_again version words u.0 u.1 s u.2 u.3 u.4, u.0, u.1 ∷ [], u.2, rw u.3 (omega arith), rw u.3 (omega arith))
@@ -290,14 +321,14 @@ no_remark b bs word words e some above =
       | inr p ↦ above_remark b (omega (arith, above, first_word b (slice_split (λ c. c == 32) bs) word words p.1))
     ]
 
-bytes_again : (version : Version) (bytes : List ℕ) (w : Line) → SaysLine version w (words_of bytes) → form_of version bytes ≡ Some w
+bytes_again : (version : Version) (bytes : List ℕ) (w : Line) → SaysLine version w (words_of bytes) → form_of version bytes ≡ Some (plain w)
 bytes_again version [] w says = let again = words_again version (words_of []) w says in
     let empty : [] ≡ again.1 = let e : [] ∷ [] ≡ again.1 ∷ again.2 = again.3 in cc in let none = rw (← empty) at again.4 in absurd (omega (arith, none))
 bytes_again version (b ∷ bs) w says = let again = words_again version (words_of (b ∷ bs)) w says in
     rw (no_remark b bs again.1 again.2 again.3 again.4 again.5) again.0
 
--- what has a form is read as that line
-pub form_again : (version : Version) (w : Line) (bytes : List ℕ) → HasForm version w bytes → form_of version bytes ≡ Some w
+-- what has a form is read as that line, but for the class of a set
+pub form_again : (version : Version) (w : Line) (bytes : List ℕ) → HasForm version w bytes → form_of version bytes ≡ Some (plain w)
 form_again version line.Silent bytes (inl e) = rw e refl
 form_again version line.Silent bytes (inr (remark, e)) = rw e refl
 form_again version (line.Call t c) bytes says = bytes_again version bytes (line.Call t c) says

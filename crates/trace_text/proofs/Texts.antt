@@ -5,17 +5,18 @@ use Rattle.trace_text.specs.declared.line.Line.{Line}
 use Rattle.trace_text.specs.declared.header.Header.{Header}
 use Rattle.trace_text.specs.declared.cause.Cause.{Cause}
 use Rattle.trace_text.specs.declared.cause.Cause.TheVariants as cause
-use Rattle.trace_text.specs.Form.{form_of, HasForm}
+use Rattle.trace_text.specs.Form.{form_of}
 use Rattle.trace_text.specs.Within.{clip_line, is_value_over, within}
 use Rattle.trace_text.specs.Header.{IsWithinLimits}
 use Rattle.trace_text.specs.Earlier.{Few}
-use Rattle.trace_text.specs.Causes.{awaits_mark, is_call, HasCause, IsNextLine, IsSound, AreReadAs, first_cause, IsFirstFault}
+use Rattle.trace_text.specs.Causes.{awaits_mark, classed, is_call, HasCause, IsNextLine, IsSound, AreReadAs, SaysAfter, first_cause, IsFirstFault}
 use Rattle.trace_text.proofs.Lines.{chosen, form_found, form_again}
 use Rattle.trace_text.proofs.Clips.{first_cause-clip, clip_line-fine, over-value}
+use Rattle.trace_text.proofs.Classed.{HasForm-classed, classed-again, classed-clip, value_over-classed}
 
 -- one line more
 AreReadAs-push : (h : Header) (before : List Line) (texts : List (List ℕ)) (lines : List Line) (bytes : List ℕ) (l : Line) → AreReadAs h before texts lines → IsNextLine h (before ++ lines) bytes l → AreReadAs h before (texts ++ bytes ∷ []) (lines ++ l ∷ [])
-AreReadAs-push h before [] [] bytes l all next = ((next.0, rw append-nil at next.1), tt)
+AreReadAs-push h before [] [] bytes l all next = (subst (λ b. IsNextLine h b bytes l) (append-nil before) next, tt)
 AreReadAs-push h before (b ∷ bs) (m ∷ ms) bytes l (first, rest) next = (first, AreReadAs-push h (before ++ m ∷ []) bs ms bytes l rest (rw append_assoc next))
 AreReadAs-push h before [] (m ∷ ms) bytes l all next = absurd all
 AreReadAs-push h before (b ∷ bs) [] bytes l all next = absurd all
@@ -35,26 +36,32 @@ within_err (Some w) c e = elim (chosen (is_call is_value_over w) (Err cause.Limi
   | inr p ↦ cc p.1
 ]
 
--- a line that is read and not refused is a line of the trace
-pub fine_line : (h : Header) (before : List Line) (bytes : List ℕ) (l : Line) → IsWithinLimits h → Few before → within (form_of h.version bytes) ≡ Ok l → first_cause h before l ≡ None → IsNextLine h before bytes l
-fine_line h before bytes l within few read fine =
-    let w = within_ok (form_of h.version bytes) l read in
-    let whole = clip_line-fine h before w.0 within few (rw w.2 fine) in
-    let same : w.0 ≡ l = sym whole ∙ w.2 in
-    let P : Line → Type 0 = λ v. HasForm h.version v bytes × (first_cause h before v ≡ None) in
-    subst P same (form_found h.version bytes w.0 w.1, sym (first_cause-clip h before w.0 within few) ∙ ap (first_cause h before) w.2 ∙ fine)
+-- a form, with the class that it is given
+says_classed : (h : Header) (before : List Line) (bytes : List ℕ) (w : Line) → form_of h.version bytes ≡ Some w → SaysAfter h.version before bytes (classed before w)
+says_classed h before bytes w read = (HasForm-classed h.version before bytes w (form_found h.version bytes w read), sym (classed-again before w))
 
--- a line that is read and refused is at fault
-pub refused_line : (h : Header) (before : List Line) (bytes : List ℕ) (l : Line) (c : Cause) → IsWithinLimits h → Few before → within (form_of h.version bytes) ≡ Ok l → first_cause h before l ≡ Some c → HasCause h before bytes c
-refused_line h before bytes l c within few read fault =
+-- a line that is read, given its class and not refused is a line of the trace
+pub fine_line : (h : Header) (before : List Line) (bytes : List ℕ) (l given : Line) → IsWithinLimits h → Few before → within (form_of h.version bytes) ≡ Ok l → given ≡ classed before l → first_cause h before given ≡ None → IsNextLine h before bytes given
+fine_line h before bytes l given within few read is fine =
     let w = within_ok (form_of h.version bytes) l read in
-    inr (w.0, form_found h.version bytes w.0 w.1, sym (first_cause-clip h before w.0 within few) ∙ ap (first_cause h before) w.2 ∙ fault)
+    let clipped : clip_line (classed before w.0) ≡ given = sym (classed-clip before w.0) ∙ ap (classed before) w.2 ∙ sym is in
+    let whole = clip_line-fine h before (classed before w.0) within few (rw clipped fine) in
+    let same : classed before w.0 ≡ given = sym whole ∙ clipped in
+    let P : Line → Type 0 = λ v. SaysAfter h.version before bytes v × (first_cause h before v ≡ None) in
+    subst P same (says_classed h before bytes w.0 w.1, sym (first_cause-clip h before (classed before w.0) within few) ∙ ap (first_cause h before) clipped ∙ fine)
+
+-- a line that is read, given its class and refused is at fault
+pub refused_line : (h : Header) (before : List Line) (bytes : List ℕ) (l given : Line) (c : Cause) → IsWithinLimits h → Few before → within (form_of h.version bytes) ≡ Ok l → given ≡ classed before l → first_cause h before given ≡ Some c → HasCause h before bytes c
+refused_line h before bytes l given c within few read is fault =
+    let w = within_ok (form_of h.version bytes) l read in
+    let clipped : clip_line (classed before w.0) ≡ given = sym (classed-clip before w.0) ∙ ap (classed before) w.2 ∙ sym is in
+    inr (classed before w.0, says_classed h before bytes w.0 w.1, sym (first_cause-clip h before (classed before w.0) within few) ∙ ap (first_cause h before) clipped ∙ fault)
 
 -- a line that is not read is at fault
 pub unread_line : (h : Header) (before : List Line) (bytes : List ℕ) (c : Cause) → within (form_of h.version bytes) ≡ Err c → HasCause h before bytes c
 unread_line h before bytes c read = elim (within_err (form_of h.version bytes) c read) [
   | inl p ↦ inl (p.1, λ w form. let some = form_again h.version w bytes form in cc)
-  | inr p ↦ inr (p.0, form_found h.version bytes p.0 p.1, rw (over-value before p.0 p.2, p.3) refl)
+  | inr p ↦ inr (classed before p.0, says_classed h before bytes p.0 p.1, rw (over-value before (classed before p.0) (value_over-classed before p.0 ∙ p.2), p.3) refl)
 ]
 
 -- as many lines are read as there are texts

@@ -5,9 +5,13 @@ use Rattle.std.specs.Option.{option_map_or, option_or}
 use Rattle.std.specs.Str.{bytes_eq}
 use Rattle.trace_text.specs.Form.{HasForm}
 use Rattle.trace_text.specs.Objects.{last_word}
+use Rattle.span.specs.declared.class.Class.{Class}
+use Rattle.span.specs.declared.class.Class.TheVariants.{C16}
+use Rattle.trace_text.specs.declared.header.Version.{Version}
+use Rattle.trace_text.specs.declared.name.Reference.{Reference}
 use Rattle.trace_text.specs.declared.header.Header.{Header}
 use Rattle.trace_text.specs.declared.line.Call.{Call}
-use Rattle.trace_text.specs.declared.line.Call.TheVariants.{Put, Fill, Get, Free, Sweep, Later, End}
+use Rattle.trace_text.specs.declared.line.Call.TheVariants.{Put, Fill, Get, Set, Free, Sweep, Later, End}
 use Rattle.trace_text.specs.declared.line.Line.{Line}
 use Rattle.trace_text.specs.declared.line.Line.TheVariants as line
 use Rattle.trace_text.specs.declared.line.Keys.{Keys}
@@ -32,9 +36,10 @@ bound_name (Put name class value) = Some name
 bound_name (Fill name class count value) = Some name
 bound_name _ = None
 
--- the name whose keys the call reads, frees or sends off
+-- the name whose keys the call reads, sets, frees or sends off
 abbrev pub read_name : Call → Option (List ℕ)
 read_name (Get key) = Some key.name
+read_name (Set key class value) = Some key.name
 read_name (Free key) = Some key.name
 read_name (Sweep name from to) = Some name
 read_name (Later key) = Some key.name
@@ -51,9 +56,10 @@ abbrev pub has_range : ℕ → ℕ → Keys → Bool
 has_range from to One = false
 has_range from to (Many count) = nat_le from to && nat_le to count
 
--- the keys that the call reads, frees or sends off are among these
+-- the keys that the call reads, sets, frees or sends off are among these
 abbrev pub has_keys : Call → Keys → Bool
 has_keys (Get key) keys = has_key key.index keys
+has_keys (Set key class value) keys = has_key key.index keys
 has_keys (Free key) keys = has_key key.index keys
 has_keys (Sweep name from to) keys = has_range from to keys
 has_keys (Later key) keys = has_key key.index keys
@@ -89,8 +95,8 @@ keys_in (line ∷ lines) = keys_at line + keys_in lines
 
 -- what a thread's call on the line at that place, in that section and after that many keys binds the name to
 abbrev pub call_binding : (place section first : ℕ) → List ℕ → ℕ → Call → Option Binding
-call_binding place section first name thread (Put bound class value) = if bytes_eq bound name then Some (record { keys = One; thread = thread; section = section; line = place; first = first }) else None
-call_binding place section first name thread (Fill bound class count value) = if bytes_eq bound name then Some (record { keys = Many count; thread = thread; section = section; line = place; first = first }) else None
+call_binding place section first name thread (Put bound class value) = if bytes_eq bound name then Some (record { keys = One; class = class; thread = thread; section = section; line = place; first = first }) else None
+call_binding place section first name thread (Fill bound class count value) = if bytes_eq bound name then Some (record { keys = Many count; class = class; thread = thread; section = section; line = place; first = first }) else None
 call_binding place section first name thread _ = None
 
 -- what the line at that place, in that section and after that many keys binds the name to
@@ -106,6 +112,30 @@ binding_from place section first name (line ∷ lines) = option_or (binding_at p
 -- what the lines below the header bind the name to
 abbrev pub binding_of : List ℕ → List Line → Option Binding
 binding_of name lines = binding_from 0 0 0 name lines
+
+-- the keys are bound by a line of the reference's kind: by a put where it is a plain name, and by a fill where it has an index
+abbrev pub is_of_kind : Option ℕ → Keys → Bool
+is_of_kind None One = true
+is_of_kind (Some index) (Many count) = true
+is_of_kind _ _ = false
+
+-- the class that a line of its kind binds the reference with, or that of one word where none of the lines does
+abbrev pub class_named : List Line → Reference → Class
+class_named lines key = option_map_or (λ (b : Binding). if is_of_kind key.index b.keys then b.class else C16) (binding_of key.name lines) C16
+
+-- the call, where a set has the class that the lines bind its key with
+abbrev pub classed_call : List Line → Call → Call
+classed_call lines (Set key class value) = Set key (class_named lines key) value
+classed_call lines call = call
+
+-- the same for a line
+abbrev pub classed : List Line → Line → Line
+classed lines (line.Call thread call) = line.Call thread (classed_call lines call)
+classed lines line = line
+
+-- the line has the class that those lines bind its key with, where it is a set
+abbrev pub HasClass : List Line → Line → Type 0
+HasClass before line = line ≡ classed before line
 
 -- the thread's call ends the thread that is asked for
 abbrev pub call_ends : (asked thread : ℕ) → Call → Bool
@@ -142,17 +172,18 @@ may_follow_adopt _ = true
 
 -- ---- what is wrong with a line
 
--- after those lines a count, or the last word of the last object that the call puts, is outside its range
+-- after those lines a count, or the last word of the last object that the call puts or sets, is outside its range
 abbrev pub is_call_over : List Line → Call → Bool
 is_call_over before (Put name class value) = nat_le (2 ^ 128) (last_word class value)
 is_call_over before (Fill name class count value) = not (nat_le 1 count && nat_le count MOST_KEYS) || nat_le (2 ^ 128) (last_word class (value + count - 1))
+is_call_over before (Set key class value) = nat_le (2 ^ 128) (last_word class value)
 is_call_over before _ = false
 
 -- the call binds a name that those lines bind
 abbrev pub binds_again : List Line → Call → Bool
 binds_again before call = option_map_or (λ name. is_some (binding_of name before)) (bound_name call) false
 
--- the call reads, frees or sends off keys of a name that those lines do not bind to such keys
+-- the call reads, sets, frees or sends off keys of a name that those lines do not bind to such keys
 abbrev pub reads_unknown : List Line → Call → Bool
 reads_unknown before call = option_map_or (λ name. not (option_map_or (λ b. has_keys call b.keys) (binding_of name before) false)) (read_name call) false
 
@@ -160,7 +191,7 @@ reads_unknown before call = option_map_or (λ name. not (option_map_or (λ b. ha
 abbrev pub is_early : (section thread : ℕ) → Binding → Bool
 is_early section thread b = b.section == section && not (b.thread == thread)
 
--- the thread's call reads, frees or sends off keys of a name that another thread binds in the same section
+-- the thread's call reads, sets, frees or sends off keys of a name that another thread binds in the same section
 abbrev pub reads_early : List Line → ℕ → Call → Bool
 reads_early before thread call = option_map_or (λ name. option_map_or (is_early (marks before) thread) (binding_of name before) false) (read_name call) false
 
@@ -197,13 +228,17 @@ first_cause h before line = find (holds h before line) (Limit ∷ Thread ∷ End
 abbrev pub IsSound : Header → List Line → Type 0
 IsSound h lines = (place : ℕ) (line : Line) → slice_get lines place ≡ Some line → first_cause h (take place lines) line ≡ None
 
+-- after those lines the bytes say this line: they have its form, and a set has the class that those lines bind its key with
+abbrev pub SaysAfter : Version → List Line → List ℕ → Line → Type 0
+SaysAfter version before bytes line = HasForm version line bytes × HasClass before line
+
 -- after those lines the bytes are at fault: they have no form, or this cause is the first that holds of them
 abbrev pub HasCause : Header → List Line → List ℕ → Cause → Type 0
-HasCause h before bytes c = ((c ≡ Form) × ((line : Line) → HasForm h.version line bytes → ⊥)) ⊎ ((line : Line) × HasForm h.version line bytes × (first_cause h before line ≡ Some c))
+HasCause h before bytes c = ((c ≡ Form) × ((line : Line) → HasForm h.version line bytes → ⊥)) ⊎ ((line : Line) × SaysAfter h.version before bytes line × (first_cause h before line ≡ Some c))
 
--- after those lines the bytes have the form of this line, and no cause holds of it
+-- after those lines the bytes say this line, and no cause holds of it
 abbrev pub IsNextLine : Header → List Line → List ℕ → Line → Type 0
-IsNextLine h before bytes line = HasForm h.version line bytes × (first_cause h before line ≡ None)
+IsNextLine h before bytes line = SaysAfter h.version before bytes line × (first_cause h before line ≡ None)
 
 -- after those lines the texts are these lines, and none is at fault
 abbrev pub AreReadAs : Header → List Line → List (List ℕ) → List Line → Type 0

@@ -9,10 +9,10 @@ use Rattle.trace_text.specs.Words.{words_of}
 use Rattle.span.specs.declared.class.Class.{Class}
 use Rattle.span.specs.declared.class.Class.TheVariants.{C16, C64, C256}
 use Rattle.trace_text.specs.declared.header.Version.{Version}
-use Rattle.trace_text.specs.declared.header.Version.TheVariants.{One, Two}
+use Rattle.trace_text.specs.declared.header.Version.TheVariants.{One, Two, Three}
 use Rattle.trace_text.specs.declared.name.Reference.{Reference}
 use Rattle.trace_text.specs.declared.line.Call.{Call}
-use Rattle.trace_text.specs.declared.line.Call.TheVariants.{Put, Fill, Get, Free, Sweep, Later, Tend, End}
+use Rattle.trace_text.specs.declared.line.Call.TheVariants.{Put, Fill, Get, Set, Free, Sweep, Later, Tend, End}
 use Rattle.trace_text.specs.declared.line.Line.{Line}
 use Rattle.trace_text.specs.declared.line.Line.TheVariants as line
 
@@ -47,6 +47,10 @@ wide_verbs = codes "put64" ∷ codes "put256" ∷ codes "fill64" ∷ codes "fill
 abbrev pub reading_verbs : List (List ℕ)
 reading_verbs = codes "get" ∷ codes "free" ∷ codes "sweep" ∷ codes "later" ∷ []
 
+-- the verb of calls that replace the object of a key
+abbrev pub set_verb : List ℕ
+set_verb = codes "set"
+
 -- the verbs of calls with no more words
 abbrev pub bare_verbs : List (List ℕ)
 bare_verbs = codes "tend" ∷ codes "end" ∷ []
@@ -55,27 +59,30 @@ bare_verbs = codes "tend" ∷ codes "end" ∷ []
 abbrev pub is_common_verb : List ℕ → Bool
 is_common_verb verb = list_any (bytes_eq verb) binding_verbs || (list_any (bytes_eq verb) reading_verbs || list_any (bytes_eq verb) bare_verbs)
 
--- a thread's call may have the verb, in a trace of each version; the second adds the verbs of objects of more words
+-- a thread's call may have the verb, in a trace of each version; the second adds the verbs of objects of more words, and the third that of sets
 abbrev pub has_verb : Version → List ℕ → Bool
 has_verb One verb = is_common_verb verb
 has_verb Two verb = is_common_verb verb || list_any (bytes_eq verb) wide_verbs
+has_verb Three verb = is_common_verb verb || (list_any (bytes_eq verb) wide_verbs || bytes_eq verb set_verb)
 
 -- the verb of each call
 abbrev pub verb_of : Call → List ℕ
 verb_of (Put name class value) = put_verb class
 verb_of (Fill name class count value) = fill_verb class
 verb_of (Get key) = codes "get"
+verb_of (Set key class value) = set_verb
 verb_of (Free key) = codes "free"
 verb_of (Sweep name from to) = codes "sweep"
 verb_of (Later key) = codes "later"
 verb_of Tend = codes "tend"
 verb_of End = codes "end"
 
--- the words of each call, after its verb
+-- the words of each call, after its verb; the class of a set is in none of them
 abbrev pub words_behind : Call → List Word
 words_behind (Put name class value) = Named name ∷ Number value ∷ []
 words_behind (Fill name class count value) = Named name ∷ Number count ∷ Number value ∷ []
 words_behind (Get key) = Refers key ∷ []
+words_behind (Set key class value) = Refers key ∷ Number value ∷ []
 words_behind (Free key) = Refers key ∷ []
 words_behind (Sweep name from to) = Named name ∷ Number from ∷ Number to ∷ []
 words_behind (Later key) = Refers key ∷ []
@@ -106,12 +113,12 @@ SaysLine version (line.Call thread call) words = (has_verb version (verb_of call
 SaysLine version (line.Adopt shard) words = AreWords words (Verb (codes "adopt") ∷ Number shard ∷ [])
 SaysLine version line.Mark words = AreWords words (Verb (codes "mark") ∷ [])
 
--- in a trace of that version the bytes have the form of this line, whose numbers may be of any size: nothing, a `#` and any bytes, or the words of a thread's call, of an adoption or of a mark
+-- in a trace of that version the bytes have the form of this line, whose numbers may be of any size, and a set may be of any class: nothing, a `#` and any bytes, or the words of a thread's call, of an adoption or of a mark
 abbrev pub HasForm : Version → Line → List ℕ → Type 0
 HasForm version line.Silent bytes = (bytes ≡ []) ⊎ ((remark : List ℕ) × (bytes ≡ codes "#" ++ remark))
 HasForm version line bytes = SaysLine version line (words_of bytes)
 
--- ---- the same as a function of the words
+-- ---- the same as a function of the words, by which a set is of one word
 
 -- a call of this name, where the bytes are a name
 abbrev pub with_name : (List ℕ → Call) → List ℕ → Option Call
@@ -148,6 +155,16 @@ class_filled verb =
 abbrev pub value_call : List ℕ → List ℕ → List ℕ → Option Call
 value_call verb name value = option_and_then (λ class. option_and_then (λ v. with_name (λ n. Put n class v) name) (number_in value)) (class_put verb)
 
+-- a set of this key
+abbrev pub set_call : List ℕ → List ℕ → Option Call
+set_call key value = option_and_then (λ v. option_map (λ k. Set k C16 v) (reference_in key)) (number_in value)
+
+-- a call with a key or a name, and a value
+abbrev pub valued_call : List ℕ → List ℕ → List ℕ → Option Call
+valued_call verb target value =
+    if bytes_eq verb set_verb then set_call target value
+    else value_call verb target value
+
 -- a call of this name and these two numbers
 abbrev pub with_two : (List ℕ → ℕ → ℕ → Call) → List ℕ → List ℕ → List ℕ → Option Call
 with_two call name first second = option_and_then (λ a. option_and_then (λ b. with_name (λ n. call n a b) name) (number_in second)) (number_in first)
@@ -181,7 +198,7 @@ abbrev pub form_of_words : Version → List (List ℕ) → Option Line
 form_of_words version (word ∷ []) = one_word word
 form_of_words version (first ∷ second ∷ []) = two_words version first second
 form_of_words version (thread ∷ verb ∷ key ∷ []) = thread_line version thread verb (key_call verb key)
-form_of_words version (thread ∷ verb ∷ name ∷ value ∷ []) = thread_line version thread verb (value_call verb name value)
+form_of_words version (thread ∷ verb ∷ target ∷ value ∷ []) = thread_line version thread verb (valued_call verb target value)
 form_of_words version (thread ∷ verb ∷ name ∷ first ∷ second ∷ []) = thread_line version thread verb (counted_call verb name first second)
 form_of_words version _ = None
 

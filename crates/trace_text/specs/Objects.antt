@@ -1,4 +1,4 @@
--- The objects that lines put: each counts up from its base.
+-- The objects that lines put and set: each counts up from its base.
 use Rattle.std.specs.Prelude.{ℕ, ◌+◌, ◌-◌, List}
 use Rattle.std.specs.List.{range_with_len}
 use Rattle.span.specs.Classes.{width_of}

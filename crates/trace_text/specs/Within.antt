@@ -5,7 +5,7 @@ use Rattle.trace_text.specs.Reference.{clip_reference}
 use Rattle.trace_text.specs.Causes.{HasCause, IsNextLine, binds_again, has_ended, holds, is_call, reads_early, reads_unknown}
 use Rattle.trace_text.specs.declared.header.Header.{Header}
 use Rattle.trace_text.specs.declared.line.Call.{Call}
-use Rattle.trace_text.specs.declared.line.Call.TheVariants.{Put, Fill, Get, Free, Sweep, Later}
+use Rattle.trace_text.specs.declared.line.Call.TheVariants.{Put, Fill, Get, Set, Free, Sweep, Later}
 use Rattle.trace_text.specs.declared.line.Line.{Line}
 use Rattle.trace_text.specs.declared.line.Line.TheVariants as line
 use Rattle.trace_text.specs.declared.cause.Cause.{Cause}
@@ -14,6 +14,7 @@ use Rattle.trace_text.specs.declared.cause.Cause.TheVariants.{Form, Limit, Threa
 -- an index or a count that does not fit is kept as the greatest that does
 abbrev pub clip_call : Call → Call
 clip_call (Get key) = Get (clip_reference key)
+clip_call (Set key class value) = Set (clip_reference key) class value
 clip_call (Free key) = Free (clip_reference key)
 clip_call (Sweep name from to) = Sweep name (clip from) (clip to)
 clip_call (Fill name class count value) = Fill name class (clip count) value
@@ -30,6 +31,7 @@ clip_line line = line
 abbrev pub is_value_over : Call → Bool
 is_value_over (Put name class value) = nat_le (2 ^ 128) value
 is_value_over (Fill name class count value) = nat_le (2 ^ 128) value
+is_value_over (Set key class value) = nat_le (2 ^ 128) value
 is_value_over _ = false
 
 -- the call as it is kept, or what its text alone shows to be wrong

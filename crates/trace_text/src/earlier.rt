@@ -1,7 +1,7 @@
 //! What is kept of the lines before a line.
 
 ghost use Rattle.std.specs.Prelude.{◌≡◌, ◌+◌, ◌-◌, ◌<◌, ◌^◌, List, IfOk, OnOk, is_some, nat_le};
-ghost use Rattle.trace_text.specs.Causes.{binds_again, call_ends, is_call, is_call_over, keys_at, marks_at};
+ghost use Rattle.trace_text.specs.Causes.{binds_again, call_ends, class_named, classed, classed_call, is_call, is_call_over, keys_at, marks_at};
 ghost use Rattle.trace_text.specs.Objects.{last_word};
 ghost use Rattle.trace_text.specs.Places.{place_at, place_by, unless};
 ghost use Rattle.trace_text.specs.Within.{cause_but_bound, read_cause, thread_cause};
@@ -11,7 +11,7 @@ ghost use Rattle.trace_text.specs.declared.line.Line.TheVariants as line;
 use super::cause::Cause;
 use super::header::Header;
 use super::line::{Binding, Call, Keys, Line};
-use super::name::Name;
+use super::name::{Name, Reference};
 use span::Class;
 use std::alloc::{AllocError, Global};
 use std::collections::{HashMap, HashSet};
@@ -78,6 +78,37 @@ impl Earlier {
         self.awaits_mark
     }
 
+    /// The class that a line of its kind binds the reference with, or that of one word where none does.
+    fn class_of(&self, key: &Reference) -> Class
+        ensures { (before : List Line) → Knows before self.now
+            → result ≡ class_named before key.now }
+    {
+        match self.binding(&key.name) {
+            Some(binding) if key.is_of_kind(binding.keys) => binding.class,
+            _ => Class::C16,
+        }
+    }
+
+    /// Gives a call the class that its key is bound with, where it is a set.
+    fn give_call_class(&self, call: &mut Call)
+        ensures { (before : List Line) → Knows before self.now
+            → call.new ≡ classed_call before call.old }
+    {
+        if let Call::Set { key, class, .. } = call {
+            *class = self.class_of(key);
+        }
+    }
+
+    /// Gives a line after those the class that they bind its key with, where it is a set.
+    pub fn give_class(&self, line: &mut Line)
+        ensures { (before : List Line) → Knows before self.now
+            → line.new ≡ classed before line.old }
+    {
+        if let Line::Call { call, .. } = line {
+            self.give_call_class(call);
+        }
+    }
+
     /// Whether a number of the call is outside its range, after those lines.
     fn is_over(&self, call: &Call) -> bool
         ensures { (before : List Line) → Knows before self.now
@@ -91,6 +122,7 @@ impl Earlier {
                 value,
                 ..
             } => *count == 0 || *count > MOST_KEYS || ends_over(*class, *count, *value),
+            Call::Set { class, value, .. } => ends_over(*class, 1, *value),
             _ => false,
         }
     }
@@ -197,18 +229,22 @@ impl Earlier {
     {
         let section = self.section;
         let first = self.keys;
-        let binding = |keys| Binding {
+        let binding = |keys, class| Binding {
             keys,
+            class,
             thread,
             section,
             line: place,
             first,
         };
         match call {
-            Call::Put { name, .. } => self.bind(name, binding(Keys::One), 1),
-            Call::Fill { name, count, .. } => {
-                self.bind(name, binding(Keys::Many(*count)), *count as usize)
-            }
+            Call::Put { name, class, .. } => self.bind(name, binding(Keys::One, *class), 1),
+            Call::Fill {
+                name,
+                class,
+                count,
+                ..
+            } => self.bind(name, binding(Keys::Many(*count), *class), *count as usize),
             Call::End => {
                 self.ended.insert(thread)?;
                 Ok(false)

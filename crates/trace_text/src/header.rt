@@ -5,7 +5,7 @@ ghost use Rattle.std.specs.Int.{IsInRange};
 ghost use Rattle.certificate.specs.Words.{contents_of};
 ghost use Rattle.std.specs.List.{list_any};
 ghost use Rattle.std.specs.Str.{bytes_eq};
-ghost use Rattle.trace_text.specs.Form.{bare_verbs, binding_verbs, reading_verbs, wide_verbs};
+ghost use Rattle.trace_text.specs.Form.{bare_verbs, binding_verbs, reading_verbs, set_verb, wide_verbs};
 ghost use Rattle.trace_text.specs.Header.{BeginWith, FailsField, FailsHeader, HasHeader, IsWithinLimits, Opening, Size, field_in, number_of, opening_of};
 ghost use Rattle.trace_text.specs.Number.{IsOutside, KeepsNumber};
 ghost use Rattle.trace_text.specs.Words.{lines_of, words_of};
@@ -24,6 +24,8 @@ pub enum Version {
     One,
     /// The first line is `mesh 2`: objects of four and of sixteen words are put too.
     Two,
+    /// The first line is `mesh 3`: objects of all sizes are put, and set.
+    Three,
 }
 
 /// Whether the verb is one of a call that binds a name to objects of one word.
@@ -50,6 +52,13 @@ fn reads(verb: &[u8]) -> bool
     matches!(verb, b"get" | b"free" | b"sweep" | b"later")
 }
 
+/// Whether the verb is that of a call that replaces the object of a key.
+fn sets(verb: &[u8]) -> bool
+    ensures { result ≡ bytes_eq verb.now set_verb }
+{
+    verb == b"set".as_slice()
+}
+
 /// Whether the verb is one of a call with no more words.
 fn is_bare(verb: &[u8]) -> bool
     ensures { result ≡ list_any (bytes_eq verb.now) bare_verbs }
@@ -71,6 +80,7 @@ impl Version {
         match self {
             Version::One => in_each,
             Version::Two => in_each || binds_wide(verb),
+            Version::Three => in_each || binds_wide(verb) || sets(verb),
         }
     }
 }
@@ -129,6 +139,7 @@ fn version_of(line: &[u8]) -> Option<Version>
     match line {
         b"mesh 1" => Some(Version::One),
         b"mesh 2" => Some(Version::Two),
+        b"mesh 3" => Some(Version::Three),
         _ => None,
     }
 }

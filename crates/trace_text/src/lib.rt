@@ -29,8 +29,11 @@
 //! `fill`. They put objects of 4 and of 16 words. The first word of an object is the value, and each further word is one more
 //! than the word before it; the objects of a fill begin with the value, with one more than that, and so on.
 //!
+//! A trace whose first line is `mesh 3` may have all of these, and also `0 set a 8`, which replaces the object of a key by the one
+//! that begins with the value and has the class that the key was bound with.
+//!
 //! A shard has 1 to 1,024 pages, a ring 1 to 1,024 places, and a slot 1 to 4,294,967,295
-//! generations. A fill has 1 to 262,144 keys. Each word of an object, the last one of a fill too, is below 2^128.
+//! generations. A fill has 1 to 262,144 keys. Each word of an object, the last one of a fill or of a set too, is below 2^128.
 //!
 //! `parse` gives the trace that a text spells, or the first line at fault and, of the causes that
 //! hold of it, the first in the order of `Cause`.

@@ -24,6 +24,13 @@ pub enum Call {
     Get {
         key: Reference,
     },
+    /// Replaces the object of a key by the one of the class that counts up from `value`. The class is in none of the line's words:
+    /// it is that of the line which binds the key's name.
+    Set {
+        key: Reference,
+        class: Class,
+        value: u128,
+    },
     /// Frees a key.
     Free {
         key: Reference,
@@ -71,6 +78,8 @@ pub enum Keys {
 pub struct Binding {
     /// The keys that it stands for.
     pub keys: Keys,
+    /// The class of the objects that the line puts under them.
+    pub class: Class,
     /// The thread whose line binds it.
     pub thread: u32,
     /// How many marks stand above that line.
@@ -83,7 +92,7 @@ pub struct Binding {
 
 impl Reference {
     ghost use Rattle.std.specs.Prelude.{◌≡◌};
-    ghost use Rattle.trace_text.specs.Causes.{has_key};
+    ghost use Rattle.trace_text.specs.Causes.{has_key, is_of_kind};
 
     /// Whether it refers to one of those keys.
     pub fn is_among(&self, keys: Keys) -> bool
@@ -92,6 +101,16 @@ impl Reference {
         match (keys, self.index) {
             (Keys::One, None) => true,
             (Keys::Many(count), Some(index)) => index < count,
+            _ => false,
+        }
+    }
+
+    /// Whether a line of its kind binds those keys: a put where it is a name alone, and a fill where it has an index.
+    pub fn is_of_kind(&self, keys: Keys) -> bool
+        ensures { result ≡ is_of_kind self.now.index keys }
+    {
+        match (keys, self.index) {
+            (Keys::One, None) | (Keys::Many(_), Some(_)) => true,
             _ => false,
         }
     }
@@ -111,23 +130,25 @@ impl Call {
         }
     }
 
-    /// The name whose keys the call reads, frees or sends off.
+    /// The name whose keys the call reads, sets, frees or sends off.
     pub fn read_name(&self) -> Option<&Name>
         ensures { option_map (λ name. name.now) result ≡ read_name self.now }
     {
         match self {
             Call::Get { key } | Call::Free { key } | Call::Later { key } => Some(&key.name),
+            Call::Set { key, .. } => Some(&key.name),
             Call::Sweep { name, .. } => Some(name),
             _ => None,
         }
     }
 
-    /// Whether the keys that the call reads, frees or sends off are among those.
+    /// Whether the keys that the call reads, sets, frees or sends off are among those.
     pub fn has_keys(&self, keys: Keys) -> bool
         ensures { result ≡ has_keys self.now keys }
     {
         match self {
             Call::Get { key } | Call::Free { key } | Call::Later { key } => key.is_among(keys),
+            Call::Set { key, .. } => key.is_among(keys),
             Call::Sweep { from, to, .. } => match keys {
                 Keys::One => false,
                 Keys::Many(count) => from <= to && *to <= count,

@@ -34,7 +34,8 @@ fn next_line(header: &Header, earlier: &Earlier, text: &[u8]) -> Result<(Line, u
     ensures err { (before : List Line) → Knows before earlier.now
         → IfErr result (HasCause header.now before text.now) }
 {
-    let line = read_line(header.version, text)?;
+    let mut line = read_line(header.version, text)?;
+    earlier.give_class(&mut line);
     match earlier.place_of(header, &line) {
         Ok(place) => Ok((line, place)),
         Err(cause) => Err(cause),

@@ -1,7 +1,7 @@
 //! Reads lines.
 
 ghost use Rattle.std.specs.Prelude.{◌≡◌, Option};
-ghost use Rattle.trace_text.specs.Form.{adopt_line, bare_call, class_filled, class_put, counted_call, form_of, form_of_words, key_call, one_word, thread_line, two_words, value_call, with_two};
+ghost use Rattle.trace_text.specs.Form.{adopt_line, bare_call, class_filled, class_put, counted_call, form_of, form_of_words, key_call, one_word, set_call, thread_line, two_words, value_call, valued_call, with_two};
 ghost use Rattle.certificate.specs.Words.{contents_of};
 ghost use Rattle.trace_text.specs.Within.{within, within_call};
 ghost use Rattle.trace_text.specs.declared.line.Call.{Call};
@@ -79,6 +79,33 @@ fn value_call(verb: &[u8], name: &[u8], value: &[u8]) -> Result<Call, Cause>
         None => Err(Cause::Form),
         Some(Number::Large) => Err(Cause::Limit),
         Some(Number::Fits(value)) => Ok(Call::Put { name, class, value }),
+    }
+}
+
+/// A set. Its class is that of the line that binds the name, of which its words say nothing: here it is of one word.
+fn set_call(key: &[u8], value: &[u8]) -> Result<Call, Cause>
+    ensures { result ≡ within_call (set_call key.now value.now) }
+{
+    let key = Reference::new(key).ok_or(Cause::Form)?;
+    match parse_number(value) {
+        None => Err(Cause::Form),
+        Some(Number::Large) => Err(Cause::Limit),
+        Some(Number::Fits(value)) => Ok(Call::Set {
+            key,
+            class: Class::C16,
+            value,
+        }),
+    }
+}
+
+/// A call with a key or a name, and a value.
+fn valued_call(verb: &[u8], target: &[u8], value: &[u8]) -> Result<Call, Cause>
+    ensures { result ≡ within_call (valued_call verb.now target.now value.now) }
+{
+    if verb == b"set".as_slice() {
+        set_call(target, value)
+    } else {
+        value_call(verb, target, value)
     }
 }
 
@@ -181,8 +208,8 @@ fn line_of_words(version: Version, words: &[&[u8]]) -> Result<Line, Cause>
         [word] => one_word(word),
         [first, second] => two_words(version, first, second),
         [thread, verb, key] => thread_line(version, thread, verb, key_call(verb, key)),
-        [thread, verb, name, value] => {
-            thread_line(version, thread, verb, value_call(verb, name, value))
+        [thread, verb, target, value] => {
+            thread_line(version, thread, verb, valued_call(verb, target, value))
         }
         [thread, verb, name, first, second] => {
             thread_line(

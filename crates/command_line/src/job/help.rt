@@ -3,8 +3,8 @@
 /// Of the program itself.
 pub const PROGRAM_HELP: &str = "\
 A trace is a text with one call on a line, as threads of a program might make them: one puts a
-value under a new key, looks a key up, or frees it. A certificate is a text that shows that no plan
-of folding groups onto one another has more folds than its own.
+value under a new key, looks a key up, sets it to another value, or frees it. A certificate is a text
+that shows that no plan of folding groups onto one another has more folds than its own.
 docs/FORMATS.md describes traces, reports and certificates, and examples/ has some of each.
 
 Examples:
@@ -52,8 +52,10 @@ The other lines, where T is a thread and S a shard:
   adopt S                at the next mark the shard takes a group of the pool
   mark                   all threads meet, and as many folds as possible are planned
 
-Where the first line is mesh 2, put64, put256, fill64 and fill256 put objects of 4 and of 16 words,
-which hold V, V+1, .., and are found so.
+Where the first line is mesh 2 or mesh 3, put64, put256, fill64 and fill256 put objects of 4 and of
+16 words, which hold V, V+1, .., and are found so. Where it is mesh 3, there is one line more:
+
+  T set NAME V           replaces the value of the key by V, or by V, V+1, .., as wide as before
 
 docs/FORMATS.md describes traces and reports, and examples/ has some of each.
 

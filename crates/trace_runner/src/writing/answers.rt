@@ -38,6 +38,8 @@ fn push_answer(out: &mut Vec<u8>, answer: &Answer) -> Result<(), AllocError>
             push_number_words(out, object.words())
         }
         Answer::Absent => out.extend_from_slice(b"none"),
+        Answer::Replaced => out.extend_from_slice(b"yes"),
+        Answer::NotReplaced => out.extend_from_slice(b"no"),
         Answer::Freed => out.extend_from_slice(b"yes"),
         Answer::NotFreed => out.extend_from_slice(b"no"),
         Answer::Unbound => out.extend_from_slice(b"unbound"),

@@ -8,7 +8,7 @@ use Rattle.trace_text.proofs.reading.line_of_words.Goals as goal
 use Rattle.trace_text.proofs.reading.line_of_words.Goals.{in_default-via-then-words-lt1, in_default-via-else-words-lt1+else-words-lt2+else-words-lt3+else-words-lt4+else-words-lt5+else-words-lt6}
 
 pub returns-in-len4 : goal.returns-in-len4
-returns-in-len4 c = c.thread_line-in-len4.ensures _ c.value_call.ensures ∙ ap within (form_of_words-four c.args.version c.args.words.now _ _ _ _ (omega (arith, ltb-true, ltb-false)))
+returns-in-len4 c = c.thread_line-in-len4.ensures _ c.valued_call.ensures ∙ ap within (form_of_words-four c.args.version c.args.words.now _ _ _ _ (omega (arith, ltb-true, ltb-false)))
 
 pub returns-in-len5 : goal.returns-in-len5
 returns-in-len5 c = c.thread_line-in-len5.ensures _ c.counted_call.ensures ∙ ap within (form_of_words-five c.args.version c.args.words.now _ _ _ _ _ (omega (arith, ltb-true, ltb-false)))

@@ -3,6 +3,9 @@ use Rattle.trace_runner.proofs.run.Run.thread_call.Goals as goal
 pub returns-in-Get-clause-made : goal.returns-in-Get-clause-made
 returns-in-Get-clause-made c done finds = rw (c.in-Get.is, ← c.key_of-key.ensures.found done (rw c.in-Get.is at finds)) c.get.ensures.made
 
+pub returns-in-Set-clause-made : goal.returns-in-Set-clause-made
+returns-in-Set-clause-made c done finds = rw (c.in-Set.is, ← c.key_of-key-in-Set.ensures.found done (rw c.in-Set.is at finds)) c.set.ensures.made
+
 pub returns-in-Free-clause-made : goal.returns-in-Free-clause-made
 returns-in-Free-clause-made c done finds = rw (c.in-Free.is, ← c.key_of-key-in-Free.ensures.found done (rw c.in-Free.is at finds)) c.free.ensures.made
 
