@@ -149,6 +149,14 @@ struct teurlaks_put_reply teurlaks_put_words(struct teurlaks_handle *handle, uin
  * `words` is not NULL, and may point anywhere where words_len is 0. */
 struct teurlaks_words_reply teurlaks_get_words(struct teurlaks_handle *handle, struct teurlaks_key key, struct teurlaks_word *words, size_t words_len);
 
+/* Sets the key to an object of one word, where it is live and has an object of one word, else TEURLAKS_NONE. The key stays, and so does
+ * where its object stands. Takes no memory, and refuses with TEURLAKS_OUT_OF_MEMORY after 2^63 changes of a span alone. */
+uint32_t teurlaks_set(struct teurlaks_handle *handle, struct teurlaks_key key, struct teurlaks_word value);
+
+/* Sets the key to an object of 1, 4 or 16 words, where its object has as many, as teurlaks_set does with one; another number is
+ * TEURLAKS_CONFIG. `words` is not NULL. */
+uint32_t teurlaks_set_words(struct teurlaks_handle *handle, struct teurlaks_key key, const struct teurlaks_word *words, size_t words_len);
+
 /* Frees the key, or TEURLAKS_NONE. Takes no memory. */
 uint32_t teurlaks_free(struct teurlaks_handle *handle, struct teurlaks_key key);
 

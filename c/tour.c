@@ -71,12 +71,22 @@ static void bytes_of_each_number(void) {
         WANT((teurlaks_get(&core, put[len].key).status == TEURLAKS_OK) == (words_len == 1));
         WANT(teurlaks_get_words(&core, put[len].key, words, 16).len == words_len);
         WANT(teurlaks_get_words(&core, put[len].key, words, words_len - 1).status == TEURLAKS_TOO_SMALL);
+        for (size_t i = 0; i < words_len; i++) words[i] = word(len + i);
+        WANT(teurlaks_set_words(&core, put[len].key, words, words_len) == TEURLAKS_OK);
+        WANT(teurlaks_get_words(&core, put[len].key, words, 16).len == words_len && words[words_len - 1].low == len + words_len - 1);
+        WANT(teurlaks_set(&core, put[len].key, word(7)) == (words_len == 1 ? TEURLAKS_OK : TEURLAKS_NONE));
+        WANT(teurlaks_set_words(&core, put[len].key, words, words_len == 4 ? 16 : 4) == TEURLAKS_NONE);
+        WANT(teurlaks_set_bytes(&core, put[len].key, bytes, len) == TEURLAKS_OK);
+        WANT(teurlaks_get_bytes(&core, put[len].key, found, len) == TEURLAKS_OK && !memcmp(found, bytes, len));
         WANT(teurlaks_free(&core, put[len].key) == TEURLAKS_OK);
         WANT(teurlaks_get_bytes(&core, put[len].key, found, len) == TEURLAKS_NONE);
+        WANT(teurlaks_set_words(&core, put[len].key, words, words_len) == TEURLAKS_NONE);
     }
     WANT(teurlaks_put_bytes(&core, 0, bytes, 0).status == TEURLAKS_CONFIG);
     WANT(teurlaks_put_bytes(&core, 0, bytes, 257).status == TEURLAKS_CONFIG);
+    WANT(teurlaks_set_bytes(&core, put[1].key, bytes, 257) == TEURLAKS_CONFIG);
     WANT(teurlaks_put_words(&core, 0, (struct teurlaks_word[2]){word(1), word(2)}, 2).status == TEURLAKS_CONFIG);
+    WANT(teurlaks_set_words(&core, put[1].key, (struct teurlaks_word[2]){word(1), word(2)}, 2) == TEURLAKS_CONFIG);
     teurlaks_drop(&core);
 }
 

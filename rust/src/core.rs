@@ -140,19 +140,18 @@ impl Core {
     /// ```
     #[inline]
     pub fn insert_bytes(&mut self, shard: u32, bytes: &[u8]) -> Result<BytesKey, Refused> {
-        if bytes.is_empty() || bytes.len() > MOST_BYTES {
-            return Err(Refused::Config);
-        }
-        let mut words = [MaybeUninit::<u128>::uninit(); MOST_WORDS];
-        let first = words.as_mut_ptr().cast::<u128>();
-        let len = words_for(bytes.len());
-        // SAFETY: there is room for the bytes in so many words, which are zeros before.
-        let key = unsafe {
-            first.write_bytes(0, len);
-            first.cast::<u8>().copy_from_nonoverlapping(bytes.as_ptr(), bytes.len());
-            self.put_words(shard, first, len)
-        };
-        Ok(BytesKey::new(key?, bytes.len()))
+        // SAFETY: so many words stand there.
+        let key = words_of(bytes, |first, len| unsafe { self.put_words(shard, first, len) })?;
+        Ok(BytesKey::new(key, bytes.len()))
+    }
+
+    /// Sets the key of this name to 1 to 256 bytes, and gives the name that they have from now on: where the key is live and they take an
+    /// object of the size of its own. Another number is refused with [`Refused::Config`].
+    #[inline]
+    pub fn set_bytes(&mut self, key: BytesKey, bytes: &[u8]) -> Result<Option<BytesKey>, Refused> {
+        // SAFETY: so many words stand there.
+        let done = words_of(bytes, |first, len| unsafe { self.set_all_words(key.key(), first, len) })?;
+        Ok(done.then(|| BytesKey::new(key.key(), bytes.len())))
     }
 
     /// Keeps an object of the words that stand there.
@@ -199,6 +198,54 @@ impl Core {
     pub fn contains(&self, key: Key) -> bool {
         // SAFETY: as in `insert`.
         unsafe { raw::teurlaks_get(self.handle.get(), key.0).status != raw::NONE }
+    }
+
+    /// Sets the key to an object of this word in place, and says whether it did: where the key is live and has an object of one word. The
+    /// key stays as it is, also while a plan is open.
+    ///
+    /// It takes no memory. It is refused with [`Refused::OutOfMemory`] after 2^63 changes of a span alone.
+    ///
+    /// ```
+    /// # use teurlaks::{Core, Limits};
+    /// let mut core = Core::new(Limits::default())?;
+    /// let key = core.insert(0, 7)?;
+    /// assert!(core.set(key, 8)?);
+    /// assert_eq!(core.replace(key, 9)?, Some(8));
+    /// assert_eq!(core.remove(key), Some(9));
+    /// assert!(!core.set(key, 10)?); // the key is not live
+    /// # Ok::<(), teurlaks::Refused>(())
+    /// ```
+    #[inline]
+    pub fn set(&mut self, key: Key, word: u128) -> Result<bool, Refused> {
+        // SAFETY: as in `insert`.
+        was_set(unsafe { raw::teurlaks_set(self.handle.get(), key.0, halves(word)) })
+    }
+
+    /// Sets the key to an object of these words, as [`Core::set`] does with one, where its object has as many. Another number than 1, 4 or 16
+    /// is refused with [`Refused::Config`].
+    #[inline]
+    pub fn set_words(&mut self, key: Key, words: &[u128]) -> Result<bool, Refused> {
+        // SAFETY: so many words are there.
+        unsafe { self.set_all_words(key, words.as_ptr(), words.len()) }
+    }
+
+    /// Sets the key to an object of the words that stand there.
+    ///
+    /// # Safety
+    ///
+    /// As of [`Core::put_words`].
+    #[inline]
+    pub(crate) unsafe fn set_all_words(&mut self, key: Key, first: *const u128, len: usize) -> Result<bool, Refused> {
+        // SAFETY: as in `put_words`.
+        was_set(unsafe { raw::teurlaks_set_words(self.handle.get(), key.0, first.cast(), len) })
+    }
+
+    /// Sets the key to an object of this word, and gives the one that it had, where it is live and has an object of one word; else nothing
+    /// changes. It is refused as [`Core::set`] is.
+    #[inline]
+    pub fn replace(&mut self, key: Key, word: u128) -> Result<Option<u128>, Refused> {
+        let before = self.get(key);
+        Ok(if self.set(key, word)? { before } else { None })
     }
 
     /// Frees the key, and says whether it was live. It takes no memory.
@@ -459,6 +506,33 @@ const NO_KEY: raw::RawKey = raw::RawKey {
 fn done(status: u32) -> Result<(), Refused> {
     match status {
         raw::OK => Ok(()),
+        other => Err(Refused::of(other)),
+    }
+}
+
+// Lends the words of the least object that holds the bytes, and how many they are.
+#[inline]
+fn words_of<R>(bytes: &[u8], keep: impl FnOnce(*const u128, usize) -> Result<R, Refused>) -> Result<R, Refused> {
+    if bytes.is_empty() || bytes.len() > MOST_BYTES {
+        return Err(Refused::Config);
+    }
+    let mut words = [MaybeUninit::<u128>::uninit(); MOST_WORDS];
+    let first = words.as_mut_ptr().cast::<u128>();
+    let len = words_for(bytes.len());
+    // SAFETY: there is room for the bytes in so many words, which are zeros before.
+    unsafe {
+        first.write_bytes(0, len);
+        first.cast::<u8>().copy_from_nonoverlapping(bytes.as_ptr(), bytes.len());
+    }
+    keep(first, len)
+}
+
+// What the status of a set says.
+#[inline]
+fn was_set(status: u32) -> Result<bool, Refused> {
+    match status {
+        raw::OK => Ok(true),
+        raw::NONE => Ok(false),
         other => Err(Refused::of(other)),
     }
 }

@@ -100,6 +100,8 @@ extern "C" {
     pub fn teurlaks_get(handle: *mut Handle, key: RawKey) -> GetReply;
     pub fn teurlaks_put_words(handle: *mut Handle, shard: u32, words: *const RawWord, words_len: usize) -> PutReply;
     pub fn teurlaks_get_words(handle: *mut Handle, key: RawKey, words: *mut RawWord, words_len: usize) -> WordsReply;
+    pub fn teurlaks_set(handle: *mut Handle, key: RawKey, value: RawWord) -> u32;
+    pub fn teurlaks_set_words(handle: *mut Handle, key: RawKey, words: *const RawWord, words_len: usize) -> u32;
     pub fn teurlaks_free(handle: *mut Handle, key: RawKey) -> u32;
     pub fn teurlaks_next(handle: *mut Handle, after: RawKey) -> NextReply;
     pub fn teurlaks_totals(handle: *mut Handle) -> TotalsReply;

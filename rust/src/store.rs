@@ -30,7 +30,7 @@ use std::mem::{size_of, MaybeUninit};
 /// # Ok::<(), teurlaks::Refused>(())
 /// ```
 pub struct Store<T> {
-    // SAFETY: only `insert_in` puts into it, so that each live key's object begins with the bytes of a `T`.
+    // SAFETY: only `insert_in` puts into it and only `set` sets its objects, so that each live key's object begins with the bytes of a `T`.
     core: Core,
     values: PhantomData<T>,
 }
@@ -63,16 +63,23 @@ impl<T: Copy> Store<T> {
     /// Keeps a value in the shard.
     #[inline]
     pub fn insert_in(&mut self, shard: u32, value: T) -> Result<Key, Refused> {
-        let mut words = [MaybeUninit::<u128>::uninit(); MOST_WORDS];
-        let first = words.as_mut_ptr().cast::<u128>();
-        let len = words_for(size_of::<T>());
-        // SAFETY: the words have room for the value, whatever its alignment. Those that it does not fill are zeros before; bytes within the value
-        // that it does not use are copied and never read, since the library looks into no word.
-        unsafe {
-            first.write_bytes(0, len);
-            first.cast::<T>().write_unaligned(value);
-            self.core.put_words(shard, first, len)
-        }
+        // SAFETY: so many words stand there.
+        as_words(value, |first, len| unsafe { self.core.put_words(shard, first, len) })
+    }
+
+    /// Sets the key to the value in place, and says whether it did: where it is live. It takes no memory, and is refused as
+    /// [`Core::set`](crate::Core::set) is.
+    #[inline]
+    pub fn set(&mut self, key: Key, value: T) -> Result<bool, Refused> {
+        // SAFETY: so many words stand there.
+        as_words(value, |first, len| unsafe { self.core.set_all_words(key, first, len) })
+    }
+
+    /// Sets the key to the value, and gives the one that it had, where it is live; else nothing changes.
+    #[inline]
+    pub fn replace(&mut self, key: Key, value: T) -> Result<Option<T>, Refused> {
+        let before = self.get(key);
+        Ok(if self.set(key, value)? { before } else { None })
     }
 
     /// The value of the key, where it is live.
@@ -118,6 +125,21 @@ impl<T> Store<T> {
     }
 
     crate::core::meshing!();
+}
+
+/// Lends the words of the least object that holds the value, and how many they are.
+#[inline]
+fn as_words<T: Copy, R>(value: T, keep: impl FnOnce(*const u128, usize) -> R) -> R {
+    let mut words = [MaybeUninit::<u128>::uninit(); MOST_WORDS];
+    let first = words.as_mut_ptr().cast::<u128>();
+    let len = words_for(size_of::<T>());
+    // SAFETY: the words have room for the value, whatever its alignment. Those that it does not fill are zeros before; bytes within the value
+    // that it does not use are copied and never read, since the library looks into no word.
+    unsafe {
+        first.write_bytes(0, len);
+        first.cast::<T>().write_unaligned(value);
+    }
+    keep(first, len)
 }
 
 impl<T: Copy + fmt::Debug> fmt::Debug for Store<T> {

@@ -113,6 +113,20 @@ fn plain_values_of_each_size() -> Result<(), Refused> {
     round_trip(value, Padded { even: None, ..value })
 }
 
+/// Other bytes stand under the same key, where they take an object of the same size.
+#[test]
+fn bytes_are_set_in_place() -> Result<(), Refused> {
+    let mut core = Core::new(Limits::default())?;
+    let key = core.insert_bytes(0, &[1; 17])?;
+    let longer = core.set_bytes(key, &[2; 64])?.expect("both take 64 bytes");
+    assert_eq!(core.set_bytes(longer, &[3; 65])?, None);
+    assert_eq!(core.set_bytes(longer, &[]), Err(Refused::Config));
+    assert_eq!(core.get_bytes(longer).as_deref(), Some(&[2; 64][..]));
+    core.free(longer.key());
+    assert_eq!(core.set_bytes(longer, &[4; 64])?, None);
+    Ok(())
+}
+
 /// What is folded stays where its key finds it.
 #[test]
 fn a_store_gives_pages_back() -> Result<(), Refused> {

@@ -212,7 +212,7 @@ fn exported() -> Declarations {
             &mut declarations,
         );
     }
-    assert_eq!(declarations.functions.len(), 16);
+    assert_eq!(declarations.functions.len(), 18);
     assert_eq!(declarations.structs.len(), 14);
     declarations
 }

@@ -1,24 +1,11 @@
 //! Beside a map of std, on random calls; and each value is dropped once.
 
+mod common;
+
+use common::Random;
 use std::collections::HashMap;
 use std::rc::Rc;
-use teurlaks::{Core, Key, Limits, Refused, Slab};
-
-/// Marsaglia's xorshift.
-struct Random(u64);
-
-impl Random {
-    fn next(&mut self) -> u64 {
-        self.0 ^= self.0 << 13;
-        self.0 ^= self.0 >> 7;
-        self.0 ^= self.0 << 17;
-        self.0
-    }
-
-    fn below(&mut self, count: usize) -> usize {
-        (self.next() % count as u64) as usize
-    }
-}
+use teurlaks::{Core, Key, Limits, Refused, Slab, Stepped, Store};
 
 /// By the shard that opened the span, its serial there, and the slot.
 fn sorted<'k>(keys: impl Iterator<Item = &'k Key>) -> impl Iterator<Item = Key> {
@@ -48,7 +35,7 @@ fn finds(core: &Core, key: Key, wanted: Option<&Vec<u128>>) -> bool {
         && core.contains(key) == wanted.is_some()
 }
 
-/// A million puts, frees, look-ups, ends, adoptions and meshes, of live keys, stale ones and made-up ones, and of objects of each class.
+/// A million puts, frees, sets, look-ups, ends, adoptions and meshes, of live keys, stale ones and made-up ones, and of objects of each class.
 #[test]
 fn a_million_calls_as_a_map() -> Result<(), Refused> {
     let mut random = Random(7);
@@ -68,7 +55,15 @@ fn a_million_calls_as_a_map() -> Result<(), Refused> {
                 assert_eq!(map.insert(key, words), None, "{key} was given out twice");
                 keys.push(key);
             }
-            (6..=10, Some(key)) => assert!(finds(&core, key, map.get(&key)), "{key}"),
+            (6..=9, Some(key)) => assert!(finds(&core, key, map.get(&key)), "{key}"),
+            (10, Some(key)) => {
+                let words = words(call, &mut random);
+                let fits = map.get(&key).is_some_and(|held| held.len() == words.len());
+                assert_eq!(core.set_words(key, &words)?, fits, "{key}");
+                if fits {
+                    map.insert(key, words);
+                }
+            }
             (11..=14, Some(key)) => assert_eq!(core.free(key), map.remove(&key).is_some()),
             (_, Some(key)) => {
                 let key = Key::from_bits(key.to_bits() ^ 1 << random.below(64));
@@ -98,6 +93,45 @@ fn a_million_calls_as_a_map() -> Result<(), Refused> {
     let some: Vec<Key> = core.drain().take(100).map(|(key, _)| key).collect();
     assert!(some.into_iter().eq(sorted(map.keys()).take(100)));
     assert_eq!((core.len(), core.next_live(None)), (0, None));
+    Ok(())
+}
+
+/// A set finds its key wherever it is: at home, in the pool, as a guest, and between a mark and its step at each side of the pair.
+#[test]
+fn sets_in_place() -> Result<(), Refused> {
+    let mut core = Core::new(Limits {
+        shards: 2,
+        ..Limits::default()
+    })?;
+    let stale = core.insert(0, 1)?;
+    let pooled = core.insert(0, 2)?;
+    let wide = core.insert_words(0, &[3; 4])?;
+    core.free(stale);
+    let owned = core.insert(1, 4)?;
+    assert!(core.set(pooled, 12)? && core.set(owned, 14)?);
+    core.end(0)?;
+    assert!(core.set(pooled, 22)? && core.set_words(wide, &[23; 4])?);
+    core.mark()?;
+    assert!(core.set(pooled, 32)? && core.set(owned, 34)?);
+    while core.step()? != Stepped::NoPairLeft {}
+    core.close()?;
+    assert!(core.set(pooled, 42)?);
+    assert_eq!((core.set(stale, 41)?, core.set(wide, 43)?), (false, false));
+    assert_eq!(core.set_words(wide, &[1; 3]), Err(Refused::Config));
+    assert_eq!(core.get_words(wide).map(|words| words.to_vec()), Some(vec![23; 4]));
+    assert_eq!((core.replace(owned, 44)?, core.replace(stale, 41)?), (Some(34), None));
+    assert_eq!((core.remove(pooled), core.remove(owned)), (Some(42), Some(44)));
+    Ok(())
+}
+
+#[test]
+fn a_store_sets_in_place() -> Result<(), Refused> {
+    let mut store = Store::new()?;
+    let key = store.insert([1u64; 5])?;
+    assert!(store.set(key, [2; 5])?);
+    assert_eq!(store.replace(key, [3; 5])?, Some([2; 5]));
+    assert_eq!(store.remove(key), Some([3; 5]));
+    assert_eq!((store.set(key, [4; 5])?, store.replace(key, [4; 5])?), (false, None));
     Ok(())
 }
 

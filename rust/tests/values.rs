@@ -1,25 +1,12 @@
 //! Values that move with the folds: beside a map of std on random calls, with drops counted.
 
+mod common;
+
+use common::Random;
 use std::cell::Cell;
 use std::collections::HashMap;
 use std::rc::Rc;
 use teurlaks::{Key, Limits, Refused, Slab, Stepped};
-
-/// Marsaglia's xorshift.
-struct Random(u64);
-
-impl Random {
-    fn next(&mut self) -> u64 {
-        self.0 ^= self.0 << 13;
-        self.0 ^= self.0 >> 7;
-        self.0 ^= self.0 << 17;
-        self.0 >> 11
-    }
-
-    fn below(&mut self, count: usize) -> usize {
-        (self.next() % count as u64) as usize
-    }
-}
 
 /// A number, and as many bytes beside it as are asked for, which tell it. How many such values there are is counted.
 struct Value<const BYTES: usize> {

@@ -8,9 +8,9 @@ use Rattle.certificate.specs.declared.certificate.Certificate.{Certificate}
 use Rattle.certificate.specs.Text.{IsWritable, certificate_text}
 use Rattle.fold.specs.declared.step.Step.TheVariants.{Folded, Emptied}
 use Rattle.arena_core.specs.declared.event.Event.{Event}
-use Rattle.arena_core.specs.declared.event.Event.TheVariants.{Put, Free, End, Retire, Adopt, Mark, Step, Close}
+use Rattle.arena_core.specs.declared.event.Event.TheVariants.{Put, Set, Free, End, Retire, Adopt, Mark, Step, Close}
 use Rattle.arena_core.specs.declared.reply.Reply.{Reply}
-use Rattle.arena_core.specs.declared.reply.Reply.TheVariants.{Issued, Freed, ShardEnded, Retired, Adopted, Marked, Stepped, NoPairLeft, Closed, NoPlan, Refused}
+use Rattle.arena_core.specs.declared.reply.Reply.TheVariants.{Issued, Replaced, Freed, ShardEnded, Retired, Adopted, Marked, Stepped, NoPairLeft, Closed, NoPlan, Refused}
 use Rattle.arena_core.specs.Plain.{ErasedStep}
 use Rattle.arena_core.specs.Sound.{IsSound}
 use Rattle.arena_core.specs.State.{CoreState, HasKeys, new_core, pages, shown}
@@ -118,6 +118,26 @@ pub record NextsKey (old : Option Held) (after found : Option Key) (new : Option
 -- the live key that comes next after the key with these numbers, or the first one where no key has them; nothing changes
 abbrev pub Nexts : Option Held → RawKey → NextReply → Option Held → Type 0
 Nexts old raw says new = (after found : Option Key) × MatchOption after (IsNoKey raw) (IsKeyOf raw) × NextsKey old after found new × SaysNext says found
+
+-- what C reads of the reply to a set; no other reply comes
+abbrev pub SaysSet : ℕ → Reply → Type 0
+SaysSet says (Replaced true) = says ≡ done
+SaysSet says (Replaced false) = says ≡ none
+SaysSet says (Refused refusal) = says ≡ refusal_status refusal
+SaysSet says reply = ⊥
+
+-- the core is asked to set the key to the object, and this is said of its reply
+abbrev pub SetsKey : Option Held → Key → Value → ℕ → Option Held → Type 0
+SetsKey old key value says new = (reply : Reply) × Steps old (Set key value) reply new × SaysSet says reply
+
+-- the key with these numbers is set to the object, if it is live and its object has as many words, or the set is refused; else nothing changes
+abbrev pub Sets : Option Held → RawKey → Value → ℕ → Option Held → Type 0
+Sets old raw value says new = (IsNoKey raw × (says ≡ none) × (new ≡ old)) ⊎ ((key : Key) × IsKeyOf raw key × SetsKey old key value says new)
+
+-- words that are no object are refused, and nothing changes; to others the key is set
+abbrev pub SetsWords : Option Held → RawKey → List ℕ → ℕ → Option Held → Type 0
+SetsWords old raw words says new = (IsObject words × Sets old raw words says new)
+    ⊎ ((IsObject words → ⊥) × (says ≡ config) × (new ≡ old))
 
 -- the key with these numbers is freed, if it is live; else nothing changes
 abbrev pub Frees : Option Held → RawKey → ℕ → Option Held → Type 0

@@ -5,7 +5,7 @@ ghost use Rattle.marks.specs.Numbers.{AreWithin, limits_of};
 ghost use Rattle.arena_core.specs.State.{new_core};
 ghost use Rattle.arena_core.specs.declared.event.Event.TheVariants as event;
 ghost use Rattle.arena_core.specs.declared.reply.Reply.TheVariants as reply;
-ghost use Rattle.teurlaks_c.specs.Calls.{Counts, Frees, Gets, GetsKey, GetsWords, HasNew, Nexts, NextsKey, Puts, PutsWords, SaysGot, SaysNext, SaysWords, Steps};
+ghost use Rattle.teurlaks_c.specs.Calls.{Counts, Frees, Gets, GetsKey, GetsWords, HasNew, Nexts, NextsKey, Puts, PutsWords, SaysGot, SaysNext, SaysWords, Sets, SetsKey, SetsWords, Steps};
 ghost use Rattle.teurlaks_c.specs.Words.{word_of, words_of};
 ghost use Rattle.teurlaks_c.specs.Status.{config, out_of_memory, refusal_status};
 
@@ -138,6 +138,48 @@ pub extern "C" fn teurlaks_get_words(
     get_words(alloc, handle, &key, words)
 }
 
+/// Sets the key to the object of this word, where it is live and has an object of one word, which `OK` says; else it answers `NONE`.
+/// Refused with `OUT_OF_MEMORY` as [`Core::set`] is; nothing has changed then.
+#[unsafe(no_mangle)]
+pub extern "C" fn teurlaks_set(
+    alloc: Global,
+    handle: &mut Handle,
+    key: RawKey,
+    value: RawWord,
+) -> u32
+    requires live { IsSome handle.old.held }
+    ensures { Sets handle.old.held key (word_of value ∷ []) result handle.new.held }
+{
+    let Some(key) = key_of(key) else {
+        return NONE;
+    };
+    set(alloc, handle, &key, &[value_of(value)])
+}
+
+/// Sets the key to the object of 1, 4 or 16 words, as [`teurlaks_set`] does with one word, where it is live and its object has as many.
+/// Where the words are of another number than these, it answers `CONFIG`, and nothing has changed.
+#[unsafe(no_mangle)]
+pub extern "C" fn teurlaks_set_words(
+    alloc: Global,
+    handle: &mut Handle,
+    key: RawKey,
+    words: &[RawWord],
+) -> u32
+    requires live { IsSome handle.old.held }
+    ensures { SetsWords handle.old.held key (words_of words.now) result handle.new.held }
+{
+    let Some(_) = class_for(words) else {
+        return CONFIG;
+    };
+    let Some(key) = key_of(key) else {
+        return NONE;
+    };
+    let mut room = [0; 16];
+    let values = &mut room[..words.len()];
+    join_all(values, words);
+    set(alloc, handle, &key, values)
+}
+
 /// Frees the key, where it is live, which `OK` says; else it answers `NONE`, and nothing changes. It takes no memory.
 #[unsafe(no_mangle)]
 pub extern "C" fn teurlaks_free(alloc: Global, handle: &mut Handle, key: RawKey) -> u32
@@ -218,6 +260,20 @@ fn get_words(alloc: Global, handle: &mut Handle, key: &Key, room: &mut [RawWord]
     let says = tell(held.core.get(key), room);
     *handle = Handle::of(held);
     says
+}
+
+// The core sets the key to the object of these words.
+fn set(alloc: Global, handle: &mut Handle, key: &Key, words: &[u128]) -> u32
+    requires live { IsSome handle.old.held }
+    ensures { SetsKey handle.old.held key.now words.now result handle.new.held }
+{
+    let mut held = replace(handle, Handle::none()).into_box(alloc);
+    let set = held.core.set(key, words);
+    *handle = Handle::of(held);
+    match set {
+        Ok(done) => { if done { OK } else { NONE } }
+        Err(refusal) => status_of(refusal),
+    }
 }
 
 // The core frees the key.

@@ -42,7 +42,7 @@ mod words;
 
 pub use calls::{
     teurlaks_drop, teurlaks_free, teurlaks_get, teurlaks_get_words, teurlaks_new, teurlaks_next,
-    teurlaks_put, teurlaks_put_words, teurlaks_totals,
+    teurlaks_put, teurlaks_put_words, teurlaks_set, teurlaks_set_words, teurlaks_totals,
 };
 pub use meshing::{
     teurlaks_adopt, teurlaks_certificate, teurlaks_close, teurlaks_end, teurlaks_mark,
