@@ -178,7 +178,9 @@ impl<'t> Run<'t> {
         self.replies.key(first, reference.index.unwrap_or(0))
     }
 
-    /// Sets the key, where it was given out, to the object of the class that counts up from that base.
+    /// Sets the key, where it was given out, to the object of the class that counts up from that base. It stays out of the calls of a
+    /// thread, which would have the room of its words each.
+    #[inline(never)]
     fn set(
         &mut self,
         number: usize,

@@ -65,6 +65,7 @@ impl Earlier {
     }
 
     /// What the name is bound to.
+    #[inline(always)]
     pub fn binding(&self, name: &Name) -> Option<Binding>
         ensures { result ≡ bound_in self.now name.now }
     {
@@ -79,6 +80,7 @@ impl Earlier {
     }
 
     /// The class that a line of its kind binds the reference with, or that of one word where none does.
+    #[inline(never)]
     fn class_of(&self, key: &Reference) -> Class
         ensures { (before : List Line) → Knows before self.now
             → result ≡ class_named before key.now }
@@ -90,6 +92,7 @@ impl Earlier {
     }
 
     /// Gives a call the class that its key is bound with, where it is a set.
+    #[inline(always)]
     fn give_call_class(&self, call: &mut Call)
         ensures { (before : List Line) → Knows before self.now
             → call.new ≡ classed_call before call.old }
@@ -100,6 +103,7 @@ impl Earlier {
     }
 
     /// Gives a line after those the class that they bind its key with, where it is a set.
+    #[inline(always)]
     pub fn give_class(&self, line: &mut Line)
         ensures { (before : List Line) → Knows before self.now
             → line.new ≡ classed before line.old }

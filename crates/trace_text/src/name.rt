@@ -111,6 +111,7 @@ impl Reference {
 
     /// The reference that a word is. An index that does not fit is kept as the greatest that does,
     /// since no name has such a key.
+    #[inline(always)]
     pub fn new(word: &[u8]) -> Option<Reference>
         ensures { result ≡ clipped_reference (reference_in word.now) }
     {

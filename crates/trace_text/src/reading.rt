@@ -82,7 +82,9 @@ fn value_call(verb: &[u8], name: &[u8], value: &[u8]) -> Result<Call, Cause>
     }
 }
 
-/// A set. Its class is that of the line that binds the name, of which its words say nothing: here it is of one word.
+/// A set. Its class is that of the line that binds the name, of which its words say nothing: here it is of one word. It stays out of
+/// the reader of lines, of which most are others.
+#[inline(never)]
 fn set_call(key: &[u8], value: &[u8]) -> Result<Call, Cause>
     ensures { result ≡ within_call (set_call key.now value.now) }
 {
@@ -155,6 +157,7 @@ fn counted_call(verb: &[u8], name: &[u8], first: &[u8], second: &[u8]) -> Result
 
 /// A thread's call, whose verb the version must have. A number that does not fit is kept as the
 /// greatest that does, since no trace has such a thread.
+#[inline(always)]
 fn thread_line(
     version: Version,
     thread: &[u8],
