@@ -21,6 +21,26 @@ install_peers() {
     $root apt-get install -y -qq --no-install-recommends $missing >&2
 }
 
+version() {
+    dpkg-query -W -f '${Version}' "$1"
+}
+
+# The file of an allocator's package that a program is started with.
+library() {
+    dpkg -L "$1" | grep -m 1 '\.so\.2$'
+}
+
+system() {
+    local cpu
+    cpu=$(sed -n 's/^model name[^:]*: //p' /proc/cpuinfo | head -n 1)
+    echo "$cpu, $(nproc) cores; $(uname -sr), load $(cut -d ' ' -f 1 /proc/loadavg) at the start"
+}
+
+peers() {
+    echo "slab $(version librust-slab-dev), slotmap $(version librust-slotmap-dev), sharded-slab $(version librust-sharded-slab-dev)," \
+        "mimalloc $(version libmimalloc2.0), jemalloc $(version libjemalloc2), glibc $(version libc6)"
+}
+
 # Proves and builds meshrun where it has changed, and builds the rest. The program is then called without the script
 # around it, which looks at the sources first.
 build() {
