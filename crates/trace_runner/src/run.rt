@@ -79,6 +79,22 @@ impl<'t> Run<'t> {
         Ok(())
     }
 
+    /// Lets the shard adopt, on the line of that number. An event has the room of an object, which is cleared, and here no other line
+    /// pays for it.
+    #[inline(never)]
+    fn adopt(&mut self, number: usize, shard: u32) -> Result<(), AllocError>
+        requires { MayCall self.old.core (event.Adopt shard) }
+        ensures made { OnOk result (Makes number (Calls (event.Adopt shard) ∷ []) self.old.core
+            (kept_in self.old.replies) self.new.core (kept_in self.new.replies)) }
+        ensures keys { self.new.replies.keys ≡ self.old.replies.keys }
+        ensures shards { KeepsPlan self.old.core self.new.core }
+        ensures plans { self.new.plans ≡ self.old.plans }
+        ensures leaving { self.new.leaving ≡ self.old.leaving }
+        ensures trace { self.new.trace.now ≡ self.old.trace.now }
+    {
+        self.call(number, Event::Adopt { shard })
+    }
+
     /// Puts the object of the class that counts up from that base.
     fn put(
         &mut self,
@@ -556,7 +572,7 @@ impl<'t> Run<'t> {
             }
             Line::Adopt { shard } => {
                 self.settle()?;
-                self.call(place + 6, Event::Adopt { shard: *shard })
+                self.adopt(place + 6, *shard)
             }
             Line::Mark => {
                 self.settle()?;

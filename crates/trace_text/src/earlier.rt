@@ -21,6 +21,7 @@ const MOST_KEYS: u32 = 262_144;
 
 /// Whether the last word of the last of that many objects of the class is above every word, where the first counts up from that
 /// value, and each other one from one more than the one before it.
+#[inline(always)]
 fn ends_over(class: Class, count: u32, value: u128) -> bool
     requires { 0 < count }
     ensures { result ≡ nat_le (2 ^ 128) (last_word class (value + count - 1)) }

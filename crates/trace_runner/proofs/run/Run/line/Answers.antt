@@ -11,8 +11,8 @@ use Rattle.trace_runner.proofs.run.Run.line.Goals as goal
 pub thread_call-requires-clause-thread : goal.thread_call-requires-clause-thread
 thread_call-requires-clause-thread c = c.requires.ready.running c.in-Call.thread (ap thread_of c.in-Call.is)
 
-pub call-requires-clause-may : goal.call-requires-clause-may
-call-requires-clause-may c =
+pub adopt-requires : goal.adopt-requires
+adopt-requires c =
     let of = ap thread_of c.in-Adopt.is in
     (IsOpen-others _ _ _ _ c.in_ok-settle-in-Adopt.ensures.shards c.in-Adopt.shard (c.requires.ready.stays c.in-Adopt.shard of) (c.requires.ready.running c.in-Adopt.shard of), c.in_ok-settle-in-Adopt.ensures.unplanned)
 
@@ -33,8 +33,8 @@ returns-in_ok-thread_call-in-Call-clause-made c done finds =
 pub returns-in_ok-settle-in-Adopt-clause-made : goal.returns-in_ok-settle-in-Adopt-clause-made
 returns-in_ok-settle-in-Adopt-clause-made c done finds =
     let threads = filter (has c.args.self.now.leaving) (range_with_len 0 c.args.self.now.trace.now.header.shards) in
-    rw (c.in-Adopt.is, c.call.ensures.plans) (on_ok_weaker c.call.result (MakesLine-adopt (c.args.place + 6) c.args.self.now.trace.now.header.shards threads c.args.self.now.core (kept_in c.args.self.now.replies) c.args.self.now.plans c.settle.new.self.core
-    (kept_in c.settle.new.self.replies) c.settle.new.self.plans c.in_ok-settle-in-Adopt.ensures.made c.settle.ensures.rest c.in-Adopt.shard _ c.call.new.self.core (kept_in c.call.new.self.replies)) c.call.ensures.made)
+    rw (c.in-Adopt.is, c.adopt.ensures.plans) (on_ok_weaker c.adopt.result (MakesLine-adopt (c.args.place + 6) c.args.self.now.trace.now.header.shards threads c.args.self.now.core (kept_in c.args.self.now.replies) c.args.self.now.plans c.settle.new.self.core
+    (kept_in c.settle.new.self.replies) c.settle.new.self.plans c.in_ok-settle-in-Adopt.ensures.made c.settle.ensures.rest c.in-Adopt.shard _ c.adopt.new.self.core (kept_in c.adopt.new.self.replies)) c.adopt.ensures.made)
 
 pub returns-in_ok-settle-in-Mark-clause-made : goal.returns-in_ok-settle-in-Mark-clause-made
 returns-in_ok-settle-in-Mark-clause-made c done finds =
