@@ -113,6 +113,8 @@ fn resident() -> f64 {
 fn memory<S: Store>(mut store: S, live: usize) -> f64 {
     let first = store.put(0);
     let mut keys = vec![first; live];
+    // Where the first key is 0, the system has given the list no memory yet.
+    keys.iter_mut().for_each(|key| *black_box(key) = first);
     let before = resident();
     keys.iter_mut().skip(1).for_each(|key| *key = store.put(1));
     let taken = resident() - before;
