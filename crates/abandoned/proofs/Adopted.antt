@@ -1,24 +1,23 @@
 -- An adoption: the lowest group that has a page, and what the shard asks of it.
 use Rattle.std.proofs.Common.{◌≡◌, ℕ, ◌≤◌, false, length, Option, Some, None, slice_get, ap, sym, subst, ◌∙◌, refl, inl, inr, arith}
-use Rattle.std.specs.Prelude.{◌≢◌, option_map}
+use Rattle.std.specs.Prelude.{◌≢◌}
 use Rattle.std.specs.Option.{IsSome}
 use Rattle.std.proofs.lemmas.Bool.{cases_eq, cases_lt}
 use Rattle.span.specs.Ids.{rank}
 use Rattle.span.specs.declared.id.SpanId.{SpanId}
-use Rattle.page_table.specs.State.{words_of}
 use Rattle.shard.specs.Moves.{MayTakeIn, TakesIn, with_room}
-use Rattle.groups.specs.Whole.{WholeState, spans_moved}
+use Rattle.groups.specs.Whole.{WholeState, spans_moved, whole_of}
 use Rattle.shard.specs.Sound.{IsSound as IsSoundShard}
 use Rattle.shard.specs.State.{ShardState}
 use Rattle.groups.proofs.Heads.{one_of_head}
 use Rattle.groups.proofs.Lists.{same_some}
 use Rattle.abandoned.specs.Calls.{Adopts, HasDoubled, IsDoubled, IsFirstPaged, IsLowestPaged, Lifts, WouldDouble}
 use Rattle.abandoned.specs.Sound.{IsSound}
-use Rattle.abandoned.specs.State.{PoolState, PooledState, whole_of}
+use Rattle.abandoned.specs.State.{PoolState, PooledState}
 use Rattle.groups.specs.Group.{Ascend, HasNoHead, IsHeadOf, spans_of}
 use Rattle.groups.proofs.Standing.{head_id}
 
-some_page : (o : Option ℕ) → o ≡ None → IsSome o → ⊥
+some_page : {X : Type 0} (o : Option X) → o ≡ None → IsSome o → ⊥
 some_page None is some = absurd cc
 some_page (Some page) is some = absurd cc
 
@@ -48,11 +47,8 @@ IsLowestPaged-first pool ascend index group first = record { here = first.here; 
 pub IsDoubled-lowest : (pool : PoolState) → Ascend pool.groups → (shard : ShardState) (index : ℕ) (group : PooledState) → IsLowestPaged pool index group → IsDoubled pool shard → HasDoubled shard (spans_of group)
 IsDoubled-lowest pool ascend shard index group lowest (other, g, its, doubled) = subst (λ (x : PooledState). HasDoubled shard (spans_of x)) (one_lowest pool ascend other index g group its lowest) doubled
 
-pub nothing_lowest : (pool : PoolState) (index : ℕ) (group : PooledState) → IsLowestPaged pool index group → ((other : ℕ) (g : PooledState) → slice_get pool.groups other ≡ Some g → g.page ≡ None) → ⊥
-nothing_lowest pool index group lowest none = some_page group.page (none index group lowest.here) lowest.paged
-
 -- one group has the head
-pub one_head : (pool : PoolState) → IsSound pool → (i j : ℕ) (a b : PooledState) → slice_get pool.groups i ≡ Some a → slice_get pool.groups j ≡ Some b → a.head.id ≡ b.head.id → a ≡ b
+one_head : (pool : PoolState) → IsSound pool → (i j : ℕ) (a b : PooledState) → slice_get pool.groups i ≡ Some a → slice_get pool.groups j ≡ Some b → a.head.id ≡ b.head.id → a ≡ b
 one_head pool sound i j a b at_i at_j same = one_of_head head_id pool.groups sound.ascending i j a b at_i at_j same
 
 -- one group has the head, whose spans are asked
@@ -63,20 +59,16 @@ WouldDouble-here pool sound shard head index group from (other, g, its, doubled)
 pub WouldDouble-none : (pool : PoolState) (shard : ShardState) (head : SpanId) → HasNoHead pool.groups head → WouldDouble pool shard head → ⊥
 WouldDouble-none pool shard head none (index, group, its, doubled) = none index group its
 
-still_some : {X : Type 0} (f : ℕ → X) (o : Option ℕ) → IsSome o → IsSome (option_map f o)
-still_some f None some = absurd cc
-still_some f (Some page) some = refl
-
 module _ (old new : PoolState) (sound : IsSound old) (shard : ShardState) (sound_shard : IsSoundShard shard) (index : ℕ) (group : PooledState) (lowest : IsLowestPaged old index group) (whole : WholeState) (lifts : Lifts old group.head.id (Some whole) new) where
-  whole_is : whole ≡ whole_of old.table group
-  whole_is = lifts.3 ∙ ap (whole_of old.table) (one_head old sound lifts.0 index lifts.1 group lifts.2.here lowest.here lifts.2.head_is)
+  whole_is : whole ≡ whole_of group
+  whole_is = lifts.3 ∙ ap whole_of (one_head old sound lifts.0 index lifts.1 group lifts.2.here lowest.here lifts.2.head_is)
 
   spans_are : spans_moved whole ≡ spans_of group
   spans_are = ap spans_moved whole_is
 
   pub MayTakeIn-adopted : (IsDoubled old shard → ⊥) → shard.page_limit ≢ length shard.groups → shard.ended ≡ false → MayTakeIn (with_room shard None (length (spans_of group))) whole
   MayTakeIn-adopted apart limit running = record {
-    paged = subst (λ (w : WholeState). IsSome w.words) (sym whole_is) (still_some (words_of old.table) group.page lowest.paged);
+    paged = subst (λ (w : WholeState). IsSome w.words) (sym whole_is) lowest.paged;
     elsewhere = λ at span there other g here place found.
         apart (index, group, lowest, (at, span, ap (λ xs. slice_get xs at) (sym spans_are) ∙ there, inr (λ away. away other g here place found)));
     opened = λ at span there mine. elim (cases_lt span.id.serial shard.opened) [
@@ -85,7 +77,7 @@ module _ (old new : PoolState) (sound : IsSound old) (shard : ShardState) (sound
     ];
     pages = let most = sound_shard.limit in omega arith;
     running = running;
-    page_room = omega arith;
+    group_room = omega arith;
     span_room = let same = ap length spans_are in omega arith;
   }
 

@@ -1,9 +1,8 @@
 -- Which parts of a set have a number.
-use Rattle.std.proofs.Common.{◌≡◌, ◌∙◌, ℕ, ◌*◌, ◌/◌, ◌%◌, ◌+◌, ◌<◌, ◌≤◌, Bool, false, true, List, Option, None, Some, MatchOption, IfSome, is_some, length, get_or, ap, sym, inl, inr, arith}
-use Rattle.std.specs.Prelude.{if◌then◌else◌, nat_eq}
+use Rattle.std.proofs.Common.{◌≡◌, ◌∙◌, ℕ, ◌*◌, ◌/◌, ◌%◌, ◌+◌, ◌<◌, ◌≤◌, false, true, List, Option, None, Some, MatchOption, IfSome, is_some, length, get_or, ap, sym, inl, inr, arith}
 use Rattle.std.specs.Ordering.{nat_cmp}
 use Rattle.std.specs.FinSet.{contains, empty, insert, remove, contains-empty}
-use Rattle.std.proofs.lemmas.Bool.{cases_eq, cases_lt, false_from_ne_true, ne_eqb, true≢false}
+use Rattle.std.proofs.lemmas.Bool.{cases_eq, cases_lt, false_from_ne_true, true≢false}
 use Rattle.bitmap.specs.Slots.{IsLowest, SlotSet}
 use Rattle.shard.specs.Rooms.{has_index}
 use Rattle.abandoned.specs.Numbers.{HasNoneFrom, IsNext, KnowsOtherParts, KnowsParts}
@@ -63,15 +62,6 @@ module _ (parts : List SlotSet) where
             let here : other / 256 ≡ part = omega arith in
             has_index-part part (part_within part first.inside) s s_is other here ∙ below_lowest s slot lowest (other % 256) (omega arith)
       ];
-    }
-
-    -- a number that comes or goes leaves the other parts as they are
-    pub KnowsOtherParts-marked : (new : List SlotSet) (number : ℕ) (member : Bool) → ((other : ℕ) → has_index new other ≡ (if nat_eq other number then member else has_index parts other)) → KnowsOtherParts new filled (number / 256)
-    KnowsOtherParts-marked new number member has = record {
-      off = λ other away off. has other ∙ rw (ne_eqb other number (λ same. away (ap (λ n. n / 256) same))) (known.off other off);
-      on = λ part away on.
-          let had = known.on part on in
-          (had.0, had.1, has had.0 ∙ rw (ne_eqb had.0 number (λ same. away (sym had.1 ∙ ap (λ n. n / 256) same))) had.2);
     }
 
   -- a part is taken in where it has a number, and out where it has none

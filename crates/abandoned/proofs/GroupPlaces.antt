@@ -2,7 +2,8 @@
 use Rattle.std.proofs.Common.{zero, suc, ◌≡◌, ℕ, ◌*◌, ◌<◌, ◌≤◌, Bool, true, false, List, [], ◌∷◌, length, length-set, Bor, Option, Some, None, get_or, set, slice_get, ap, sym, subst, ◌∙◌, refl, inl, inr, arith, eq-eqb}
 use Rattle.std.specs.Prelude.{MatchOption, if◌then◌else◌, is_some, nat_eq, option_map}
 use Rattle.std.proofs.lemmas.Bool.{cases_eq, cases_lt, false≢true, ne_eqb}
-use Rattle.std.proofs.lemmas.Option.{get_or_from_slice_get}
+use Rattle.std.proofs.lemmas.Option.{get_or_from_slice_get, none-some}
+use Rattle.std.proofs.option.Match.{None-if_not_some}
 use Rattle.bitmap.specs.Slots.{SlotSet}
 use Rattle.span.specs.Ids.{rank}
 use Rattle.span.specs.declared.id.SpanId.{SpanId}
@@ -27,10 +28,6 @@ get-set_other (x ∷ xs) zero zero y apart = absurd (apart refl)
 get-set_other (x ∷ xs) zero (suc other) y apart = refl
 get-set_other (x ∷ xs) (suc at) zero y apart = refl
 get-set_other (x ∷ xs) (suc at) (suc other) y apart = get-set_other xs at other y (λ e. apart (ap suc e))
-
-page_none : (page : Option ℕ) → is_some page ≡ false → page ≡ None
-page_none None is = refl
-page_none (Some p) is = absurd (false≢true (sym is))
 
 -- a place of no group, or past the end
 pub has_page-none : (place : Option (Option PooledState)) → ((held : Option PooledState) → place ≡ Some held → held ≡ None) → has_page place ≡ false
@@ -121,7 +118,7 @@ module _ (places : List (Option PooledState)) (at_rank : AtRank places) where
   -- the groups that have a page, by their bits
   module _ (parts : List SlotSet) (known : KnowsPaged parts places) where
     pub page-none : (at : ℕ) (group : PooledState) → slice_get places at ≡ Some (Some group) → has_index parts at ≡ false → group.page ≡ None
-    page-none at group here off = page_none group.page (ap has_page (sym here) ∙ sym (known at) ∙ off)
+    page-none at group here off = None-if_not_some group.page (ap has_page (sym here) ∙ sym (known at) ∙ off)
 
     pub page-some : (at : ℕ) (group : PooledState) → slice_get places at ≡ Some (Some group) → has_index parts at ≡ true → is_some group.page ≡ true
     page-some at group here on = ap has_page (sym here) ∙ sym (known at) ∙ on
@@ -130,13 +127,16 @@ module _ (places : List (Option PooledState)) (at_rank : AtRank places) where
     HasNoPage-places none index group there = let found = place_of places index group there in page-none found.0 group found.1 (none found.0 (omega arith))
 
     -- a bit is on where a group stands
-    pub group_there : (at : ℕ) → has_index parts at ≡ true → get_or places at None ≡ None → ⊥
-    group_there at on none = by_place (slice_get places at) refl
+    pub group_at : (at : ℕ) → has_index parts at ≡ true → (group : PooledState) × (slice_get places at ≡ Some (Some group))
+    group_at at on = by_place (slice_get places at) refl
       where
-        by_place : (place : Option (Option PooledState)) → slice_get places at ≡ place → ⊥
-        by_place None here = false≢true (ap has_page (sym here) ∙ sym (known at) ∙ on)
-        by_place (Some None) here = false≢true (ap has_page (sym here) ∙ sym (known at) ∙ on)
-        by_place (Some (Some group)) here = let e = sym none ∙ get_or_from_slice_get places at (Some group) None here in cc
+        by_place : (place : Option (Option PooledState)) → slice_get places at ≡ place → (group : PooledState) × (slice_get places at ≡ Some (Some group))
+        by_place None here = absurd (false≢true (ap has_page (sym here) ∙ sym (known at) ∙ on))
+        by_place (Some None) here = absurd (false≢true (ap has_page (sym here) ∙ sym (known at) ∙ on))
+        by_place (Some (Some group)) here = (group, here)
+
+    pub group_there : (at : ℕ) → has_index parts at ≡ true → get_or places at None ≡ None → ⊥
+    group_there at on none = let found = group_at at on in none-some found.0 (sym none ∙ get_or_from_slice_get places at (Some found.0) None found.1)
 
     pub IsFirstPaged-places : (at : ℕ) (group : PooledState) → IsNext parts 0 at → slice_get places at ≡ Some (Some group) → IsFirstPaged (standing places) (before places at) group
     IsFirstPaged-places at group next here = record {

@@ -1,10 +1,9 @@
 -- A walk over the groups that have a page, by their bits.
-use Rattle.std.proofs.Common.{zero, suc, ◌≡◌, ℕ, ◌+◌, ◌<◌, ◌≤◌, Bool, true, false, cond, List, [], ◌∷◌, ◌++◌, length, get_or, is_some, Option, Some, slice_get, take, ap, sym, ◌∙◌, refl, arith}
+use Rattle.std.proofs.Common.{zero, suc, ◌≡◌, ℕ, ◌+◌, ◌≤◌, Bool, true, false, cond, List, [], ◌∷◌, ◌++◌, length, is_some, Option, Some, slice_get, take, ap, sym, ◌∙◌, refl, arith}
 use Rattle.std.specs.Prelude.{filter}
 use Rattle.std.proofs.lemmas.Grind.{flat_map-append}
 use Rattle.std.proofs.lemmas.List.{append-nil}
 use Rattle.std.proofs.lemmas.List.Sums.{sum_by-append}
-use Rattle.std.proofs.lemmas.Option.{slice_get_read}
 use Rattle.std.specs.FinSet as set
 use Rattle.bitmap.specs.Slots.{SlotSet}
 use Rattle.span.specs.Log.{live_slots}
@@ -59,15 +58,7 @@ module _ (places : List (Option PooledState)) (at_rank : AtRank places) (parts :
       ap (λ ps. filter paged (standing ps)) (sym (take_all places (from + length places) (omega arith)))
       ∙ passing-none paged places from (from + length places) (omega arith) (λ other x above below here. off other x here (none other above))
 
-pub passing-start : (places : List (Option PooledState)) → passing places 0 ≡ []
-passing-start [] = refl
-passing-start (place ∷ places) = refl
-
 pub live_count-push : (groups : List PooledState) (group : PooledState) → live_count (spans_in (groups ++ group ∷ [])) ≡ live_count (spans_in groups) + live_count (spans_of group)
 live_count-push groups group =
     ap live_count (flat_map-append spans_of groups (group ∷ []) ∙ ap (λ xs. spans_in groups ++ xs) (append-nil (spans_of group)))
     ∙ sum_by-append (λ (s : SpanState). set.len (live_slots s.log)) (spans_in groups) (spans_of group)
-
--- what is read at a place
-pub read_there : (places : List (Option PooledState)) (at : ℕ) (read : Option PooledState) (group : PooledState) → at < length places → read ≡ get_or places at read → read ≡ Some group → slice_get places at ≡ Some (Some group)
-read_there places at read group within is some = slice_get_read places _ at read refl within is ∙ ap Some some

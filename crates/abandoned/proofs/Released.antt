@@ -1,77 +1,62 @@
--- What a group that gives its page up does to the pool.
-use Rattle.std.proofs.Common.{◌≡◌, ℕ, Bool, true, false, List, Option, Some, None, IfSome, MatchOption, is_some, set, slice_get, ap, subst, sym, ◌∙◌, refl, inl, inr}
-use Rattle.std.specs.FinSet as set_of
-use Rattle.std.specs.Ordering.{nat_cmp}
-use Rattle.bitmap.specs.Slots.{IsLowest, SlotSet}
+-- A group that gives its page up where no slot is live, and a group that has a page since a key of it is live.
+use Rattle.std.proofs.Common.{◌≡◌, ℕ, Option, None, Some, MatchOption, is_some, slice_get, ◌∙◌, ap, subst, sym, refl, inl, inr}
+use Rattle.std.specs.Prelude.{◌≢◌, IsSome}
+use Rattle.std.specs.FinSet.{empty}
+use Rattle.std.proofs.lemmas.Bool.{false≢true}
 use Rattle.span.specs.Log.{Holds}
 use Rattle.span.specs.State.{SpanState}
-use Rattle.page_table.specs.State.{HasPage, TableState}
+use Rattle.page.specs.Words.{Words}
+use Rattle.groups.specs.Group.{spans_of, with_span}
+use Rattle.groups.specs.Sound.{AreStored, IsSoundGroup}
 use Rattle.groups.specs.Spans.{union_of}
-use Rattle.groups.proofs.Unions.{live_if_held, member_of_union}
-use Rattle.abandoned.specs.Calls.{GivesUp, Leaves, without_page_of}
-use Rattle.abandoned.specs.Groups.{FreesIn, GroupsState}
+use Rattle.groups.proofs.EmptySets.{empty_or_not}
+use Rattle.groups.proofs.FreedGroups.{IsSoundGroup-unpaged}
+use Rattle.groups.proofs.GuestDirectory.{HaveSameIds}
+use Rattle.groups.proofs.ReplacedGroups.{AreAlike, AreAlike-with_span}
+use Rattle.groups.proofs.StoredObjects.{none_live}
+use Rattle.groups.proofs.Unions.{live_if_held}
+use Rattle.abandoned.specs.Calls.{GivesUp}
 use Rattle.abandoned.specs.Sound.{IsSound}
 use Rattle.abandoned.specs.State.{PoolState, PooledState}
-use Rattle.groups.specs.Group.{spans_of, with_span}
-use Rattle.abandoned.proofs.Pages.{none_live, sound_paged}
-use Rattle.abandoned.proofs.TakenIn.{empty_or_not}
 
--- a set with a lowest member has a member
-pub not_empty : (s : SlotSet) (o : Option ℕ) → MatchOption o (s ≡ set_of.empty) (IsLowest s) → is_some o ≡ true → s ≡ set_of.empty → ⊥
-not_empty s None m some none = absurd cc
-not_empty s (Some slot) m some none = let e : true ≡ false = sym m.inside ∙ ap (λ x. set_of.contains x slot) none ∙ set_of.contains-empty nat_cmp slot in cc
-
--- a group's page is one of the table
-pub page_there : (pool : PoolState) → IsSound pool → (index : ℕ) (group : PooledState) → slice_get pool.groups index ≡ Some group → IfSome group.page (HasPage pool.table)
-page_there pool sound index group here = at_page group.page refl
-  where
-    at_page : (o : Option ℕ) → group.page ≡ o → IfSome o (HasPage pool.table)
-    at_page None is = tt
-    at_page (Some page) is = (sound_paged pool sound index group here page is).has_page
-
-pub same_rooms : (table : TableState) (o : Option ℕ) → ((without_page_of table o).page_room ≡ table.page_room) × ((without_page_of table o).span_room ≡ table.span_room)
-same_rooms table None = (refl, refl)
-same_rooms table (Some page) = (refl, refl)
-
-pub with_rooms-without : (table : TableState) (o : Option ℕ) (pages spans : ℕ)
-    → ◌≡◌ {A = TableState} (record (without_page_of table o) { page_room = pages; span_room = spans }) (without_page_of (record table { page_room = pages; span_room = spans }) o)
-with_rooms-without table None pages spans = refl
-with_rooms-without table (Some page) pages spans = refl
-
-module _ (group now : PooledState) (table after : TableState) (gives : GivesUp group table now after) where
-  pub rooms-GivesUp : (after.page_room ≡ table.page_room) × (after.span_room ≡ table.span_room)
-  rooms-GivesUp = elim (empty_or_not (union_of (spans_of group))) [
-    | inl none ↦
-        let is = (gives.emptied none).1 in
-        let same = same_rooms table group.page in
-        (ap (λ (t : TableState). t.page_room) is ∙ same.0, ap (λ (t : TableState). t.span_room) is ∙ same.1)
-    | inr live ↦ let is = (gives.live live).1 in (ap (λ (t : TableState). t.page_room) is, ap (λ (t : TableState). t.span_room) is)
+module _ (group now : PooledState) (gives : GivesUp group now) where
+  -- it keeps its spans
+  pub spans-GivesUp : spans_of now ≡ spans_of group
+  spans-GivesUp = elim (empty_or_not (union_of (spans_of group))) [
+    | inl none ↦ ap (λ (g : PooledState). spans_of g) (gives.emptied none)
+    | inr live ↦ ap (λ (g : PooledState). spans_of g) (gives.live live)
   ]
 
-  pub Leaves-GivesUp : (groups : List PooledState) (index pages spans : ℕ) (told : Bool)
-      → Leaves (record { groups = groups; table = record table { page_room = pages; span_room = spans }; has_plan = told }) index group (record { groups = set groups index now; table = record after { page_room = pages; span_room = spans }; has_plan = told })
-  Leaves-GivesUp groups index pages spans told = record {
-    emptied = λ none page is.
-        let e = gives.emptied none in
-        let t : after ≡ without_page_of table (Some page) = e.1 ∙ ap (without_page_of table) is in
-        λ i. record { groups = set groups index (e.0 i); table = record (t i) { page_room = pages; span_room = spans }; has_plan = told };
-    live = λ live.
-        let e = gives.live live in
-        λ i. record { groups = set groups index (e.0 i); table = record (e.1 i) { page_room = pages; span_room = spans }; has_plan = told };
-  }
+  pub IsSoundGroup-GivesUp : IsSoundGroup group → IsSoundGroup now
+  IsSoundGroup-GivesUp sound = elim (empty_or_not (union_of (spans_of group))) [
+    | inl none ↦ subst IsSoundGroup (sym (gives.emptied none)) (IsSoundGroup-unpaged group sound none)
+    | inr live ↦ subst IsSoundGroup (sym (gives.live live)) sound
+  ]
 
--- what a free among the groups does to the pool, in the room that is reserved
-pub Leaves-FreesIn : (old new : GroupsState) (table after : TableState) (index place : ℕ) (group : PooledState) (span : SpanState) → FreesIn old index group place span table new after → (pages spans : ℕ) (told : Bool)
-    → (pool : PoolState) → record { groups = old.groups; table = record table { page_room = pages; span_room = spans }; has_plan = told } ≡ pool
-    → Leaves pool index (with_span group place span) (record { groups = new.groups; table = record after { page_room = pages; span_room = spans }; has_plan = told })
-Leaves-FreesIn old new table after index place group span (now, gives, is) pages spans told pool pool_is =
-    subst (λ (gs : List PooledState). Leaves pool index (with_span group place span) (record { groups = gs; table = record after { page_room = pages; span_room = spans }; has_plan = told })) (sym (ap (λ (s : GroupsState). s.groups) is))
-    (subst (λ (p : PoolState). Leaves p index (with_span group place span) (record { groups = set old.groups index now; table = record after { page_room = pages; span_room = spans }; has_plan = told })) pool_is (Leaves-GivesUp _ _ _ _ gives old.groups index pages spans told))
+  -- it has a page only where a slot is live
+  pub in_use-GivesUp : IsSome now.page → union_of (spans_of now) ≢ empty
+  in_use-GivesUp paged none =
+      let none_before = ap union_of (sym spans-GivesUp) ∙ none in
+      false≢true (sym (ap (λ (g : PooledState). is_some g.page) (gives.emptied none_before)) ∙ paged)
 
--- a key that a span of the group holds has a page
+-- where one of its spans gave way to one of its id before
+pub AreAlike-GivesUp : (group now : PooledState) (place : ℕ) (span changed : SpanState) → slice_get (spans_of group) place ≡ Some span → changed.id ≡ span.id → GivesUp (with_span group place changed) now → AreAlike group now
+AreAlike-GivesUp group now place span changed here same gives =
+    subst (HaveSameIds (spans_of group)) (sym (spans-GivesUp (with_span group place changed) now gives)) (AreAlike-with_span group place span changed here same)
+
+-- a group with a live key has a page
+module _ (group : PooledState) (sound : IsSoundGroup group) (place : ℕ) (span : SpanState) (slot generation : ℕ) (there : slice_get (spans_of group) place ≡ Some span) (holds : Holds span.log slot generation) where
+  pub page_if_held : (words : Words) × (group.page ≡ Some words)
+  page_if_held = by_page group.page sound.page
+    where
+      by_page : (page : Option Words) → MatchOption page (union_of (spans_of group) ≡ empty) (AreStored (spans_of group)) → (words : Words) × (page ≡ Some words)
+      by_page None none = absurd (none_live group sound place span there slot none (live_if_held span.log slot generation holds))
+      by_page (Some words) stored = (words, refl)
+
+  pub paged_if_held : IsSome group.page
+  paged_if_held = ap is_some page_if_held.1
+
 pub has_page_if_held : (pool : PoolState) → IsSound pool → (index place : ℕ) (group : PooledState) (span : SpanState) (slot generation : ℕ)
     → slice_get pool.groups index ≡ Some group → slice_get (spans_of group) place ≡ Some span → Holds span.log slot generation → group.page ≡ None → ⊥
 has_page_if_held pool sound index place group span slot generation here there holds none =
-    let inside = member_of_union (spans_of group) place span slot there (live_if_held span.log slot generation holds) in
-    let e : true ≡ false = sym inside ∙ ap (λ s. set_of.contains s slot) (none_live pool sound index group here none) ∙ set_of.contains-empty nat_cmp slot in
-    cc
+    false≢true (sym (ap is_some none) ∙ paged_if_held group (sound.groups index group here) place span slot generation there holds)

@@ -1,53 +1,42 @@
 -- Groups of a running shard on their way to the pool, those with the fewest live keys first.
-use Rattle.std.proofs.Common.{zero, suc, ◌≡◌, ℕ, ◌+◌, ◌<◌, ◌≤◌, Bool, cond, List, [], ◌∷◌, ◌++◌, length, remove, take, drop, Option, Some, None, slice_get, ◌∙◌, ap, sym, subst, refl, inl, inr, arith}
-use Rattle.std.specs.Prelude.{unwrap_or}
-use Rattle.std.specs.FinMap as finite
-use Rattle.std.proofs.lemmas.Bool.{cases_lt, ne_eqb}
+use Rattle.std.proofs.Common.{zero, suc, ◌≡◌, ℕ, ◌+◌, ◌<◌, ◌≤◌, List, [], ◌∷◌, ◌++◌, length, remove, take, drop, Some, slice_get, ◌∙◌, ap, sym, subst, refl, inl, inr, arith}
+use Rattle.std.proofs.lemmas.Bool.{cases_lt}
 use Rattle.std.proofs.lemmas.List.{drop_more, length-append, length-drop, length-take, take-append-drop}
 use Rattle.std.proofs.lemmas.List.Edits.{insert_end, length-remove}
 use Rattle.std.proofs.lemmas.List.Sums.{sum_by-cons, sum_by-take-le}
 use Rattle.std.proofs.lemmas.Option.{get_or_from_slice_get, slice_get_within}
-use Rattle.page_table.proofs.Maps.{get-remove}
-use Rattle.page_table.specs.State.{words_of}
-use Rattle.page_table.specs.Words.{Words, blank_page}
 use Rattle.span.specs.Ids.{rank, same_span}
 use Rattle.span.specs.State.{SpanState}
 use Rattle.span.specs.declared.id.SpanId.{SpanId}
 use Rattle.span.proofs.Ids.{test_from_same_id}
 use Rattle.groups.specs.Group.{Ascend, IsElsewhere, spans_in, spans_of}
-use Rattle.groups.specs.Tables.{without_page}
-use Rattle.groups.specs.Whole.{IsSoundWhole, WholeState, spans_moved}
+use Rattle.groups.specs.Whole.{WholeState, spans_moved, whole_of}
 use Rattle.groups.proofs.GroupSpans.{elsewhere-times, put_in, taken_out, times}
 use Rattle.groups.proofs.Lists.{count-append, count-some, in_either, pairs-insert, same_some}
-use Rattle.groups.proofs.Logged.{logged, nothing_pending}
 use Rattle.groups.proofs.Removed.{before-remove, pairs-remove}
 use Rattle.groups.proofs.SpanCounts.{at_most_ids}
 use Rattle.shard.specs.Group.{GroupState}
-use Rattle.shard.specs.Moves.{Lifts, whole_of as whole_of_shard}
+use Rattle.shard.specs.Moves.{Lifts}
 use Rattle.shard.specs.Shown.{shown as shown_by_shard}
 use Rattle.shard.specs.Sound.{IsSound as IsSoundShard}
 use Rattle.shard.specs.Sparse.{AreSparsestFirst, HasNoLive, IsSparser, IsSparsest, live_of, told_of}
 use Rattle.shard.specs.State.{ShardState}
 use Rattle.shard.specs.declared.shard.retiring.LiveGroup.{LiveGroup}
-use Rattle.shard.proofs.MovedGroups.{AreBetween, IsSoundWhole-Lifts, spans_in-Lifts}
-use Rattle.shard.proofs.PutHere.{other_page}
-use Rattle.shard.proofs.ShownLogs.{shown-logged as shown-logged_shard}
+use Rattle.shard.proofs.MovedGroups.{AreBetween, spans_in-Lifts}
 use Rattle.shard.proofs.Sparse.{AreSparsestFirst-remove, HasNoLive-none, IsSparsest-first, one_index}
 use Rattle.abandoned.specs.Calls.{IsInPool, IsPooled, MayTakeIn, TakesIn, with_rooms}
-use Rattle.abandoned.specs.Handover.{AreApart, AreReady, span_count}
+use Rattle.abandoned.specs.Handover.{AreReady, span_count}
 use Rattle.abandoned.specs.Retires.{HasRetired, MovesSparse, MovesSparsest}
 use Rattle.abandoned.specs.Shown.{shown, together}
 use Rattle.abandoned.specs.Sound.{IsSound}
-use Rattle.abandoned.specs.State.{PoolState, whole_of}
+use Rattle.abandoned.specs.State.{PoolState}
 use Rattle.abandoned.proofs.Arrived.{IsPooled-TakesIn, IsPooled-here, IsPooled-stays, length-TakesIn}
-use Rattle.abandoned.proofs.Moving.{rooms-TakesIn, with_words}
-use Rattle.abandoned.proofs.ShownLogs.{shown-logged}
 use Rattle.abandoned.proofs.Received.{AreApart-receiving}
-use Rattle.abandoned.proofs.TakenIn.{IsSound-with_rooms, is_in-TakesIn, pooled, times-TakesIn}
-use Rattle.abandoned.proofs.Together.{together-moved}
+use Rattle.abandoned.proofs.TakenIn.{IsSound-with_rooms, groups-TakesIn, pooled, times-TakesIn}
+use Rattle.abandoned.proofs.Together.{shown_by-spans, together-moved}
 
 -- the groups that are told of have no more spans than all groups
-pub span_count-told : (told : List LiveGroup) (groups : List GroupState) → Ascend groups → AreSparsestFirst groups told → span_count told ≤ length (spans_in groups)
+span_count-told : (told : List LiveGroup) (groups : List GroupState) → Ascend groups → AreSparsestFirst groups told → span_count told ≤ length (spans_in groups)
 span_count-told [] groups ascend are = omega arith
 span_count-told (one ∷ told) groups ascend are =
     let (index, group, sparsest, is) = IsSparsest-first groups ascend one told are in
@@ -106,20 +95,19 @@ module _ (pool next : PoolState) (shard left : ShardState) (one : LiveGroup) (mo
   )
 
   elsewhere_now : (place : ℕ) (span : SpanState) → slice_get (spans_moved whole) place ≡ Some span → IsElsewhere pool.groups span.id
-  elsewhere_now place span here = elsewhere-times spans_of pool.groups span.id (
-      let most = ready.apart span.id in
-      let some = count-some (λ (s : SpanState). same_span s.id span.id) (spans_moved whole) place span here (test_from_same_id span.id span.id refl) in
-      omega (arith, count_lifted span.id))
+  elsewhere_now place span here = elsewhere-times spans_of pool.groups span.id (omega (
+    arith,
+    ready.apart span.id,
+    count_lifted span.id,
+    count-some (λ (s : SpanState). same_span s.id span.id) (spans_moved whole) place span here (test_from_same_id span.id span.id refl),
+  ))
 
   pub MayTakeIn-lifted : MayTakeIn pool whole
   MayTakeIn-lifted = record {
     elsewhere = elsewhere_now;
-    page_room = let room = ready.pages in omega arith;
+    group_room = omega (arith, ready.groups);
     span_room = omega (arith, ready.spans, sum_by-cons (λ (x : LiveGroup). x.spans) one more, spans_are);
   }
-
-  fits : IsSoundWhole whole
-  fits = IsSoundWhole-Lifts shard left one.head whole ready.sound_shard lifts
 
   pub MovesSparsest-lifted : TakesIn pool whole next → MovesSparsest pool shard next left
   MovesSparsest-lifted takes = record {
@@ -137,45 +125,39 @@ module _ (pool next : PoolState) (shard left : ShardState) (one : LiveGroup) (mo
     AreReady-taken = record {
       sound = sound_next;
       sound_shard = sound_left;
-      apart = λ id.
-          let most = ready.apart id in
-          let now = times-TakesIn pool next whole ready.sound fits elsewhere_now takes id in
-          omega (arith, count_lifted id);
-      pages = let room = ready.pages in let now = (rooms-TakesIn pool next whole takes).0 in omega arith;
-      spans = omega (arith, ready.spans, sum_by-cons (λ (x : LiveGroup). x.spans) one more, spans_are, (rooms-TakesIn pool next whole takes).1);
+      apart = λ id. omega (arith, ready.apart id, times-TakesIn pool next whole takes id, count_lifted id);
+      groups = omega (arith, ready.groups, ap (λ (p : PoolState). p.group_room) takes.after);
+      spans = omega (arith, ready.spans, sum_by-cons (λ (x : LiveGroup). x.spans) one more, spans_are, ap (λ (p : PoolState). p.span_room) takes.after);
       order = subst (λ (gs : List GroupState). AreSparsestFirst gs (more ++ rest)) (sym groups_are) (AreSparsestFirst-remove shard.groups ready.sound_shard.ascending one (more ++ rest) ready.order lifts.0 lifts.1 lifts.2.here told_is);
     }
 
     pub together-taken : together (shown next) (shown_by_shard left) ≡ together (shown pool) (shown_by_shard shard)
     together-taken =
-        let its = is_in-TakesIn pool ready.sound whole fits elsewhere_now next takes in
-        let into = put_in spans_of pool.groups takes.index (pooled whole its.0) in
-        let next_is : spans_in next.groups ≡ into.left ++ (spans_moved whole ++ into.right) = ap spans_in its.1.groups_are ∙ into.after in
+        let into = put_in spans_of pool.groups takes.index (pooled whole takes.page) in
+        let next_is : spans_in next.groups ≡ into.left ++ (spans_moved whole ++ into.right) = ap spans_in (groups-TakesIn pool next whole takes) ∙ into.after in
         let there : (id : SpanId) → times id (into.left ++ (spans_moved whole ++ into.right)) ≤ 1 = λ id. subst (λ xs. times id xs ≤ 1) next_is (sound_next.once id) in
         let here : (id : SpanId) → times id (between.left ++ (spans_moved whole ++ between.right)) ≤ 1 = λ id. subst (λ xs. times id xs ≤ 1) between.with_is (ready.sound_shard.once id) in
-        ap (λ m. together m (shown_by_shard left)) (shown-logged next sound_next ∙ ap (λ xs. logged xs nothing_pending) next_is)
-        ∙ ap (together (logged (into.left ++ (spans_moved whole ++ into.right)) nothing_pending)) (shown-logged_shard left sound_left ∙ ap (λ xs. logged xs nothing_pending) between.without_is)
+        (λ i. together (shown_by-spans next.groups sound_next.groups sound_next.once (into.left ++ (spans_moved whole ++ into.right)) next_is i) (shown_by-spans left.groups sound_left.groups sound_left.once (between.left ++ between.right) between.without_is i))
         ∙ sym (together-moved into.left (spans_moved whole) into.right between.left between.right there here)
-        ∙ sym (ap (λ m. together m (shown_by_shard shard)) (shown-logged pool ready.sound ∙ ap (λ xs. logged xs nothing_pending) into.whole)
-        ∙ ap (together (logged (into.left ++ into.right) nothing_pending)) (shown-logged_shard shard ready.sound_shard ∙ ap (λ xs. logged xs nothing_pending) between.with_is))
+        ∙ sym (λ i. together (shown_by-spans pool.groups ready.sound.groups ready.sound.once (into.left ++ into.right) into.whole i) (shown_by-spans shard.groups ready.sound_shard.groups ready.sound_shard.once (between.left ++ (spans_moved whole ++ between.right)) between.with_is i))
 
 -- room is made for the groups that are to go
-AreReady-reserved : (pool : PoolState) (shard : ShardState) (pages spans : ℕ) (going rest : List LiveGroup) → IsSound pool → IsSoundShard shard → (IsInPool pool shard → ⊥) → AreSparsestFirst shard.groups (going ++ rest) → pages ≡ length going → spans ≡ span_count going
-    → AreReady (with_rooms pool pages spans) shard going rest
-AreReady-reserved pool shard pages spans going rest sound sound_shard apart order pages_are spans_are = record {
-  sound = IsSound-with_rooms pool pages spans sound;
+AreReady-reserved : (pool : PoolState) (shard : ShardState) (groups spans : ℕ) (going rest : List LiveGroup) → IsSound pool → IsSoundShard shard → (IsInPool pool shard → ⊥) → AreSparsestFirst shard.groups (going ++ rest) → groups ≡ length going → spans ≡ span_count going
+    → AreReady (with_rooms pool groups spans) shard going rest
+AreReady-reserved pool shard groups spans going rest sound sound_shard apart order groups_are spans_are = record {
+  sound = IsSound-with_rooms pool groups spans sound;
   sound_shard = sound_shard;
   apart = AreApart-receiving pool shard sound sound_shard apart;
-  pages = omega (arith, pages_are);
+  groups = omega (arith, groups_are);
   spans = omega (arith, spans_are);
   order = order;
 }
 
 -- the first ones, as many as are asked for, may come with room for them
-pub AreReady-going : (pool : PoolState) (shard : ShardState) (told going : List LiveGroup) (most pages spans : ℕ) → IsSound pool → IsSoundShard shard → (IsInPool pool shard → ⊥) → AreSparsestFirst shard.groups told → going ≡ take most told → pages ≡ length going → spans ≡ span_count going
-    → AreReady (with_rooms pool pages spans) shard going (drop most told)
-AreReady-going pool shard told going most pages spans sound sound_shard apart are is pages_are spans_are =
-    AreReady-reserved pool shard pages spans going (drop most told) sound sound_shard apart (subst (AreSparsestFirst shard.groups) (sym (ap (λ xs. xs ++ drop most told) is ∙ take-append-drop most told)) are) pages_are spans_are
+pub AreReady-going : (pool : PoolState) (shard : ShardState) (told going : List LiveGroup) (most groups spans : ℕ) → IsSound pool → IsSoundShard shard → (IsInPool pool shard → ⊥) → AreSparsestFirst shard.groups told → going ≡ take most told → groups ≡ length going → spans ≡ span_count going
+    → AreReady (with_rooms pool groups spans) shard going (drop most told)
+AreReady-going pool shard told going most groups spans sound sound_shard apart are is groups_are spans_are =
+    AreReady-reserved pool shard groups spans going (drop most told) sound sound_shard apart (subst (AreSparsestFirst shard.groups) (sym (ap (λ xs. xs ++ drop most told) is ∙ take-append-drop most told)) are) groups_are spans_are
 
 pub span_count-going : (shard : ShardState) (told going : List LiveGroup) (most : ℕ) → IsSoundShard shard → AreSparsestFirst shard.groups told → going ≡ take most told → span_count going ≤ 65536
 span_count-going shard told going most sound are is = omega (
@@ -197,7 +179,7 @@ HasNoLive-fewer groups told going most is are fewer = HasNoLive-none groups (sub
     none [] e = refl
     none (x ∷ xs) e = absurd (omega arith)
 
--- ---- what a reader sees of the moves
+-- what a reader sees of the moves
 
 -- what holds of each two, and of each and the new last one, holds of each two then
 pairs-last : {X : Type 0} (R : X → X → Type 0) (xs : List X) (x : X) → ((low high : ℕ) (a b : X) → suc low ≤ high → slice_get xs low ≡ Some a → slice_get xs high ≡ Some b → R a b) → ((at : ℕ) (a : X) → slice_get xs at ≡ Some a → R a x)
@@ -217,7 +199,7 @@ HasRetired-none pool shard sound = record {
   sparser_first = λ low high a b less at_low at_high. absurd cc;
   sparser = λ place index group other at there some. absurd cc;
   fewer = omega arith;
-  others = λ index group at. ((index, at), refl);
+  others = λ index group at. (index, at);
   stays = λ index group at. IsPooled-here pool sound index group at;
   no_other = omega arith;
 }
@@ -237,41 +219,16 @@ IsSparser-sparsest groups ascend index group sparsest at other apart there some 
     above : (at index : ℕ) → index ≤ at → (at ≡ index → ⊥) → suc index ≤ at
     above at index le apart = elim (cases_lt index at) [ inl less ↦ less | inr not_less ↦ absurd (apart (omega arith)) ]
 
-module _ (pool₀ : PoolState) (shard₀ : ShardState) (count : ℕ) (pool : PoolState) (shard : ShardState) (next : PoolState) (left : ShardState) (was : HasRetired pool₀ shard₀ count pool shard) (moves : MovesSparsest pool shard next left) (sound : IsSound pool) (sound_shard : IsSoundShard shard) (apart : AreApart pool shard) where
-  lifts : Lifts shard moves.group.head.id (Some moves.whole) left
-  lifts = (moves.index, moves.group, record { here = moves.sparsest.here; head_is = refl }, moves.whole_is, moves.after)
-
-  fits_whole : IsSoundWhole moves.whole
-  fits_whole = IsSoundWhole-Lifts shard left moves.group.head.id moves.whole sound_shard lifts
-
-  elsewhere_whole : (place : ℕ) (span : SpanState) → slice_get (spans_moved moves.whole) place ≡ Some span → IsElsewhere pool.groups span.id
-  elsewhere_whole place span here = elsewhere-times spans_of pool.groups span.id (
-      let most = apart span.id in
-      let some = count-some (λ (s : SpanState). same_span s.id span.id) (spans_moved moves.whole) place span here (test_from_same_id span.id span.id refl) in
-      let parts = spans_in-Lifts shard left moves.group.head.id moves.whole lifts in
-      omega (
-        arith,
-        ap (times span.id) parts.with_is,
-        count-append (λ (s : SpanState). same_span s.id span.id) parts.left (spans_moved moves.whole ++ parts.right),
-        count-append (λ (s : SpanState). same_span s.id span.id) (spans_moved moves.whole) parts.right,
-      ))
-
+module _ (pool₀ : PoolState) (shard₀ : ShardState) (count : ℕ) (pool : PoolState) (shard : ShardState) (next : PoolState) (left : ShardState) (was : HasRetired pool₀ shard₀ count pool shard) (moves : MovesSparsest pool shard next left) (sound_shard : IsSoundShard shard) where
   -- what is left stood before, at another index
   left_was : (index : ℕ) (group : GroupState) → slice_get left.groups index ≡ Some group → (at : ℕ) × (at ≡ moves.index → ⊥) × (slice_get shard.groups at ≡ Some group)
   left_was index group there = before-remove shard.groups moves.index index group (ap (λ (s : ShardState). slice_get s.groups index) (sym moves.after) ∙ there)
 
-  words_left : (at : ℕ) (group : GroupState) → (at ≡ moves.index → ⊥) → slice_get shard.groups at ≡ Some group → whole_of_shard left.table group ≡ whole_of_shard shard.table group
-  words_left at group apart there =
-      let other = other_page shard sound_shard at moves.index group moves.group there moves.sparsest.here apart in
-      let words : words_of (without_page shard.table moves.group.page) group.page ≡ words_of shard.table group.page =
-      ap (λ (o : Option Words). unwrap_or o blank_page) (get-remove shard.table.pages moves.group.page group.page ∙ ap (λ (b : Bool). cond b None (finite.get shard.table.pages group.page)) (ne_eqb group.page moves.group.page other)) in
-      ap (λ (s : ShardState). whole_of_shard s.table group) moves.after ∙ ap (λ (ws : Words). with_words group ws) words
-
-  came_last : IsPooled next (whole_of_shard shard₀.table moves.group)
-  came_last = subst (IsPooled next) (moves.whole_is ∙ (was.others moves.index moves.group moves.sparsest.here).1) (IsPooled-TakesIn pool next sound moves.whole fits_whole elsewhere_whole moves.takes)
+  came_last : IsPooled next (whole_of moves.group)
+  came_last = subst (IsPooled next) moves.whole_is (IsPooled-TakesIn pool next moves.whole moves.takes)
 
   still : (other : WholeState) → IsPooled pool other → IsPooled next other
-  still other = IsPooled-stays pool next sound moves.whole fits_whole elsewhere_whole moves.takes other
+  still other = IsPooled-stays pool next moves.whole moves.takes other
 
   -- each that is gone went before, or is the last
   gone_or_last : {P : GroupState → Type 0} → ((place : ℕ) (group : GroupState) → slice_get was.gone place ≡ Some group → P group) → P moves.group
@@ -289,9 +246,9 @@ module _ (pool₀ : PoolState) (shard₀ : ShardState) (count : ℕ) (pool : Poo
   HasRetired-next = record {
     gone = was.gone ++ moves.group ∷ [];
     many = length-append was.gone (moves.group ∷ []) ∙ ap (λ n. n + 1) was.many;
-    stood = gone_or_last was.stood (was.others moves.index moves.group moves.sparsest.here).0;
+    stood = gone_or_last was.stood (was.others moves.index moves.group moves.sparsest.here);
     live = gone_or_last was.live moves.sparsest.some;
-    came = gone_or_last (λ place group there. still (whole_of_shard shard₀.table group) (was.came place group there)) came_last;
+    came = gone_or_last (λ place group there. still (whole_of group) (was.came place group there)) came_last;
     sparser_first = pairs-last IsSparser was.gone moves.group was.sparser_first (λ place group there. was.sparser place moves.index group moves.group there moves.sparsest.here moves.sparsest.some);
     sparser = λ place index group other there left_there some.
         let (at, apart, here) = left_was index other left_there in
@@ -299,12 +256,9 @@ module _ (pool₀ : PoolState) (shard₀ : ShardState) (count : ℕ) (pool : Poo
     fewer =
         let within = slice_get_within shard.groups moves.index moves.group moves.sparsest.here in
         omega (arith, was.fewer, length-remove shard.groups moves.index within, ap (λ (s : ShardState). length s.groups) moves.after);
-    others = λ index group there.
-        let (at, apart, here) = left_was index group there in
-        let before = was.others at group here in
-        (before.0, words_left at group apart here ∙ before.1);
-    stays = λ index group there. still (whole_of pool₀.table group) (was.stays index group there);
-    no_other = omega (arith, was.no_other, length-TakesIn pool next sound moves.whole fits_whole elsewhere_whole moves.takes);
+    others = λ index group there. let (at, apart, here) = left_was index group there in was.others at group here;
+    stays = λ index group there. still (whole_of group) (was.stays index group there);
+    no_other = omega (arith, was.no_other, length-TakesIn pool next moves.whole moves.takes);
   }
 
 -- so many have gone
@@ -331,14 +285,14 @@ IsRetiring-next pool₀ shard₀ going rest count pool shard next left one there
     let now = was.ready rest first in
     record {
       moved = subst (λ n. MovesSparse n pool₀ shard₀ next left) same (pool, shard, was.moved, moves);
-      whole = HasRetired-next pool₀ shard₀ count pool shard next left was.whole moves now.sound now.sound_shard now.apart;
+      whole = HasRetired-next pool₀ shard₀ count pool shard next left was.whole moves now.sound_shard;
       ready = λ rest first. ready (drop (count + 1) going) rest (AreReady-at pool shard going rest count one there (was.ready rest first));
       kept = kept ∙ was.kept;
     }
 
 -- what room the pool had makes no difference
-pub HasRetired-with_rooms : (old : PoolState) (pages spans : ℕ) (shard : ShardState) (count : ℕ) (new : PoolState) (left : ShardState) → HasRetired (with_rooms old pages spans) shard count new left → HasRetired old shard count new left
-HasRetired-with_rooms old pages spans shard count new left is = record {
+pub HasRetired-with_rooms : (old : PoolState) (groups spans : ℕ) (shard : ShardState) (count : ℕ) (new : PoolState) (left : ShardState) → HasRetired (with_rooms old groups spans) shard count new left → HasRetired old shard count new left
+HasRetired-with_rooms old groups spans shard count new left is = record {
   gone = is.gone;
   many = is.many;
   stood = is.stood;

@@ -1,5 +1,5 @@
 -- What pool and shard show together stays as groups move between them.
-use Rattle.std.proofs.Common.{suc, ◌≡◌, ℕ, ◌+◌, ◌≤◌, ◌⊎◌, Bool, true, false, cond, ◌||◌, List, [], ◌∷◌, ◌++◌, append_assoc, Option, Some, None, map, ap, sym, subst, ◌∙◌, refl, inl, inr, arith}
+use Rattle.std.proofs.Common.{◌≡◌, ℕ, ◌+◌, ◌≤◌, ◌⊎◌, Bool, true, false, cond, ◌||◌, List, [], ◌∷◌, ◌++◌, append_assoc, Option, Some, None, map, ap, sym, subst, ◌∙◌, refl, inl, inr, arith}
 use Rattle.std.specs.List.{flat_map}
 use Rattle.std.proofs.Math.Bool.{or-false}
 use Rattle.std.proofs.lemmas.Bool.{cases_eq}
@@ -8,26 +8,26 @@ use Rattle.span.specs.Log.{Value}
 use Rattle.span.specs.State.{SpanState}
 use Rattle.span.specs.declared.id.SpanId.{SpanId}
 use Rattle.span.specs.declared.key.Key.{Key}
-use Rattle.page_table.specs.State.{TableState}
 use Rattle.shard.specs.Group.{GroupState}
-use Rattle.groups.specs.Whole.{IsSoundWhole, WholeState, spans_moved}
-use Rattle.shard.specs.Moves.{TakesIn as TakesInShard, whole_of as whole_of_shard, with_room as with_room_in}
-use Rattle.groups.specs.Shown.{issued_by, span_named}
+use Rattle.groups.specs.Whole.{WholeState, spans_moved, whole_of}
+use Rattle.shard.specs.Moves.{TakesIn as TakesInShard, with_room as with_room_in}
+use Rattle.groups.specs.Shown.{issued_by, shown_by, span_named}
+use Rattle.groups.specs.Sound.{AreSoundGroups}
 use Rattle.shard.specs.Shown.{shown as shown_by_shard}
 use Rattle.shard.specs.Sound.{IsSound as IsSoundShard}
 use Rattle.shard.specs.State.{ShardState}
-use Rattle.groups.specs.Group.{spans_in, spans_of}
+use Rattle.groups.specs.Group.{Group, spans_in, spans_of}
 use Rattle.groups.proofs.GroupSpans.{put_in, taken_out, times}
 use Rattle.groups.proofs.Lists.{count-append, find-none}
 use Rattle.groups.proofs.Logged.{logged, logged_by, nothing_pending, same_plain_map}
+use Rattle.groups.proofs.ShownGroups.{shown_by-logged}
 use Rattle.shard.proofs.MovedGroups.{spans_in-TakesIn}
-use Rattle.shard.proofs.ShownLogs.{shown-logged as shown-logged_shard}
 use Rattle.abandoned.specs.Calls.{Lifts, TakesAll, TakesIn, with_rooms}
+use Rattle.abandoned.specs.Handover.{AreApart}
 use Rattle.abandoned.specs.Shown.{first_of, shown, together}
 use Rattle.abandoned.specs.Sound.{IsSound}
 use Rattle.abandoned.specs.State.{PoolState}
-use Rattle.abandoned.proofs.ShownLogs.{shown-logged}
-use Rattle.abandoned.proofs.TakenIn.{AreOnce, AreOnce-rest, AreSound, HasAll-TakesAll, IsElsewhere-next, IsElsewhereWhole, is_in-TakesIn, pooled}
+use Rattle.abandoned.proofs.TakenIn.{groups-TakesIn, pooled, times-TakesAll}
 
 -- the first span, if there is one, and else the second
 abbrev first_span : Option SpanState → Option SpanState → Option SpanState
@@ -57,13 +57,13 @@ module _ (left middle right : List SpanState) (id : SpanId) (once : times id (le
   parts : times id (left ++ (middle ++ right)) ≡ times id left + (times id middle + times id right)
   parts = times-append id left (middle ++ right) ∙ ap (λ n. times id left + n) (times-append id middle right)
 
-  pub named-without_middle : times id middle ≡ 0 → span_named (left ++ (middle ++ right)) id ≡ span_named (left ++ right) id
+  named-without_middle : times id middle ≡ 0 → span_named (left ++ (middle ++ right)) id ≡ span_named (left ++ right) id
   named-without_middle none =
       named-append left (middle ++ right) id
       ∙ ap (first_span (span_named left id)) (named-append middle right id ∙ ap (λ o. first_span o (span_named right id)) (none_named middle id none))
       ∙ sym (named-append left right id)
 
-  pub named-middle : (times id middle ≡ 0 → ⊥) → (span_named (left ++ (middle ++ right)) id ≡ span_named middle id) × (span_named (left ++ right) id ≡ None)
+  named-middle : (times id middle ≡ 0 → ⊥) → (span_named (left ++ (middle ++ right)) id ≡ span_named middle id) × (span_named (left ++ right) id ≡ None)
   named-middle some =
       let whole = parts in
       let no_left : span_named left id ≡ None = none_named left id (omega arith) in
@@ -123,6 +123,10 @@ logged-together xs ys once = same_plain_map _ _ (λ key. issued key) (λ key. va
           ∙ ap (logged_by key) (sym (named-append xs ys key.span ∙ ap (first_span (span_named xs key.span)) none ∙ first_span-none (span_named xs key.span)))
     ]
 
+-- groups show what the logs of their spans leave
+pub shown_by-spans : {Closed : Type 0} (groups : List (Group Closed)) → AreSoundGroups groups → ((id : SpanId) → times id (spans_in groups) ≤ 1) → (spans : List SpanState) → spans_in groups ≡ spans → shown_by groups ≡ logged spans nothing_pending
+shown_by-spans groups sound once spans is = shown_by-logged groups sound once ∙ ap (λ xs. logged xs nothing_pending) is
+
 -- an adoption
 
 -- where spans move from one list to another, both show together what they showed
@@ -181,31 +185,32 @@ together-Adopts old new shard adopter head whole spans sound sound_new sound_sha
     let into = spans_in-TakesIn (with_room_in shard None spans) adopter whole takes in
     let here : (id : SpanId) → times id (out.0 ++ (spans_moved whole ++ out.1)) ≤ 1 = λ id. subst (λ xs. times id xs ≤ 1) out.2 (sound.once id) in
     let there : (id : SpanId) → times id (into.left ++ (spans_moved whole ++ into.right)) ≤ 1 = λ id. subst (λ xs. times id xs ≤ 1) into.with_is (sound_adopter.once id) in
-    ap (λ m. together m (shown_by_shard adopter)) (shown-logged new sound_new ∙ ap (λ xs. logged xs nothing_pending) out.3)
-    ∙ ap (together (logged (out.0 ++ out.1) nothing_pending)) (shown-logged_shard adopter sound_adopter ∙ ap (λ xs. logged xs nothing_pending) into.with_is)
+    (λ i. together (shown_by-spans new.groups sound_new.groups sound_new.once (out.0 ++ out.1) out.3 i) (shown_by-spans adopter.groups sound_adopter.groups sound_adopter.once (into.left ++ (spans_moved whole ++ into.right)) into.with_is i))
     ∙ together-moved out.0 (spans_moved whole) out.1 into.left into.right here there
-    ∙ sym (ap (λ m. together m (shown_by_shard shard)) (shown-logged old sound ∙ ap (λ xs. logged xs nothing_pending) out.2)
-    ∙ ap (together (logged (out.0 ++ (spans_moved whole ++ out.1)) nothing_pending)) (shown-logged_shard shard sound_shard ∙ ap (λ xs. logged xs nothing_pending) into.without_is))
+    ∙ sym (λ i. together (shown_by-spans old.groups sound.groups sound.once (out.0 ++ (spans_moved whole ++ out.1)) out.2 i) (shown_by-spans shard.groups sound_shard.groups sound_shard.once (into.left ++ into.right) into.without_is i))
 
 -- the end of a shard
 
-Alike-TakesIn : (old new : PoolState) (whole : WholeState) → IsSound old → IsSoundWhole whole → IsElsewhereWhole old whole → TakesIn old whole new → Alike (spans_in new.groups) (spans_moved whole ++ spans_in old.groups)
-Alike-TakesIn old new whole sound fits apart takes id =
-    let its = is_in-TakesIn old sound whole fits apart new takes in
-    let part = put_in spans_of old.groups takes.index (pooled whole its.0) in
-    let is : spans_in new.groups ≡ part.left ++ (spans_moved whole ++ part.right) = ap spans_in its.1.groups_are ∙ part.after in
-    let now : (other : SpanId) → times other (part.left ++ (spans_moved whole ++ part.right)) ≤ 1 = λ other. subst (λ xs. times other xs ≤ 1) is (its.1.sound_now.once other) in
+-- no span stands twice among the pool's and those of the groups
+abbrev AreOnce : PoolState → List WholeState → Type 0
+AreOnce pool wholes = (id : SpanId) → times id (flat_map spans_moved wholes) + times id (spans_in pool.groups) ≤ 1
+
+Alike-TakesIn : (old new : PoolState) (whole : WholeState) → ((id : SpanId) → times id (spans_in new.groups) ≤ 1) → TakesIn old whole new → Alike (spans_in new.groups) (spans_moved whole ++ spans_in old.groups)
+Alike-TakesIn old new whole once takes id =
+    let part = put_in spans_of old.groups takes.index (pooled whole takes.page) in
+    let is : spans_in new.groups ≡ part.left ++ (spans_moved whole ++ part.right) = ap spans_in (groups-TakesIn old new whole takes) ∙ part.after in
+    let now : (other : SpanId) → times other (part.left ++ (spans_moved whole ++ part.right)) ≤ 1 = λ other. subst (λ xs. times other xs ≤ 1) is (once other) in
     ap (λ xs. span_named xs id) is ∙ Alike-front part.left (spans_moved whole) part.right now id ∙ ap (λ xs. span_named (spans_moved whole ++ xs) id) (sym part.whole)
 
-pub Alike-TakesAll : (wholes : List WholeState) (old new : PoolState) → IsSound old → AreSound wholes → AreOnce old wholes → TakesAll old wholes new → Alike (spans_in new.groups) (flat_map spans_moved wholes ++ spans_in old.groups)
-Alike-TakesAll [] old new sound fits once same id = ap (λ (p : PoolState). span_named (spans_in p.groups) id) same
-Alike-TakesAll (whole ∷ wholes) old new sound fits once (mid, rest, takes) id =
+Alike-TakesAll : (wholes : List WholeState) (old new : PoolState) → AreOnce old wholes → TakesAll old wholes new → Alike (spans_in new.groups) (flat_map spans_moved wholes ++ spans_in old.groups)
+Alike-TakesAll [] old new once same id = ap (λ (p : PoolState). span_named (spans_in p.groups) id) same
+Alike-TakesAll (whole ∷ wholes) old new once (mid, rest, takes) id =
     let others : List SpanState = flat_map spans_moved wholes in
-    let fits_rest : AreSound wholes = λ at other there. fits (suc at) other there in
-    let once_rest = AreOnce-rest old whole wholes once in
-    let has = HasAll-TakesAll wholes old mid sound fits_rest once_rest rest in
-    Alike-TakesIn mid new whole has.sound (fits 0 whole refl) (IsElsewhere-next old mid whole wholes once has) takes id
-    ∙ Alike-after (spans_moved whole) (spans_in mid.groups) (others ++ spans_in old.groups) (Alike-TakesAll wholes old mid sound fits_rest once_rest rest) id
+    let both : (other : SpanId) → times other (flat_map spans_moved (whole ∷ wholes)) ≡ times other (spans_moved whole) + times other others = λ other. times-append other (spans_moved whole) others in
+    let once_rest : AreOnce old wholes = λ other. omega (arith, once other, both other) in
+    let once_now : (other : SpanId) → times other (spans_in new.groups) ≤ 1 = λ other. omega (arith, once other, times-TakesAll (whole ∷ wholes) old new (mid, rest, takes) other) in
+    Alike-TakesIn mid new whole once_now takes id
+    ∙ Alike-after (spans_moved whole) (spans_in mid.groups) (others ++ spans_in old.groups) (Alike-TakesAll wholes old mid once_rest rest) id
     ∙ ap (λ xs. span_named xs id) (sym (append_assoc (spans_moved whole) others (spans_in old.groups)))
 
 -- lists that have no span in common may change places
@@ -220,26 +225,21 @@ Alike-swap xs ys once id = elim (cases_eq (times id ys) 0) [
 ]
 
 -- the spans of the groups on their way are those of the shard
-pub flat_map-whole_of : (table : TableState) (groups : List GroupState) → flat_map spans_moved (map (whole_of_shard table) groups) ≡ spans_in groups
-flat_map-whole_of table [] = refl
-flat_map-whole_of table (group ∷ groups) = ap (λ xs. (group.head ∷ group.guests) ++ xs) (flat_map-whole_of table groups)
+flat_map-whole_of : (groups : List GroupState) → flat_map spans_moved (map whole_of groups) ≡ spans_in groups
+flat_map-whole_of [] = refl
+flat_map-whole_of (group ∷ groups) = ap (λ xs. spans_of group ++ xs) (flat_map-whole_of groups)
 
-pub together-Receives : (old new : PoolState) (shard : ShardState) (pages spans : ℕ) → IsSound (with_rooms old pages spans) → IsSound old → IsSoundShard shard → AreSound (map (whole_of_shard shard.table) shard.groups)
-    → ((id : SpanId) → times id (spans_in old.groups) + times id (spans_in shard.groups) ≤ 1)
-    → TakesAll (with_rooms old pages spans) (map (whole_of_shard shard.table) shard.groups) new
+pub together-Receives : (old new : PoolState) (shard : ShardState) (groups spans : ℕ) → IsSound old → IsSound new → IsSoundShard shard → AreApart old shard → TakesAll (with_rooms old groups spans) (map whole_of shard.groups) new
     → shown new ≡ together (shown old) (shown_by_shard shard)
-together-Receives old new shard pages spans sound_room sound sound_shard fits once all =
-    let wholes : List WholeState = map (whole_of_shard shard.table) shard.groups in
-    let same = flat_map-whole_of shard.table shard.groups in
-    let once_all : AreOnce (with_rooms old pages spans) wholes = λ id. let most = once id in let count = ap (times id) same in omega arith in
+together-Receives old new shard groups spans sound sound_new sound_shard once all =
+    let same = flat_map-whole_of shard.groups in
+    let once_all : AreOnce (with_rooms old groups spans) (map whole_of shard.groups) = λ id. omega (arith, once id, ap (times id) same) in
     let mine : List SpanState = spans_in old.groups in
     let theirs : List SpanState = spans_in shard.groups in
-    let sound_new = (HasAll-TakesAll wholes (with_rooms old pages spans) new sound_room fits once_all all).sound in
     let alike : Alike (spans_in new.groups) (mine ++ theirs) = λ id.
-    Alike-TakesAll wholes (with_rooms old pages spans) new sound_room fits once_all all id
+    Alike-TakesAll (map whole_of shard.groups) (with_rooms old groups spans) new once_all all id
     ∙ ap (λ xs. span_named (xs ++ mine) id) same
     ∙ sym (Alike-swap mine theirs once id) in
-    shown-logged new sound_new ∙ logged-alike (spans_in new.groups) (mine ++ theirs) alike
+    shown_by-logged new.groups sound_new.groups sound_new.once ∙ logged-alike (spans_in new.groups) (mine ++ theirs) alike
     ∙ sym (logged-together mine theirs once)
-    ∙ ap (λ m. together m (logged theirs nothing_pending)) (sym (shown-logged old sound))
-    ∙ ap (together (shown old)) (sym (shown-logged_shard shard sound_shard))
+    ∙ sym (λ i. together (shown_by-logged old.groups sound.groups sound.once i) (shown_by-logged shard.groups sound_shard.groups sound_shard.once i))

@@ -1,21 +1,19 @@
 -- What the calls of the pool do and answer.
-use Rattle.std.specs.Prelude.{◌≡◌, ◌≢◌, ◌⊎◌, map, ℕ, ◌+◌, ◌-◌, ◌<◌, ◌≤◌, true, false, List, [], ◌∷◌, length, insert, option_map, remove, Option, Some, None, IsSome, is_some, slice_get, slice_set}
-use Rattle.std.specs.FinMap as finite
+use Rattle.std.specs.Prelude.{◌≡◌, ◌≢◌, ◌⊎◌, map, ℕ, ◌+◌, ◌-◌, ◌<◌, ◌≤◌, true, false, List, [], ◌∷◌, length, insert, remove, Option, Some, None, IsSome, is_some, slice_get, slice_set}
 use Rattle.std.specs.FinSet as set
 use Rattle.span.specs.declared.id.SpanId.{SpanId}
 use Rattle.span.specs.declared.key.Key.{Key}
 use Rattle.span.specs.Ids.{rank}
 use Rattle.span.specs.Log.{Holds, Value}
 use Rattle.span.specs.State.{IsSettable, SpanState}
-use Rattle.page_table.specs.State.{TableState, object_at, with_object, words_of}
-use Rattle.page_table.specs.Words.{Words}
+use Rattle.page.specs.Words.{Words, object_in}
 use Rattle.shard.specs.Group.{GroupState}
 use Rattle.groups.specs.Group.{HasNoHead, IsElsewhere, IsHeadOf, IsHere, spans_of, with_span, IsPlaceFor}
-use Rattle.groups.specs.Spans.{union_of, with_free, with_set}
+use Rattle.groups.specs.Spans.{union_of, with_free}
 use Rattle.groups.specs.Brief.{IsBriefOf}
-use Rattle.groups.specs.Whole.{WholeState, spans_moved}
-use Rattle.shard.specs.Moves.{TakesIn as TakesInShard, whole_of as whole_of_shard, with_room as with_room_in}
-use Rattle.groups.specs.Tables.{no_pages, with_page, without_page}
+use Rattle.groups.specs.Pages.{set_group}
+use Rattle.groups.specs.Whole.{WholeState, spans_moved, whole_of}
+use Rattle.shard.specs.Moves.{TakesIn as TakesInShard, with_room as with_room_in}
 use Rattle.shard.specs.State.{ShardState}
 use Rattle.groups.specs.declared.brief.Brief.{Brief}
 use Rattle.shard.specs.declared.shard.Found.{Found}
@@ -24,13 +22,13 @@ use Rattle.shard.specs.declared.shard.Freed.{Freed}
 use Rattle.shard.specs.declared.shard.Freed.TheVariants as freed
 use Rattle.shard.specs.declared.shard.replacing.Replaced.{Replaced}
 use Rattle.shard.specs.declared.shard.replacing.Replaced.TheVariants as replaced
-use Rattle.abandoned.specs.State.{PoolState, PooledState, whole_of}
+use Rattle.abandoned.specs.State.{PoolState, PooledState}
 
 -- what a look-up of the key finds: the object at its slot of its span's page, and how many changes its span's log has
 abbrev pub Gets : PoolState → Key → Found → Type 0
 Gets pool key (found.Value value at) =
-    (index place page : ℕ) × (group : PooledState) × (span : SpanState) × IsHere pool.groups key.span index place group span × (group.page ≡ Some page)
-    × Holds span.log key.slot key.generation × (value.now ≡ object_at pool.table page span.class key.slot) × (at ≡ length span.log)
+    (index place : ℕ) × (words : Words) × (group : PooledState) × (span : SpanState) × IsHere pool.groups key.span index place group span × (group.page ≡ Some words)
+    × Holds span.log key.slot key.generation × (value.now ≡ object_in words span.class key.slot) × (at ≡ length span.log)
 Gets pool key (found.Gone at) =
     (index place : ℕ) × (group : PooledState) × (span : SpanState) × IsHere pool.groups key.span index place group span
     × (Holds span.log key.slot key.generation → ⊥) × (at ≡ length span.log)
@@ -40,21 +38,16 @@ Gets pool key found.NotHere = IsElsewhere pool.groups key.span
 abbrev pub IsBriefHere : List PooledState → SpanId → Brief → Type 0
 IsBriefHere groups head brief = (index : ℕ) × (group : PooledState) × IsHeadOf groups head index group × IsBriefOf group.head.class (spans_of group) (is_some group.page) false brief
 
--- the table without the page of a group, if the group has one
-abbrev pub without_page_of : TableState → Option ℕ → TableState
-without_page_of table None = table
-without_page_of table (Some page) = without_page table page
+-- the group after it gives its page up, which it does where no slot is live
+pub record GivesUp (group group_now : PooledState) : Type 0 where
+  pub emptied : union_of (spans_of group) ≡ set.empty → group_now ≡ record group { page = None }
+  pub live : union_of (spans_of group) ≢ set.empty → group_now ≡ group
 
--- the group and the table after the group gives its page up, which it does where no slot is live
-pub record GivesUp (group : PooledState) (table : TableState) (group_now : PooledState) (table_now : TableState) : Type 0 where
-  pub emptied : union_of (spans_of group) ≡ set.empty → (group_now ≡ record group { page = None }) × (table_now ≡ without_page_of table group.page)
-  pub live : union_of (spans_of group) ≢ set.empty → (group_now ≡ group) × (table_now ≡ table)
-
--- the pool with another group in the place of one; where the new one has no live slot, it has no page, and the old one's page goes
+-- the pool with another group in the place of one; where the new one has no live slot, it has no page
 pub record Leaves (old : PoolState) (index : ℕ) (group : PooledState) (new : PoolState) : Type 0 where
-  pub emptied : union_of (spans_of group) ≡ set.empty → (page : ℕ) → group.page ≡ Some page
-      → new ≡ record old { groups = slice_set old.groups index (record group { page = None }); table = without_page old.table page }
-  pub live : union_of (spans_of group) ≢ set.empty → new ≡ record old { groups = slice_set old.groups index group }
+  pub now : PooledState
+  pub gives_up : GivesUp group now
+  pub after : new ≡ record old { groups = slice_set old.groups index now }
 
 -- what a free of the key does and answers: it adds its own change to its span's log, and gives up the page of a group that it empties; or it does nothing
 abbrev pub Frees : PoolState → Key → Freed → PoolState → Type 0
@@ -70,9 +63,9 @@ Frees old key freed.NotHere new = IsElsewhere old.groups key.span × (new ≡ ol
 -- what a set of the key to the value does and answers: it writes the value at the key's slot of its group's page, and adds its own change to its span's log; or it does nothing, where the key is not live or its object has another class
 abbrev pub Sets : PoolState → Key → Value → Replaced → PoolState → Type 0
 Sets old key value (replaced.Yes at) new =
-    (index place page : ℕ) × (group : PooledState) × (span : SpanState) × IsHere old.groups key.span index place group span × (group.page ≡ Some page)
+    (index place : ℕ) × (group : PooledState) × (span : SpanState) × IsHere old.groups key.span index place group span
     × IsSettable span key.slot key.generation value × (at ≡ length span.log)
-    × (new ≡ record old { groups = slice_set old.groups index (with_span group place (with_set span key value)); table = with_object old.table page span.class key.slot value })
+    × (new ≡ record old { groups = slice_set old.groups index (set_group group place span key.slot key.generation value) })
 Sets old key value (replaced.No at) new =
     (index place : ℕ) × (group : PooledState) × (span : SpanState) × IsHere old.groups key.span index place group span
     × (IsSettable span key.slot key.generation value → ⊥) × (at ≡ length span.log) × (new ≡ old)
@@ -82,48 +75,44 @@ Sets old key value replaced.NotHere new = IsElsewhere old.groups key.span × (ne
 abbrev pub Lifts : PoolState → SpanId → Option WholeState → PoolState → Type 0
 Lifts old head None new = HasNoHead old.groups head × (new ≡ old)
 Lifts old head (Some whole) new =
-    (index : ℕ) × (group : PooledState) × IsHeadOf old.groups head index group × (whole ≡ whole_of old.table group)
-    × (new ≡ record old { groups = remove old.groups index; table = without_page_of old.table group.page })
+    (index : ℕ) × (group : PooledState) × IsHeadOf old.groups head index group × (whole ≡ whole_of group)
+    × (new ≡ record old { groups = remove old.groups index })
+
+-- the pool with reserved room for that many groups, with that many spans together
+abbrev pub with_rooms : PoolState → ℕ → ℕ → PoolState
+with_rooms pool groups spans = record pool { group_room = groups; span_room = spans }
 
 -- the pool with reserved room for one group of that many spans
 abbrev pub with_room : PoolState → ℕ → PoolState
-with_room pool spans = record pool { table = record pool.table { page_room = 1; span_room = spans } }
+with_room pool spans = with_rooms pool 1 spans
 
 -- the pool may take the group in: its spans are not here, and there is room for it
 pub record MayTakeIn (pool : PoolState) (whole : WholeState) : Type 0 where
   pub elsewhere : (place : ℕ) (span : SpanState) → slice_get (spans_moved whole) place ≡ Some span → IsElsewhere pool.groups span.id
-  pub page_room : 0 < pool.table.page_room
-  pub span_room : length (spans_moved whole) ≤ pool.table.span_room
+  pub group_room : 0 < pool.group_room
+  pub span_room : length (spans_moved whole) ≤ pool.span_room
 
--- the table with one page and that many spans less of reserved room
-abbrev pub less_room : TableState → ℕ → TableState
-less_room table spans = record table { span_room = table.span_room - spans; page_room = table.page_room - 1 }
-
--- the group is in the pool at the place of its head, in reserved room: on a new page with its words where a slot is live, and else without a page
+-- the group is in the pool at the place of its head, in reserved room: with its page where a slot is live, and else without one
 pub record TakesIn (old : PoolState) (whole : WholeState) (new : PoolState) : Type 0 where
   pub index : ℕ
   pub place : IsPlaceFor old.groups whole.head.id index
-  pub emptied : union_of (spans_moved whole) ≡ set.empty
-      → new ≡ record old { groups = insert old.groups index (record { head = whole.head; guests = whole.guests; page = None; closed = tt }); table = less_room old.table (length (spans_moved whole)) }
-  pub live : union_of (spans_moved whole) ≢ set.empty → (page : ℕ) × (words : Words) × (finite.get old.table.pages page ≡ None) × (whole.words ≡ Some words)
-      × (new ≡ record old { groups = insert old.groups index (record { head = whole.head; guests = whole.guests; page = Some page; closed = tt }); table = with_page old.table (spans_moved whole) page words })
+  pub page : Option Words
+  pub emptied : union_of (spans_moved whole) ≡ set.empty → page ≡ None
+  pub live : union_of (spans_moved whole) ≢ set.empty → page ≡ whole.words
+  pub after : new ≡ record old { groups = insert old.groups index (record { head = whole.head; guests = whole.guests; page = page; closed = tt }); group_room = old.group_room - 1; span_room = old.span_room - length (spans_moved whole) }
 
 -- the groups come into the pool, one after another, the last of them first
 abbrev pub TakesAll : PoolState → List WholeState → PoolState → Type 0
 TakesAll old [] new = new ≡ old
 TakesAll old (whole ∷ wholes) new = (mid : PoolState) × TakesAll old wholes mid × TakesIn mid whole new
 
--- the pools hold the same, reserved room aside
-abbrev pub with_rooms : PoolState → ℕ → ℕ → PoolState
-with_rooms pool pages spans = record pool { table = record pool.table { page_room = pages; span_room = spans } }
-
 -- the end of a shard: all its groups come to the pool whole, and those with no live slot give up their pages on the way; the shard has ended, and has no group and no reserved room
 pub record Receives (old : PoolState) (shard : ShardState) (new : PoolState) (ended : ShardState) : Type 0 where
-  pub page_room : ℕ
+  pub group_room : ℕ
   pub span_room : ℕ
   pub running : shard.ended ≡ false
-  pub moved : TakesAll (with_rooms old page_room span_room) (map (whole_of_shard shard.table) shard.groups) new
-  pub after : ended ≡ record shard { ended = true; groups = []; table = no_pages; onto = None }
+  pub moved : TakesAll (with_rooms old group_room span_room) (map whole_of shard.groups) new
+  pub after : ended ≡ record shard { ended = true; groups = []; group_room = 0; span_room = 0; onto = None }
 
 -- the group is in the pool whole: its spans with their logs, and the words of its page where a slot is live; where none is, it has no page
 pub record IsPooled (pool : PoolState) (whole : WholeState) : Type 0 where
@@ -132,13 +121,13 @@ pub record IsPooled (pool : PoolState) (whole : WholeState) : Type 0 where
   pub here : slice_get pool.groups index ≡ Some group
   pub head : group.head ≡ whole.head
   pub guests : group.guests ≡ whole.guests
-  pub words : union_of (spans_moved whole) ≢ set.empty → option_map (words_of pool.table) group.page ≡ whole.words
+  pub words : union_of (spans_moved whole) ≢ set.empty → group.page ≡ whole.words
   pub unpaged : union_of (spans_moved whole) ≡ set.empty → group.page ≡ None
 
 -- every group of the shard is in the pool, whole, every earlier group stays there, and there is no other
 pub record HasReceived (old : PoolState) (shard : ShardState) (new : PoolState) : Type 0 where
-  pub came : (index : ℕ) (group : GroupState) → slice_get shard.groups index ≡ Some group → IsPooled new (whole_of_shard shard.table group)
-  pub stays : (index : ℕ) (group : PooledState) → slice_get old.groups index ≡ Some group → IsPooled new (whole_of old.table group)
+  pub came : (index : ℕ) (group : GroupState) → slice_get shard.groups index ≡ Some group → IsPooled new (whole_of group)
+  pub stays : (index : ℕ) (group : PooledState) → slice_get old.groups index ≡ Some group → IsPooled new (whole_of group)
   pub no_other : length new.groups ≡ length old.groups + length shard.groups
 
 -- one of the spans is among the groups already

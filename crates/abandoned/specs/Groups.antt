@@ -3,7 +3,6 @@ use Rattle.std.specs.Prelude.{◌≡◌, ◌⊎◌, ◌*◌, ◌≤◌, ℕ, Boo
 use Rattle.bitmap.specs.Slots.{SlotSet}
 use Rattle.span.specs.declared.id.SpanId.{SpanId}
 use Rattle.span.specs.State.{SpanState}
-use Rattle.page_table.specs.State.{TableState}
 use Rattle.abandoned.specs.Calls.{GivesUp}
 use Rattle.abandoned.specs.State.{PooledState}
 use Rattle.groups.specs.Group.{HasNoHead, IsHeadOf, with_span}
@@ -34,9 +33,9 @@ Removes old head None new = HasNoHead old.groups head × (new ≡ old)
 Removes old head (Some group) new = (index : ℕ) × IsHeadOf old.groups head index group × (new ≡ record old { groups = remove old.groups index })
 
 -- the group has another span at the place, and has given its page up where no slot is live
-abbrev pub FreesIn : GroupsState → ℕ → PooledState → ℕ → SpanState → TableState → GroupsState → TableState → Type 0
-FreesIn old index group place span table new table_now =
-    (now : PooledState) × GivesUp (with_span group place span) table now table_now × (new ≡ record old { groups = slice_set old.groups index now })
+abbrev pub FreesIn : GroupsState → ℕ → PooledState → ℕ → SpanState → GroupsState → Type 0
+FreesIn old index group place span new =
+    (now : PooledState) × GivesUp (with_span group place span) now × (new ≡ record old { groups = slice_set old.groups index now })
 
 -- there are places for all heads, or none, and bits for each of them
 pub record HaveSize (places : List (Option PooledState)) (parts : List SlotSet) : Type 0 where

@@ -20,10 +20,10 @@ AreApart pool shard = (id : SpanId) → count_by (λ span. same_span span.id id)
 
 -- the pool has reserved room for all groups of the shard
 pub record HasRoomFor (pool : PoolState) (shard : ShardState) : Type 0 where
-  pub pages : length shard.groups ≤ pool.table.page_room
-  pub spans : length (spans_in shard.groups) ≤ pool.table.span_room
+  pub groups : length shard.groups ≤ pool.group_room
+  pub spans : length (spans_in shard.groups) ≤ pool.span_room
 
--- the shard has no group left, and nothing else has changed but its pages
+-- the shard has no group left, and nothing else has changed but its reserved room
 pub record HasLetAllGo (old new : ShardState) : Type 0 where
   pub groups : new.groups ≡ []
   pub number : new.number ≡ old.number
@@ -37,6 +37,6 @@ pub record AreReady (pool : PoolState) (shard : ShardState) (going rest : List L
   pub sound : IsSound pool
   pub sound_shard : IsSoundShard shard
   pub apart : AreApart pool shard
-  pub pages : length going ≤ pool.table.page_room
-  pub spans : span_count going ≤ pool.table.span_room
+  pub groups : length going ≤ pool.group_room
+  pub spans : span_count going ≤ pool.span_room
   pub order : AreSparsestFirst shard.groups (going ++ rest)

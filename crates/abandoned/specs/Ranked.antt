@@ -2,7 +2,6 @@
 use Rattle.std.specs.Prelude.{◌≡◌, ◌⊎◌, ℕ, suc, if◌then◌else◌, List, [], ◌∷◌, Option, None, Some, length, nat_eq, slice_get, slice_set}
 use Rattle.span.specs.Ids.{rank}
 use Rattle.span.specs.State.{SpanState}
-use Rattle.page_table.specs.State.{TableState}
 use Rattle.abandoned.specs.Calls.{GivesUp}
 use Rattle.abandoned.specs.State.{PooledState}
 use Rattle.groups.specs.Group.{with_span}
@@ -44,6 +43,6 @@ pub record LetsGo (groups : List PooledState) (index : List ℕ) (gone : PooledS
   pub size : length index_now ≡ length index
 
 -- the group of the rank has another span at the place, and has given its page up where no slot is live
-abbrev pub FreesAt : RankedState → ℕ → PooledState → ℕ → SpanState → TableState → RankedState → TableState → Type 0
-FreesAt old number group place span table new table_now =
-    (now : PooledState) × GivesUp (with_span group place span) table now table_now × (new ≡ record old { by_rank = slice_set old.by_rank number (Some now) })
+abbrev pub FreesAt : RankedState → ℕ → PooledState → ℕ → SpanState → RankedState → Type 0
+FreesAt old number group place span new =
+    (now : PooledState) × GivesUp (with_span group place span) now × (new ≡ record old { by_rank = slice_set old.by_rank number (Some now) })

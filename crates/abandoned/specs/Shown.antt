@@ -1,18 +1,13 @@
 -- The plain map that the pool shows.
-use Rattle.std.specs.Prelude.{◌||◌, [], Option, None, Some}
+use Rattle.std.specs.Prelude.{◌||◌, Option, None, Some}
 use Rattle.span.specs.Log.{Value}
 use Rattle.span.specs.PlainMap.{PlainMap}
-use Rattle.groups.specs.Shown.{issued_by, span_named, value_by}
+use Rattle.groups.specs.Shown.{shown_by}
 use Rattle.abandoned.specs.State.{PoolState}
-use Rattle.groups.specs.Group.{spans_in}
 
 -- the map of the keys of the pool's spans: what their logs leave live, each with the object on its page
 abbrev pub shown : PoolState → PlainMap
-shown pool = record {
-  is_issued = λ key. issued_by key (span_named (spans_in pool.groups) key.span);
-  value_of = λ key. value_by pool.table key (span_named (spans_in pool.groups) key.span);
-  pending = λ worker owner. [];
-}
+shown pool = shown_by pool.groups
 
 -- the first value, if there is one, and else the second
 abbrev pub first_of : Option Value → Option Value → Option Value

@@ -5,7 +5,8 @@ ghost use Rattle.span.specs.Ids.{rank};
 ghost use Rattle.span.specs.Log.{Holds};
 ghost use Rattle.span.specs.SpanLogs.{AreLegal, room_for_logs, span_of_log};
 ghost use Rattle.span.specs.State.{IsSettable, SpanState};
-ghost use Rattle.page_table.specs.State.{HasPage};
+ghost use Rattle.groups.specs.Pages.{set_group};
+ghost use Rattle.groups.specs.Sound.{IsSoundGroup};
 ghost use Rattle.groups.specs.Spans.{with_free_at, with_set_at, live_count};
 ghost use Rattle.abandoned.specs.Calls.{HasNoPage, IsFirstPaged};
 ghost use Rattle.groups.specs.Group.{HasNoHead, IsHeadOf, IsPlaceFor, spans_in, spans_of, summary, with_span};
@@ -20,7 +21,6 @@ use crate::by_rank::{ByRank, HEADS};
 use crate::numbers::{lowest, mark, next};
 use crate::pooled::Pooled;
 use bitmap::Bits256;
-use page_table::Table;
 use span::{Entry, Kept, Log, SpanId, SpanLog};
 use std::alloc::{AllocError, Global};
 use std::marker::Model;
@@ -115,8 +115,8 @@ impl<L: Log> Groups<L> {
     }
 
     /// Sets the object of the slot in the span at the place of the head's group to these words, where the slot is live
-    /// there at the generation and its object has as many, and says whether it was. The group keeps its page, whose
-    /// words are the caller's to write.
+    /// there at the generation and its object has as many, and says whether it was. The group keeps its page, which has
+    /// them then, too.
     ///
     /// # Errors
     ///
@@ -130,7 +130,7 @@ impl<L: Log> Groups<L> {
         words: &[u128],
     ) -> Result<bool, AllocError>
         requires { (group : PooledState) × HasHeadAt self.old.groups head group
-            × (place < length (spans_of group)) }
+            × (place < length (spans_of group)) × IsSoundGroup group }
         ensures found { (index : ℕ) (group : PooledState) (span : SpanState)
             → IsHeadOf self.old.groups head index group
             → slice_get (spans_of group) place ≡ Some span
@@ -139,8 +139,8 @@ impl<L: Log> Groups<L> {
             → IsHeadOf self.old.groups head index group
             → slice_get (spans_of group) place ≡ Some span
             → IfOk result (λ done. OnTrue done (self.new ≡ record self.old {
-              groups = slice_set self.old.groups index (with_span group place
-                  (with_set_at span slot generation words.now));
+              groups = slice_set self.old.groups index
+                  (set_group group place span slot generation words.now);
             })) }
         ensures unknown { IfOk result (λ done. OnFalse done (self.new ≡ self.old)) }
         ensures refused { (index : ℕ) (group : PooledState) (span : SpanState)
@@ -150,24 +150,14 @@ impl<L: Log> Groups<L> {
         ensures err { OnErr result (self.new ≡ self.old) }
     {
         let rank = head.rank() as usize;
-        let done = self.places.set(rank, place, slot, generation, words)?;
-        Ok(done)
+        self.places.set(rank, place, slot, generation, words)
     }
 
     /// Frees the slot in the span at the place of the head's group, where it is live there at the generation, and
     /// gives up the page of a group that it empties.
-    pub(crate) fn free(
-        &mut self,
-        head: SpanId,
-        place: usize,
-        slot: u8,
-        generation: u32,
-        table: &mut Table,
-    ) -> bool
-        requires here { (group : PooledState) × HasHeadAt self.old.groups head group
+    pub(crate) fn free(&mut self, head: SpanId, place: usize, slot: u8, generation: u32) -> bool
+        requires { (group : PooledState) × HasHeadAt self.old.groups head group
             × (place < length (spans_of group)) }
-        requires pages { (index : ℕ) (group : PooledState)
-            → slice_get self.old.groups index ≡ Some group → IfSome group.page (HasPage table.old) }
         ensures found { (index : ℕ) (group : PooledState) (span : SpanState)
             → IsHeadOf self.old.groups head index group
             → slice_get (spans_of group) place ≡ Some span
@@ -176,11 +166,11 @@ impl<L: Log> Groups<L> {
             → IsHeadOf self.old.groups head index group
             → slice_get (spans_of group) place ≡ Some span
             → OnTrue result (FreesIn self.old index group place
-            (with_free_at span slot generation) table.old self.new table.new) }
-        ensures unknown { OnFalse result ((self.new ≡ self.old) × (table.new ≡ table.old)) }
+            (with_free_at span slot generation) self.new) }
+        ensures unknown { OnFalse result (self.new ≡ self.old) }
     {
         let rank = head.rank() as usize;
-        let freed = self.places.free(rank, place, slot, generation, table);
+        let freed = self.places.free(rank, place, slot, generation);
         mark(
             &mut self.paged,
             &mut self.filled,
@@ -199,6 +189,19 @@ impl<L: Log> Groups<L> {
             return None;
         };
         self.places.get(rank)
+    }
+
+    /// How many groups have a page.
+    pub(crate) fn pages(&self) -> usize
+        ensures { result ≡ length (filter (λ group. is_some group.page) self.now.groups) }
+    {
+        let mut pages = 0;
+        let mut from = 0;
+        while let Some(rank) = next(self.paged.as_slice(), from) {
+            pages += 1;
+            from = rank + 1;
+        }
+        pages
     }
 
     /// How many keys are live in those that have a page.

@@ -4,7 +4,8 @@ ghost use Rattle.std.specs.Bool.{OnTrue, OnFalse};
 ghost use Rattle.span.specs.Ids.{rank};
 ghost use Rattle.span.specs.Log.{Holds};
 ghost use Rattle.span.specs.State.{IsSettable, SpanState};
-ghost use Rattle.page_table.specs.State.{HasPage};
+ghost use Rattle.groups.specs.Pages.{set_group};
+ghost use Rattle.groups.specs.Sound.{IsSoundGroup};
 ghost use Rattle.groups.specs.Group.{spans_of, with_span};
 ghost use Rattle.groups.specs.Spans.{with_free_at, with_set_at};
 ghost use Rattle.abandoned.specs.Groups.{has_page};
@@ -13,7 +14,6 @@ ghost use Rattle.abandoned.specs.State.{PooledState};
 ghost use Rattle.span.specs.declared.limits.TheConstants.{ALL_IDS};
 
 use crate::pooled::Pooled;
-use page_table::Table;
 use span::{ALL_IDS, Log};
 use std::alloc::{AllocError, Global};
 use std::marker::Model;
@@ -146,7 +146,7 @@ impl<L: Log> ByRank<L> {
         words: &[u128],
     ) -> Result<bool, AllocError>
         requires { (group : PooledState) × (slice_get self.old.by_rank rank ≡ Some (Some group))
-            × (place < length (spans_of group)) }
+            × (place < length (spans_of group)) × IsSoundGroup group }
         ensures found { (group : PooledState) (span : SpanState)
             → slice_get self.old.by_rank rank ≡ Some (Some group)
             → slice_get (spans_of group) place ≡ Some span
@@ -155,8 +155,8 @@ impl<L: Log> ByRank<L> {
             → slice_get self.old.by_rank rank ≡ Some (Some group)
             → slice_get (spans_of group) place ≡ Some span
             → IfOk result (λ done. OnTrue done (self.new ≡ record self.old {
-              by_rank = slice_set self.old.by_rank rank (Some (with_span group place
-                  (with_set_at span slot generation words.now)));
+              by_rank = slice_set self.old.by_rank rank
+                  (Some (set_group group place span slot generation words.now));
             })) }
         ensures unknown { IfOk result (λ done. OnFalse done (self.new ≡ self.old)) }
         ensures refused { (group : PooledState) (span : SpanState)
@@ -168,25 +168,14 @@ impl<L: Log> ByRank<L> {
         let Some(at) = place_of(self.groups.as_slice(), self.index.as_slice(), rank) else {
             unreachable!();
         };
-        let done = self.groups[at].set(place, slot, generation, words)?;
-        Ok(done)
+        self.groups[at].set(place, slot, generation, words)
     }
 
     /// Frees the slot in the span at the place of the group whose head has the rank, where it is live there at the
     /// generation, and gives up the page of a group that it empties.
-    pub(crate) fn free(
-        &mut self,
-        rank: usize,
-        place: usize,
-        slot: u8,
-        generation: u32,
-        table: &mut Table,
-    ) -> bool
-        requires here { (group : PooledState) × (slice_get self.old.by_rank rank ≡ Some (Some group))
+    pub(crate) fn free(&mut self, rank: usize, place: usize, slot: u8, generation: u32) -> bool
+        requires { (group : PooledState) × (slice_get self.old.by_rank rank ≡ Some (Some group))
             × (place < length (spans_of group)) }
-        requires pages { (group : PooledState)
-            → slice_get self.old.by_rank rank ≡ Some (Some group)
-            → IfSome group.page (HasPage table.old) }
         ensures found { (group : PooledState) (span : SpanState)
             → slice_get self.old.by_rank rank ≡ Some (Some group)
             → slice_get (spans_of group) place ≡ Some span
@@ -195,13 +184,13 @@ impl<L: Log> ByRank<L> {
             → slice_get self.old.by_rank rank ≡ Some (Some group)
             → slice_get (spans_of group) place ≡ Some span
             → OnTrue result (FreesAt self.old rank group place
-            (with_free_at span slot generation) table.old self.new table.new) }
-        ensures unknown { OnFalse result ((self.new ≡ self.old) × (table.new ≡ table.old)) }
+            (with_free_at span slot generation) self.new) }
+        ensures unknown { OnFalse result (self.new ≡ self.old) }
     {
         let Some(at) = place_of(self.groups.as_slice(), self.index.as_slice(), rank) else {
             unreachable!();
         };
-        self.groups[at].free(place, slot, generation, table)
+        self.groups[at].free(place, slot, generation)
     }
 }
 

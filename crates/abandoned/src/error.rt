@@ -8,7 +8,7 @@ use std::alloc::AllocError;
 /// Why the end of a shard or a retirement was refused. Pool and shard are as they were before.
 #[derive(Clone, Copy, PartialEq, Eq, Debug, thiserror::Error)]
 pub enum ReceiveError {
-    /// The pool's list of groups or its table could not grow, or the list of the groups that were to go.
+    /// The pool's row of groups or its directory could not grow, or the list of the groups that were to go.
     #[error("out of memory")]
     OutOfMemory,
     /// The shard has ended before.
@@ -33,7 +33,7 @@ impl From<AllocError> for ReceiveError {
 /// Why no group was adopted. Pool and shard are as they were before.
 #[derive(Clone, Copy, PartialEq, Eq, Debug, thiserror::Error)]
 pub enum AdoptError {
-    /// The shard's list of groups or its table could not grow.
+    /// The shard's list of groups or its directory could not grow.
     #[error("out of memory")]
     OutOfMemory,
     /// The shard has all the pages that it may have.

@@ -9,7 +9,7 @@
 //!              │       │       │       │
 //!   guests    0.7     none    none    1.1, 2.5   spans on the page of the head
 //!              │       │       │       │
-//!   page       7      none     2       4         none where no slot is live
+//!   page      own     none    own     own        none where no slot is live
 //! ```
 //!
 //! A group has a page exactly where one of its slots is live: those with none give their pages up on

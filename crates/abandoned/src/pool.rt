@@ -6,7 +6,6 @@ ghost use Rattle.span.specs.Order.{HasNoneFrom, IsFirstFrom};
 ghost use Rattle.span.specs.PlainMap as plain;
 ghost use Rattle.span.specs.State.{SpanState};
 ghost use Rattle.shard.specs.Calls.{FindsObject, value_found, was_freed};
-ghost use Rattle.groups.specs.Tables.{no_pages};
 ghost use Rattle.abandoned.specs.Calls.{Frees, Gets};
 ghost use Rattle.abandoned.specs.Shown.{shown};
 ghost use Rattle.abandoned.specs.Sound.{IsSound};
@@ -18,7 +17,6 @@ ghost use Rattle.bitmap.specs.declared.bits.TheConstants.{SLOTS};
 use crate::by_head::Groups;
 use crate::pooled::Pooled;
 use groups::{Directory, Place};
-use page_table::Table;
 use shard::{Found, Freed};
 use span::{Entry, Kept, Key, Log, SpanId};
 use std::alloc::{AllocError, Global};
@@ -30,17 +28,14 @@ mod moves;
 mod replacing;
 mod retiring;
 
-/// The groups that shards have let go, at an end or before, by ascending head, and the pages of those that have a live slot.
-///
-/// It keeps the reserved room as numbers of its own, since a group that comes without a page uses room
-/// for one up too.
+/// The groups that shards have let go, at an end or before, by ascending head; those that have a live slot have a page.
 #[derive(Drop)]
 pub struct Pool<L: Log = Kept> {
     alloc: Global,
     groups: Groups<L>,
     directory: Directory,
-    table: Table,
-    page_room: usize,
+    // For how many more groups room is reserved, and for how many more spans.
+    group_room: usize,
     span_room: usize,
     has_plan: bool,
 }
@@ -48,11 +43,10 @@ pub struct Pool<L: Log = Kept> {
 impl<L: Log> Model for Pool<L> {
     ghost use Rattle.abandoned.specs.State.{PoolState};
     ghost use Rattle.std.specs.Coded.{codes};
-    ghost use Rattle.page_table.specs.State.{table_code};
 
     ghost Value = { PoolState };
 
-    ghost coded = { Prim.hlevel (codes, table_code) };
+    ghost coded = { Prim.hlevel codes };
 
     ghost use Rattle.abandoned.specs.Kept.{state_of, IsKept};
 
@@ -64,7 +58,12 @@ impl<L: Log> Model for Pool<L> {
 impl Pool<Kept> {
     /// A pool with no group. It takes no memory.
     pub fn new(alloc: Global) -> Pool
-        ensures empty { result ≡ record { groups = []; table = no_pages; has_plan = false } }
+        ensures empty { result ≡ record {
+          groups = [];
+          group_room = 0;
+          span_room = 0;
+          has_plan = false;
+        } }
         ensures sound { IsSound result }
     {
         Pool::with_log(alloc)
@@ -74,15 +73,19 @@ impl Pool<Kept> {
 impl<L: Log> Pool<L> {
     /// A pool with no group, whose logs are kept or counted as its type says: as [`Pool::new`]. It takes no memory.
     pub fn with_log(alloc: Global) -> Pool<L>
-        ensures empty { result ≡ record { groups = []; table = no_pages; has_plan = false } }
+        ensures empty { result ≡ record {
+          groups = [];
+          group_room = 0;
+          span_room = 0;
+          has_plan = false;
+        } }
         ensures sound { IsSound result }
     {
         Pool {
             alloc,
             groups: Groups::new(alloc),
             directory: Directory::new(alloc),
-            table: Table::new(alloc),
-            page_room: 0,
+            group_room: 0,
             span_room: 0,
             has_plan: false,
         }
@@ -92,7 +95,7 @@ impl<L: Log> Pool<L> {
     pub fn pages(&self) -> usize
         ensures { result ≡ length (paged_groups self.now) }
     {
-        self.table.pages()
+        self.groups.pages()
     }
 
     /// Says that a plan of folds is open, so that no group is adopted until it is closed. It takes no memory.
@@ -163,10 +166,7 @@ impl<L: Log> Pool<L> {
         if !span.holds(key.slot, key.generation) {
             return Found::Gone(at);
         }
-        let Some(page) = group.page() else {
-            unreachable!();
-        };
-        let words = self.table.value_at(page, span.class(), key.slot);
+        let words = group.value_at(span.class(), key.slot);
         Found::Value(words, at)
     }
 
@@ -183,10 +183,7 @@ impl<L: Log> Pool<L> {
         };
         let head = group.head_id();
         let at = group.span_at(place).changes();
-        if !self
-            .groups
-            .free(head, place, key.slot, key.generation, &mut self.table)
-        {
+        if !self.groups.free(head, place, key.slot, key.generation) {
             return Freed::No(at);
         }
         Freed::Yes(at)

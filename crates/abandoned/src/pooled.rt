@@ -1,10 +1,12 @@
 // A group of the pool: a head and its guests, and their page, if they have one.
-ghost use Rattle.std.specs.Prelude.{◌≡◌, ◌<◌, ◌≤◌, ◌↔◌, IfOk, IfSome, OnErr, Some, IsTrue, MatchOption, false, is_some, length, slice_get};
+ghost use Rattle.std.specs.Prelude.{◌≡◌, ◌<◌, ◌≤◌, ◌↔◌, IfOk, IsSome, OnErr, Some, IsTrue, MatchOption, false, is_some, length, slice_get};
 ghost use Rattle.std.specs.Bool.{OnTrue, OnFalse};
 ghost use Rattle.span.specs.Log.{Holds};
 ghost use Rattle.span.specs.State.{IsSettable, SpanState};
-ghost use Rattle.page_table.specs.State.{HasPage};
-ghost use Rattle.groups.specs.Spans.{HasNoSpan, IsSpanAt, union_of, with_free_at, with_set_at, live_count};
+ghost use Rattle.groups.specs.Pages.{object_at, set_group};
+ghost use Rattle.groups.specs.Sound.{IsSoundGroup};
+ghost use Rattle.span.specs.Classes.{slots_in, width_of};
+ghost use Rattle.groups.specs.Spans.{HasNoSpan, IsSpanAt, union_of, with_free_at, live_count};
 ghost use Rattle.groups.specs.Brief.{IsBriefOf};
 ghost use Rattle.abandoned.specs.Calls.{GivesUp};
 ghost use Rattle.abandoned.specs.State.{group_of};
@@ -12,8 +14,8 @@ ghost use Rattle.groups.specs.Group.{spans_of, summary, with_span};
 ghost use Rattle.bitmap.specs.declared.bits.TheConstants.{SLOTS};
 
 use groups::{Brief, Spans};
-use page_table::{Page, Table};
-use span::{Entry, Log, Span, SpanId};
+use page::Page;
+use span::{Class, Entry, Log, Span, SpanId};
 use std::alloc::AllocError;
 use std::marker::Model;
 
@@ -33,7 +35,7 @@ impl<L: Log> Model for Pooled<L> {
 }
 
 impl<L: Log> Pooled<L> {
-    /// The group of the spans, on the page, if there is one.
+    /// The group of the spans, with the page, if there is one.
     pub(crate) fn new(spans: Spans<L>, page: Option<Page>) -> Pooled<L>
         ensures { result ≡ group_of spans page }
     {
@@ -82,11 +84,17 @@ impl<L: Log> Pooled<L> {
         self.spans.head_id()
     }
 
-    /// The page of its spans.
-    pub(crate) fn page(&self) -> Option<Page>
-        ensures { result ≡ self.now.page }
+    /// The words of the object at the slot of its page.
+    pub(crate) fn value_at(&self, class: Class, slot: u8) -> &[u128]
+        requires paged { IsSome self.now.page }
+        requires on_page { slot < slots_in class }
+        ensures object { result.now ≡ object_at self.now.page class slot }
+        ensures width { length result.now ≡ width_of class }
     {
-        self.page
+        match &self.page {
+            Some(page) => page.value_at(class, slot),
+            None => unreachable!(),
+        }
     }
 
     /// Whether it has a page.
@@ -127,7 +135,7 @@ impl<L: Log> Pooled<L> {
     }
 
     /// Sets the object of the slot in the span at the place to these words, where the slot is live there at the generation
-    /// and its object has as many, and says whether it was. The words of the page are the caller's to write.
+    /// and its object has as many, and says whether it was. The page has them then, too.
     ///
     /// # Errors
     ///
@@ -139,56 +147,53 @@ impl<L: Log> Pooled<L> {
         generation: u32,
         words: &[u128],
     ) -> Result<bool, AllocError>
-        requires { place < length (spans_of self.old) }
+        requires place { place < length (spans_of self.old) }
+        requires sound { IsSoundGroup self.old }
         ensures found { (span : SpanState) → slice_get (spans_of self.old) place ≡ Some span
             → IfOk result (λ done. IsTrue done ↔ IsSettable span slot generation words.now) }
         ensures set { (span : SpanState) → slice_get (spans_of self.old) place ≡ Some span
-            → IfOk result (λ done. OnTrue done (self.new ≡ with_span self.old place
-            (with_set_at span slot generation words.now))) }
+            → IfOk result (λ done. OnTrue done (self.new
+            ≡ set_group self.old place span slot generation words.now)) }
         ensures unknown { IfOk result (λ done. OnFalse done (self.new ≡ self.old)) }
         ensures refused { (span : SpanState) → slice_get (spans_of self.old) place ≡ Some span
             → OnErr result (IsSettable span slot generation words.now) }
         ensures err { OnErr result (self.new ≡ self.old) }
     {
-        let done = self.spans.set(place, slot, generation, words)?;
-        Ok(done)
+        if !self.spans.set(place, slot, generation, words)? {
+            return Ok(false);
+        }
+        let class = self.spans.class();
+        match &mut self.page {
+            Some(page) => page.set_at(class, slot, words),
+            None => unreachable!(),
+        }
+        Ok(true)
     }
 
     /// Frees the slot in the span at the place, where it is live there at the generation, and gives the page up where
     /// it was the last that was live.
-    pub(crate) fn free(
-        &mut self,
-        place: usize,
-        slot: u8,
-        generation: u32,
-        table: &mut Table,
-    ) -> bool
-        requires place { place < length (spans_of self.old) }
-        requires page { IfSome self.old.page (HasPage table.old) }
+    pub(crate) fn free(&mut self, place: usize, slot: u8, generation: u32) -> bool
+        requires { place < length (spans_of self.old) }
         ensures found { (span : SpanState) → slice_get (spans_of self.old) place ≡ Some span
             → (IsTrue result ↔ Holds span.log slot generation) }
         ensures freed { (span : SpanState) → slice_get (spans_of self.old) place ≡ Some span
             → OnTrue result (GivesUp (with_span self.old place (with_free_at span slot generation))
-            table.old self.new table.new) }
-        ensures unknown { OnFalse result ((self.new ≡ self.old) × (table.new ≡ table.old)) }
+            self.new) }
+        ensures unknown { OnFalse result (self.new ≡ self.old) }
     {
         if !self.spans.free(place, slot, generation) {
             return false;
         }
-        self.give_up_page(table);
+        self.give_up_page();
         true
     }
 
     // Gives its page up, if it has one, where no slot is live.
-    fn give_up_page(&mut self, table: &mut Table)
-        requires { IfSome self.old.page (HasPage table.old) }
-        ensures { GivesUp self.old table.old self.new table.new }
+    fn give_up_page(&mut self)
+        ensures { GivesUp self.old self.new }
     {
-        if self.spans.occupied().lowest().is_some() {
-            return;
-        }
-        if let Some(page) = self.page.take() {
-            table.release(page);
+        if self.spans.occupied().lowest().is_none() {
+            self.page = None;
         }
     }
 }

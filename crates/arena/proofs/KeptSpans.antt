@@ -40,7 +40,7 @@ shard_spans-Frees old new key freed.NotHere (elsewhere, new_is) = ap shard_spans
 
 pub pooled_spans-Frees : (old new : PoolState) (key : Key) (answer : Freed) → IsSound old → FreesPooled old key answer new → pooled_spans new ≡ pooled_spans old
 pooled_spans-Frees old new key (freed.Yes at) sound (index, place, group, span, here, holds, at_is, leaves) =
-    let now = groups-Leaves old sound index place group span key (here.group_is, here.span_is) holds new leaves in
+    let now = groups-Leaves old new index place group (with_free span key) leaves in
     ap (λ gs. length (flat_map spans_of gs)) now.1
     ∙ length-flat_map-set spans_of old.groups index group now.0 here.group_is (ap length now.2 ∙ length-set (spans_of group) place (with_free span key))
 pooled_spans-Frees old new key (freed.No at) sound (index, place, group, span, here, gone, at_is, new_is) = ap pooled_spans new_is

@@ -1,5 +1,5 @@
 -- What a call of a shard or of the pool does to the sums over its spans.
-use Rattle.std.proofs.Common.{◌≡◌, ℕ, zero, suc, ◌+◌, ◌≤◌, Bool, true, false, cond, eqb, ltb, ◌&&◌, List, [], ◌∷◌, inl, inr, refl, sym, ap, ◌∙◌, arith, Some, set, slice_get, eq-eqb, eqb-true, map, length, None}
+use Rattle.std.proofs.Common.{Option, ◌≡◌, ℕ, zero, suc, ◌+◌, ◌≤◌, Bool, true, false, cond, eqb, ltb, ◌&&◌, List, [], ◌∷◌, inl, inr, refl, sym, ap, ◌∙◌, arith, Some, set, slice_get, eq-eqb, eqb-true, map, length, None}
 use Rattle.std.specs.Prelude.{sum_by}
 use Rattle.std.specs.List.{flat_map}
 use Rattle.std.proofs.lemmas.Bool.Decides.{nat_tests}
@@ -14,14 +14,14 @@ use Rattle.shard.specs.Calls.{Puts, new_group}
 use Rattle.groups.specs.Spans.{new_span, union_of, with_put}
 use Rattle.shard.specs.Group.{GroupState}
 use Rattle.groups.specs.Group.{spans_of, with_span}
-use Rattle.page_table.specs.State.{TableState}
-use Rattle.shard.specs.Moves.{TakesIn, whole_of, with_room}
-use Rattle.groups.specs.Whole.{WholeState, spans_moved}
+use Rattle.page.specs.Words.{Words}
+use Rattle.groups.specs.Pages.{with_object}
+use Rattle.shard.specs.Moves.{TakesIn, with_room}
+use Rattle.groups.specs.Whole.{WholeState, spans_moved, whole_of}
 use Rattle.shard.specs.State.{ShardState}
 use Rattle.groups.proofs.Standing.{spans_of-with_span}
 use Rattle.abandoned.specs.Calls.{Adopts, Receives, TakesAll, TakesIn as TakesInPool, with_rooms}
 use Rattle.abandoned.specs.State.{PoolState, PooledState}
-use Rattle.abandoned.proofs.TakenIn.{empty_or_not}
 use Rattle.fold.proofs.Sums.{sum_by-Lifts}
 use Rattle.arena_core.proofs.Lists.{flat-insert, flat-set, sum_by-set_at}
 use Rattle.arena_core.proofs.OneSpan.{ChangesPooled, ChangesSpan}
@@ -70,22 +70,22 @@ pub record IsPoolCall (before after : PoolState) : Type 0 where
 
 module _ (w : SpanState → ℕ) where
   -- the head of a group gives way to a span of the same weight
-  sum_in-with_head : (before after : ShardState) (index : ℕ) (group : GroupState) (head : SpanState) → slice_get before.groups index ≡ Some group → w head ≡ w group.head → after.groups ≡ set before.groups index (record group { head = head })
+  sum_in-with_head : (before after : ShardState) (index : ℕ) (group : GroupState) (head : SpanState) → (page : Option Words) → slice_get before.groups index ≡ Some group → w head ≡ w group.head → after.groups ≡ set before.groups index (record group { head = head; page = page })
       → sum_in w after ≡ sum_in w before
-  sum_in-with_head before after index group head here same is =
-      omega (arith, ap (λ gs. sum_by w (flat_spans gs)) is, flat-set w spans_of before.groups index group (record group { head = head }) here, sum_by-cons w head group.guests, sum_by-cons w group.head group.guests)
+  sum_in-with_head before after index group head page here same is =
+      omega (arith, ap (λ gs. sum_by w (flat_spans gs)) is, flat-set w spans_of before.groups index group (record group { head = head; page = page }) here, sum_by-cons w head group.guests, sum_by-cons w group.head group.guests)
     where
       flat_spans : List GroupState → List SpanState
       flat_spans groups = flat_map spans_of groups
 
   -- a span of a group gives way to one of the same weight
-  sum_in-with_span : (before after : ShardState) (index place : ℕ) (group : GroupState) (span changed : SpanState) → slice_get before.groups index ≡ Some group → slice_get (spans_of group) place ≡ Some span → w changed ≡ w span
-      → after.groups ≡ set before.groups index (with_span group place changed) → sum_in w after ≡ sum_in w before
-  sum_in-with_span before after index place group span changed here there same is =
+  sum_in-with_span : (before after : ShardState) (index place : ℕ) (group : GroupState) (span changed : SpanState) (page : Option Words) → slice_get before.groups index ≡ Some group → slice_get (spans_of group) place ≡ Some span → w changed ≡ w span
+      → after.groups ≡ set before.groups index (record (with_span group place changed) { page = page }) → sum_in w after ≡ sum_in w before
+  sum_in-with_span before after index place group span changed page here there same is =
       omega (
         arith,
         ap (λ gs. sum_by w (flat_map spans_of gs)) is,
-        flat-set w spans_of before.groups index group (with_span group place changed) here,
+        flat-set w spans_of before.groups index group (record (with_span group place changed) { page = page }) here,
         ap (sum_by w) (spans_of-with_span group place changed),
         sum_by-set_at w (spans_of group) place span changed there,
       )
@@ -112,12 +112,12 @@ IsCall-Puts before after value key at (running, inl (index, group, room, span_is
   ended_is = ap (λ (s : ShardState). s.ended) after_is;
   opened_more = omega (arith, ap (λ (s : ShardState). s.opened) after_is);
   spans = λ id.
-      let same = sum_in-with_head (named id) before after index group (with_put group.head key.slot value) room.here refl (ap (λ (s : ShardState). s.groups) after_is) in
+      let same = sum_in-with_head (named id) before after index group (with_put group.head key.slot value) (with_object group.page (class_of value) key.slot value) room.here refl (ap (λ (s : ShardState). s.groups) after_is) in
       omega (arith, ap (own id) after_is, same);
-  strays_are = sum_in-with_head (strays before.gens) before after index group (with_put group.head key.slot value) room.here refl (ap (λ (s : ShardState). s.groups) after_is);
-  none_lost = λ id. omega (arith, sum_in-with_head (named id) before after index group (with_put group.head key.slot value) room.here refl (ap (λ (s : ShardState). s.groups) after_is));
+  strays_are = sum_in-with_head (strays before.gens) before after index group (with_put group.head key.slot value) (with_object group.page (class_of value) key.slot value) room.here refl (ap (λ (s : ShardState). s.groups) after_is);
+  none_lost = λ id. omega (arith, sum_in-with_head (named id) before after index group (with_put group.head key.slot value) (with_object group.page (class_of value) key.slot value) room.here refl (ap (λ (s : ShardState). s.groups) after_is));
 }
-IsCall-Puts before after value key at (running, inr (full, pages, spans, (shard_is, serial_is, slot_is, generation_is, at_is, (page, index, new_page, place, after_is)))) = record {
+IsCall-Puts before after value key at (running, inr (full, pages, spans, (shard_is, serial_is, slot_is, generation_is, at_is, (index, place, after_is)))) = record {
   number_is = ap (λ (s : ShardState). s.number) after_is;
   page_limit_is = ap (λ (s : ShardState). s.page_limit) after_is;
   gens_is = ap (λ (s : ShardState). s.gens) after_is;
@@ -134,9 +134,9 @@ IsCall-Puts before after value key at (running, inr (full, pages, spans, (shard_
 }
   where
     opened : GroupState
-    opened = new_group key.span (class_of value) before.gens page value
+    opened = new_group key.span (class_of value) before.gens value
 
-    alone : (place : ℕ) (span : SpanState) → slice_get (spans_of (new_group key.span (class_of value) before.gens page value)) place ≡ Some span → span.gens ≡ before.gens
+    alone : (place : ℕ) (span : SpanState) → slice_get (spans_of (new_group key.span (class_of value) before.gens value)) place ≡ Some span → span.gens ≡ before.gens
     alone zero span here = let same : with_put (new_span key.span (class_of value) before.gens) 0 value ≡ span = cc in ap (λ (s : SpanState). s.gens) (sym same)
     alone (suc place) span here = absurd cc
 
@@ -154,7 +154,7 @@ IsCall-ChangesSpan before after changes = record {
 }
   where
     kept : (w : SpanState → ℕ) → w changes.now ≡ w changes.span → sum_in w after ≡ sum_in w before
-    kept w same = sum_in-with_span w before after changes.index changes.place changes.group changes.span changes.now changes.group_is changes.span_is same (ap (λ (s : ShardState). s.groups) changes.after_is)
+    kept w same = sum_in-with_span w before after changes.index changes.place changes.group changes.span changes.now changes.page changes.group_is changes.span_is same (ap (λ (s : ShardState). s.groups) changes.after_is)
 
     named_still : (id : SpanId) → times_in id after ≡ times_in id before
     named_still id = kept (named id) (ap (λ i. cond {A = ℕ} (same_span i id) 1 0) changes.same.id_is)
@@ -177,23 +177,21 @@ sum_moved w whole = sum_by w (spans_moved whole)
 pub sum_in-TakesIn : (w : SpanState → ℕ) (old new : ShardState) (whole : WholeState) → TakesIn old whole new → sum_in w new ≡ sum_in w old + sum_moved w whole
 sum_in-TakesIn w old new whole takes =
     ap (λ (s : ShardState). sum_in w s) takes.after
-    ∙ flat-insert w spans_of old.groups takes.index (record { head = whole.head; guests = whole.guests; page = takes.page; closed = false })
+    ∙ flat-insert w spans_of old.groups takes.index (record { head = whole.head; guests = whole.guests; page = whole.words; closed = false })
 
 pub sum_pooled-TakesIn : (w : SpanState → ℕ) (old new : PoolState) (whole : WholeState) → TakesInPool old whole new → sum_pooled w new ≡ sum_pooled w old + sum_moved w whole
-sum_pooled-TakesIn w old new whole takes = elim (empty_or_not (union_of (spans_moved whole))) [
-  | inl none ↦ ap (λ (p : PoolState). sum_pooled w p) (takes.emptied none) ∙ flat-insert w spans_of old.groups takes.index (record { head = whole.head; guests = whole.guests; page = None; closed = tt })
-  | inr live ↦ let its = takes.live live in ap (λ (p : PoolState). sum_pooled w p) its.4 ∙ flat-insert w spans_of old.groups takes.index (record { head = whole.head; guests = whole.guests; page = Some its.0; closed = tt })
-]
+sum_pooled-TakesIn w old new whole takes =
+    ap (λ (p : PoolState). sum_pooled w p) takes.after ∙ flat-insert w spans_of old.groups takes.index (record { head = whole.head; guests = whole.guests; page = takes.page; closed = tt })
 
 pub sum_pooled-TakesAll : (w : SpanState → ℕ) (wholes : List WholeState) (old new : PoolState) → TakesAll old wholes new → sum_pooled w new ≡ sum_pooled w old + sum_by (sum_moved w) wholes
 sum_pooled-TakesAll w [] old new same = omega (arith, ap (λ (p : PoolState). sum_pooled w p) same)
 sum_pooled-TakesAll w (whole ∷ wholes) old new (mid, rest, first) =
     omega (arith, sum_pooled-TakesIn w mid new whole first, sum_pooled-TakesAll w wholes old mid rest, sum_by-cons (sum_moved w) whole wholes)
 
-sum_by-whole_of : (w : SpanState → ℕ) (table : TableState) (groups : List GroupState) → sum_by (sum_moved w) (map (whole_of table) groups) ≡ sum_by w (flat_map spans_of groups)
-sum_by-whole_of w table [] = refl
-sum_by-whole_of w table (group ∷ groups) =
-    omega (arith, sum_by-cons (sum_moved w) (whole_of table group) (map (whole_of table) groups), sum_by-whole_of w table groups, sum_by-append w (spans_of group) (flat_map spans_of groups))
+sum_by-whole_of : (w : SpanState → ℕ) (groups : List GroupState) → sum_by (sum_moved w) (map whole_of groups) ≡ sum_by w (flat_map spans_of groups)
+sum_by-whole_of w [] = refl
+sum_by-whole_of w (group ∷ groups) =
+    omega (arith, sum_by-cons (sum_moved w) (whole_of group) (map whole_of groups), sum_by-whole_of w groups, sum_by-append w (spans_of group) (flat_map spans_of groups))
 
 -- spans move between one shard and the pool, which have as many together as before
 pub record IsMove (before after : ShardState) (pool_before pool_after : PoolState) : Type 0 where
@@ -212,8 +210,8 @@ IsMove-Receives before after pool_before pool_after receives = record {
   opened_is = ap (λ (s : ShardState). s.opened) receives.after;
   running = receives.running;
   sums = λ w.
-      let all = sum_pooled-TakesAll w (map (whole_of before.table) before.groups) (with_rooms pool_before receives.page_room receives.span_room) pool_after receives.moved in
-      omega (arith, all, sum_by-whole_of w before.table before.groups, ap (λ (s : ShardState). sum_in w s) receives.after);
+      let all = sum_pooled-TakesAll w (map whole_of before.groups) (with_rooms pool_before receives.group_room receives.span_room) pool_after receives.moved in
+      omega (arith, all, sum_by-whole_of w before.groups, ap (λ (s : ShardState). sum_in w s) receives.after);
 }
 
 pub IsMove-Adopts : (before after : ShardState) (pool_before pool_after : PoolState) (head : SpanId) → before.ended ≡ false → Adopts pool_before before head pool_after after → IsMove before after pool_before pool_after

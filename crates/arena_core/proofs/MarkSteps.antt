@@ -46,7 +46,7 @@ HasSoundGroups-retold core told plan sound = record {
   within = sound.within;
   count = sound.count;
   shards = sound.shards;
-  pool = record { ascending = sound.pool.ascending; groups = sound.pool.groups; in_use = sound.pool.in_use; once = sound.pool.once; own_page = sound.pool.own_page; only = sound.pool.only; pages = sound.pool.pages };
+  pool = record { ascending = sound.pool.ascending; groups = sound.pool.groups; in_use = sound.pool.in_use; once = sound.pool.once };
   gens = sound.gens;
   once = sound.once;
 }

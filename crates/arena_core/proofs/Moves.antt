@@ -10,6 +10,7 @@ use Rattle.span.specs.declared.id.SpanId.{SpanId}
 use Rattle.shard.specs.Group.{GroupState}
 use Rattle.shard.specs.Sound.{IsSound as IsSoundShard}
 use Rattle.shard.specs.State.{ShardState}
+use Rattle.page.specs.Words.{Words}
 use Rattle.abandoned.specs.Calls.{Adopts, HasNothingToAdopt, IsDoubled, IsInPool, Receives}
 use Rattle.abandoned.specs.Sound.{IsSound as IsSoundPool}
 use Rattle.abandoned.specs.State.{PoolState, PooledState, paged_groups}
@@ -178,12 +179,12 @@ nothing-unpaged : (groups : List PooledState) → length (filter (λ (group : Po
 nothing-unpaged [] none index group here = absurd cc
 nothing-unpaged (first ∷ groups) none zero group here = let same : first ≡ group = cc in ap (λ (g : PooledState). g.page) (sym same) ∙ by_page first.page refl
   where
-    by_page : (o : Option ℕ) → first.page ≡ o → o ≡ None
+    by_page : (o : Option Words) → first.page ≡ o → o ≡ None
     by_page None e = refl
     by_page (Some page) e = absurd (let more : suc (length (filter (λ (group : PooledState). is_some group.page) groups)) ≡ 0 = sym (ap (λ o. length (cond (is_some o) (first ∷ filter (λ (group : PooledState). is_some group.page) groups) (filter (λ (group : PooledState). is_some group.page) groups))) e) ∙ none in omega arith)
 nothing-unpaged (first ∷ groups) none (suc index) group here = nothing-unpaged groups (rest first.page refl) index group here
   where
-    rest : (o : Option ℕ) → first.page ≡ o → length (filter (λ (group : PooledState). is_some group.page) groups) ≡ 0
+    rest : (o : Option Words) → first.page ≡ o → length (filter (λ (group : PooledState). is_some group.page) groups) ≡ 0
     rest None e = sym (ap (λ o. length (cond (is_some o) (first ∷ filter (λ (group : PooledState). is_some group.page) groups) (filter (λ (group : PooledState). is_some group.page) groups))) e) ∙ none
     rest (Some page) e = absurd (let more : suc (length (filter (λ (group : PooledState). is_some group.page) groups)) ≡ 0 = sym (ap (λ o. length (cond (is_some o) (first ∷ filter (λ (group : PooledState). is_some group.page) groups) (filter (λ (group : PooledState). is_some group.page) groups))) e) ∙ none in omega arith)
 

@@ -202,7 +202,7 @@ Comes-Adopts before after pool_before pool_after head adopts id has = elim (came
     came = sum_in-TakesIn (count_named id) (with_room before None (length (spans_moved adopts.whole))) after adopts.whole adopts.takes_in
 
     adopted : GroupState
-    adopted = record { head = adopts.whole.head; guests = adopts.whole.guests; page = adopts.takes_in.page; closed = false }
+    adopted = record { head = adopts.whole.head; guests = adopts.whole.guests; page = adopts.whole.words; closed = false }
 
     here : slice_get after.groups adopts.takes_in.index ≡ Some adopted
     here = ap (λ (s : ShardState). slice_get s.groups adopts.takes_in.index) adopts.takes_in.after ∙ get-insert before.groups adopts.takes_in.index adopted adopts.takes_in.place.within
@@ -222,11 +222,11 @@ Comes-Folds pool before a b pool_after after first folds count id has = elim (ca
   | inr new ↦
       let (place, (span, at, is)) = new in
       let (there, past, stands) = in_second folds.grafts.group.guests (spans_moved folds.whole) place span at in
-      inr (suc there, omega (arith, count folds.grafts.index folds.grafts.group (record { here = folds.grafts.here.here; head_is = folds.grafts.here.head_is })), (folds.grafts.index, with_guests folds.grafts.group (spans_moved folds.whole), record { here = here; head_is = folds.grafts.here.head_is }, (span, stands, is)))
+      inr (suc there, omega (arith, count folds.grafts.index folds.grafts.group (record { here = folds.grafts.here.here; head_is = folds.grafts.here.head_is })), (folds.grafts.index, with_guests folds.grafts.group (spans_moved folds.whole) folds.grafts.words, record { here = here; head_is = folds.grafts.here.head_is }, (span, stands, is)))
 ]
   where
-    here : slice_get after.groups folds.grafts.index ≡ Some (with_guests folds.grafts.group (spans_moved folds.whole))
-    here = ap (λ (s : ShardState). slice_get s.groups folds.grafts.index) folds.grafts.after ∙ get-set before.groups folds.grafts.index folds.grafts.group (with_guests folds.grafts.group (spans_moved folds.whole)) folds.grafts.here.here
+    here : slice_get after.groups folds.grafts.index ≡ Some (with_guests folds.grafts.group (spans_moved folds.whole) folds.grafts.words)
+    here = ap (λ (s : ShardState). slice_get s.groups folds.grafts.index) folds.grafts.after ∙ get-set before.groups folds.grafts.index folds.grafts.group (with_guests folds.grafts.group (spans_moved folds.whole) folds.grafts.words) folds.grafts.here.here
 
 pub Comes-Steps : (pool : PoolState) (before : ShardState) (a b : SpanId) (pool_after : PoolState) (after : ShardState) (first : ℕ) (step : Outcome) → Steps pool before a b step pool_after after
     → ((index : ℕ) (group : GroupState) → IsHeadOf before.groups b index group → first ≡ length (spans_of group)) → Comes before after b first

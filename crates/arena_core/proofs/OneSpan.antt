@@ -1,6 +1,5 @@
 -- A set and a free change one span of a group: it keeps its id, its class and its greatest generation, and no slot of it comes to life.
-use Rattle.std.proofs.Common.{◌≡◌, ◌≢◌, ◌⊎◌, ℕ, true, inl, inr, refl, sym, ap, ◌∙◌, Option, Some, None, set, slice_get}
-use Rattle.std.specs.FinSet as set_of
+use Rattle.std.proofs.Common.{zero, suc, ◌≡◌, ℕ, true, refl, sym, ap, ◌∙◌, Option, Some, None, set, slice_get}
 use Rattle.std.specs.FinSet.{contains, contains-remove}
 use Rattle.std.specs.Cmp.{nat_cmp_total}
 use Rattle.std.proofs.lemmas.Bool.{and_parts}
@@ -9,21 +8,21 @@ use Rattle.span.specs.declared.key.Key.{Key}
 use Rattle.span.specs.Log.{Holds, Value, live_slots}
 use Rattle.span.specs.State.{SpanState}
 use Rattle.span.proofs.Slots.{live_slots-free, live_slots-set}
-use Rattle.page_table.specs.State.{TableState, with_object}
+use Rattle.page.specs.Words.{Words}
 use Rattle.shard.specs.Calls.{Frees, Sets}
 use Rattle.shard.specs.Group.{GroupState}
 use Rattle.shard.specs.State.{ShardState}
 use Rattle.shard.specs.declared.shard.Freed.TheVariants as freed
 use Rattle.shard.specs.declared.shard.replacing.Replaced.TheVariants as replaced
 use Rattle.groups.specs.Group.{spans_of, with_span}
+use Rattle.groups.specs.Pages.{set_group, with_object}
 use Rattle.groups.specs.Spans.{union_of, with_free, with_set}
-use Rattle.groups.proofs.Standing.{page-with_span, spans_of-with_span}
+use Rattle.groups.proofs.Standing.{spans_of-with_span}
 use Rattle.abandoned.specs.Calls.{Frees as FreesPooled, Sets as SetsPooled}
 use Rattle.abandoned.specs.Sound.{IsSound as IsSoundPool}
 use Rattle.abandoned.specs.State.{PoolState, PooledState}
 use Rattle.abandoned.proofs.Freed.{groups-Leaves}
 use Rattle.abandoned.proofs.Released.{has_page_if_held}
-use Rattle.abandoned.proofs.TakenIn.{empty_or_not}
 
 -- no slot more than the other set has
 abbrev pub IsWithin : SlotSet → SlotSet → Type 0
@@ -52,18 +51,23 @@ IsSame-set span key value holds = record {
   slots = λ slot live. ap (λ s. contains s slot) (sym (live_slots-set span.log key.slot key.generation value holds)) ∙ live;
 }
 
--- in a shard, one span of one group gives way to another, and all else but the objects on the pages is as it was
+-- the group with another span at the place keeps its page
+keeps_page : (group : GroupState) (place : ℕ) (span : SpanState) → record (with_span group place span) { page = group.page } ≡ with_span group place span
+keeps_page group zero span = refl
+keeps_page group (suc place) span = refl
+
+-- in a shard, one span of one group gives way to another, and all else but the objects on its page is as it was
 pub record ChangesSpan (before after : ShardState) : Type 0 where
   pub index : ℕ
   pub place : ℕ
   pub group : GroupState
   pub span : SpanState
   pub now : SpanState
-  pub table : TableState
+  pub page : Option Words
   pub group_is : slice_get before.groups index ≡ Some group
   pub span_is : slice_get (spans_of group) place ≡ Some span
   pub same : IsSame span now
-  pub after_is : after ≡ record before { groups = set before.groups index (with_span group place now); table = table }
+  pub after_is : after ≡ record before { groups = set before.groups index (record (with_span group place now) { page = page }) }
 
 pub ChangesSpan-Frees : (before after : ShardState) (key : Key) (at : ℕ) → Frees before key (freed.Yes at) after → ChangesSpan before after
 ChangesSpan-Frees before after key at (index, place, group, span, here, holds, at_is, after_is) = record {
@@ -72,11 +76,11 @@ ChangesSpan-Frees before after key at (index, place, group, span, here, holds, a
   group = group;
   span = span;
   now = with_free span key;
-  table = before.table;
+  page = group.page;
   group_is = here.group_is;
   span_is = here.span_is;
   same = IsSame-free span key;
-  after_is = after_is;
+  after_is = after_is ∙ ap (λ (g : GroupState). record before { groups = set before.groups index g }) (sym (keeps_page group place (with_free span key)));
 }
 
 pub ChangesSpan-Sets : (before after : ShardState) (key : Key) (value : Value) (at : ℕ) → Sets before key value (replaced.Yes at) after → ChangesSpan before after
@@ -86,7 +90,7 @@ ChangesSpan-Sets before after key value at (index, place, group, span, here, set
   group = group;
   span = span;
   now = with_set span key value;
-  table = with_object before.table group.page span.class key.slot value;
+  page = with_object group.page span.class key.slot value;
   group_is = here.group_is;
   span_is = here.span_is;
   same = IsSame-set span key value settable.0;
@@ -123,29 +127,21 @@ ChangesPooled-Frees before after key at sound (index, place, group, span, here, 
   spans_are = changed.2;
   groups_are = changed.1;
   no_page = λ none. absurd (paged none);
-  has_plan_is = by_case (empty_or_not (union_of (spans_of (with_span group place (with_free span key)))));
+  has_plan_is = ap (λ (p : PoolState). p.has_plan) leaves.after;
 }
   where
     changed : (now : PooledState) × (after.groups ≡ set before.groups index now) × (spans_of now ≡ set (spans_of group) place (with_free span key))
-    changed = groups-Leaves before sound index place group span key (here.group_is, here.span_is) holds after leaves
+    changed = groups-Leaves before after index place group (with_free span key) leaves
 
     paged : group.page ≡ None → ⊥
     paged none = has_page_if_held before sound index place group span key.slot key.generation here.group_is here.span_is holds none
 
-    by_page : (o : Option ℕ) → group.page ≡ o → union_of (spans_of (with_span group place (with_free span key))) ≡ set_of.empty → after.has_plan ≡ before.has_plan
-    by_page None is none = absurd (paged is)
-    by_page (Some page) is none = ap (λ (p : PoolState). p.has_plan) (leaves.emptied none page (page-with_span group place (with_free span key) ∙ is))
-
-    by_case : (union_of (spans_of (with_span group place (with_free span key))) ≡ set_of.empty) ⊎ (union_of (spans_of (with_span group place (with_free span key))) ≢ set_of.empty) → after.has_plan ≡ before.has_plan
-    by_case (inl none) = by_page group.page refl none
-    by_case (inr live) = ap (λ (p : PoolState). p.has_plan) (leaves.live live)
-
-pub ChangesPooled-Sets : (before after : PoolState) (key : Key) (value : Value) (at : ℕ) → SetsPooled before key value (replaced.Yes at) after → ChangesPooled before after
-ChangesPooled-Sets before after key value at (index, place, page, group, span, here, paged, settable, at_is, after_is) = record {
+pub ChangesPooled-Sets : (before after : PoolState) (key : Key) (value : Value) (at : ℕ) → IsSoundPool before → SetsPooled before key value (replaced.Yes at) after → ChangesPooled before after
+ChangesPooled-Sets before after key value at sound (index, place, group, span, here, settable, at_is, after_is) = record {
   index = index;
   place = place;
   group = group;
-  group_now = with_span group place (with_set span key value);
+  group_now = set_group group place span key.slot key.generation value;
   span = span;
   now = with_set span key value;
   group_is = here.group_is;
@@ -153,6 +149,6 @@ ChangesPooled-Sets before after key value at (index, place, page, group, span, h
   same = IsSame-set span key value settable.0;
   spans_are = spans_of-with_span group place (with_set span key value);
   groups_are = ap (λ (p : PoolState). p.groups) after_is;
-  no_page = λ none. page-with_span group place (with_set span key value) ∙ none;
+  no_page = λ none. absurd (has_page_if_held before sound index place group span key.slot key.generation here.group_is here.span_is settable.0 none);
   has_plan_is = ap (λ (p : PoolState). p.has_plan) after_is;
 }

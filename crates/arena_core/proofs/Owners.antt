@@ -71,13 +71,13 @@ pub issued-missed : (shard : ShardState) (key : Key) → times_in key.span shard
 issued-missed shard key none = ap (issued_by key) (span-missed key.span shard (has_span-uncounted key.span shard none))
 
 pub value-missed : (shard : ShardState) (key : Key) → times_in key.span shard ≡ 0 → (shown_by shard).value_of key ≡ None
-value-missed shard key none = ap (value_by shard.table key) (span-missed key.span shard (has_span-uncounted key.span shard none))
+value-missed shard key none = ap (value_by shard.groups key) (span-missed key.span shard (has_span-uncounted key.span shard none))
 
 pub issued-unpooled : (pool : PoolState) (key : Key) → times_pooled key.span pool ≡ 0 → (shown_by_pool pool).is_issued key ≡ false
 issued-unpooled pool key none = ap (issued_by key) (find-none (is_named key.span) (spans_in pool.groups) none)
 
 pub value-unpooled : (pool : PoolState) (key : Key) → times_pooled key.span pool ≡ 0 → (shown_by_pool pool).value_of key ≡ None
-value-unpooled pool key none = ap (value_by pool.table key) (find-none (is_named key.span) (spans_in pool.groups) none)
+value-unpooled pool key none = ap (value_by pool.groups key) (find-none (is_named key.span) (spans_in pool.groups) none)
 
 -- the value and the issue of a key, as sums
 

@@ -1,10 +1,11 @@
 -- What a step does to the open plan: the next pair is carried out, and the others are as they were.
-use Rattle.std.proofs.Common.{◌≡◌, ◌≢◌, ℕ, suc, ◌+◌, ◌<◌, ◌≤◌, List, [], ◌∷◌, ◌++◌, ◌⊎◌, inl, inr, refl, sym, ap, subst, ◌∙◌, arith, Some, set, slice_get, length}
+use Rattle.std.proofs.Common.{◌≡◌, ◌≢◌, ℕ, suc, ◌+◌, ◌<◌, ◌≤◌, List, [], ◌∷◌, ◌++◌, ◌⊎◌, inl, inr, refl, sym, ap, subst, ◌∙◌, arith, Option, Some, set, slice_get, length}
 use Rattle.std.specs.Prelude.{remove}
 use Rattle.std.proofs.lemmas.Bool.{cases_eq}
 use Rattle.std.proofs.lemmas.Option.{slice_get_within}
 use Rattle.span.specs.declared.id.SpanId.{SpanId}
 use Rattle.span.specs.State.{SpanState}
+use Rattle.page.specs.Words.{Words}
 use Rattle.shard.specs.Group.{GroupState}
 use Rattle.groups.specs.Group.{IsHeadOf}
 use Rattle.shard.specs.State.{ShardState}
@@ -30,19 +31,20 @@ pub record IsFold (old : CoreState) (pair : SpanId × SpanId) (number : ℕ) (af
   pub owned : GroupState
   pub head : SpanState
   pub guests : List SpanState
+  pub page : Option Words
   pub here : slice_get old.shards number ≡ Some before
   pub is_abandoned : IsHeadOf old.pool.groups pair.0 from abandoned
   pub is_owned : IsHeadOf before.groups pair.1 at owned
   pub head_is : head.id ≡ pair.0
   pub pool_is : pool.groups ≡ remove old.pool.groups from
-  pub shard_is : after.groups ≡ set before.groups at (record owned { guests = owned.guests ++ head ∷ guests })
+  pub shard_is : after.groups ≡ set before.groups at (record owned { guests = owned.guests ++ head ∷ guests; page = page })
 
 module _ (old : CoreState) (plan : OpenPlan) (pair : SpanId × SpanId) (number : ℕ) (after : ShardState) (pool : PoolState) (fold : IsFold old pair number after pool) where
   abbrev new : CoreState
   new = with_plan (with_pool (with_shard old number after) pool) (Some (with_next_done plan))
 
   abbrev joined : GroupState
-  joined = record fold.owned { guests = fold.owned.guests ++ fold.head ∷ fold.guests }
+  joined = record fold.owned { guests = fold.owned.guests ++ fold.head ∷ fold.guests; page = fold.page }
 
   -- the other groups stay
 

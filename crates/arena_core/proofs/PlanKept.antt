@@ -1,6 +1,5 @@
 -- What an event that is no fold does to the groups that an open plan names: each stays, and none grows.
-use Rattle.std.proofs.Common.{◌≡◌, ◌≢◌, ℕ, zero, suc, Bool, true, false, ◌||◌, List, [], ◌∷◌, ◌⊎◌, inl, inr, refl, sym, ap, subst, ◌∙◌, Some, None, set, slice_get, insert}
-use Rattle.std.specs.FinSet as set_of
+use Rattle.std.proofs.Common.{◌≡◌, ◌≢◌, ℕ, zero, suc, Bool, true, false, ◌||◌, List, [], ◌∷◌, ◌⊎◌, inl, inr, refl, sym, ap, subst, ◌∙◌, Option, Some, None, set, slice_get}
 use Rattle.std.specs.FinSet.{contains, contains-union}
 use Rattle.std.specs.Cmp.{nat_cmp_total}
 use Rattle.std.proofs.Math.Bool.{or-true}
@@ -21,9 +20,10 @@ use Rattle.groups.specs.Whole.{WholeState}
 use Rattle.shard.specs.State.{ShardState}
 use Rattle.groups.proofs.Lists.{after-insert, after-set, same_some}
 use Rattle.groups.proofs.Standing.{spans_of-with_span}
+use Rattle.page.specs.Words.{Words}
+use Rattle.groups.specs.Pages.{put_group}
 use Rattle.abandoned.specs.Calls.{Receives, TakesAll, TakesIn, with_rooms}
 use Rattle.abandoned.specs.State.{PoolState, PooledState}
-use Rattle.abandoned.proofs.TakenIn.{empty_or_not}
 use Rattle.arena_core.specs.Plan.{IsCarriedOut, IsOwned, IsPooled, IsUnderWay, IsWaiting}
 use Rattle.marks.specs.Plans.{plans_onto, OpenPlan}
 use Rattle.arena_core.specs.State.{CoreState}
@@ -164,7 +164,7 @@ module _ (old new : CoreState) (pooled : KeepsPooled old.pool.groups new.pool.gr
 pub KeepsClosed-Puts : (before after : ShardState) (value : Value) (key : Key) (at : ℕ) → Puts before (class_of value) value key at after → KeepsClosed before.groups after.groups
 KeepsClosed-Puts before after value key at (running, inl (index, group, room, span_is, generation_is, at_is, after_is)) other there here closed = by_place (cases_eq other index)
   where
-    groups_are : after.groups ≡ set before.groups index (record group { head = with_put group.head key.slot value })
+    groups_are : after.groups ≡ set before.groups index (put_group group (class_of value) key.slot value)
     groups_are = ap (λ (s : ShardState). s.groups) after_is
 
     by_place : (other ≡ index) ⊎ (other ≢ index) → (place : ℕ) × (now : GroupState) × (slice_get after.groups place ≡ Some now) × IsFewer there now
@@ -172,7 +172,7 @@ KeepsClosed-Puts before after value key at (running, inl (index, group, room, sp
         let is : group ≡ there = same_some (sym room.here ∙ ap (slice_get before.groups) (sym same) ∙ here) in
         absurd (let both : true ≡ false = sym closed ∙ ap (λ (g : GroupState). g.closed) (sym is) ∙ room.slot_is.is_open in cc)
     by_place (inr differ) = (other, there, ap (λ gs. slice_get gs other) groups_are ∙ slice_get-set_other before.groups index other _ differ ∙ here, IsFewer-same there)
-KeepsClosed-Puts before after value key at (running, inr (full, pages, spans, (shard_is, serial_is, slot_is, generation_is, at_is, (page, index, new_page, place, after_is)))) other there here closed =
+KeepsClosed-Puts before after value key at (running, inr (full, pages, spans, (shard_is, serial_is, slot_is, generation_is, at_is, (index, place, after_is)))) other there here closed =
     let (now, moved) = after-insert before.groups index _ other there here in
     (now, there, ap (λ (s : ShardState). slice_get s.groups now) after_is ∙ moved, IsFewer-same there)
 
@@ -204,10 +204,14 @@ IsFewer-with_span group place span now here same = record {
   closed_is = closed-with_span group place now;
 }
 
+-- which page the group has is nothing to it
+pub IsFewer-paged : (group now : GroupState) (page : Option Words) → IsFewer group now → IsFewer group (record now { page = page })
+IsFewer-paged group now page fewer = record { head_is = fewer.head_is; class_is = fewer.class_is; slots = fewer.slots; guests = fewer.guests; closed_is = fewer.closed_is }
+
 pub KeepsClosed-ChangesSpan : (before after : ShardState) → ChangesSpan before after → KeepsClosed before.groups after.groups
 KeepsClosed-ChangesSpan before after changes other there at_other closed =
-    let fewer = IsFewer-with_span changes.group changes.place changes.span changes.now changes.span_is changes.same in
-    let (now, there_now, is) = after-set IsFewer IsFewer-same before.groups changes.index changes.group (with_span changes.group changes.place changes.now) changes.group_is fewer other there at_other in
+    let fewer = IsFewer-paged changes.group (with_span changes.group changes.place changes.now) changes.page (IsFewer-with_span changes.group changes.place changes.span changes.now changes.span_is changes.same) in
+    let (now, there_now, is) = after-set IsFewer IsFewer-same before.groups changes.index changes.group (record (with_span changes.group changes.place changes.now) { page = changes.page }) changes.group_is fewer other there at_other in
     (other, now, ap (λ (s : ShardState). slice_get s.groups other) changes.after_is ∙ there_now, is)
 
 -- the pool
@@ -248,14 +252,9 @@ abbrev pub HasStill : List PooledState → List PooledState → Type 0
 HasStill old new = (index : ℕ) (group : PooledState) → slice_get old index ≡ Some group → (place : ℕ) × (slice_get new place ≡ Some group)
 
 pub HasStill-TakesIn : (old new : PoolState) (whole : WholeState) → TakesIn old whole new → HasStill old.groups new.groups
-HasStill-TakesIn old new whole takes index group here = by_case (empty_or_not (union_of (whole.head ∷ whole.guests)))
-  where
-    inserted : (x : PooledState) → new.groups ≡ insert old.groups takes.index x → (place : ℕ) × (slice_get new.groups place ≡ Some group)
-    inserted x is = let (now, there) = after-insert old.groups takes.index x index group here in (now, ap (λ gs. slice_get gs now) is ∙ there)
-
-    by_case : (union_of (whole.head ∷ whole.guests) ≡ set_of.empty) ⊎ (union_of (whole.head ∷ whole.guests) ≢ set_of.empty) → (place : ℕ) × (slice_get new.groups place ≡ Some group)
-    by_case (inl none) = inserted _ (ap (λ (p : PoolState). p.groups) (takes.emptied none))
-    by_case (inr live) = inserted _ (ap (λ (p : PoolState). p.groups) (takes.live live).4)
+HasStill-TakesIn old new whole takes index group here =
+    let (now, there) = after-insert old.groups takes.index _ index group here in
+    (now, ap (λ (p : PoolState). slice_get p.groups now) takes.after ∙ there)
 
 HasStill-TakesAll : (wholes : List WholeState) (old new : PoolState) → TakesAll old wholes new → HasStill old.groups new.groups
 HasStill-TakesAll [] old new same index group here = (index, ap (λ (p : PoolState). slice_get p.groups index) same ∙ here)
@@ -265,19 +264,15 @@ HasStill-TakesAll (whole ∷ wholes) old new (mid, rest, takes) index group here
 
 pub KeepsPooled-Receives : (old new : PoolState) (before after : ShardState) → Receives old before new after → KeepsPooled old.groups new.groups
 KeepsPooled-Receives old new before after receives index group here =
-    let (place, there) = HasStill-TakesAll _ (with_rooms old receives.page_room receives.span_room) new receives.moved index group here in
+    let (place, there) = HasStill-TakesAll _ (with_rooms old receives.group_room receives.span_room) new receives.moved index group here in
     (place, group, there, refl, refl, (λ slot e. e), λ none. none)
 
 pub has_plan-TakesIn : (old new : PoolState) (whole : WholeState) → TakesIn old whole new → new.has_plan ≡ old.has_plan
-has_plan-TakesIn old new whole takes = by_case (empty_or_not (union_of (whole.head ∷ whole.guests)))
-  where
-    by_case : (union_of (whole.head ∷ whole.guests) ≡ set_of.empty) ⊎ (union_of (whole.head ∷ whole.guests) ≢ set_of.empty) → new.has_plan ≡ old.has_plan
-    by_case (inl none) = ap (λ (p : PoolState). p.has_plan) (takes.emptied none)
-    by_case (inr live) = ap (λ (p : PoolState). p.has_plan) (takes.live live).4
+has_plan-TakesIn old new whole takes = ap (λ (p : PoolState). p.has_plan) takes.after
 
 has_plan-TakesAll : (wholes : List WholeState) (old new : PoolState) → TakesAll old wholes new → new.has_plan ≡ old.has_plan
 has_plan-TakesAll [] old new same = ap (λ (p : PoolState). p.has_plan) same
 has_plan-TakesAll (whole ∷ wholes) old new (mid, rest, takes) = has_plan-TakesIn mid new whole takes ∙ has_plan-TakesAll wholes old mid rest
 
 pub has_plan-Receives : (old new : PoolState) (before after : ShardState) → Receives old before new after → new.has_plan ≡ old.has_plan
-has_plan-Receives old new before after receives = has_plan-TakesAll _ (with_rooms old receives.page_room receives.span_room) new receives.moved
+has_plan-Receives old new before after receives = has_plan-TakesAll _ (with_rooms old receives.group_room receives.span_room) new receives.moved

@@ -6,6 +6,7 @@ use Rattle.span.specs.declared.id.SpanId.{SpanId}
 use Rattle.span.specs.declared.key.Key.{Key}
 use Rattle.span.specs.Ids.{same_span}
 use Rattle.span.specs.Classes.{class_of}
+use Rattle.groups.specs.Pages.{put_group}
 use Rattle.span.specs.Log.{Value}
 use Rattle.span.specs.PlainMap.{may_set, with_put as with_key, with_value, without}
 use Rattle.span.proofs.Ids.{same_id_from_test}
@@ -118,12 +119,12 @@ unplanned-next core sound id past = by_plan core.plan refl sound.plan.under_way
 AreClosedAsPlanned-Puts : (plan : Option OpenPlan) (before after : ShardState) (value : Value) (key : Key) (at : ℕ) → Puts before (class_of value) value key at after → (before.opened ≤ key.span.serial → key.span.shard ≡ before.number → is_planned plan key.span ≡ false)
     → AreClosedAsPlanned plan before.groups → AreClosedAsPlanned plan after.groups
 AreClosedAsPlanned-Puts plan before after value key at (running, inl (index, group, room, span_is, generation_is, at_is, after_is)) fresh all other now here =
-    elim (cases-set before.groups index (record group { head = with_put group.head key.slot value }) other now (ap (λ gs. slice_get gs other) (sym (ap (λ (s : ShardState). s.groups) after_is)) ∙ here)) [
+    elim (cases-set before.groups index (put_group group (class_of value) key.slot value) other now (ap (λ gs. slice_get gs other) (sym (ap (λ (s : ShardState). s.groups) after_is)) ∙ here)) [
       | inl new ↦ subst (λ (g : GroupState). g.closed ≡ is_planned plan g.head.id) new.1 (all index group room.here)
       | inr old ↦ all other now old.1
     ]
-AreClosedAsPlanned-Puts plan before after value key at (running, inr (full, pages, spans, (shard_is, serial_is, slot_is, generation_is, at_is, (page, index, new_page, place, after_is)))) fresh all other now here =
-    elim (cases-insert before.groups index (new_group key.span (class_of value) before.gens page value) place.within other now (ap (λ (s : ShardState). slice_get s.groups other) (sym after_is) ∙ here)) [
+AreClosedAsPlanned-Puts plan before after value key at (running, inr (full, pages, spans, (shard_is, serial_is, slot_is, generation_is, at_is, (index, place, after_is)))) fresh all other now here =
+    elim (cases-insert before.groups index (new_group key.span (class_of value) before.gens value) place.within other now (ap (λ (s : ShardState). slice_get s.groups other) (sym after_is) ∙ here)) [
       | inl low ↦ all other now low.1
       | inr (inl new) ↦ subst (λ (g : GroupState). g.closed ≡ is_planned plan g.head.id) new.1 (sym (fresh (omega (arith, serial_is)) shard_is))
       | inr (inr high) ↦ all high.0 now high.3
@@ -143,7 +144,7 @@ HasSoundPlan-Puts old sound number value key at before after here puts =
 
 AreClosedAsPlanned-ChangesSpan : (plan : Option OpenPlan) (before after : ShardState) → ChangesSpan before after → AreClosedAsPlanned plan before.groups → AreClosedAsPlanned plan after.groups
 AreClosedAsPlanned-ChangesSpan plan before after changes all other now there =
-    elim (cases-set before.groups changes.index (with_span changes.group changes.place changes.now) other now (ap (λ gs. slice_get gs other) (sym (ap (λ (s : ShardState). s.groups) changes.after_is)) ∙ there)) [
+    elim (cases-set before.groups changes.index (record (with_span changes.group changes.place changes.now) { page = changes.page }) other now (ap (λ gs. slice_get gs other) (sym (ap (λ (s : ShardState). s.groups) changes.after_is)) ∙ there)) [
       | inl new ↦ let fewer = IsFewer-with_span changes.group changes.place changes.span changes.now changes.span_is changes.same in
           subst (λ (g : GroupState). g.closed ≡ is_planned plan g.head.id) new.1 (fewer.closed_is ∙ all changes.index changes.group changes.group_is ∙ ap (is_planned plan) (sym fewer.head_is))
       | inr old ↦ all other now old.1
@@ -236,7 +237,7 @@ IsSoundStep-SetsPooled old key value pool answer sound pooled sets found plain s
     same is = subst HasSoundPlan (sym (with_pool-same old pool is)) sound.plan
 
     by_answer : (a : Replaced) → SetsPooled old.pool key value a pool → HasSoundPlan (with_pool old pool)
-    by_answer (replaced.Yes at) s = HasSoundPlan-ChangesPooled old sound pool (ChangesPooled-Sets old.pool pool key value at s)
+    by_answer (replaced.Yes at) s = HasSoundPlan-ChangesPooled old sound pool (ChangesPooled-Sets old.pool pool key value at sound.groups.pool s)
     by_answer (replaced.No at) (index, place, group, span, there, unfit, at_is, is) = same is
     by_answer replaced.NotHere (elsewhere, is) = same is
 

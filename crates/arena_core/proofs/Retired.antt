@@ -84,7 +84,7 @@ HasGone-sparse (suc count) old shard new left (mid, others, rest, last) =
 
 pub HasGone-Retires : (old : PoolState) (shard : ShardState) (most count : ℕ) (new : PoolState) (left : ShardState) → Retires old shard most count new left → HasGone old shard new left
 HasGone-Retires old shard most count new left retires =
-    let gone = HasGone-sparse count (with_rooms old retires.page_room retires.span_room) shard new left retires.moved in
+    let gone = HasGone-sparse count (with_rooms old retires.group_room retires.span_room) shard new left retires.moved in
     record {
       number_is = gone.number_is;
       page_limit_is = gone.page_limit_is;

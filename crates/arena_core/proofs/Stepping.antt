@@ -8,7 +8,8 @@ use Rattle.span.specs.declared.id.SpanId.{SpanId}
 use Rattle.shard.specs.Group.{GroupState}
 use Rattle.groups.specs.Group.{IsHeadOf, occupied, spans_of}
 use Rattle.groups.specs.Spans.{union_of}
-use Rattle.groups.specs.Whole.{WholeState}
+use Rattle.groups.specs.Whole.{WholeState, spans_moved}
+use Rattle.shard.specs.Moves.{with_guests}
 use Rattle.shard.specs.Sound.{IsSound as IsSoundShard}
 use Rattle.shard.specs.State.{ShardState}
 use Rattle.shard.proofs.HeadsHere.{same_group}
@@ -58,6 +59,7 @@ IsFold-Folds old pair number before after pool here folds =
       owned = folds.grafts.group;
       head = folds.whole.head;
       guests = folds.whole.guests;
+      page = (with_guests folds.grafts.group (spans_moved folds.whole) folds.grafts.words).page;
       here = here;
       is_abandoned = head_of;
       is_owned = record { here = folds.grafts.here.here; head_is = folds.grafts.here.head_is };

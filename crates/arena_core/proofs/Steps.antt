@@ -21,7 +21,7 @@ use Rattle.shard.specs.declared.shard.replacing.Replaced.{Replaced}
 use Rattle.shard.specs.declared.shard.replacing.Replaced.TheVariants as replaced
 use Rattle.groups.proofs.GroupSpans.{elsewhere-times}
 use Rattle.groups.proofs.Lists.{set-same}
-use Rattle.shard.proofs.ShownLogs.{span_named-elsewhere, span_named-here}
+use Rattle.groups.proofs.ShownGroups.{span_named-elsewhere, span_named-here}
 use Rattle.span.specs.State.{SpanState}
 use Rattle.abandoned.specs.Calls.{Frees as FreesPooled, HasDoubled, IsDoubled, IsInPool, MayOpen, Sets as SetsPooled}
 use Rattle.abandoned.specs.Shown.{shown as shown_by_pool}
@@ -53,11 +53,11 @@ pub record IsStep (old : CoreState) (event : Event) (answer : Reply) (new : Core
 
 -- a span that stands in the shard
 pub has_span-here : (shard : ShardState) (id : SpanId) (index place : ℕ) (group : GroupState) (span : SpanState) → IsSoundShard shard → IsHere shard.groups id index place group span → has_span id shard ≡ true
-has_span-here shard id index place group span sound here = ap is_some (span_named-here shard sound id index place group span here)
+has_span-here shard id index place group span sound here = ap is_some (span_named-here shard.groups sound.groups sound.once id index place group span here)
 
 -- a span that does not stand there
 pub has_span-not : (shard : ShardState) (id : SpanId) → IsSoundShard shard → IsElsewhere shard.groups id → has_span id shard ≡ false
-has_span-not shard id sound elsewhere = ap is_some (span_named-elsewhere shard sound id elsewhere)
+has_span-not shard id sound elsewhere = ap is_some (span_named-elsewhere shard.groups sound.groups sound.once id elsewhere)
 
 pub elsewhere-has_span : (shard : ShardState) (id : SpanId) → IsSoundShard shard → has_span id shard ≡ false → IsElsewhere shard.groups id
 elsewhere-has_span shard id sound none index group at place its =
@@ -211,7 +211,7 @@ pub IsStep-SetsPooled : (old : CoreState) (key : Key) (value : Value) (pool : Po
     → was_replaced answer ≡ may_set (shown_by_pool old.pool) key value → shown_by_pool pool ≡ cond (was_replaced answer) (with_value (shown_by_pool old.pool) key value) (shown_by_pool old.pool) → IsSoundPool pool
     → IsStep old (Set key value) (reply.Replaced (was_replaced answer)) (with_pool old pool)
 IsStep-SetsPooled old key value pool (replaced.Yes at) sound pooled sets found plain sound_pool =
-    let call = IsPoolCall-ChangesPooled old.pool pool (ChangesPooled-Sets old.pool pool key value at sets) in
+    let call = IsPoolCall-ChangesPooled old.pool pool (ChangesPooled-Sets old.pool pool key value at sound.pool sets) in
     let new = with_pool old pool in
     let sound_new = HasSoundGroups-with_pool old sound pool call sound_pool in
     let local = IsLocal-pool old new (at_most_once old sound) (at_most_once new sound_new) pool refl in

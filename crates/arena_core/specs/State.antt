@@ -9,7 +9,6 @@ use Rattle.shard.specs.Shown.{shown as shown_by}
 use Rattle.groups.specs.Shown.{span_named}
 use Rattle.shard.specs.State.{ShardState}
 use Rattle.groups.specs.Group.{live_in, spans_in}
-use Rattle.groups.specs.Tables.{no_pages}
 use Rattle.abandoned.specs.Shown.{shown as shown_by_pool}
 use Rattle.abandoned.specs.State.{PoolState, paged_groups}
 use Rattle.marks.specs.Numbers.{Limits}
@@ -26,11 +25,11 @@ pub record CoreState : Type 0 where
 
 -- a shard that has opened no span
 abbrev pub new_shard : ℕ → ℕ → ℕ → ShardState
-new_shard page_limit gens number = record { number = number; page_limit = page_limit; gens = gens; opened = 0; ended = false; groups = []; table = no_pages; onto = None }
+new_shard page_limit gens number = record { number = number; page_limit = page_limit; gens = gens; opened = 0; ended = false; groups = []; group_room = 0; span_room = 0; onto = None }
 
 -- a pool with no group
 abbrev pub new_pool : PoolState
-new_pool = record { groups = []; table = no_pages; has_plan = false }
+new_pool = record { groups = []; group_room = 0; span_room = 0; has_plan = false }
 
 -- a core of new shards, one for each number, an empty pool, no plan, and empty rings
 abbrev pub new_core : Limits → CoreState

@@ -51,12 +51,11 @@ pub struct Core<L: Log = Kept> {
 
 impl<L: Log> Model for Core<L> {
     ghost use Rattle.std.specs.Coded.{codes};
-    ghost use Rattle.page_table.specs.State.{table_code};
     ghost use Rattle.arena_core.specs.State.{CoreState};
 
     ghost Value = { CoreState };
 
-    ghost coded = { Prim.hlevel (codes, table_code) };
+    ghost coded = { Prim.hlevel codes };
 
     ghost use Rattle.arena_core.specs.Kept.{IsKept, state_of};
 

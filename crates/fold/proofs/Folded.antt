@@ -1,17 +1,16 @@
 -- A fold that may be: what the shard asks of it, and that all keys keep their values.
-use Rattle.std.proofs.Common.{◌≡◌, ℕ, ◌≤◌, ◌++◌, Option, None, Some, length, slice_get, ◌∙◌, ap, sym, subst, refl, inl, inr, arith}
+use Rattle.std.proofs.Common.{◌≡◌, ℕ, ◌≤◌, ◌++◌, Option, None, Some, is_some, length, slice_get, ◌∙◌, ap, sym, subst, refl, inl, inr, arith}
 use Rattle.std.specs.FinSet.{intersection}
 use Rattle.std.specs.Option.{IsSome}
-use Rattle.std.specs.Prelude.{option_map}
 use Rattle.std.proofs.lemmas.Bool.{cases_lt}
 use Rattle.bitmap.specs.Slots.{AreDisjoint}
 use Rattle.span.specs.declared.id.SpanId.{SpanId}
-use Rattle.page_table.specs.State.{words_of}
+use Rattle.page.specs.Words.{Words}
 use Rattle.shard.specs.Group.{GroupState}
 use Rattle.groups.specs.Group.{IsHeadOf, occupied, spans_of}
 use Rattle.groups.specs.Spans.{union_of}
 use Rattle.shard.specs.Moves.{Grafts, MayGraft, head_among, with_room}
-use Rattle.groups.specs.Whole.{WholeState, spans_moved}
+use Rattle.groups.specs.Whole.{WholeState, spans_moved, whole_of}
 use Rattle.shard.specs.Shown.{shown as shown_by_shard}
 use Rattle.shard.specs.Sound.{IsSound as IsSoundShard}
 use Rattle.shard.specs.State.{ShardState}
@@ -23,10 +22,10 @@ use Rattle.shard.proofs.ShownLogs.{shown-logged as shown-logged_shard}
 use Rattle.abandoned.specs.Calls.{Lifts}
 use Rattle.abandoned.specs.Shown.{shown, together}
 use Rattle.abandoned.specs.Sound.{IsSound}
-use Rattle.abandoned.specs.State.{PoolState, PooledState, whole_of}
+use Rattle.abandoned.specs.State.{PoolState, PooledState}
 use Rattle.abandoned.proofs.Adopted.{one_head}
 use Rattle.abandoned.proofs.ShownLogs.{shown-logged}
-use Rattle.abandoned.proofs.TakenIn.{empty_or_not}
+use Rattle.groups.proofs.EmptySets.{empty_or_not}
 use Rattle.abandoned.proofs.Together.{spans_in-Lifts, together-moved}
 use Rattle.fold.specs.Folds.{Folds, MayFold}
 use Rattle.fold.proofs.Heads.{none_or_head}
@@ -41,12 +40,12 @@ module _ (pool : PoolState) (sound : IsSound pool) (shard : ShardState) (a b : S
   ]
 
   module _ (index : ℕ) (group : PooledState) (from : IsHeadOf pool.groups a index group) where
-    page_is : (page : ℕ) × (group.page ≡ Some page)
+    page_is : (words : Words) × (group.page ≡ Some words)
     page_is = by_page group.page refl
       where
-        by_page : (o : Option ℕ) → group.page ≡ o → (page : ℕ) × (group.page ≡ Some page)
+        by_page : (o : Option Words) → group.page ≡ o → (words : Words) × (group.page ≡ Some words)
         by_page None e = absurd (may.paged (may.present, (index, group, from, e)))
-        by_page (Some page) e = (page, e)
+        by_page (Some words) e = (words, e)
 
     same_class : onto.1.head.class ≡ group.head.class
     same_class = elim (cases_class onto.1.head.class group.head.class) [
@@ -63,8 +62,8 @@ module _ (pool : PoolState) (sound : IsSound pool) (shard : ShardState) (a b : S
   -- the room that is made is for the spans that come
   module _ (whole : WholeState) (pool_new : PoolState) (lifts : Lifts pool a (Some whole) pool_new) (index : ℕ) (group : PooledState) (from : IsHeadOf pool.groups a index group) (spans : ℕ) (spans_is : spans ≡ length (spans_of group)) (room : ShardState)
       (room_is : room ≡ with_room shard (head_among shard.groups (Some b)) spans) where
-    whole_is : whole ≡ whole_of pool.table group
-    whole_is = lifts.3 ∙ ap (whole_of pool.table) (one_head pool sound lifts.0 index lifts.1 group lifts.2.here from.here (lifts.2.head_is ∙ sym from.head_is))
+    whole_is : whole ≡ whole_of group
+    whole_is = lifts.3 ∙ ap whole_of (one_head pool sound lifts.0 index lifts.1 group lifts.2.here from.here (lifts.2.head_is ∙ sym from.head_is))
 
     spans_are : spans_moved whole ≡ spans_of group
     spans_are = ap spans_moved whole_is
@@ -76,7 +75,7 @@ module _ (pool : PoolState) (sound : IsSound pool) (shard : ShardState) (a b : S
 
     pub MayGraft-room : MayGraft room b whole
     MayGraft-room = subst (λ (s : ShardState). MayGraft s b whole) (sym room_for) (record {
-      paged = subst (λ (w : WholeState). IsSome w.words) (sym whole_is) (still_some (page_is index group from).0 group.page (page_is index group from).1);
+      paged = subst (λ (w : WholeState). IsSome w.words) (sym whole_is) (ap is_some (page_is index group from).1);
       elsewhere = λ at span there other g here place found.
           may.present (inr (inr (index, group, from, (at, span, ap (λ xs. slice_get xs at) (sym spans_are) ∙ there, inr (λ away. away other g here place found)))));
       opened = λ at span there mine. elim (cases_lt span.id.serial shard.opened) [
@@ -87,10 +86,6 @@ module _ (pool : PoolState) (sound : IsSound pool) (shard : ShardState) (a b : S
       onto = refl;
       span_room = omega arith;
     })
-      where
-        still_some : (page : ℕ) (o : Option ℕ) → o ≡ Some page → IsSome (option_map (words_of pool.table) o)
-        still_some page None e = absurd cc
-        still_some page (Some other) e = refl
 
     pub Folds-grafted : (shard_new : ShardState) → Grafts room b whole shard_new → Folds pool shard a b pool_new shard_new
     Folds-grafted shard_new grafts = record { whole = whole; lifts = lifts; grafts = subst (λ (s : ShardState). Grafts s b whole shard_new) room_for grafts }

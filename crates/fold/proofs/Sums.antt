@@ -1,12 +1,10 @@
 -- What a fold does to the spans of pool and shard.
 use Rattle.std.proofs.Common.{◌≡◌, ℕ, ◌+◌, ◌++◌, false, true, Bool, List, ◌∷◌, length, append_assoc, length-set, None, Some, ◌∙◌, ap, sym, refl, arith, Option, is_some, cond, slice_get}
-use Rattle.std.specs.Prelude.{option_map, remove, sum_by}
+use Rattle.std.specs.Prelude.{remove, sum_by}
 use Rattle.std.proofs.lemmas.Grind.{flat_map-append}
 use Rattle.std.proofs.lemmas.List.Sums.{length-filter, sum_by-append}
 use Rattle.span.specs.State.{SpanState}
 use Rattle.span.specs.declared.id.SpanId.{SpanId}
-use Rattle.page_table.specs.State.{words_of}
-use Rattle.page_table.specs.Words.{Words}
 use Rattle.groups.specs.Group.{spans_in, spans_of}
 use Rattle.shard.specs.Moves.{Grafts, with_guests, with_room}
 use Rattle.groups.specs.Whole.{WholeState, spans_moved}
@@ -33,8 +31,8 @@ spans_in-Grafts old new head whole grafts =
       right = right;
       with_is =
           ap (λ (s : ShardState). spans_in s.groups) grafts.after
-          ∙ ap spans_in (cut.after_set (with_guests grafts.group moved))
-          ∙ flat_map-append spans_of cut.left (with_guests grafts.group moved ∷ cut.right)
+          ∙ ap spans_in (cut.after_set (with_guests grafts.group moved grafts.words))
+          ∙ flat_map-append spans_of cut.left (with_guests grafts.group moved grafts.words ∷ cut.right)
           ∙ ap (λ (xs : List SpanState). left ++ xs) (append_assoc own moved right)
           ∙ sym (append_assoc left own (moved ++ right));
       without_is =
@@ -101,13 +99,13 @@ module _ (pool : PoolState) (shard : ShardState) (a b : SpanId) (pool_new : Pool
 
   -- the shard has as many groups as before
   pub length_groups-Folds : length shard_new.groups ≡ length shard.groups
-  length_groups-Folds = ap (λ (s : ShardState). length s.groups) folds.grafts.after ∙ length-set shard.groups folds.grafts.index (with_guests folds.grafts.group (spans_moved folds.whole))
+  length_groups-Folds = ap (λ (s : ShardState). length s.groups) folds.grafts.after ∙ length-set shard.groups folds.grafts.index (with_guests folds.grafts.group (spans_moved folds.whole) folds.grafts.words)
 
   -- and the pool has one page less
   pub length_paged-Folds : length (paged_groups pool_new) + 1 ≡ length (paged_groups pool)
   length_paged-Folds =
       let (index, group, at, whole_is, new_is) = folds.lifts in
-      let some : is_some group.page ≡ true = has_page group.page (ap (λ (w : WholeState). w.words) (sym whole_is) ∙ folds.grafts.words_are) in
+      let some : is_some group.page ≡ true = ap is_some (ap (λ (w : WholeState). w.words) (sym whole_is) ∙ folds.grafts.words_are) in
       omega (
         arith,
         ap (λ (p : PoolState). length (paged_groups p)) new_is,
@@ -119,7 +117,3 @@ module _ (pool : PoolState) (shard : ShardState) (a b : SpanId) (pool_new : Pool
     where
       is_paged : PooledState → Bool
       is_paged group = is_some group.page
-
-      has_page : (o : Option ℕ) {words : Words} → option_map (words_of pool.table) o ≡ Some words → is_some o ≡ true
-      has_page None e = absurd cc
-      has_page (Some page) e = refl

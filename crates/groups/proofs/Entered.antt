@@ -3,7 +3,7 @@ use Rattle.std.proofs.Common.{zero, suc, ◌≡◌, ℕ, ◌+◌, ◌<◌, ◌�
 use Rattle.std.specs.FinMap as map
 use Rattle.std.specs.Prelude.{count_by}
 use Rattle.std.proofs.lemmas.Bool.{ne_eqb}
-use Rattle.page_table.proofs.Maps.{get-insert as get-inserted, get-remove}
+use Rattle.groups.proofs.Maps.{get-insert as get-inserted, get-remove}
 use Rattle.span.proofs.Ids.{test_from_same_id}
 use Rattle.span.specs.Ids.{rank, same_span}
 use Rattle.span.specs.State.{SpanState}

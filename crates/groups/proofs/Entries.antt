@@ -6,15 +6,13 @@ use Rattle.std.specs.HashMap as hash
 use Rattle.std.specs.HashMap.{HashMap}
 use Rattle.std.proofs.lemmas.Bool.{cases_eq, ne_eqb}
 use Rattle.std.proofs.lemmas.List.{drop_all}
-use Rattle.page_table.proofs.Maps.{find-lookup, get-insert, get-remove, same_nat_map}
-use Rattle.page_table.proofs.Members.{Sets, Sets-number}
+use Rattle.groups.proofs.Maps.{Sets, Sets-number, drop_step, find-lookup, get-insert, get-remove, same_nat_map}
 use Rattle.span.specs.Ids.{rank}
 use Rattle.span.specs.State.{SpanState}
 use Rattle.span.specs.declared.id.SpanId.{SpanId}
 use Rattle.groups.specs.Directory.{DirectoryState, entered, struck}
 use Rattle.groups.specs.DirectoryKept.{entries_of}
 use Rattle.groups.specs.declared.directory.Place.{Place}
-use Rattle.groups.proofs.MappedSpans.{drop_step}
 
 -- a directory is given by its parts
 pub same_directory : (a b : DirectoryState) → a.entries ≡ b.entries → a.room ≡ b.room → a ≡ b

@@ -122,7 +122,7 @@ module _ {G : Type 0} (spans_of : G → List SpanState) where
         )
 
     -- and where one that stands in a group passes, one does
-    count-stands : (groups : List G) (index place : ℕ) (group : G) (span : SpanState) → StandsAt groups index place group span → p span ≡ true → 1 ≤ count_by p (all_in groups)
+    pub count-stands : (groups : List G) (index place : ℕ) (group : G) (span : SpanState) → StandsAt groups index place group span → p span ≡ true → 1 ≤ count_by p (all_in groups)
     count-stands [] index place group span stands passes = absurd (none-some group stands.0)
     count-stands (first ∷ groups) zero place group span stands passes =
         let same : first ≡ group = same_some stands.0 in

@@ -1,8 +1,8 @@
--- A group stays sound where one of its spans is set in place, and so does each group on another page.
-use Rattle.std.proofs.Common.{zero, suc, ◌≡◌, ℕ, ◌<◌, ◌⊎◌, ◌++◌, ◌∷◌, [], length, Bool, true, false, IsTrue, ◌↔◌, List, Option, Some, None, MatchOption, IsSomeAnd, is_some, set, slice_get, ap, sym, subst, ◌∙◌, refl, inl, inr, eqb, eq-eqb, eqb-true, if◌then◌else◌}
+-- A group stays sound where one of its spans is set in place.
+use Rattle.std.proofs.Common.{zero, suc, ◌≡◌, ℕ, ◌<◌, ◌⊎◌, ◌++◌, ◌∷◌, [], length, Bool, true, false, IsTrue, ◌↔◌, List, Option, Some, None, IsSomeAnd, is_some, set, slice_get, ap, sym, subst, ◌∙◌, refl, inl, inr, eqb, eq-eqb, eqb-true, if◌then◌else◌}
 use Rattle.std.specs.Bool.{OnTrue, OnFalse}
 use Rattle.std.specs.FinMap as map
-use Rattle.std.specs.FinSet.{contains, empty}
+use Rattle.std.specs.FinSet.{contains}
 use Rattle.std.proofs.lemmas.Bool.{cases_eq, false_from_ne_true, ne_eqb}
 use Rattle.bitmap.specs.Slots.{SlotSet}
 use Rattle.bitmap.specs.Operations.{AreDisjoint-at}
@@ -16,16 +16,16 @@ use Rattle.span.specs.declared.class.Class.{Class}
 use Rattle.span.proofs.Changes.{IsLegal-push, get-set}
 use Rattle.span.proofs.OfClass.{Fits-replay, Holds-on_page, IsOfClass-push}
 use Rattle.span.proofs.Slots.{contains-live_slots}
-use Rattle.page_table.specs.State.{TableState, object_at, with_object, words_of}
-use Rattle.page_table.proofs.Words.{object_in-set_object_other, object_in-set_object_same}
-use Rattle.groups.specs.Group.{Group, spans_of, with_span}
-use Rattle.groups.specs.Sound.{AreOnPage, IsOnPage, IsSoundGroup}
+use Rattle.page.specs.Words.{Words, object_in, set_object}
+use Rattle.page.proofs.Words.{object_in-set_object_other, object_in-set_object_same}
+use Rattle.groups.specs.Group.{Group, spans_of}
+use Rattle.groups.specs.Pages.{object_at, set_group, words_of}
+use Rattle.groups.proofs.StoredObjects.{stored_in}
+use Rattle.groups.specs.Sound.{IsSoundGroup, IsStored}
 use Rattle.groups.specs.SpansKept.{IsKept}
-use Rattle.groups.specs.Spans.{AreApart, AreSpansOf, IsSpanOf, union_of, with_set_at}
+use Rattle.groups.specs.Spans.{AreApart, IsSpanOf, union_of, with_set_at}
 use Rattle.groups.proofs.Lists.{cases-set, same_some, set-same}
-use Rattle.groups.proofs.Sound.{IsSoundGroup-same}
-use Rattle.groups.proofs.Standing.{AreSpansOf-with_span, page-with_span, spans_of-with_span}
-use Rattle.groups.proofs.Tables.{HasPage-with_object, get-insert_other, words_of-with_object_same}
+use Rattle.groups.proofs.Standing.{AreSpansOf-with_span, spans_of-with_span}
 use Rattle.groups.proofs.Unions.{keep_held, live_if_held, member_of_union}
 
 -- a slot is live in one of the spans alone
@@ -85,16 +85,16 @@ IsKept-set spans occupied kept place span here slot generation value true after 
 IsKept-set spans occupied kept place span here slot generation value false after found is unknown =
     subst (λ l. IsKept l occupied) (sym (ap (λ s. set spans place s) unknown ∙ set-same spans place span here)) kept
 
-module _ {Page Closed : Type 0} (page_of : Page → Option ℕ) (table : TableState) (group : Group Page Closed) (sound : IsSoundGroup page_of table group) (page : ℕ) (paged : page_of group.page ≡ Some page)
+module _ {Closed : Type 0} (group : Group Closed) (sound : IsSoundGroup group)
     (place : ℕ) (span : SpanState) (here : slice_get (spans_of group) place ≡ Some span) (slot generation : ℕ) (value : Value) (settable : IsSettable span slot generation value) where
   abbrev changed : SpanState
   changed = with_set_at span slot generation value
 
-  abbrev after : Group Page Closed
-  after = with_span group place changed
+  abbrev after : Group Closed
+  after = set_group group place span slot generation value
 
-  abbrev table_now : TableState
-  table_now = with_object table page span.class slot value
+  abbrev page_now : Words
+  page_now = set_object (words_of group.page) span.class slot value
 
   its : IsSpanOf group.head.class span
   its = sound.classes place span here
@@ -105,77 +105,52 @@ module _ {Page Closed : Type 0} (page_of : Page → Option ℕ) (table : TableSt
   on_page : slot < slots_in span.class
   on_page = Holds-on_page span.class span.log slot generation of_class settable.0
 
-  before : AreOnPage table (spans_of group) page
-  before = subst (λ o. MatchOption o (union_of (spans_of group) ≡ empty) (AreOnPage table (spans_of group))) paged sound.page
-
-  object_here : object_at table_now page span.class slot ≡ value
-  object_here = rw (words_of-with_object_same table page span.class slot value) (object_in-set_object_same (words_of table page) span.class slot value on_page settable.1)
-
-  object_other : (q : ℕ) → q < slots_in span.class → (q ≡ slot → ⊥) → object_at table_now page span.class q ≡ object_at table page span.class q
-  object_other q low other = rw (words_of-with_object_same table page span.class slot value) (object_in-set_object_other (words_of table page) span.class slot value q low other)
+  -- the slot is on a page of the head's class, and the value has as many words as that has
+  pub fits_page : (slot < slots_in group.head.class) × (length value ≡ width_of group.head.class)
+  fits_page = subst (λ c. (slot < slots_in c) × (length value ≡ width_of c)) its.class_is (on_page, settable.1)
 
   -- what a span of the group holds at another slot stays
-  stored_other : (at : ℕ) (other : SpanState) → slice_get (spans_of group) at ≡ Some other → (q : ℕ) (held : Held) → map.get (replay other.log) q ≡ Some held → (q ≡ slot → ⊥) → object_at table_now page other.class q ≡ held.value
+  stored_other : (at : ℕ) (other : SpanState) → slice_get (spans_of group) at ≡ Some other → (q : ℕ) (held : Held) → map.get (replay other.log) q ≡ Some held → (q ≡ slot → ⊥) → object_in page_now other.class q ≡ held.value
   stored_other at other there q held is differ =
       let of_other = sound.classes at other there in
       let same : other.class ≡ span.class = of_other.class_is ∙ sym its.class_is in
       let low : q < slots_in span.class = subst (λ c. q < slots_in c) (sym its.class_is) (Fits-replay group.head.class other.log of_other.of_class q held is).0 in
-      let was : object_at table page span.class q ≡ held.value = subst (λ c. object_at table page c q ≡ held.value) same ((before.each at other there).stored q held is) in
-      subst (λ c. object_at table_now page c q ≡ held.value) (sym same) (object_other q low differ ∙ was)
+      let was : object_at group.page span.class q ≡ held.value = subst (λ c. object_at group.page c q ≡ held.value) same (stored_in group sound at other there q held is) in
+      subst (λ c. object_in page_now c q ≡ held.value) (sym same) (object_in-set_object_other (words_of group.page) span.class slot value q low differ ∙ was)
 
-  changed_now : IsOnPage table_now page changed
-  changed_now = record {
-    mapped = (before.each place span here).mapped;
-    stored = λ q held is. elim (cases_eq q slot) [
-      | inl same ↦
-          let put : Some (record { generation = generation; value = value }) ≡ Some held = sym (get-set span.log slot generation value q ∙ rw (eq-eqb q slot same) refl) ∙ is in
-          ap (object_at table_now page span.class) same ∙ object_here ∙ ap (λ (h : Held). h.value) (same_some put)
-      | inr differ ↦ stored_other place span here q held (sym (get-set span.log slot generation value q ∙ rw (ne_eqb q slot differ) refl) ∙ is) differ
-    ];
-  }
+  changed_now : IsStored page_now changed
+  changed_now q held is = elim (cases_eq q slot) [
+    | inl same ↦
+        let put : Some (record { generation = generation; value = value }) ≡ Some held = sym (get-set span.log slot generation value q ∙ rw (eq-eqb q slot same) refl) ∙ is in
+        ap (object_in page_now span.class) same ∙ object_in-set_object_same (words_of group.page) span.class slot value on_page settable.1 ∙ ap (λ (h : Held). h.value) (same_some put)
+    | inr differ ↦ stored_other place span here q held (sym (get-set span.log slot generation value q ∙ rw (ne_eqb q slot differ) refl) ∙ is) differ
+  ]
 
-  other_now : (at : ℕ) (other : SpanState) → (at ≡ place → ⊥) → slice_get (spans_of group) at ≡ Some other → IsOnPage table_now page other
-  other_now at other apart there =
-      let was = before.each at other there in
-      record {
-        mapped = was.mapped;
-        stored = λ q held is. stored_other at other there q held is (λ same. apart_at (spans_of group) at place other span q sound.apart there here apart
-            (contains-live_slots other.log q ∙ ap is_some is)
-            (ap (contains (live_slots span.log)) same ∙ live_if_held span.log slot generation settable.0));
-      }
+  other_now : (at : ℕ) (other : SpanState) → (at ≡ place → ⊥) → slice_get (spans_of group) at ≡ Some other → IsStored page_now other
+  other_now at other apart there q held is = stored_other at other there q held is (λ same. apart_at (spans_of group) at place other span q sound.apart there here apart
+      (contains-live_slots other.log q ∙ ap is_some is)
+      (ap (contains (live_slots span.log)) same ∙ live_if_held span.log slot generation settable.0))
+
+  pub spans_of-set_group : spans_of after ≡ set (spans_of group) place changed
+  spans_of-set_group = spans_of-with_span group place changed
 
   -- a span of the group after the set is the changed one, or was there before
   changed_or_kept : (at : ℕ) (other : SpanState) → slice_get (spans_of after) at ≡ Some other → ((at ≡ place) × (changed ≡ other)) ⊎ ((at ≡ place → ⊥) × (slice_get (spans_of group) at ≡ Some other))
-  changed_or_kept at other there = cases-set (spans_of group) place changed at other (ap (λ spans. slice_get spans at) (sym (spans_of-with_span group place changed)) ∙ there)
+  changed_or_kept at other there = cases-set (spans_of group) place changed at other (ap (λ spans. slice_get spans at) (sym spans_of-set_group) ∙ there)
 
-  all_now : AreOnPage table_now (spans_of after) page
-  all_now = record {
-    has_page = HasPage-with_object table page span.class slot value page before.has_page;
-    each = λ at other there. elim (changed_or_kept at other there) [
-      | inl this ↦ subst (IsOnPage table_now page) this.1 changed_now
-      | inr that ↦ other_now at other that.0 that.1
-    ];
-  }
-
-  pub IsSoundGroup-set : IsSoundGroup page_of table_now after
+  pub IsSoundGroup-set : IsSoundGroup after
   IsSoundGroup-set = record {
-    apart = subst AreApart (sym (spans_of-with_span group place changed)) (keep_held (spans_of group) place span slot generation value here settable.0 sound.apart).1;
+    apart = subst AreApart (sym spans_of-set_group) (keep_held (spans_of group) place span slot generation value here settable.0 sound.apart).1;
     legal = λ at other there. elim (changed_or_kept at other there) [
       | inl this ↦ subst (λ (s : SpanState). IsLegal s.gens s.log) this.1 (IsLegal-set span.class span.gens span.log slot generation value (sound.legal place span here) of_class settable.0 settable.1)
       | inr that ↦ sound.legal at other that.1
     ];
     classes = AreSpansOf-with_span group place changed sound.classes (record {
       class_is = its.class_is;
-      of_class = IsOfClass-push group.head.class span.log _ its.of_class (subst (λ c. (slot < slots_in c) × (length value ≡ width_of c)) its.class_is (on_page, settable.1));
+      of_class = IsOfClass-push group.head.class span.log _ its.of_class fits_page;
     });
-    page = subst (λ o. MatchOption o (union_of (spans_of after) ≡ empty) (AreOnPage table_now (spans_of after))) (sym (ap page_of (page-with_span group place changed) ∙ paged)) all_now;
+    page = λ at other there. elim (changed_or_kept at other there) [
+      | inl this ↦ subst (IsStored page_now) this.1 changed_now
+      | inr that ↦ other_now at other that.0 that.1
+    ];
   }
-
--- a group on another page
-pub IsSoundGroup-set_elsewhere : {Page Closed : Type 0} (page_of : Page → Option ℕ) (table : TableState) (page : ℕ) (class : Class) (slot : ℕ) (value : Value) (group : Group Page Closed)
-    → ((other : ℕ) → page_of group.page ≡ Some other → other ≡ page → ⊥) → IsSoundGroup page_of table group → IsSoundGroup page_of (with_object table page class slot value) group
-IsSoundGroup-set_elsewhere page_of table page class slot value group apart =
-    IsSoundGroup-same page_of table (with_object table page class slot value) group (λ other is. record {
-      words = get-insert_other table.pages page _ other (apart other is);
-      mapped = λ at span there. refl;
-    })

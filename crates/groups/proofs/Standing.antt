@@ -13,24 +13,24 @@ use Rattle.groups.proofs.Lists.{cases-set}
 pub IsSpanOf-with_free : (class : Class) (span : SpanState) (key : Key) → IsSpanOf class span → IsSpanOf class (with_free span key)
 IsSpanOf-with_free class span key its = record { class_is = its.class_is; of_class = IsOfClass-push class span.log (Free key.slot key.generation) its.of_class tt }
 
-module _ {Page Closed : Type 0} where
-  abbrev pub head_id : Group Page Closed → SpanId
+module _ {Closed : Type 0} where
+  abbrev pub head_id : Group Closed → SpanId
   head_id group = group.head.id
 
-  pub page-with_span : (group : Group Page Closed) (place : ℕ) (span : SpanState) → (with_span group place span).page ≡ group.page
+  pub page-with_span : (group : Group Closed) (place : ℕ) (span : SpanState) → (with_span group place span).page ≡ group.page
   page-with_span group zero span = refl
   page-with_span group (suc place) span = refl
 
-  pub spans_of-with_span : (group : Group Page Closed) (place : ℕ) (span : SpanState) → spans_of (with_span group place span) ≡ set (spans_of group) place span
+  pub spans_of-with_span : (group : Group Closed) (place : ℕ) (span : SpanState) → spans_of (with_span group place span) ≡ set (spans_of group) place span
   spans_of-with_span group zero span = refl
   spans_of-with_span group (suc place) span = refl
 
-  class-with_span : (group : Group Page Closed) (place : ℕ) (span : SpanState) → span.class ≡ group.head.class → (with_span group place span).head.class ≡ group.head.class
+  class-with_span : (group : Group Closed) (place : ℕ) (span : SpanState) → span.class ≡ group.head.class → (with_span group place span).head.class ≡ group.head.class
   class-with_span group zero span same = same
   class-with_span group (suc place) span same = refl
 
   -- the spans stay of the class of the head
-  pub AreSpansOf-with_span : (group : Group Page Closed) (place : ℕ) (span : SpanState) → AreSpansOf group.head.class (spans_of group) → IsSpanOf group.head.class span → AreSpansOf (with_span group place span).head.class (spans_of (with_span group place span))
+  pub AreSpansOf-with_span : (group : Group Closed) (place : ℕ) (span : SpanState) → AreSpansOf group.head.class (spans_of group) → IsSpanOf group.head.class span → AreSpansOf (with_span group place span).head.class (spans_of (with_span group place span))
   AreSpansOf-with_span group place span are its at other there = subst (λ c. IsSpanOf c other) (sym (class-with_span group place span its.class_is)) (elim (cases-set (spans_of group) place span at other (ap (λ spans. slice_get spans at) (sym (spans_of-with_span group place span)) ∙ there)) [
     | inl this ↦ subst (IsSpanOf group.head.class) this.1 its
     | inr that ↦ are at other that.1

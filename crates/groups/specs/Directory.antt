@@ -51,5 +51,5 @@ pub record IsDirectory {G : Type 0} (head_of : G → SpanId) (guests_of : G → 
   pub only : (number : ℕ) (at : Place) → map.get entries number ≡ Some at → IsGuestAt head_of guests_of groups number at
 
 -- the entries say where each guest of the groups stands
-abbrev pub KnowsGuests : {Page Closed : Type 0} → List (Group Page Closed) → Entries → Type 0
+abbrev pub KnowsGuests : {Closed : Type 0} → List (Group Closed) → Entries → Type 0
 KnowsGuests groups entries = IsDirectory (λ group. group.head.id) (λ group. group.guests) groups entries

@@ -2,9 +2,9 @@ pub mod Brief
 pub mod Directory
 pub mod DirectoryKept
 pub mod Group
+pub mod Pages
 pub mod Shown
 pub mod Sound
 pub mod Spans
 pub mod SpansKept
-pub mod Tables
 pub mod Whole

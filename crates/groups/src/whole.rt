@@ -3,7 +3,7 @@ ghost use Rattle.std.specs.Prelude.{◌≡◌, IsSome, IsTrue, ◌↔◌};
 ghost use Rattle.groups.specs.Whole.{IsSoundWhole, whole_with};
 
 use crate::spans::Spans;
-use page_table::PageWords;
+use page::Page;
 use span::{Kept, Log, SpanId};
 use std::marker::Model;
 
@@ -14,7 +14,7 @@ use std::marker::Model;
 #[derive(Drop)]
 pub struct Whole<L: Log = Kept> {
     spans: Spans<L>,
-    words: Option<PageWords>,
+    words: Option<Page>,
 }
 
 impl<L: Log> Model for Whole<L> {
@@ -29,7 +29,7 @@ impl<L: Log> Model for Whole<L> {
 
 impl<L: Log> Whole<L> {
     /// The group of spans that are sound on the words.
-    pub fn new(spans: Spans<L>, words: Option<PageWords>) -> Whole<L>
+    pub fn new(spans: Spans<L>, words: Option<Page>) -> Whole<L>
         requires { IsSoundWhole (whole_with spans words) }
         ensures { result ≡ whole_with spans words }
     {
@@ -59,7 +59,7 @@ impl<L: Log> Whole<L> {
     }
 
     /// The spans, and the words of their page.
-    pub fn into_parts(self) -> (Spans<L>, Option<PageWords>)
+    pub fn into_parts(self) -> (Spans<L>, Option<Page>)
         ensures parts { self ≡ whole_with result.0 result.1 }
         ensures sound { IsSoundWhole self }
     {

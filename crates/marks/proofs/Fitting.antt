@@ -17,9 +17,8 @@ use Rattle.span.specs.declared.class.Class.{Class}
 use Rattle.span.proofs.OfClass.{Fits-replay}
 use Rattle.span.proofs.Slots.{contains-live_slots}
 use Rattle.groups.specs.Group.{Group, spans_of, summary}
-use Rattle.groups.specs.Sound.{IsSoundGroup}
+use Rattle.groups.specs.Sound.{AreSoundGroups}
 use Rattle.groups.specs.Spans.{AreSpansOf, IsSpanOf, union_of}
-use Rattle.page_table.specs.State.{TableState}
 use Rattle.shard.specs.State.{ShardState}
 use Rattle.abandoned.specs.Sound.{IsSound as IsSoundPool}
 use Rattle.abandoned.specs.State.{PoolState, PooledState, paged_groups}
@@ -44,10 +43,9 @@ union_below class (span ∷ spans) of slot inside =
       | inr there ↦ union_below class spans (λ place other at. of (suc place) other at) slot there
     ]
 
-module _ {Page Closed : Type 0} (page_of : Page → Option ℕ) (table : TableState) (groups : List (Group Page Closed))
-    (sound : (index : ℕ) (group : Group Page Closed) → slice_get groups index ≡ Some group → IsSoundGroup page_of table group) where
+module _ {Closed : Type 0} (groups : List (Group Closed)) (sound : AreSoundGroups groups) where
   -- each of the sound groups
-  groups_fit : All (λ (group : Group Page Closed). FitsClass (summary group)) groups
+  groups_fit : All (λ (group : Group Closed). FitsClass (summary group)) groups
   groups_fit index d low =
       let group = get_or groups index d in
       union_below group.head.class (spans_of group) (sound index group (slice_get-get_or groups index d low)).classes
@@ -56,14 +54,14 @@ module _ {Page Closed : Type 0} (page_of : Page → Option ℕ) (table : TableSt
 abandoned_fit : (pool : PoolState) → IsSoundPool pool → All FitsClass (abandoned_entries pool)
 abandoned_fit pool sound =
     All-map FitsClass summary (paged_groups pool)
-    (All-filter (λ (group : PooledState). is_some group.page) (λ group. FitsClass (summary group)) pool.groups (groups_fit (λ page. page) pool.table pool.groups sound.groups))
+    (All-filter (λ (group : PooledState). is_some group.page) (λ group. FitsClass (summary group)) pool.groups (groups_fit pool.groups sound.groups))
 
 -- and those of sound shards
 owned_fit : (shards : List ShardState) → AreSound shards → All FitsClass (owned_entries shards)
 owned_fit [] sound = All-nil FitsClass
 owned_fit (shard ∷ shards) sound =
     All-append FitsClass (map_list summary shard.groups) (owned_entries shards)
-    (All-map FitsClass summary shard.groups (groups_fit Some shard.table shard.groups (sound 0 shard refl).groups))
+    (All-map FitsClass summary shard.groups (groups_fit shard.groups (sound 0 shard refl).groups))
     (owned_fit shards (λ number other at. sound (suc number) other at))
 
 -- so do those of the snapshot

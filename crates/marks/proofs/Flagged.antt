@@ -1,6 +1,6 @@
 -- Groups of a shard that are closed or opened, and nothing else of them changes.
 use Rattle.std.proofs.Common.{◌≡◌, ℕ, zero, suc, ◌<◌, ◌≤◌, Bool, eqb, List, [], ◌∷◌, ◌++◌, refl, sym, ap, subst, ◌∙◌, arith, Some, slice_get, map}
-use Rattle.std.specs.Prelude.{count_by}
+use Rattle.std.specs.Prelude.{IsSome, count_by}
 use Rattle.std.proofs.lemmas.List.{length-map}
 use Rattle.span.specs.Ids.{rank, same_span}
 use Rattle.span.specs.State.{SpanState}
@@ -9,8 +9,7 @@ use Rattle.groups.specs.Group.{spans_in, spans_of}
 use Rattle.shard.specs.Sound.{IsSound as IsSoundShard}
 use Rattle.groups.specs.Sound.{IsSoundGroup}
 use Rattle.shard.specs.State.{ShardState}
-use Rattle.groups.proofs.Lists.{count-cons, same_some}
-use Rattle.marks.proofs.Lists.{slice_get-map_at}
+use Rattle.groups.proofs.Lists.{same_some}
 
 -- the group with this flag
 abbrev pub with_flag : (GroupState → Bool) → GroupState → GroupState
@@ -36,16 +35,6 @@ module _ (closed : GroupState → Bool) where
   spans_in-flagged [] = refl
   spans_in-flagged (group ∷ groups) = ap (λ spans. spans_of group ++ spans) (spans_in-flagged groups)
 
-  pages-flagged : (page : ℕ) (groups : List GroupState) → count_by (λ group. eqb group.page page) (flagged closed groups) ≡ count_by (λ group. eqb group.page page) groups
-  pages-flagged page [] = refl
-  pages-flagged page (group ∷ groups) =
-      omega (
-        arith,
-        count-cons (λ (g : GroupState). eqb g.page page) (with_flag closed group) (flagged closed groups),
-        count-cons (λ (g : GroupState). eqb g.page page) group groups,
-        pages-flagged page groups,
-      )
-
   pub IsSoundShard-flagged : (shard : ShardState) → IsSoundShard shard → IsSoundShard (with_flags closed shard)
   IsSoundShard-flagged shard sound = record {
     ascending = λ low high a b less at_low at_high.
@@ -55,18 +44,16 @@ module _ (closed : GroupState → Bool) where
     groups = λ index group at.
         let (was, here, is) = map_back (with_flag closed) shard.groups index group at in
         let fine = sound.groups index was here in
-        subst (IsSoundGroup Some shard.table) is (record {
+        subst IsSoundGroup is (record {
           apart = fine.apart;
           legal = fine.legal;
           classes = fine.classes;
           page = fine.page;
         });
+    paged = λ index group at.
+        let (was, here, is) = map_back (with_flag closed) shard.groups index group at in
+        subst (λ (g : GroupState). IsSome g.page) is (sound.paged index was here);
     once = λ id. subst (λ spans. count_by (λ (s : SpanState). same_span s.id id) spans ≤ 1) (sym (spans_in-flagged shard.groups)) (sound.once id);
-    own_page = λ page. subst (λ n. n ≤ 1) (sym (pages-flagged page shard.groups)) (sound.own_page page);
-    only = λ number page mapped.
-        let (index, place, group, span, stands, same) = sound.only number page mapped in
-        (index, place, with_flag closed group, span, (slice_get-map_at (with_flag closed) shard.groups index group stands.0, stands.1), same);
-    pages = sound.pages ∙ sym (length-map shard.groups (with_flag closed));
     limit = let same = length-map shard.groups (with_flag closed) in omega (arith, same, sound.limit);
     serials = λ index place group span stands named_so.
         let (was, here, is) = map_back (with_flag closed) shard.groups index group stands.0 in

@@ -9,6 +9,7 @@ use Rattle.groups.specs.Group.{IsElsewhere}
 use Rattle.shard.specs.Closes.{opened_group}
 use Rattle.groups.specs.Directory.{Entries, KnowsGuests, entered}
 use Rattle.shard.specs.Group.{GroupState}
+use Rattle.page.specs.Words.{Words}
 use Rattle.shard.specs.Moves.{with_guests}
 use Rattle.groups.proofs.FoundGuests.{IsDirectory-joined}
 use Rattle.groups.proofs.GuestDirectory.{IsDirectory-insert}
@@ -61,6 +62,6 @@ module _ (groups : List GroupState) (entries : Entries) (knows : KnowsGuests gro
       nobody place guest there = cc
 
   -- spans that become the last guests of a group
-  pub KnowsGuests-guests : (index : ℕ) (group : GroupState) (more : List SpanState) → slice_get groups index ≡ Some group → ((id : SpanId) → count_by (λ (s : SpanState). same_span s.id id) more ≤ 1)
-      → ((place : ℕ) (span : SpanState) → slice_get more place ≡ Some span → IsElsewhere groups span.id) → KnowsGuests (set groups index (with_guests group more)) (entered entries more group.head.id (suc (length group.guests)))
-  KnowsGuests-guests index group more here = IsDirectory-joined head_in guests_in groups entries knows index group (with_guests group more) more here refl refl
+  pub KnowsGuests-guests : (index : ℕ) (group : GroupState) (more : List SpanState) (words : Words) → slice_get groups index ≡ Some group → ((id : SpanId) → count_by (λ (s : SpanState). same_span s.id id) more ≤ 1)
+      → ((place : ℕ) (span : SpanState) → slice_get more place ≡ Some span → IsElsewhere groups span.id) → KnowsGuests (set groups index (with_guests group more words)) (entered entries more group.head.id (suc (length group.guests)))
+  KnowsGuests-guests index group more words here = IsDirectory-joined head_in guests_in groups entries knows index group (with_guests group more words) more here refl refl

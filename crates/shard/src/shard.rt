@@ -1,5 +1,5 @@
 // A shard and its calls on keys.
-ghost use Rattle.std.specs.Prelude.{◌*◌, ◌+◌, ◌≡◌, ◌<◌, ◌≤◌, ℕ, [], insert, vec_len, vec_capacity, map, length, IsTrue, IsOk, IfOk, IfSome, IsOkUnless, ◌↔◌, OnErr, MatchOption, Some, None, nat_lt, true, false, slice_get, if◌then◌else◌, is_some};
+ghost use Rattle.std.specs.Prelude.{◌*◌, ◌+◌, ◌≡◌, ◌<◌, ◌≤◌, ℕ, [], insert, vec_len, vec_capacity, map, length, IsTrue, IsOk, IfOk, IfSome, IsSome, IsOkUnless, ◌↔◌, OnErr, MatchOption, Some, None, nat_lt, true, false, slice_get, if◌then◌else◌, is_some};
 ghost use Rattle.std.specs.List.Sorted.{IsStrictlyIncreasing};
 ghost use Rattle.span.specs.Ids.{rank};
 ghost use Rattle.span.specs.Order.{HasNoneFrom, IsFirstFrom};
@@ -12,8 +12,6 @@ ghost use Rattle.span.specs.Classes.{class_of, width_of};
 ghost use Rattle.span.specs.declared.class.Class.{Class};
 ghost use Rattle.shard.specs.Shown.{shown};
 ghost use Rattle.shard.specs.Sound.{IsSound};
-ghost use Rattle.groups.specs.Tables.{no_pages};
-ghost use Rattle.page_table.specs.State.{HasPage};
 ghost use Rattle.shard.specs.Calls.{FindsObject, Frees, Gets, IsFull, IsSpent, Puts, PutsHere, PutsInNew, value_found, was_freed};
 ghost use Rattle.bitmap.specs.declared.bits.TheConstants.{SLOTS};
 ghost use Rattle.span.specs.declared.limits.TheConstants.{MOST_PAGES, MOST_SHARDS, MOST_SPANS};
@@ -22,7 +20,7 @@ use crate::class_rooms::ClassRooms;
 use crate::error::{Config, PutError};
 use crate::group::Group;
 use groups::{Directory, Place, Spans};
-use page_table::Table;
+use page::Page;
 use span::{
     Class, Entry, Kept, Key, Log, MOST_PAGES, MOST_SHARDS, MOST_SPANS, Object, Span, SpanId,
 };
@@ -60,7 +58,7 @@ pub enum Freed {
     NotHere,
 }
 
-/// The groups of spans that one thread owns, by ascending head, and their pages of 256 words.
+/// The groups of spans that one thread owns, by ascending head, each with its page of 256 words.
 ///
 /// It keeps that it is sound, and that a group whose index is not in `rooms` has no usable slot.
 #[derive(Drop)]
@@ -74,7 +72,9 @@ pub struct Shard<L: Log = Kept> {
     groups: Vec<Group<L>>,
     rooms: ClassRooms,
     directory: Directory,
-    table: Table,
+    // For how many more groups of its own room is reserved, and for how many more spans.
+    group_room: usize,
+    span_room: usize,
     onto: Option<SpanId>,
     // An empty list with room for the guests of the group `onto` and those for which room is reserved.
     guest_room: Vec<Span<L>>,
@@ -83,11 +83,10 @@ pub struct Shard<L: Log = Kept> {
 impl<L: Log> Model for Shard<L> {
     ghost use Rattle.shard.specs.State.{ShardState};
     ghost use Rattle.std.specs.Coded.{codes};
-    ghost use Rattle.page_table.specs.State.{table_code};
 
     ghost Value = { ShardState };
 
-    ghost coded = { Prim.hlevel (codes, table_code) };
+    ghost coded = { Prim.hlevel codes };
 
     ghost use Rattle.shard.specs.Kept.{state_of, IsKept};
 
@@ -109,7 +108,8 @@ impl Shard<Kept> {
           opened = 0;
           ended = false;
           groups = [];
-          table = no_pages;
+          group_room = 0;
+          span_room = 0;
           onto = None;
         }) }
         ensures sound { IfOk result IsSound }
@@ -135,7 +135,8 @@ impl<L: Log> Shard<L> {
           opened = 0;
           ended = false;
           groups = [];
-          table = no_pages;
+          group_room = 0;
+          span_room = 0;
           onto = None;
         }) }
         ensures sound { IfOk result IsSound }
@@ -153,7 +154,8 @@ impl<L: Log> Shard<L> {
             groups: Vec::new(alloc),
             rooms: ClassRooms::empty(),
             directory: Directory::new(alloc),
-            table: Table::new(alloc),
+            group_room: 0,
+            span_room: 0,
             onto: None,
             guest_room: Vec::new(alloc),
         })
@@ -238,7 +240,7 @@ impl<L: Log> Shard<L> {
         let at = span.changes();
         if span.holds(key.slot, key.generation) {
             let class = span.class();
-            let words = self.table.value_at(group.page(), class, key.slot);
+            let words = group.value_at(class, key.slot);
             Found::Value(words, at)
         } else {
             Found::Gone(at)
@@ -340,18 +342,12 @@ impl<L: Log> Shard<L> {
         ensures room { OnErr result (IsFull class self.old.groups → ⊥) }
         ensures err { OnErr result (self.new ≡ self.old) }
     {
-        let made = put_first(
-            &mut self.groups,
-            &mut self.rooms,
-            &mut self.table,
-            class,
-            words,
-        )?;
+        let made = put_first(&mut self.groups, &mut self.rooms, class, words)?;
         Ok(made)
     }
 
-    // Opens a span on a new page, with the value at its first slot. The new head, the list of groups and the
-    // table grow before the shard changes. No other group has room, so its own is the only one that may have.
+    // Opens a span on a new page, with the value at its first slot. The new head, its page and the list of groups
+    // grow before the shard changes. No other group has room, so its own is the only one that may have.
     #[inline(never)]
     fn put_in_new(&mut self, class: Class, words: &[u128]) -> Result<(Key, usize), PutError>
         requires width { length words.now ≡ width_of class }
@@ -368,16 +364,17 @@ impl<L: Log> Shard<L> {
         };
         let mut head = Span::with_log(self.alloc, id, class, self.gens);
         let key = head.put_at(0, words)?;
+        let mut page = Page::blank(self.alloc)?;
         self.groups.reserve(1)?;
-        let page = self.table.open(id)?;
-        self.table.set_at(page, class, 0, words);
+        page.set_at(class, 0, words);
         let index = lower_heads(self.groups.as_slice(), id);
         insert_reserved(
             &mut self.groups,
             index,
-            Group::of(Spans::of(self.alloc, head), page),
+            Group::of(Spans::of(self.alloc, head), Some(page)),
         );
         self.rooms.note_opened(class, index, self.groups.len());
+        self.group_room = self.group_room.saturating_sub(1);
         self.opened += 1;
         self.onto = None;
         Ok((key, 0))
@@ -474,13 +471,12 @@ fn lower_heads<L: Log>(groups: &[Group<L>], id: SpanId) -> usize
     )
 }
 
-// Puts the value at the lowest usable slot of the first open group that has one, and into its page. It gives the key, and
+// Puts the value at the lowest usable slot of the first open group that has one, and on its page. It gives the key, and
 // how many changes the head's log had before. Groups that have no usable slot leave the set.
 #[inline(always)]
 fn put_first<L: Log>(
     groups: &mut Vec<Group<L>>,
     rooms: &mut ClassRooms,
-    table: &mut Table,
     class: Class,
     words: &[u128],
 ) -> Result<Option<(Key, usize)>, AllocError>
@@ -489,13 +485,12 @@ fn put_first<L: Log>(
         (rooms_of rooms.old other) }
     requires many { length groups.old.items ≤ MOST_PAGES }
     requires pages { (index : ℕ) (group : GroupState)
-        → slice_get groups.old.items index ≡ Some group → HasPage table.old group.page }
+        → slice_get groups.old.items index ≡ Some group → IsSome group.page }
     ensures ok { IfOk result (λ found. MatchOption found
-        (IsFull class groups.old.items × (groups.new.items ≡ groups.old.items) × (table.new ≡ table.old))
-        (λ made. PutsFirst class groups.old.items table.old words.now made.0 made.1 groups.new.items
-        table.new)) }
+        (IsFull class groups.old.items × (groups.new.items ≡ groups.old.items))
+        (λ made. PutsFirst class groups.old.items words.now made.0 made.1 groups.new.items)) }
     ensures room { OnErr result (IsFull class groups.old.items → ⊥) }
-    ensures err { OnErr result ((groups.new.items ≡ groups.old.items) × (table.new ≡ table.old)) }
+    ensures err { OnErr result (groups.new.items ≡ groups.old.items) }
     ensures rooms { (other : Class) → HasRooms other groups.new.items
         (rooms_of rooms.new other) }
     ensures capacity { vec_capacity groups.new ≡ vec_capacity groups.old }
@@ -504,7 +499,6 @@ fn put_first<L: Log>(
         let group = &mut groups[index];
         let at = group.span_at(0).changes();
         if let Some(key) = group.put(class, words)? {
-            table.set_at(group.page(), class, key.slot, words);
             return Ok(Some((key, at)));
         }
         rooms.remove(class, index);

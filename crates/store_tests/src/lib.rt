@@ -1,4 +1,4 @@
-//! Tables, shards, pools, folds and cores at work: what no clause of theirs says.
+//! Pages, shards, pools, folds and cores at work: what no clause of theirs says.
 //!
 //! What is tested is that calls succeed with ample memory, that one which was refused memory has changed nothing and succeeds
 //! the second time, and answers that were worked out by hand. All of it is compiled for tests alone, over the proved libraries,
@@ -7,7 +7,7 @@
 //! # Examples
 //!
 //! ```text
-//! rt test store_tests     proves the tests of `page_table`, `shard`, `abandoned`, `fold` and `arena_core`, and runs them
+//! rt test store_tests     proves the tests of `page`, `shard`, `abandoned`, `fold` and `arena_core`, and runs them
 //! ```
 #![tactic(auto)]
 
@@ -18,8 +18,8 @@ mod folds;
 #[cfg(test)]
 mod objects;
 #[cfg(test)]
+mod pages;
+#[cfg(test)]
 mod pools;
 #[cfg(test)]
 mod shards;
-#[cfg(test)]
-mod tables;

@@ -5,7 +5,7 @@ ghost use Rattle.span.specs.declared.id.SpanId.{SpanId};
 ghost use Rattle.span.specs.State.{SpanState};
 ghost use Rattle.shard.specs.Group.{GroupState};
 ghost use Rattle.groups.specs.Spans.{all_spans};
-ghost use Rattle.shard.specs.Moves.{whole_of};
+ghost use Rattle.groups.specs.Whole.{whole_of};
 ghost use Rattle.shard.specs.Shown.{shown as shown_by_shard};
 ghost use Rattle.shard.specs.Sound.{IsSound as IsSoundShard};
 ghost use Rattle.groups.specs.Group.{IsHeadOf, spans_in, spans_of};
@@ -102,7 +102,7 @@ impl<L: Log> Pool<L> {
         requires room { HasRoomFor self.old shard.old }
 
         // All groups come over.
-        ensures moved { TakesAll self.old (map (whole_of shard.old.table) shard.old.groups)
+        ensures moved { TakesAll self.old (map whole_of shard.old.groups)
             self.new }
         ensures emptied { HasLetAllGo shard.old shard.new }
         ensures sound { IsSound self.new }

@@ -1,19 +1,15 @@
 // Groups that come and go whole.
 ghost use Rattle.std.specs.Prelude.{◌≡◌, ◌≢◌, ◌+◌, ◌<◌, ◌≤◌, ℕ, List, None, Some, IfSome, IsSome, MatchOption, OnErr, OnOk, length, option_map};
-ghost use Rattle.std.specs.FinMap as map;
 ghost use Rattle.std.specs.FinSet as set;
-ghost use Rattle.page_table.specs.State.{HasPage, words_of};
-ghost use Rattle.page_table.specs.Words.{Words};
 ghost use Rattle.groups.specs.Spans.{all_spans, union_of};
-ghost use Rattle.groups.specs.Tables.{with_page};
-ghost use Rattle.abandoned.specs.Calls.{IsBriefHere, Lifts, MayTakeIn, TakesIn, with_room, with_rooms, without_page_of};
+ghost use Rattle.abandoned.specs.Calls.{IsBriefHere, Lifts, MayTakeIn, TakesIn, with_room, with_rooms};
 ghost use Rattle.groups.specs.Group.{HasNoHead, HasNoMember, IsMemberAt};
 ghost use Rattle.abandoned.specs.Sound.{IsSound};
 
 use super::Pool;
 use crate::pooled::Pooled;
-use groups::{Brief, Spans, Whole, map_all};
-use page_table::{Page, PageWords, Table};
+use groups::{Brief, Spans, Whole};
+use page::Page;
 use span::{Log, SpanId};
 use std::alloc::AllocError;
 
@@ -56,8 +52,7 @@ impl<L: Log> Pool<L> {
         };
         let (spans, page) = group.into_parts();
         self.directory.strike_all(spans.guests());
-        let words = take_page(&mut self.table, page);
-        Some(Whole::new(spans, words))
+        Some(Whole::new(spans, page))
     }
 
     /// Makes room for one group of that many spans. Guests come to no group of the pool, so it makes no difference
@@ -71,8 +66,7 @@ impl<L: Log> Pool<L> {
         ensures err { OnErr result (self.new ≡ self.old) }
         ensures sound { IsSound self.new }
     {
-        self.reserve(1, spans)?;
-        Ok(())
+        self.reserve(1, spans)
     }
 
     // Makes room for that many groups, with that many spans together.
@@ -83,8 +77,7 @@ impl<L: Log> Pool<L> {
     {
         self.groups.reserve(groups)?;
         self.directory.reserve(spans)?;
-        self.table.reserve(groups, spans)?;
-        self.page_room = groups;
+        self.group_room = groups;
         self.span_room = spans;
         Ok(())
     }
@@ -96,48 +89,24 @@ impl<L: Log> Pool<L> {
         ensures takes { TakesIn self.old whole self.new }
         ensures sound { IsSound self.new }
     {
-        let (spans, words) = whole.into_parts();
+        let (spans, page) = whole.into_parts();
         let count = spans.len();
         let head = spans.head_id();
-        let page = house(&mut self.table, &spans, words);
+        let page = page_in_use(&spans, page);
         self.directory.enter_from(0, spans.guests(), head);
         self.groups.insert(Pooled::new(spans, page));
-        self.page_room -= 1;
+        self.group_room -= 1;
         self.span_room -= count;
     }
 }
 
-// The words of the page, if there is one, which leaves the table.
-fn take_page(table: &mut Table, page: Option<Page>) -> Option<PageWords>
-    requires { IfSome page (HasPage table.old) }
-    ensures words { result ≡ option_map (words_of table.old) page }
-    ensures table { table.new ≡ without_page_of table.old page }
-{
-    match page {
-        Some(page) => Some(table.take_page(page)),
-        None => None,
-    }
-}
-
-// Gives the spans a page with the words, in reserved room, where one of their slots is live.
-fn house<L: Log>(table: &mut Table, spans: &Spans<L>, words: Option<PageWords>) -> Option<Page>
-    requires page { 0 < table.old.page_room }
-    requires spans { length (all_spans spans.now) ≤ table.old.span_room }
-    requires words { union_of (all_spans spans.now) ≢ set.empty → IsSome words }
-    ensures emptied { union_of (all_spans spans.now) ≡ set.empty → (result ≡ None)
-        × (table.new ≡ table.old) }
-    ensures live { union_of (all_spans spans.now) ≢ set.empty → (page : ℕ) × (content : Words)
-        × (result ≡ Some page) × (words ≡ Some content)
-        × (map.get table.old.pages page ≡ None)
-        × (table.new ≡ with_page table.old (all_spans spans.now) page content) }
+// The page, where one of the spans' slots is live; else it goes.
+fn page_in_use<L: Log>(spans: &Spans<L>, page: Option<Page>) -> Option<Page>
+    ensures emptied { union_of (all_spans spans.now) ≡ set.empty → result ≡ None }
+    ensures live { union_of (all_spans spans.now) ≢ set.empty → result ≡ page }
 {
     if spans.occupied().lowest().is_none() {
         return None;
     }
-    let Some(words) = words else {
-        unreachable!();
-    };
-    let page = table.give_page(words);
-    map_all(table, spans, page);
-    Some(page)
+    page
 }

@@ -34,20 +34,14 @@ impl<L: Log> Pool<L> {
             return Ok(Replaced::NotHere);
         };
         let head = group.head_id();
-        let page = group.page();
         let span = group.span_at(place);
         let at = span.changes();
-        let class = span.class();
         if !self
             .groups
             .set(head, place, key.slot, key.generation, words)?
         {
             return Ok(Replaced::No(at));
         }
-        let Some(page) = page else {
-            unreachable!();
-        };
-        self.table.set_at(page, class, key.slot, words);
         Ok(Replaced::Yes(at))
     }
 }

@@ -43,13 +43,10 @@ impl<L: Log> Shard<L> {
             return Ok(Replaced::NotHere);
         };
         let group = &mut self.groups[index];
-        let span = group.span_at(place);
-        let at = span.changes();
-        let class = span.class();
+        let at = group.span_at(place).changes();
         if !group.set(place, key.slot, key.generation, words)? {
             return Ok(Replaced::No(at));
         }
-        self.table.set_at(group.page(), class, key.slot, words);
         Ok(Replaced::Yes(at))
     }
 }

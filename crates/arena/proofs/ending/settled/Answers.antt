@@ -1,5 +1,5 @@
 use Rattle.std.proofs.Common.{[], None, vec_items}
-use Rattle.page_table.proofs.Maps.{at_err}
+use Rattle.groups.proofs.Maps.{at_err}
 use Rattle.arena.proofs.Ended.{all_settled}
 use Rattle.arena.proofs.Linking.{AreLinked-same, still_in_order}
 use Rattle.arena.proofs.SeatRings.{AreLinked-seats}

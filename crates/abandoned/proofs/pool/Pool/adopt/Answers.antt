@@ -1,7 +1,8 @@
-use Rattle.std.proofs.Common.{◌≡◌, ℕ, None, refl, subst, sym}
+use Rattle.std.proofs.Common.{◌≡◌, None, refl, subst, sym}
 use Rattle.std.specs.Prelude.{Result, IsOkUnless, IsSome, Err}
 use Rattle.std.proofs.lemmas.Bool.{false≢true}
 use Rattle.span.specs.declared.id.SpanId.{SpanId}
+use Rattle.page.specs.Words.{Words}
 use Rattle.abandoned.specs.declared.error.AdoptError.{AdoptError}
 use Rattle.abandoned.specs.declared.error.AdoptError.TheVariants.{NothingToAdopt, OutOfMemory}
 use Rattle.abandoned.proofs.pool.Pool.adopt.Goals as goal
@@ -16,7 +17,7 @@ pub returns-clause-nothing : goal.returns-clause-nothing
 returns-clause-nothing g c =
     let lowest = c.in-Some.ensures.lowest in (
       (λ nothing. absurd (found_some c.move_to.result c.move_to.ensures.only nothing)),
-      (λ causes. let paged : IsSome {T = ℕ} None = subst IsSome (causes.3 lowest.0 lowest.1 lowest.2.here) lowest.2.paged in absurd cc),
+      (λ causes. let paged : IsSome {T = Words} None = subst IsSome (causes.3 lowest.0 lowest.1 lowest.2.here) lowest.2.paged in absurd cc),
     )
 
 pub returns-then-lowest_would_double-clause-doubled : goal.returns-then-lowest_would_double-clause-doubled
@@ -29,5 +30,5 @@ pub returns-then-lowest_would_double-clause-nothing : goal.returns-then-lowest_w
 returns-then-lowest_would_double-clause-nothing g c =
     let lowest = c.in-Some.ensures.lowest in (
       (λ said. absurd cc),
-      (λ causes. let paged : IsSome {T = ℕ} None = subst IsSome (causes.3 lowest.0 lowest.1 lowest.2.here) lowest.2.paged in absurd cc),
+      (λ causes. let paged : IsSome {T = Words} None = subst IsSome (causes.3 lowest.0 lowest.1 lowest.2.here) lowest.2.paged in absurd cc),
     )

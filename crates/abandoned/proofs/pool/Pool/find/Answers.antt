@@ -1,9 +1,8 @@
 use Rattle.std.proofs.Common.{subst}
 use Rattle.abandoned.specs.State.{PoolState}
 use Rattle.groups.specs.Group.{IsElsewhere}
-use Rattle.abandoned.proofs.Here.{HasSpanAt}
+use Rattle.abandoned.proofs.Here.{HasSpanAt, HasSpanAt-guest}
 use Rattle.groups.proofs.KnownGuests.{IsElsewhere-guest}
-use Rattle.abandoned.proofs.KnownGuests.{HasSpanAt-guest}
 use Rattle.abandoned.proofs.pool.Pool.find.Goals as goal
 
 pub returns-in_default-clause-place : goal.returns-in_default-clause-place

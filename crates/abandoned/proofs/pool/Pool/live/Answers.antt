@@ -6,7 +6,7 @@ use Rattle.abandoned.proofs.LiveKeys.{live_count-paged}
 use Rattle.abandoned.proofs.pool.Pool.live.Goals as goal
 
 pub returns-clause-live : goal.returns-clause-live
-returns-clause-live g c = c.live.ensures.live ∙ live_count-paged _ c.self.inside.groups.groups c.self.invariant.sound.groups ∙ ap (λ (p : PoolState). live_in p.groups) c.self.view_is
+returns-clause-live g c = c.live.ensures.live ∙ live_count-paged c.self.inside.groups.groups c.self.invariant.sound.groups ∙ ap (λ (p : PoolState). live_in p.groups) c.self.view_is
 
 pub returns-clause-groups : goal.returns-clause-groups
 returns-clause-groups g c = subst (λ (p : PoolState). length p.groups ≤ 65536) c.self.view_is (at_most_ids c.self.inside.groups.groups c.self.invariant.sound.ascending)

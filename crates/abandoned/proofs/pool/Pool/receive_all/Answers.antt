@@ -1,10 +1,10 @@
 use Rattle.std.proofs.Common.{◌∙◌, map, subst, sym}
-use Rattle.shard.specs.Moves.{whole_of}
+use Rattle.groups.specs.Whole.{whole_of}
 use Rattle.abandoned.specs.Calls.{TakesAll}
 use Rattle.abandoned.specs.Handover.{AreApart}
 use Rattle.abandoned.specs.State.{PoolState}
 use Rattle.abandoned.proofs.Arrived.{HasReceived-TakesAll}
-use Rattle.abandoned.proofs.Received.{AreApart-receiving, AreSound-groups, ended_after}
+use Rattle.abandoned.proofs.Received.{AreApart-receiving, ended_after}
 use Rattle.abandoned.proofs.TakenIn.{IsSound-with_rooms}
 use Rattle.abandoned.proofs.Together.{together-Receives}
 use Rattle.abandoned.proofs.pool.Pool.receive_all.Goals as goal
@@ -15,23 +15,20 @@ take_all-requires-clause-apart g c =
 
 pub returns-clause-ok : goal.returns-clause-ok
 returns-clause-ok g c = record {
-  page_room = c.pages.result;
+  group_room = c.pages.result;
   span_room = c.span_count.result;
   running = c.requires.running;
-  moved = subst (λ (p : PoolState). TakesAll p (map (whole_of c.args.shard.now.table) c.args.shard.now.groups) c.take_all.new.self) (c.in_ok-reserve.ensures {u = tt}).ok c.take_all.ensures.moved;
+  moved = subst (λ (p : PoolState). TakesAll p (map whole_of c.args.shard.now.groups) c.take_all.new.self) (c.in_ok-reserve.ensures {u = tt}).ok c.take_all.ensures.moved;
   after = c.set_ended.ensures.ended ∙ ended_after c.args.shard.now c.take_all.new.shard c.take_all.ensures.emptied;
 }
 
 pub returns-clause-kept : goal.returns-clause-kept
 returns-clause-kept g c =
-    together-Receives c.args.self.now c.take_all.new.self c.args.shard.now c.pages.result c.span_count.result
-    (IsSound-with_rooms c.args.self.now c.pages.result c.span_count.result c.requires.sound) c.requires.sound c.requires.sound_shard (AreSound-groups c.args.shard.now c.requires.sound_shard)
+    together-Receives c.args.self.now c.take_all.new.self c.args.shard.now c.pages.result c.span_count.result c.requires.sound c.take_all.ensures.sound c.requires.sound_shard
     (AreApart-receiving c.args.self.now c.args.shard.now c.requires.sound c.requires.sound_shard c.requires.apart)
-    (subst (λ (p : PoolState). TakesAll p (map (whole_of c.args.shard.now.table) c.args.shard.now.groups) c.take_all.new.self) (c.in_ok-reserve.ensures {u = tt}).ok c.take_all.ensures.moved)
+    (subst (λ (p : PoolState). TakesAll p (map whole_of c.args.shard.now.groups) c.take_all.new.self) (c.in_ok-reserve.ensures {u = tt}).ok c.take_all.ensures.moved)
 
 pub returns-clause-whole : goal.returns-clause-whole
 returns-clause-whole g c =
-    HasReceived-TakesAll c.args.self.now c.take_all.new.self c.args.shard.now c.pages.result c.span_count.result
-    (IsSound-with_rooms c.args.self.now c.pages.result c.span_count.result c.requires.sound) c.requires.sound (AreSound-groups c.args.shard.now c.requires.sound_shard)
-    (AreApart-receiving c.args.self.now c.args.shard.now c.requires.sound c.requires.sound_shard c.requires.apart)
-    (subst (λ (p : PoolState). TakesAll p (map (whole_of c.args.shard.now.table) c.args.shard.now.groups) c.take_all.new.self) (c.in_ok-reserve.ensures {u = tt}).ok c.take_all.ensures.moved)
+    HasReceived-TakesAll c.args.self.now c.take_all.new.self c.args.shard.now c.pages.result c.span_count.result (IsSound-with_rooms c.args.self.now c.pages.result c.span_count.result c.requires.sound)
+    (subst (λ (p : PoolState). TakesAll p (map whole_of c.args.shard.now.groups) c.take_all.new.self) (c.in_ok-reserve.ensures {u = tt}).ok c.take_all.ensures.moved)

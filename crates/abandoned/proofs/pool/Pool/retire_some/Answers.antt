@@ -27,7 +27,7 @@ returns-clause-ok g c =
     let count : length going ≡ c.len-2.result = omega (arith, c.len-2.ensures, c.as_slice-2.ensures.len) in
     let at_most = length-going told going c.args.most is in
     record {
-      page_room = c.len.result;
+      group_room = c.len.result;
       span_room = c.span_count.result;
       running = c.requires.running;
       moved = subst (λ n. MovesSparse n (with_rooms c.args.self.now c.len.result c.span_count.result) c.args.shard.now c.take_going.new.self c.take_going.new.shard) count

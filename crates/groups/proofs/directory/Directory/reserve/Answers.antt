@@ -1,5 +1,5 @@
 use Rattle.std.proofs.Common.{refl}
-use Rattle.page_table.proofs.Maps.{at_err}
+use Rattle.groups.proofs.Maps.{at_err}
 use Rattle.groups.proofs.Entries.{entries_of-same, same_directory}
 use Rattle.groups.proofs.directory.Directory.reserve.Goals as goal
 

@@ -5,11 +5,11 @@ use Rattle.shard.specs.Shown.{shown}
 use Rattle.shard.specs.State.{ShardState}
 use Rattle.groups.specs.Group.{IsElsewhere, IsHere}
 use Rattle.shard.proofs.Here.{found_in, here_read, index_within, place_within}
-use Rattle.shard.proofs.ShownLogs.{value_of-elsewhere, value_of-here}
+use Rattle.shard.proofs.ShownLogs.{value-elsewhere, value-here}
 use Rattle.shard.proofs.shard.Shard.first_from.Goals as goal
 
 pub returns-in_default-clause-first : goal.returns-in_default-clause-first
-returns-in_default-clause-first g c = λ key same above. value_of-elsewhere c.args.self.now c.find.ensures.sound key (subst (IsElsewhere c.args.self.now.groups) (sym same) c.in_default.ensures.place)
+returns-in_default-clause-first g c = λ key same above. value-elsewhere c.args.self.now c.find.ensures.sound key (subst (IsElsewhere c.args.self.now.groups) (sym same) c.in_default.ensures.place)
 
 pub index-requires : goal.index-requires
 index-requires g c =
@@ -28,6 +28,6 @@ returns-clause-first g c =
     subst (λ (s : ShardState). IsHere s.groups c.args.id c.in-Some.index c.in-Some.place c.index.result.now c.span_at.result.now) c.self.view_is
     (here_read _ _ _ _ found.0 found.1 found.2 c.index.result.now c.index.ensures c.span_at.result.now c.span_at.ensures) in
     first-held (shown c.args.self.now) c.args.id c.span_at.result.now.log c.args.slot
-    (λ key same. ap is_some (value_of-here c.args.self.now c.find.ensures.sound key c.in-Some.index c.in-Some.place c.index.result.now c.span_at.result.now
+    (λ key same. ap is_some (value-here c.args.self.now c.find.ensures.sound key c.in-Some.index c.in-Some.place c.index.result.now c.span_at.result.now
     (subst (λ id. IsHere c.args.self.now.groups id c.in-Some.index c.in-Some.place c.index.result.now c.span_at.result.now) (sym same) here)))
     c.first_from.result c.first_from.ensures.first (subst (λ id. IfSome c.first_from.result (λ key. key.span ≡ id)) here.id_is c.first_from.ensures.span)

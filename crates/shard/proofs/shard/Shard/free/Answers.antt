@@ -1,26 +1,22 @@
 use Rattle.std.proofs.Common.{◌≡◌, ◌∙◌, ℕ, Some, slice_get, List, ap, arith, set, sym, subst, refl, inl, inr}
-use Rattle.std.specs.Prelude.{vec_capacity}
 use Rattle.std.proofs.lemmas.Bool.{true≢false}
 use Rattle.std.proofs.lemmas.Option.{slice_get_within}
 use Rattle.span.specs.Log.{Holds}
 use Rattle.shard.specs.Group.{GroupState}
 use Rattle.groups.specs.Group.{IsHere, with_span}
 use Rattle.groups.specs.Spans.{with_free}
-use Rattle.groups.specs.Directory.{KnowsGuests}
 use Rattle.shard.specs.Kept.{state_of}
-use Rattle.shard.specs.Moves.{HasGuestRoom}
-use Rattle.shard.specs.Rooms.{HasRooms, rooms_of}
-use Rattle.shard.specs.Sound.{IsSound}
+use Rattle.shard.specs.Rooms.{rooms_of}
 use Rattle.shard.specs.State.{ShardState}
 use Rattle.shard.specs.declared.shard.Freed.TheVariants.{No, NotHere, Yes}
-use Rattle.shard.proofs.FreeHere.{IsSound-free_here}
-use Rattle.shard.proofs.GuestRoom.{HasGuestRoom-span}
 use Rattle.shard.proofs.Here.{found_in, here_read, read_is}
 use Rattle.groups.proofs.Lists.{set-same}
 use Rattle.shard.proofs.Classes.{cases_class}
+use Rattle.shard.proofs.ReplacedGroup.{IsSound-free}
 use Rattle.shard.proofs.RoomBits.{HasRooms-free, HasRooms-other}
 use Rattle.shard.proofs.ShownLogs.{IsSound-Frees, shown-Frees, was_freed-Frees}
-use Rattle.groups.proofs.KnownGuests.{KnowsGuests-span}
+use Rattle.groups.proofs.ReplacedGroups.{AreAlike-with_span}
+use Rattle.shard.proofs.KeptGroups.{IsKept-replaced, IsKept-same}
 use Rattle.shard.proofs.shard.Shard.free.Goals as goal
 
 pub returns-in_default-clause-step : goal.returns-in_default-clause-step
@@ -41,22 +37,9 @@ groups_same groups index group after here same = ap (set groups index) same ∙ 
 
 pub invariant_of-self : goal.invariant_of-self
 invariant_of-self g c =
-    let kept = c.self.invariant in
     let found = found_in c.args.self.now.groups c.self.inside.groups.items c.args.key.now.span c.in-Some.index c.in-Some.place (ap (λ (s : ShardState). s.groups) (sym c.self.view_is)) c.in-Some.ensures.place in
     let read = read_is _ _ _ _ found.0 found.1 found.2 c.index_mut-group.result.now c.index_mut-group.ensures.value in
-    let same = sym (groups_same c.self.inside.groups.items c.in-Some.index c.index_mut-group.result.now c.free.new.self read (c.if-not-free.ensures {u = tt}).unknown) in
-    record {
-      number_fits = kept.number_fits;
-      pages_fit = kept.pages_fit;
-      gens_fit = kept.gens_fit;
-      sound = subst (λ (groups : List GroupState). IsSound (record (state_of c.self.inside) { groups = groups })) same kept.sound;
-      rooms = λ class. subst (λ (groups : List GroupState). HasRooms class groups (rooms_of c.self.inside.rooms class)) same (kept.rooms class);
-      room_for_groups = kept.room_for_groups;
-      no_guests = kept.no_guests;
-      room_for_guests = subst (λ (groups : List GroupState). HasGuestRoom groups c.self.inside.onto c.self.inside.table.span_room (vec_capacity c.self.inside.guest_room)) same kept.room_for_guests;
-      guests_known = subst (λ (groups : List GroupState). KnowsGuests groups c.self.inside.directory.entries) same kept.guests_known;
-      room_for_entries = kept.room_for_entries;
-    }
+    IsKept-same c.self.inside c.self.invariant _ c.self.inside.rooms (groups_same c.self.inside.groups.items c.in-Some.index c.index_mut-group.result.now c.free.new.self read (c.if-not-free.ensures {u = tt}).unknown) (omega arith) c.self.invariant.rooms
 
 pub returns-then-not-free-clause-step : goal.returns-then-not-free-clause-step
 returns-then-not-free-clause-step g c =
@@ -93,24 +76,20 @@ held g c = ((c.if-not-free.ensures {u = tt}).found c.span_at.result.now c.span_a
 pub invariant_of-self-2 : goal.invariant_of-self-2
 invariant_of-self-2 g c =
     let here = here_now g c in
+    let kept = c.self.invariant in
     let group = c.index_mut-group.result.now in
+    let place = c.in-Some.place in
     let span = c.span_at.result.now in
-    record {
-      number_fits = c.self.invariant.number_fits;
-      pages_fit = c.self.invariant.pages_fit;
-      gens_fit = c.self.invariant.gens_fit;
-      sound = rw (freed_now g c) (IsSound-free_here (state_of c.self.inside) c.self.invariant.sound c.in-Some.index c.in-Some.place group span c.args.key.now (here.group_is, here.span_is) (held g c));
-      rooms = λ class. elim (cases_class class c.class-class.result) [
-        | inl same ↦ rw (same, c.insert.ensures.this) (HasRooms-free c.class-class.result c.self.inside.groups.items (rooms_of c.self.inside.rooms c.class-class.result) (c.self.invariant.rooms c.class-class.result) c.in-Some.index c.free.new.self (slice_get_within c.self.inside.groups.items c.in-Some.index group here.group_is))
-        | inr apart ↦ rw (c.insert.ensures.others class apart) (HasRooms-other class c.self.inside.groups.items (rooms_of c.self.inside.rooms class) (c.self.invariant.rooms class) c.in-Some.index c.free.new.self (λ e. apart (sym e ∙ sym c.class-class.ensures)))
-      ];
-      room_for_groups = c.self.invariant.room_for_groups;
-      no_guests = c.self.invariant.no_guests;
-      room_for_guests = rw (freed_now g c)
-          (HasGuestRoom-span c.self.inside.groups.items c.self.inside.onto c.self.inside.table.span_room (vec_capacity c.self.inside.guest_room) c.self.invariant.room_for_guests c.in-Some.index c.in-Some.place group span (with_free span c.args.key.now) here.group_is here.span_is refl);
-      guests_known = rw (freed_now g c) (KnowsGuests-span c.self.inside.groups.items c.self.inside.directory.entries c.self.invariant.guests_known c.in-Some.index c.in-Some.place group span (with_free span c.args.key.now) here.group_is here.span_is refl);
-      room_for_entries = c.self.invariant.room_for_entries;
-    }
+    let key = c.args.key.now in
+    IsKept-replaced c.self.inside kept _ c.insert.new.self c.in-Some.index group (with_span group place (with_free span key)) here.group_is
+    (AreAlike-with_span group place span (with_free span key) here.span_is refl)
+    (ap (set c.self.inside.groups.items c.in-Some.index) (freed_now g c))
+    refl
+    (IsSound-free (state_of c.self.inside) kept.sound c.in-Some.index group here.group_is place span here.span_is key (held g c))
+    (λ class. rw (← freed_now g c) (elim (cases_class class c.class-class.result) [
+      | inl same ↦ rw (same, c.insert.ensures.this) (HasRooms-free c.class-class.result c.self.inside.groups.items (rooms_of c.self.inside.rooms c.class-class.result) (kept.rooms c.class-class.result) c.in-Some.index c.free.new.self (slice_get_within c.self.inside.groups.items c.in-Some.index group here.group_is))
+      | inr apart ↦ rw (c.insert.ensures.others class apart) (HasRooms-other class c.self.inside.groups.items (rooms_of c.self.inside.rooms class) (kept.rooms class) c.in-Some.index c.free.new.self (λ e. apart (sym e ∙ sym c.class-class.ensures)))
+    ]))
 
 pub returns-clause-step : goal.returns-clause-step
 returns-clause-step g c = (

@@ -1,6 +1,5 @@
-use Rattle.std.proofs.Common.{◌∙◌, ap, refl, subst, sym}
+use Rattle.std.proofs.Common.{ap, refl, subst, sym}
 use Rattle.std.proofs.lemmas.Bool.{true≢false}
-use Rattle.page_table.specs.State.{object_at}
 use Rattle.shard.specs.State.{ShardState}
 use Rattle.groups.specs.Group.{IsHere}
 use Rattle.shard.specs.declared.shard.Found.TheVariants.{Gone, NotHere, Value}
@@ -14,10 +13,10 @@ returns-in_default-clause-found g c = c.in_default.ensures.place
 pub returns-in_default-clause-plain : goal.returns-in_default-clause-plain
 returns-in_default-clause-plain g c = value_found-Gets c.args.self.now c.find.ensures.sound c.args.key.now NotHere c.in_default.ensures.place
 
-pub value_at-words-requires-clause-page : goal.value_at-words-requires-clause-page
-value_at-words-requires-clause-page g c =
+pub value_at-words-requires-clause-paged : goal.value_at-words-requires-clause-paged
+value_at-words-requires-clause-paged g c =
     let found = found_in c.args.self.now.groups c.self.inside.groups.items c.args.key.now.span c.in-Some.index c.in-Some.place (ap (λ (s : ShardState). s.groups) (sym c.self.view_is)) c.in-Some.ensures.place in
-    rw c.page.ensures (c.self.invariant.sound.groups c.in-Some.index c.index-group.result.now (read_is _ _ _ _ found.0 found.1 found.2 c.index-group.result.now c.index-group.ensures)).page.has_page
+    c.self.invariant.sound.paged c.in-Some.index c.index-group.result.now (read_is _ _ _ _ found.0 found.1 found.2 c.index-group.result.now c.index-group.ensures)
 
 pub returns-then-holds-clause-found : goal.returns-then-holds-clause-found
 returns-then-holds-clause-found g c =
@@ -29,7 +28,7 @@ returns-then-holds-clause-found g c =
       c.span_at-span.result.now,
       subst (λ (s : ShardState). IsHere s.groups c.args.key.now.span c.in-Some.index c.in-Some.place c.index-group.result.now c.span_at-span.result.now) c.self.view_is here,
       c.if-holds.ensures.live.0 refl,
-      c.value_at-words.ensures.object ∙ rw (c.page.ensures, c.class-class.ensures.class) (ap (λ (s : ShardState). object_at s.table c.index-group.result.now.page c.span_at-span.result.now.class c.args.key.now.slot) c.self.view_is),
+      rw (← c.class-class.ensures.class) c.value_at-words.ensures.object,
       c.changes-at.ensures,
     )
 

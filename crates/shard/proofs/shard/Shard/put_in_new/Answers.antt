@@ -1,32 +1,30 @@
-use Rattle.std.proofs.Common.{◌≡◌, ◌<◌, ◌∙◌, ◌+◌, List, [], false, length, insert, ap, sym, subst, refl, inl, inr, arith}
-use Rattle.std.specs.FinMap as map
+use Rattle.std.proofs.Common.{◌≡◌, ◌<◌, ◌∙◌, ◌+◌, List, [], Some, false, length, insert, ap, sym, subst, refl, inl, inr, arith}
 use Rattle.std.specs.FinSet as set
+use Rattle.std.proofs.lemmas.Bool.{cases_eq}
 use Rattle.span.proofs.LegalLogs.{puts_of-empty}
 use Rattle.span.specs.Ids.{rank}
 use Rattle.span.specs.Log.{live_slots, puts_of, worn_slots}
 use Rattle.span.specs.State.{SpanState}
 use Rattle.span.specs.declared.id.SpanId.{SpanId}
-use Rattle.page_table.specs.State.{with_object, TableState, HasPage}
-use Rattle.shard.specs.Calls.{new_group}
+use Rattle.page.specs.Words.{blank_page, set_object}
 use Rattle.groups.specs.Group.{IsPlaceFor}
-use Rattle.groups.specs.Tables.{with_open}
-use Rattle.shard.specs.Group.{GroupState, group_of}
-use Rattle.groups.specs.Spans.{with_put}
-use Rattle.shard.specs.Kept.{state_of}
-use Rattle.shard.specs.State.{ShardState}
-use Rattle.shard.proofs.GuestRoom.{HasGuestRoom-none}
-use Rattle.groups.proofs.Logs.{contains-live_slots-empty, contains-worn_slots-empty}
+use Rattle.groups.specs.Spans.{new_span, with_put}
 use Rattle.groups.proofs.HeadPlaces.{IsLower}
-use Rattle.shard.proofs.HeadPlaces.{IsPlaceFor-lower, no_head_next}
-use Rattle.groups.proofs.Standing.{head_id}
-use Rattle.shard.proofs.PutInNew.{IsSound-put_in_new}
-use Rattle.std.proofs.lemmas.Bool.{cases_eq}
 use Rattle.groups.proofs.Lists.{length_insert}
-use Rattle.shard.proofs.Classes.{cases_class}
-use Rattle.shard.proofs.RoomBits.{HasRooms-all, HasRooms-last, HasRooms-last_other}
-use Rattle.groups.proofs.Tables.{HasPage-with_open_same}
-use Rattle.shard.proofs.KnownGuests.{KnowsGuests-alone}
+use Rattle.groups.proofs.Logs.{contains-live_slots-empty, contains-worn_slots-empty}
+use Rattle.groups.proofs.Standing.{head_id}
+use Rattle.shard.specs.Calls.{new_group}
+use Rattle.shard.specs.Group.{GroupState, group_of}
+use Rattle.shard.specs.Kept.{state_of}
 use Rattle.shard.specs.Rooms.{rooms_of}
+use Rattle.shard.specs.State.{ShardState}
+use Rattle.shard.proofs.Classes.{cases_class}
+use Rattle.shard.proofs.GuestRoom.{HasGuestRoom-none}
+use Rattle.shard.proofs.HeadPlaces.{IsPlaceFor-lower, no_head_next}
+use Rattle.shard.proofs.KeptGroups.{IsKept-same}
+use Rattle.shard.proofs.KnownGuests.{KnowsGuests-alone}
+use Rattle.shard.proofs.PutInNew.{IsSound-put_in_new}
+use Rattle.shard.proofs.RoomBits.{HasRooms-all, HasRooms-last, HasRooms-last_other}
 use Rattle.shard.proofs.shard.Shard.put_in_new.Goals as goal
 
 pub put_at-requires-clause-not_live : goal.put_at-requires-clause-not_live
@@ -35,33 +33,36 @@ put_at-requires-clause-not_live g c = ap (λ (s : SpanState). set.contains (live
 pub put_at-requires-clause-not_worn : goal.put_at-requires-clause-not_worn
 put_at-requires-clause-not_worn g c = ap (λ (s : SpanState). set.contains (worn_slots s.gens s.log) 0) c.with_log-head.ensures ∙ contains-worn_slots-empty c.self.inside.gens 0 c.self.invariant.gens_fit
 
-pub set_at-requires-clause-page : goal.set_at-requires-clause-page
-set_at-requires-clause-page g c = subst (λ (t : TableState). HasPage t c.in_ok-page.page) (sym c.in_ok-page.ensures.ok) (HasPage-with_open_same c.self.inside.table c.in-Some.id c.in_ok-page.page)
+-- where the list of groups could not grow, all is as it was
+pub invariant_of-self : goal.invariant_of-self
+invariant_of-self g c = IsKept-same c.self.inside c.self.invariant c.reserve.new.self c.self.inside.rooms c.reserve.ensures.items (omega (arith, c.reserve.ensures.capacity)) c.self.invariant.rooms
 
-head_now : (g : _) (c : goal.After-self-2-1 g) → c.put_at.new.self ≡ with_put (record { id = c.in-Some.id; class = c.args.class; gens = c.self.inside.gens; log = [] }) 0 c.args.words.now
+pub lower_heads-index-requires : goal.lower_heads-index-requires
+lower_heads-index-requires g c = rw (c.as_slice.ensures.value, c.in_ok-reserve.ensures.items) c.self.invariant.sound.ascending
+
+head_now : (g : _) (c : goal.After-self-3-1 g) → c.put_at.new.self ≡ with_put (new_span c.in-Some.id c.args.class c.self.inside.gens) 0 c.args.words.now
 head_now g c = c.in_ok-key.ensures.ok ∙ ap (λ (s : SpanState). with_put s 0 c.args.words.now) c.with_log-head.ensures
 
-abbrev made : (g : _) → goal.After-self-2-1 g → GroupState
-made g c = new_group c.in-Some.id c.args.class c.self.inside.gens c.in_ok-page.page c.args.words.now
+abbrev made : (g : _) → goal.After-self-3-1 g → GroupState
+made g c = new_group c.in-Some.id c.args.class c.self.inside.gens c.args.words.now
 
-group_now : (g : _) (c : goal.After-self-2-1 g) → c.of-2.result ≡ made g c
-group_now g c = c.of-2.ensures ∙ rw c.of.ensures (ap (λ (head : SpanState). group_of (record { head = head; guests = [] }) c.in_ok-page.page false) (head_now g c))
+group_now : (g : _) (c : goal.After-self-3-1 g) → c.of-2.result ≡ made g c
+group_now g c =
+    c.of-2.ensures
+    ∙ rw (c.of.ensures, c.set_at.ensures, c.in_ok-page.ensures) (ap (λ (head : SpanState). group_of (record { head = head; guests = [] }) (Some (set_object blank_page c.args.class 0 c.args.words.now)) false) (head_now g c))
 
-list_is : (g : _) (c : goal.After-self-2-1 g) → c.as_slice.result.now ≡ c.self.inside.groups.items
+list_is : (g : _) (c : goal.After-self-3-1 g) → c.as_slice.result.now ≡ c.self.inside.groups.items
 list_is g c = c.as_slice.ensures.value ∙ c.in_ok-reserve.ensures.items
 
-groups_now : (g : _) (c : goal.After-self-2-1 g) → c.insert_reserved.new.groups.items ≡ insert c.self.inside.groups.items c.lower_heads-index.result (made g c)
+groups_now : (g : _) (c : goal.After-self-3-1 g) → c.insert_reserved.new.groups.items ≡ insert c.self.inside.groups.items c.lower_heads-index.result (made g c)
 groups_now g c = c.insert_reserved.ensures.items ∙ rw (c.in_ok-reserve.ensures.items, group_now g c) refl
 
-table_now : (g : _) (c : goal.After-self-2-1 g) → c.set_at.new.self ≡ with_object (with_open c.self.inside.table c.in-Some.id c.in_ok-page.page) c.in_ok-page.page c.args.class 0 c.args.words.now
-table_now g c = c.set_at.ensures ∙ rw c.in_ok-page.ensures.ok refl
-
-lower_now : (g : _) (c : goal.After-self-2-1 g) → IsLower head_id c.self.inside.groups.items (rank c.in-Some.id) c.lower_heads-index.result
+lower_now : (g : _) (c : goal.After-self-3-1 g) → IsLower head_id c.self.inside.groups.items (rank c.in-Some.id) c.lower_heads-index.result
 lower_now g c =
     subst (λ (groups : List GroupState). IsLower head_id groups (rank c.in-Some.id) c.lower_heads-index.result) (list_is g c)
     (record { within = c.lower_heads-index.ensures.within; lower = c.lower_heads-index.ensures.lower; others = c.lower_heads-index.ensures.others })
 
-place_now : (g : _) (c : goal.After-self-2-1 g) → IsPlaceFor c.self.inside.groups.items c.in-Some.id c.lower_heads-index.result
+place_now : (g : _) (c : goal.After-self-3-1 g) → IsPlaceFor c.self.inside.groups.items c.in-Some.id c.lower_heads-index.result
 place_now g c =
     IsPlaceFor-lower c.self.inside.groups.items c.in-Some.id c.lower_heads-index.result (lower_now g c)
     (no_head_next (state_of c.self.inside) c.self.invariant.sound c.in-Some.id c.in-Some.ensures.parts.0 c.in-Some.ensures.parts.1)
@@ -71,8 +72,8 @@ invariant_of-self-2 g c = record {
   number_fits = c.self.invariant.number_fits;
   pages_fit = c.self.invariant.pages_fit;
   gens_fit = c.self.invariant.gens_fit;
-  sound = rw (groups_now g c, table_now g c)
-      (IsSound-put_in_new (state_of c.self.inside) c.self.invariant.sound c.in-Some.id c.args.class c.in_ok-page.page c.lower_heads-index.result c.args.words.now c.requires.width c.in-Some.ensures.parts.0 c.in-Some.ensures.parts.1 c.in_ok-page.ensures.new_page (place_now g c)
+  sound = rw (groups_now g c, c.saturating_sub-self-inside.ensures)
+      (IsSound-put_in_new (state_of c.self.inside) c.self.invariant.sound c.in-Some.id c.in-Some.ensures.parts.0 c.in-Some.ensures.parts.1 c.args.class c.lower_heads-index.result c.args.words.now c.requires.width (place_now g c)
       (ap (λ (s : ShardState). s.ended) c.self.view_is ∙ c.requires.running)
       (subst (λ (s : ShardState). length s.groups < s.page_limit) (sym c.self.view_is) c.requires.pages)
       (subst (λ (s : ShardState). s.opened < 1024) (sym c.self.view_is) c.requires.opened));
@@ -86,11 +87,11 @@ invariant_of-self-2 g c = record {
     | inr more ↦ HasRooms-all class _ (rooms_of c.note_opened.new.self class) c.len.result (omega (arith, c.len.ensures, c.insert_reserved.ensures.len, c.in_ok-reserve.ensures.len, c.self.inside.groups.ok.0, length_insert c.self.inside.groups.items c.lower_heads-index.result (made g c)))
         (c.note_opened.ensures.moved (omega (arith, more, c.len.ensures, c.insert_reserved.ensures.len, c.in_ok-reserve.ensures.len, c.lower_heads-index.ensures.within, c.as_slice.ensures.len)) class)
   ]);
-  room_for_groups = omega (arith, c.self.invariant.room_for_groups, c.insert_reserved.ensures.len, c.insert_reserved.ensures.capacity, c.in_ok-reserve.ensures.len, c.in_ok-reserve.ensures.ok, c.in_ok-reserve.ensures.capacity, ap (λ (t : TableState). t.page_room) (table_now g c));
+  room_for_groups = omega (arith, c.self.invariant.room_for_groups, c.insert_reserved.ensures.len, c.insert_reserved.ensures.capacity, c.in_ok-reserve.ensures.len, c.in_ok-reserve.ensures.ok, c.in_ok-reserve.ensures.capacity, c.saturating_sub-self-inside.ensures);
   no_guests = c.self.invariant.no_guests;
   room_for_guests = HasGuestRoom-none _ _ _;
   guests_known = rw (groups_now g c) (KnowsGuests-alone c.self.inside.groups.items c.self.inside.directory.entries c.self.invariant.guests_known c.lower_heads-index.result (made g c) (place_now g c).within refl);
-  room_for_entries = omega (arith, c.self.invariant.room_for_entries, ap (λ (t : TableState). t.span_room) (table_now g c));
+  room_for_entries = c.self.invariant.room_for_entries;
 }
 
 pub returns-clause-ok : goal.returns-clause-ok
@@ -103,42 +104,8 @@ returns-clause-ok g c =
       c.in_ok-key.ensures.key.2 ∙ ap (λ (s : SpanState). puts_of 0 s.log + 1) c.with_log-head.ensures ∙ ap (λ n. n + 1) (puts_of-empty 0),
       refl,
       (
-        c.in_ok-page.page,
         c.lower_heads-index.result,
-        ap (λ (s : ShardState). map.get s.table.pages c.in_ok-page.page) (sym now) ∙ c.in_ok-page.ensures.new_page,
         subst (λ (s : ShardState). IsPlaceFor s.groups c.in_ok-key.key.span c.lower_heads-index.result) now (rw span (place_now g c)),
-        rw (← now, span, groups_now g c, table_now g c) refl,
+        rw (← now, span, groups_now g c, c.saturating_sub-self-inside.ensures) refl,
       ),
     )
-
-pub lower_heads-index-requires : goal.lower_heads-index-requires
-lower_heads-index-requires g c = rw (c.as_slice.ensures.value, c.in_ok-reserve.ensures.items) c.self.invariant.sound.ascending
-
--- where the list of groups could not grow, all is as it was
-pub invariant_of-self : goal.invariant_of-self
-invariant_of-self g c = record {
-  number_fits = c.self.invariant.number_fits;
-  pages_fit = c.self.invariant.pages_fit;
-  gens_fit = c.self.invariant.gens_fit;
-  sound = rw c.reserve.ensures.items c.self.invariant.sound;
-  rooms = λ class. rw c.reserve.ensures.items (c.self.invariant.rooms class);
-  room_for_groups = omega (arith, c.self.invariant.room_for_groups, c.reserve.ensures.len, c.reserve.ensures.capacity);
-  no_guests = c.self.invariant.no_guests;
-  room_for_guests = rw c.reserve.ensures.items c.self.invariant.room_for_guests;
-  guests_known = rw c.reserve.ensures.items c.self.invariant.guests_known;
-  room_for_entries = c.self.invariant.room_for_entries;
-}
-
-pub invariant_of-self-in_err-page : goal.invariant_of-self-in_err-page
-invariant_of-self-in_err-page g c = record {
-  number_fits = c.self.invariant.number_fits;
-  pages_fit = c.self.invariant.pages_fit;
-  gens_fit = c.self.invariant.gens_fit;
-  sound = rw (c.in_ok-reserve.ensures.items, c.in_err-page.ensures.err) c.self.invariant.sound;
-  rooms = λ class. rw c.in_ok-reserve.ensures.items (c.self.invariant.rooms class);
-  room_for_groups = omega (arith, c.self.invariant.room_for_groups, c.in_ok-reserve.ensures.len, c.in_ok-reserve.ensures.capacity, ap (λ (t : TableState). t.page_room) c.in_err-page.ensures.err);
-  no_guests = c.self.invariant.no_guests;
-  room_for_guests = rw (c.in_ok-reserve.ensures.items, c.in_err-page.ensures.err) c.self.invariant.room_for_guests;
-  guests_known = rw c.in_ok-reserve.ensures.items c.self.invariant.guests_known;
-  room_for_entries = rw c.in_err-page.ensures.err c.self.invariant.room_for_entries;
-}

@@ -1,7 +1,5 @@
 use Rattle.std.proofs.Common.{◌≡◌, ◌∙◌, [], List, None, true, ap, arith, subst, sym}
-use Rattle.page_table.specs.State.{TableState}
 use Rattle.groups.specs.Directory.{DirectoryState}
-use Rattle.groups.specs.Tables.{no_pages}
 use Rattle.groups.proofs.GuestDirectory.{IsDirectory-none}
 use Rattle.shard.specs.Group.{GroupState}
 use Rattle.shard.specs.Kept.{state_of}
@@ -18,19 +16,19 @@ invariant_of-self g c =
       number_fits = c.self.invariant.number_fits;
       pages_fit = c.self.invariant.pages_fit;
       gens_fit = c.self.invariant.gens_fit;
-      sound = rw (c.new.ensures.items, c.new-3.ensures) (IsSound-none (record (state_of c.self.inside) { ended = true; onto = None }) c.self.invariant.sound.opened c.self.invariant.sound.gens);
+      sound = rw c.new.ensures.items (IsSound-none (record (state_of c.self.inside) { ended = true; group_room = 0; span_room = 0; onto = None }) c.self.invariant.sound.opened c.self.invariant.sound.gens);
       rooms = λ class. rw c.new.ensures.items (subst (λ (groups : List GroupState). HasRooms class groups (rooms_of c.self.inside.rooms class)) none (c.self.invariant.rooms class));
-      room_for_groups = omega (arith, ap (λ (t : TableState). t.page_room) c.new-3.ensures, c.new.result.ok.1);
-      no_guests = c.new-4.ensures.items;
+      room_for_groups = omega (arith, c.new.result.ok.1);
+      no_guests = c.new-3.ensures.items;
       room_for_guests = HasGuestRoom-none _ _ _;
       guests_known = IsDirectory-none _ _ c.new.result.items _ c.new.ensures.items (ap (λ (d : DirectoryState). d.entries) c.new-2.ensures);
-      room_for_entries = omega (arith, ap (λ (t : TableState). t.span_room) c.new-3.ensures);
+      room_for_entries = omega arith;
     }
 
 pub returns-clause-ended : goal.returns-clause-ended
 returns-clause-ended g c =
     let none : c.self.inside.groups.items ≡ [] = ap (λ (s : ShardState). s.groups) c.self.view_is ∙ c.requires in
-    rw (← c.self.view_is, c.new.ensures.items, c.new-3.ensures) (λ i. record (state_of c.self.inside) { ended = true; groups = sym none i; table = no_pages; onto = None })
+    rw (← c.self.view_is, c.new.ensures.items) (λ i. record (state_of c.self.inside) { ended = true; groups = sym none i; group_room = 0; span_room = 0; onto = None })
 
 pub returns-clause-sound : goal.returns-clause-sound
 returns-clause-sound g c = (invariant_of-self g c).sound

@@ -1,0 +1,108 @@
+-- Sound groups show the map that their logs leave.
+use Rattle.std.proofs.Common.{zero, suc, ◌≡◌, ℕ, ◌≤◌, Bool, true, false, cond, List, [], ◌∷◌, Option, None, Some, MatchOption, is_some, slice_get, ◌∙◌, ap, sym, refl, inl, inr, arith, eqb}
+use Rattle.std.specs.Prelude.{find, option_map}
+use Rattle.std.specs.FinMap as map
+use Rattle.std.specs.FinSet.{contains, contains-empty, empty}
+use Rattle.std.specs.Ordering.{nat_cmp}
+use Rattle.std.proofs.lemmas.Bool.{false≢true}
+use Rattle.std.proofs.lemmas.Option.{none-some}
+use Rattle.span.proofs.Slots.{contains-live_slots}
+use Rattle.span.specs.Ids.{same_span}
+use Rattle.span.specs.Log.{Held, Value, live_slots, replay, value_if, value_in}
+use Rattle.span.specs.PlainMap.{PlainMap}
+use Rattle.span.specs.State.{SpanState}
+use Rattle.span.specs.declared.id.SpanId.{SpanId}
+use Rattle.span.specs.declared.key.Key.{Key}
+use Rattle.page.specs.Words.{Words, object_in}
+use Rattle.groups.specs.Group.{Group, IsElsewhere, IsHere, spans_in, spans_of}
+use Rattle.groups.specs.Shown.{has_span, page_in, page_of, shown_by, span_named, value_by}
+use Rattle.groups.specs.Sound.{AreSoundGroups, AreStored}
+use Rattle.groups.specs.Spans.{union_of}
+use Rattle.groups.proofs.GroupSpans.{count-stands, named_stands, span_named-none, span_named-stands, times}
+use Rattle.groups.proofs.Lists.{count-append, count-some, find-none, same_some}
+use Rattle.groups.proofs.Logged.{logged, logged_by, nothing_pending, same_plain_map}
+use Rattle.groups.proofs.Removed.{none_or_some}
+use Rattle.groups.proofs.Unions.{member_of_union}
+
+-- a span that stands among the spans is found there
+find-is_some : {X : Type 0} (p : X → Bool) (xs : List X) (at : ℕ) (x : X) → slice_get xs at ≡ Some x → p x ≡ true → is_some (find p xs) ≡ true
+find-is_some p [] at x here passes = absurd (none-some x here)
+find-is_some p (y ∷ ys) zero x here passes = rw (ap p (same_some here) ∙ passes) refl
+find-is_some p (y ∷ ys) (suc at) x here passes = by_test (p y) (find-is_some p ys at x here passes)
+  where
+    by_test : (b : Bool) → is_some (find p ys) ≡ true → is_some (cond b (Some y) (find p ys)) ≡ true
+    by_test true rest = refl
+    by_test false rest = rest
+
+-- the value that a log leaves is the object where the object is that of each live slot
+object_or_none : (o : Option Held) (generation : ℕ) (object : Option Value) → ((held : Held) → o ≡ Some held → object ≡ Some held.value)
+    → cond (is_some (value_if generation o)) object None ≡ value_if generation o
+object_or_none None generation object same = refl
+object_or_none (Some held) generation object same = by_test (eqb held.generation generation)
+  where
+    by_test : (b : Bool) → cond (is_some (cond b (Some held.value) None)) object None ≡ cond b (Some held.value) None
+    by_test true = same held refl
+    by_test false = refl
+
+module _ {Closed : Type 0} where
+  -- the page of a span is that of the group where it stands
+  pub page_of-stands : (groups : List (Group Closed)) → ((id : SpanId) → times id (spans_in groups) ≤ 1) → (index place : ℕ) (group : Group Closed) (span : SpanState)
+      → slice_get groups index ≡ Some group → slice_get (spans_of group) place ≡ Some span → (id : SpanId) → same_span span.id id ≡ true → page_of groups id ≡ group.page
+  page_of-stands [] once index place group span at_group at_span id same = absurd (none-some group at_group)
+  page_of-stands (first ∷ groups) once zero place group span at_group at_span id same =
+      let has : has_span id first ≡ true = find-is_some (λ (s : SpanState). same_span s.id id) (spans_of first) place span (ap (λ (g : Group Closed). slice_get (spans_of g) place) (same_some at_group) ∙ at_span) same in
+      rw has (ap (λ (g : Group Closed). g.page) (same_some at_group))
+  page_of-stands (first ∷ groups) once (suc index) place group span at_group at_span id same =
+      by_test (has_span id first) refl
+      (page_of-stands groups (λ other. omega (arith, once other, count-append (λ (s : SpanState). same_span s.id other) (spans_of first) (spans_in groups))) index place group span at_group at_span id same)
+    where
+      by_test : (b : Bool) → has_span id first ≡ b → page_of groups id ≡ group.page → page_in (cond b (Some first) (find (has_span id) groups)) ≡ group.page
+      by_test true has rest = elim (none_or_some (λ (s : SpanState). same_span s.id id) (spans_of first)) [
+        | inl none ↦ absurd (false≢true (sym (ap is_some (find-none (λ (s : SpanState). same_span s.id id) (spans_of first) none)) ∙ has))
+        | inr (at, other, there, passes) ↦
+            let here = count-some (λ (s : SpanState). same_span s.id id) (spans_of first) at other there passes in
+            let later = count-stands spans_of (λ (s : SpanState). same_span s.id id) groups index place group span (at_group, at_span) same in
+            absurd (omega (arith, once id, count-append (λ (s : SpanState). same_span s.id id) (spans_of first) (spans_in groups), here, later))
+      ]
+      by_test false has rest = rest
+
+  module _ (groups : List (Group Closed)) (sound : AreSoundGroups groups) (once : (id : SpanId) → times id (spans_in groups) ≤ 1) where
+    -- the object of a live key of a span that stands in a group is its log's value
+    stored_at : (index place : ℕ) (group : Group Closed) (span : SpanState) → slice_get groups index ≡ Some group → slice_get (spans_of group) place ≡ Some span
+        → (slot : ℕ) (held : Held) → map.get (replay span.log) slot ≡ Some held → option_map (λ words. object_in words span.class slot) group.page ≡ Some held.value
+    stored_at index place group span at_group at_span slot held is = by_page group.page (sound index group at_group).page
+      where
+        by_page : (page : Option Words) → MatchOption page (union_of (spans_of group) ≡ empty) (AreStored (spans_of group)) → option_map (λ words. object_in words span.class slot) page ≡ Some held.value
+        by_page None none =
+            let live : contains (live_slots span.log) slot ≡ true = contains-live_slots span.log slot ∙ ap is_some is in
+            absurd (false≢true (sym (contains-empty nat_cmp slot) ∙ ap (λ slots. contains slots slot) (sym none) ∙ member_of_union (spans_of group) place span slot at_span live))
+        by_page (Some words) stored = ap Some (stored place span at_span slot held is)
+
+    value_by-logged : (key : Key) (o : Option SpanState) → span_named (spans_in groups) key.span ≡ o → value_by groups key o ≡ logged_by key o
+    value_by-logged key None e = refl
+    value_by-logged key (Some span) e =
+        let ((index, place, group, (at_group, at_span)), same) = named_stands spans_of groups key.span span e in
+        let page = page_of-stands groups once index place group span at_group at_span key.span same in
+        ap (λ page. cond (is_some (value_in span.log key.slot key.generation)) (option_map (λ words. object_in words span.class key.slot) page) None) page
+        ∙ object_or_none (map.get (replay span.log) key.slot) key.generation (option_map (λ words. object_in words span.class key.slot) group.page) (λ held is. stored_at index place group span at_group at_span key.slot held is)
+
+    -- the objects on the pages are what the logs say
+    pub shown_by-logged : shown_by groups ≡ logged (spans_in groups) nothing_pending
+    shown_by-logged = same_plain_map _ _ (λ key. refl) (λ key. value_by-logged key _ refl) (λ worker owner. refl)
+
+    -- a span that stands in a group is found by its id
+    pub span_named-here : (id : SpanId) (index place : ℕ) (group : Group Closed) (span : SpanState) → IsHere groups id index place group span → span_named (spans_in groups) id ≡ Some span
+    span_named-here id index place group span here = span_named-stands spans_of groups once index place group span (here.group_is, here.span_is) id here.id_is
+
+    pub span_named-elsewhere : (id : SpanId) → IsElsewhere groups id → span_named (spans_in groups) id ≡ None
+    span_named-elsewhere id elsewhere = span_named-none spans_of groups id elsewhere
+
+    pub value-logged : (key : Key) → (shown_by groups).value_of key ≡ logged_by key (span_named (spans_in groups) key.span)
+    value-logged key = ap (λ (m : PlainMap). m.value_of key) shown_by-logged
+
+    -- the value of a key is that of its span's log
+    pub value_of-here : (key : Key) (index place : ℕ) (group : Group Closed) (span : SpanState) → IsHere groups key.span index place group span → (shown_by groups).value_of key ≡ value_in span.log key.slot key.generation
+    value_of-here key index place group span here = value-logged key ∙ ap (logged_by key) (span_named-here key.span index place group span here)
+
+    pub value_of-elsewhere : (key : Key) → IsElsewhere groups key.span → (shown_by groups).value_of key ≡ None
+    value_of-elsewhere key elsewhere = value-logged key ∙ ap (logged_by key) (span_named-elsewhere key.span elsewhere)

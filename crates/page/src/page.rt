@@ -1,0 +1,78 @@
+// The words of a page.
+ghost use Rattle.std.specs.Prelude.{◌≡◌, ◌<◌, IfOk, length};
+ghost use Rattle.bitmap.specs.declared.bits.TheConstants.{SLOTS};
+ghost use Rattle.page.specs.Words.{blank_page, copied, object_in, set_object};
+ghost use Rattle.bitmap.specs.Slots.{IsBelow};
+ghost use Rattle.span.specs.Classes.{slots_in, width_of};
+
+use bitmap::{Bits256, SLOTS};
+use span::Class;
+use std::alloc::{AllocError, Global};
+use std::marker::Model;
+
+/// 256 words, which are 256 slots of one, 64 of four or 16 of sixteen, in an allocation of their own: 4,096 bytes.
+#[derive(Drop)]
+pub struct Page {
+    words: Vec<u128>,
+    ghost whole: { length words.items ≡ SLOTS },
+}
+
+impl Model for Page {
+    ghost use Rattle.page.specs.Words.{Words, words_code};
+
+    ghost Value = { Words };
+
+    ghost coded = { words_code };
+
+    ghost view = { λ a. record { items = a.words.items; whole = a.whole } };
+}
+
+impl Page {
+    /// A page of zeros.
+    ///
+    /// # Errors
+    ///
+    /// `AllocError` where the 4,096 bytes are refused.
+    pub fn blank(alloc: Global) -> Result<Page, AllocError>
+        ensures { IfOk result (λ words. words ≡ blank_page) }
+    {
+        Ok(Page {
+            words: vec![in alloc; 0; SLOTS]?,
+        })
+    }
+
+    /// The words of the object at the slot.
+    pub fn value_at(&self, class: Class, slot: u8) -> &[u128]
+        requires { slot < slots_in class }
+        ensures object { result.now ≡ object_in self.now class slot }
+        ensures width { length result.now ≡ width_of class }
+    {
+        let width = class.words();
+        let first = width * usize::from(slot);
+        &self.words[first..first + width]
+    }
+
+    /// Writes an object at the slot, and no other. One word is by far the most frequent.
+    pub fn set_at(&mut self, class: Class, slot: u8, object: &[u128])
+        requires on_page { slot < slots_in class }
+        requires width { length object.now ≡ width_of class }
+        ensures { self.new ≡ set_object self.old class slot object.now }
+    {
+        if object.len() == 1 {
+            self.words[usize::from(slot)] = object[0];
+            return;
+        }
+        let first = object.len() * usize::from(slot);
+        self.words[first..first + object.len()].copy_from_slice(object);
+    }
+
+    /// Copies the objects at the slots from the same slots of the other page.
+    pub fn copy_from(&mut self, class: Class, other: &Page, slots: &Bits256)
+        requires on_page { IsBelow slots.now (slots_in class) }
+        ensures { self.new ≡ copied self.old class slots.now other.now }
+    {
+        for slot in slots.iter() {
+            self.set_at(class, slot, other.value_at(class, slot));
+        }
+    }
+}
