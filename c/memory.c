@@ -65,7 +65,7 @@ void *__wrap_realloc(void *block, size_t size) {
     } while (0)
 
 static struct teurlaks_handle core;
-static struct teurlaks_key keys[2][PAGES][SLOTS];
+static struct teurlaks_key keys[4][PAGES][SLOTS];
 
 /* The core says that it has so many pages, and so many blocks are pages. */
 #define WANT_PAGES(count)                                                                                                                        \
@@ -140,6 +140,33 @@ static void fold(void) {
     WANT_PAGES(PAGES);
 }
 
+/* A trim asks for nothing, and gives back the page of each group with no live key and nothing else. A put into such a group asks for
+ * its page alone, and its span stays the one that it was. */
+static void trim(void) {
+    size_t half = PAGES / 2;
+    fill(3);
+    for (size_t page = 0; page < PAGES; page++) keep(3, page, page < half ? SLOTS : 3);
+    WANT_PAGES(2 * PAGES);
+    size_t before = calls, kept = blocks;
+    struct teurlaks_trim_reply trimmed = teurlaks_trim(&core, 3);
+    WANT(trimmed.status == TEURLAKS_OK && trimmed.count == half);
+    WANT(calls == before + half && blocks == kept - half);
+    WANT_PAGES(PAGES + half);
+    look_up(3, half, 3);
+    WANT(teurlaks_get(&core, keys[3][0][0]).status == TEURLAKS_NONE);
+    trimmed = teurlaks_trim(&core, 3);
+    WANT(trimmed.status == TEURLAKS_OK && trimmed.count == 0);
+    WANT(teurlaks_trim(&core, 4).status == TEURLAKS_CONFIG);
+    WANT(calls == before + half);
+    struct teurlaks_put_reply put = teurlaks_put(&core, 3, (struct teurlaks_word){5, 6});
+    WANT(put.status == TEURLAKS_OK && put.key.serial == keys[3][0][0].serial && put.key.slot == 0);
+    WANT(calls == before + half + 1);
+    WANT_PAGES(PAGES + half + 1);
+    struct teurlaks_get_reply got = teurlaks_get(&core, put.key);
+    WANT(got.status == TEURLAKS_OK && got.value.low == 5 && got.value.high == 6);
+    WANT(teurlaks_get(&core, keys[3][0][0]).status == TEURLAKS_NONE);
+}
+
 /* A shard that has ended keeps none of its lists: of what its one span took, the generations stay. */
 static void end_without_lists(void) {
     size_t before = blocks;
@@ -150,7 +177,7 @@ static void end_without_lists(void) {
 }
 
 int main(void) {
-    WANT(teurlaks_new(&core, 3, PAGES, 1, 9) == TEURLAKS_OK);
+    WANT(teurlaks_new(&core, 4, PAGES, 1, 9) == TEURLAKS_OK);
     others = pages;
     fill(0);
     fill(1);
@@ -159,9 +186,10 @@ int main(void) {
     end();
     free_in_the_pool();
     fold();
+    trim();
     end_without_lists();
     teurlaks_drop(&core);
     WANT(blocks == 0 && bytes == 0);
-    printf("each page that a fold, an end or a free regained was given back to the allocator\n");
+    printf("each page that a fold, an end, a free or a trim regained was given back to the allocator\n");
     return 0;
 }

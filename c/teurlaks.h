@@ -93,14 +93,20 @@ struct teurlaks_retire_reply {
     size_t count;
 };
 
+/* How many pages went, where the status is TEURLAKS_OK; else 0. */
+struct teurlaks_trim_reply {
+    uint32_t status;
+    size_t count;
+};
+
 /* The head of the adopted group, where the status is TEURLAKS_OK. */
 struct teurlaks_adopt_reply {
     uint32_t status;
     struct teurlaks_span head;
 };
 
-/* Where the status is TEURLAKS_OK: groups of the pool that have a page, groups of the shards, planned folds, and members of the short
- * set, which shows that no plan has more folds. */
+/* Where the status is TEURLAKS_OK: groups of the pool that have a page, groups of the shards that have one, planned folds, and members of
+ * the short set, which shows that no plan has more folds. */
 struct teurlaks_mark_reply {
     uint32_t status;
     size_t abandoned;
@@ -175,6 +181,10 @@ uint32_t teurlaks_end(struct teurlaks_handle *handle, uint32_t shard);
  * that have one. Fewer than `most` go only where no group with a live key is left. TEURLAKS_PLAN_OPEN where a group of the shard is in
  * the plan that is open. */
 struct teurlaks_retire_reply teurlaks_retire(struct teurlaks_handle *handle, uint32_t shard, size_t most);
+
+/* Gives back the page of each group of the shard in which nothing is live, but for a group of the open plan. The groups stay, and a
+ * later put opens a page anew. TEURLAKS_CONFIG where there is no such shard, and no other refusal. Takes no memory. */
+struct teurlaks_trim_reply teurlaks_trim(struct teurlaks_handle *handle, uint32_t shard);
 
 /* Moves the pool's group of lowest head that has a page to the shard. */
 struct teurlaks_adopt_reply teurlaks_adopt(struct teurlaks_handle *handle, uint32_t shard);

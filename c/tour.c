@@ -164,6 +164,13 @@ static void tour(void) {
     struct teurlaks_next_reply next = teurlaks_next(&core, first.key);
     WANT(next.status == TEURLAKS_OK && !memcmp(&next.key, &put.key, sizeof put.key));
     WANT(free_all(&core) == 2 && teurlaks_totals(&core).live == 0);
+    /* The page has nothing live, and goes; a put opens one anew. */
+    struct teurlaks_trim_reply trimmed = teurlaks_trim(&core, 1);
+    WANT(trimmed.status == TEURLAKS_OK && trimmed.count == 1 && teurlaks_totals(&core).pages == 0);
+    WANT(teurlaks_trim(&core, 2).status == TEURLAKS_CONFIG && teurlaks_trim(&core, 1).count == 0);
+    AGAIN(put, put.status, teurlaks_put(&core, 1, (struct teurlaks_word){3, 0}));
+    WANT(put.status == TEURLAKS_OK && put.key.serial == 0 && teurlaks_totals(&core).pages == 1);
+    WANT(teurlaks_get(&core, put.key).value.low == 3);
     teurlaks_drop(&core);
     WANT(!core.at);
 }

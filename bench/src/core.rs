@@ -180,6 +180,10 @@ impl<const LOG: bool> Core<LOG> {
         let gens = self.limits.gens;
         let group = &mut self.groups[group];
         let id = group.spans[0];
+        if group.page.is_none() {
+            group.page = Some(Box::new([0; 256]));
+            self.pages += 1;
+        }
         group.occupied.insert(slot);
         group.write(slot, base);
         let span = &mut self.spans[usize::from(id.shard)][usize::from(id.serial)];
@@ -356,11 +360,28 @@ impl<const LOG: bool> Core<LOG> {
         for place in std::mem::take(&mut self.shards[shard].groups) {
             let group = &mut self.groups[place];
             group.home = Home::Pool;
+            if group.page.is_none() {
+                continue;
+            }
             self.pool.insert(group.spans[0], place);
             if group.occupied.is_empty() {
                 self.drop_page(place);
             }
         }
+    }
+
+    /// The pages of the shard's open groups with nothing live go; how many.
+    pub fn trim(&mut self, shard: usize) -> usize {
+        let mut count = 0;
+        for place in &self.shards[shard].groups {
+            let group = &mut self.groups[*place];
+            if group.page.is_some() && !group.closed && group.occupied.is_empty() {
+                group.page = None;
+                count += 1;
+            }
+        }
+        self.pages -= count;
+        count
     }
 
     pub fn adopt(&mut self, shard: usize) -> Result<SpanId, AdoptError> {
@@ -389,7 +410,8 @@ impl<const LOG: bool> Core<LOG> {
     pub fn mark(&mut self, given: Option<&[(SpanId, SpanId)]>) -> Result<Marked, MarkError> {
         let abandoned = self.side(self.pool.values().copied())?;
         let running = self.shards.iter().filter(|shard| !shard.ended);
-        let owned = self.side(running.flat_map(|shard| shard.groups.iter().copied()))?;
+        let groups = running.flat_map(|shard| shard.groups.iter().copied());
+        let owned = self.side(groups.filter(|place| self.groups[*place].page.is_some()))?;
         let sets = |side: &Side| -> Vec<(Class, Slots)> { side.iter().map(|(_, set, _)| *set).collect() };
         let graph = Graph::new(&sets(&abandoned), &sets(&owned));
         let matching = match given {

@@ -19,6 +19,8 @@ struct Draw {
     classes: &'static [&'static str],
     /// Whether the version has sets.
     sets: bool,
+    /// Whether it has trims.
+    trims: bool,
     text: String,
     shards: usize,
     ended: Vec<bool>,
@@ -41,12 +43,13 @@ pub fn text(seed: u64) -> Vec<u8> {
     let gens = [1, 2, 3, 9, u32::MAX][random.below(5)];
     let ring = 1 + random.below(3);
     let lines = 5 + random.below(80);
-    let version = [3, 3, 2, 1][seed as usize % 4];
+    let version = [4, 4, 3, 2, 1][(seed / 5) as usize % 5];
     let classes: &[&str] = if version > 1 { &["", "", "64", "256"] } else { &[""] };
     let mut draw = Draw {
         random,
         classes,
         sets: version > 2,
+        trims: version > 3,
         text: header_with(version, shards, pages, ring, gens),
         shards,
         ended: vec![false; shards],
@@ -84,7 +87,8 @@ impl Draw {
             3 | 4 => self.end(),
             13..=15 => {
                 if let Some(thread) = self.running() {
-                    self.say(format_args!("{thread} tend"));
+                    let verb = ["tend", "trim"][self.random.below(1 + usize::from(self.trims))];
+                    self.say(format_args!("{thread} {verb}"));
                 }
             }
             5..=12 => {
@@ -224,7 +228,7 @@ impl Draw {
 }
 
 /// Words that stand where others should.
-const WORDS: [&str; 31] = [
+const WORDS: [&str; 32] = [
     "0",
     "1",
     "63",
@@ -245,6 +249,7 @@ const WORDS: [&str; 31] = [
     "end",
     "later",
     "tend",
+    "trim",
     "mark",
     "adopt",
     "n0",

@@ -106,6 +106,13 @@ impl Run<'_> {
                     push_number(out, count);
                 });
             }
+            Call::Trim => {
+                let count = self.core.trim(thread);
+                self.reply(number, |out| {
+                    out.extend_from_slice(b"trimmed ");
+                    push_number(out, count as u64);
+                });
+            }
             Call::End => {
                 self.leaving.push(thread);
                 self.reply(number, |out| out.extend_from_slice(b"ended"));

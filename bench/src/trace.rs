@@ -87,6 +87,7 @@ pub enum Call {
         key: usize,
     },
     Tend,
+    Trim,
     End,
 }
 
@@ -162,6 +163,7 @@ enum Spelled<'t> {
     Sweep(&'t [u8], Number, Number),
     Later(Reference<'t>),
     Tend,
+    Trim,
     End,
 }
 
@@ -197,11 +199,12 @@ fn form_of(line: &[u8], version: Version) -> Option<Form<'_>> {
         [b"mark"] => return Some(Form::Mark),
         [b"adopt", shard] => return Some(Form::Adopt(Number::of(shard)?)),
         [_, b"get", key] => Spelled::Get(Reference::of(key)?),
-        [_, b"set", key, value] if version == Version::Three => Spelled::Set(Reference::of(key)?, Number::of(value)?),
+        [_, b"set", key, value] if version >= Version::Three => Spelled::Set(Reference::of(key)?, Number::of(value)?),
         [_, b"free", key] => Spelled::Free(Reference::of(key)?),
         [_, b"sweep", name, from, to] => Spelled::Sweep(name_of(name)?, Number::of(from)?, Number::of(to)?),
         [_, b"later", key] => Spelled::Later(Reference::of(key)?),
         [_, b"tend"] => Spelled::Tend,
+        [_, b"trim"] if version == Version::Four => Spelled::Trim,
         [_, b"end"] => Spelled::End,
         [_, verb, rest @ ..] => match (binding_verb(verb, version)?, rest) {
             ((b"put", class), [name, value]) => Spelled::Put(class, name_of(name)?, Number::of(value)?),
@@ -339,6 +342,7 @@ impl<'t> Reader<'t> {
                 key: self.key(key, thread)?,
             },
             Spelled::Tend => Call::Tend,
+            Spelled::Trim => Call::Trim,
             Spelled::End => {
                 self.ended[thread] = true;
                 Call::End
@@ -399,11 +403,12 @@ fn header_number(line: Option<&[u8]>, word: &str, most: u128) -> Result<u128, Ca
     number.ok_or(Cause::Header)?.within(1..=most).ok_or(Cause::Limit)
 }
 
-#[derive(Clone, Copy, PartialEq, Eq)]
+#[derive(Clone, Copy, PartialEq, Eq, PartialOrd)]
 enum Version {
     One,
     Two,
     Three,
+    Four,
 }
 
 fn header<'t>(lines: &mut impl Iterator<Item = &'t [u8]>) -> Result<(Version, Header), Fault> {
@@ -411,6 +416,7 @@ fn header<'t>(lines: &mut impl Iterator<Item = &'t [u8]>) -> Result<(Version, He
         Some(b"mesh 1") => Version::One,
         Some(b"mesh 2") => Version::Two,
         Some(b"mesh 3") => Version::Three,
+        Some(b"mesh 4") => Version::Four,
         _ => {
             return Err(Fault {
                 line: 1,

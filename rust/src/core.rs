@@ -317,7 +317,7 @@ impl Core {
 
     /// Moves up to `most` groups of a shard to the pool, with their pages, and says how many went: those with the fewest live keys, of
     /// those that have one. The shard goes on, so a program of one shard folds too: the pool's pages are folded onto those that stay.
-    /// Fewer than `most` go only where no group with a live key is left. Groups with no live key stay: they are the shard's free pages.
+    /// Fewer than `most` go only where no group with a live key is left. Groups with no live key stay: [`Core::trim`] gives their pages back.
     ///
     /// It is refused with [`Refused::Ended`] where the shard has ended, with [`Refused::PlanOpen`] where one of its groups is in the
     /// open plan, with [`Refused::Config`] where there is no such shard, and with [`Refused::OutOfMemory`] only where none of these holds.
@@ -339,6 +339,29 @@ impl Core {
     pub fn retire(&mut self, shard: u32, most: usize) -> Result<usize, Refused> {
         // SAFETY: as in `insert`.
         let raw::RetireReply { status, count } = unsafe { raw::teurlaks_retire(self.handle.get(), shard, most) };
+        done(status).map(|()| count)
+    }
+
+    /// Gives back the pages of a shard's groups in which nothing is live, and says how many went. The groups stay, and with them the
+    /// generations of their keys: a later insert takes a slot of one again, on a new page. A group of the open plan keeps its page.
+    ///
+    /// It takes no memory, and is refused with [`Refused::Config`] alone, where there is no such shard.
+    ///
+    /// ```
+    /// # use teurlaks::{Core, Limits};
+    /// let mut core = Core::new(Limits::default())?;
+    /// let keys: Vec<_> = (0..512).map(|word| core.insert(0, word)).collect::<Result<_, _>>()?;
+    /// for key in &keys[..256] {
+    ///     core.free(*key);
+    /// }
+    /// assert_eq!((core.trim(0)?, core.pages()), (1, 1));
+    /// let again = core.insert(0, 7)?; // a slot of the first group, on a new page
+    /// assert_eq!((core.pages(), core.get(again), core.get(keys[0])), (2, Some(7), None));
+    /// # Ok::<(), teurlaks::Refused>(())
+    /// ```
+    pub fn trim(&mut self, shard: u32) -> Result<usize, Refused> {
+        // SAFETY: as in `insert`.
+        let raw::TrimReply { status, count } = unsafe { raw::teurlaks_trim(self.handle.get(), shard) };
         done(status).map(|()| count)
     }
 
@@ -544,7 +567,7 @@ fn halves(word: u128) -> raw::RawWord {
     }
 }
 
-/// The calls of a type with a core that are the core's and do not move a value: its ends and retirements, its marks, and totals of pages.
+/// The calls of a type with a core that are the core's and do not move a value: its ends, retirements and trims, its marks, and totals of pages.
 macro_rules! letting_go {
     () => {
         /// Ends a shard, as [`Core::end`](crate::Core::end).
@@ -555,6 +578,11 @@ macro_rules! letting_go {
         /// Moves the sparsest groups of a shard to the pool, as [`Core::retire`](crate::Core::retire), whose shard goes on.
         pub fn retire(&mut self, shard: u32, most: usize) -> Result<usize, crate::Refused> {
             self.core.retire(shard, most)
+        }
+
+        /// Gives back the pages of a shard on which nothing is live, as [`Core::trim`](crate::Core::trim).
+        pub fn trim(&mut self, shard: u32) -> Result<usize, crate::Refused> {
+            self.core.trim(shard)
         }
 
         /// Plans as many folds as can be, as [`Core::mark`](crate::Core::mark).

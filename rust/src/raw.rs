@@ -60,6 +60,12 @@ pub struct RetireReply {
 }
 
 #[repr(C)]
+pub struct TrimReply {
+    pub status: u32,
+    pub count: usize,
+}
+
+#[repr(C)]
 pub struct AdoptReply {
     pub status: u32,
     pub head: RawSpan,
@@ -107,6 +113,7 @@ extern "C" {
     pub fn teurlaks_totals(handle: *mut Handle) -> TotalsReply;
     pub fn teurlaks_end(handle: *mut Handle, shard: u32) -> u32;
     pub fn teurlaks_retire(handle: *mut Handle, shard: u32, most: usize) -> RetireReply;
+    pub fn teurlaks_trim(handle: *mut Handle, shard: u32) -> TrimReply;
     pub fn teurlaks_adopt(handle: *mut Handle, shard: u32) -> AdoptReply;
     pub fn teurlaks_mark(handle: *mut Handle) -> MarkReply;
     pub fn teurlaks_step(handle: *mut Handle) -> StepReply;

@@ -231,7 +231,8 @@ impl<T> Slab<T> {
         meshed
     }
 
-    /// Folds sparse pages onto others until that hardly gives any back, and says how many pages went; each takes its page of values with it.
+    /// Gives back the pages on which no value is, folds sparse pages onto others until that hardly gives any back, and says how many pages
+    /// went; each that is folded takes its page of values with it.
     /// Every key stays valid, and all groups are in shards afterwards, also those that an end or a retirement had left to the pool.
     ///
     /// Half of the pages, those with the fewest values, go to the pool, as many as can be are folded onto the other half, and the shards
@@ -240,8 +241,8 @@ impl<T> Slab<T> {
     /// its own any more, so each fold uses up one of the 1,024 pages that a shard opens in its life: after 16,384 pages a slab of 16 shards
     /// opens no other, and one that is filled and compacted again and again wants more shards.
     ///
-    /// It is refused with [`Refused::PlanOpen`] where a plan is open, and with [`Refused::TooMany`] where there are more than 8,192 pages, since a
-    /// plan has 4,096 on a side, or as many as that with no value on them; and then nothing has changed but whose the groups are. With
+    /// It is refused with [`Refused::PlanOpen`] where a plan is open, and with [`Refused::TooMany`] where there are more than 8,192 pages with a
+    /// value, since a plan has 4,096 on a side; and then only pages without a value have gone. With
     /// [`Refused::OutOfMemory`] it stops where it is: every key has its value, and it may be tried again.
     ///
     /// ```
@@ -255,10 +256,13 @@ impl<T> Slab<T> {
     /// ```
     pub fn compact(&mut self) -> Result<usize, Refused> {
         let before = self.pages();
-        if before > 2 * MOST_GROUPS {
+        for shard in 0..self.shards {
+            self.trim(shard)?;
+        }
+        if self.pages() > 2 * MOST_GROUPS {
             return Err(Refused::TooMany);
         }
-        // What the pool has already, where shards have few enough for a plan. An open plan is refused here, before anything changes.
+        // What the pool has already, where shards have few enough for a plan. An open plan is refused here, before anything else changes.
         match self.mesh() {
             Ok(_) | Err(Refused::TooMany) => self.adopt_all()?,
             Err(refused) => return Err(refused),

@@ -212,8 +212,8 @@ fn exported() -> Declarations {
             &mut declarations,
         );
     }
-    assert_eq!(declarations.functions.len(), 18);
-    assert_eq!(declarations.structs.len(), 14);
+    assert_eq!(declarations.functions.len(), 19);
+    assert_eq!(declarations.structs.len(), 15);
     declarations
 }
 

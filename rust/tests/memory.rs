@@ -1,6 +1,6 @@
-//! What the system has again after a compaction, and what happens where it has none left. It is one test, since the limit is the process's.
+//! What the system has again after a compaction and after trims, and what happens where it has none left. It is one test, since the limit is the process's.
 
-use teurlaks::{Key, Refused, Slab, Stepped};
+use teurlaks::{Core, Key, Limits, Refused, Slab, Stepped};
 
 #[repr(C)]
 struct Limit {
@@ -77,6 +77,51 @@ fn by_steps(slab: &mut Slab<[u64; 30]>) -> Result<(), Refused> {
     Ok(())
 }
 
+/// Three of four pages of a core have nothing live, and a trim of each shard takes them out of the process; but for the few free ones that
+/// are kept for what is asked next (`c/pages.c`).
+fn trimmed_pages_leave_the_process() -> Result<(), Refused> {
+    const SHARDS: u32 = 4;
+    const PAGES: usize = 1024;
+    const KEPT_FREE: u64 = 63;
+    let mut core = Core::new(Limits {
+        shards: SHARDS,
+        ..Limits::default()
+    })?;
+    let mut keys = vec![Key::from_bits(1); SHARDS as usize * PAGES * 256];
+    for (number, key) in keys.iter_mut().enumerate() {
+        *key = core.insert(number as u32 % SHARDS, number as u128)?;
+    }
+    // A page holds 256 keys of its shard, and every fourth page stays as it is.
+    let stays = |number: usize| number / SHARDS as usize / 256 % 4 == 0;
+    for (number, key) in keys.iter().enumerate() {
+        assert!(stays(number) || core.free(*key));
+    }
+    let full = kilobytes("VmRSS:");
+    let mut gone = 0;
+    for shard in 0..SHARDS {
+        gone += core.trim(shard)?;
+    }
+    let left = kilobytes("VmRSS:");
+    assert_eq!((gone, core.pages()), (3072, 1024));
+    let (least, most) = (4 * (gone as u64 - KEPT_FREE), 4 * gone as u64);
+    // The system counts by threads, and tells what it counted some pages late.
+    assert!(
+        full - left + 256 >= least && full - left <= most + 256,
+        "of {full} KB {left} are left"
+    );
+
+    // What stayed is found, and what is put comes to the groups that were trimmed: no shard may have a further one.
+    for (number, key) in keys.iter().enumerate() {
+        assert_eq!(core.get(*key), stays(number).then_some(number as u128));
+    }
+    for number in 0..SHARDS as usize * 256 {
+        let key = core.insert(number as u32 % SHARDS, number as u128)?;
+        assert_eq!(core.get(key), Some(number as u128));
+    }
+    assert_eq!(core.pages(), 1024 + SHARDS as usize);
+    Ok(())
+}
+
 /// Inserts until memory is refused, which changes nothing.
 fn refused_where_there_is_none<const BYTES: usize>() -> Result<(), Refused> {
     let mut slab = Slab::new()?;
@@ -104,6 +149,7 @@ fn memory_goes_back_and_is_refused() -> Result<(), Refused> {
     // On 4,688 pages, more than a plan has on a side.
     most_of_it_leaves_the_process(300_000, |slab| slab.compact().map(drop))?;
     most_of_it_leaves_the_process(300_000, by_steps)?;
+    trimmed_pages_leave_the_process()?;
     refused_where_there_is_none::<1000>()?;
     refused_where_there_is_none::<8192>()
 }

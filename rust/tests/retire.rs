@@ -89,13 +89,44 @@ fn more_pages_than_a_plan_has() -> Result<(), Refused> {
     let keys = (0..8193 * SLOTS)
         .map(|_| slab.insert([0_u8; 129]))
         .collect::<Result<Vec<_>, _>>()?;
-    for key in keys.iter().skip(1) {
+    for key in keys.iter().filter(|key| **key != keys[0]).step_by(2) {
         slab.remove(*key);
     }
     assert_eq!((slab.pages(), slab.compact()), (8193, Err(Refused::TooMany)));
-    assert_eq!(
-        (slab.pages(), slab.len(), slab.get(keys[0])),
-        (8193, 1, Some(&[0; 129]))
-    );
+    assert_eq!((slab.pages(), slab.get(keys[0])), (8193, Some(&[0; 129])));
+
+    // Of pages with nothing on them there may be any number.
+    slab.retain(|key, _| key == keys[0]);
+    assert_eq!(slab.compact(), Ok(8192));
+    assert_eq!((slab.pages(), slab.len(), slab.get(keys[0])), (1, 1, Some(&[0; 129])));
+    Ok(())
+}
+
+/// A page on which nothing is live goes, and its group takes values again.
+#[test]
+fn trims_what_has_no_live_key() -> Result<(), Refused> {
+    let mut slab = Slab::with_limits(Limits {
+        shards: 1,
+        pages: 2,
+        generations: 9,
+    })?;
+    assert_eq!((slab.trim(0)?, slab.trim(1)), (0, Err(Refused::Config)));
+    let keys = (0..2 * SLOTS)
+        .map(|value| slab.insert(value))
+        .collect::<Result<Vec<_>, _>>()?;
+    for key in &keys[1..SLOTS] {
+        slab.remove(*key);
+    }
+    assert_eq!((slab.trim(0)?, slab.pages()), (0, 2));
+    slab.remove(keys[0]);
+    assert_eq!((slab.trim(0)?, slab.pages(), slab.trim(0)?), (1, 1, 0));
+
+    // The shard may have two pages, and has them again.
+    let again = slab.insert(7)?;
+    assert_eq!((slab.pages(), slab.get(again), slab.get(keys[0])), (2, Some(&7), None));
+    assert!(keys[SLOTS..]
+        .iter()
+        .enumerate()
+        .all(|(place, key)| slab[*key] == SLOTS + place));
     Ok(())
 }

@@ -48,7 +48,7 @@ pub IsDoubled-lowest : (pool : PoolState) → Ascend pool.groups → (shard : Sh
 IsDoubled-lowest pool ascend shard index group lowest (other, g, its, doubled) = subst (λ (x : PooledState). HasDoubled shard (spans_of x)) (one_lowest pool ascend other index g group its lowest) doubled
 
 -- one group has the head
-one_head : (pool : PoolState) → IsSound pool → (i j : ℕ) (a b : PooledState) → slice_get pool.groups i ≡ Some a → slice_get pool.groups j ≡ Some b → a.head.id ≡ b.head.id → a ≡ b
+pub one_head : (pool : PoolState) → IsSound pool → (i j : ℕ) (a b : PooledState) → slice_get pool.groups i ≡ Some a → slice_get pool.groups j ≡ Some b → a.head.id ≡ b.head.id → a ≡ b
 one_head pool sound i j a b at_i at_j same = one_of_head head_id pool.groups sound.ascending i j a b at_i at_j same
 
 -- one group has the head, whose spans are asked
@@ -68,7 +68,6 @@ module _ (old new : PoolState) (sound : IsSound old) (shard : ShardState) (sound
 
   pub MayTakeIn-adopted : (IsDoubled old shard → ⊥) → shard.page_limit ≢ length shard.groups → shard.ended ≡ false → MayTakeIn (with_room shard None (length (spans_of group))) whole
   MayTakeIn-adopted apart limit running = record {
-    paged = subst (λ (w : WholeState). IsSome w.words) (sym whole_is) lowest.paged;
     elsewhere = λ at span there other g here place found.
         apart (index, group, lowest, (at, span, ap (λ xs. slice_get xs at) (sym spans_are) ∙ there, inr (λ away. away other g here place found)));
     opened = λ at span there mine. elim (cases_lt span.id.serial shard.opened) [

@@ -1,20 +1,18 @@
--- A group that gives its page up where no slot is live, and a group that has a page since a key of it is live.
-use Rattle.std.proofs.Common.{◌≡◌, ℕ, Option, None, Some, MatchOption, is_some, slice_get, ◌∙◌, ap, subst, sym, refl, inl, inr}
+-- A group that gives its page up where no slot is live, and a group that keeps it since a key of it is live.
+use Rattle.std.proofs.Common.{◌≡◌, ℕ, None, Some, is_some, slice_get, ◌∙◌, ap, subst, sym, inl, inr}
 use Rattle.std.specs.Prelude.{◌≢◌, IsSome}
 use Rattle.std.specs.FinSet.{empty}
 use Rattle.std.proofs.lemmas.Bool.{false≢true}
 use Rattle.span.specs.Log.{Holds}
 use Rattle.span.specs.State.{SpanState}
-use Rattle.page.specs.Words.{Words}
 use Rattle.groups.specs.Group.{spans_of, with_span}
-use Rattle.groups.specs.Sound.{AreStored, IsSoundGroup}
+use Rattle.groups.specs.Sound.{IsSoundGroup}
 use Rattle.groups.specs.Spans.{union_of}
 use Rattle.groups.proofs.EmptySets.{empty_or_not}
 use Rattle.groups.proofs.FreedGroups.{IsSoundGroup-unpaged}
 use Rattle.groups.proofs.GuestDirectory.{HaveSameIds}
 use Rattle.groups.proofs.ReplacedGroups.{AreAlike, AreAlike-with_span}
-use Rattle.groups.proofs.StoredObjects.{none_live}
-use Rattle.groups.proofs.Unions.{live_if_held}
+use Rattle.groups.proofs.StoredObjects.{paged_if_held}
 use Rattle.abandoned.specs.Calls.{GivesUp}
 use Rattle.abandoned.specs.Sound.{IsSound}
 use Rattle.abandoned.specs.State.{PoolState, PooledState}
@@ -44,18 +42,7 @@ pub AreAlike-GivesUp : (group now : PooledState) (place : ℕ) (span changed : S
 AreAlike-GivesUp group now place span changed here same gives =
     subst (HaveSameIds (spans_of group)) (sym (spans-GivesUp (with_span group place changed) now gives)) (AreAlike-with_span group place span changed here same)
 
--- a group with a live key has a page
-module _ (group : PooledState) (sound : IsSoundGroup group) (place : ℕ) (span : SpanState) (slot generation : ℕ) (there : slice_get (spans_of group) place ≡ Some span) (holds : Holds span.log slot generation) where
-  pub page_if_held : (words : Words) × (group.page ≡ Some words)
-  page_if_held = by_page group.page sound.page
-    where
-      by_page : (page : Option Words) → MatchOption page (union_of (spans_of group) ≡ empty) (AreStored (spans_of group)) → (words : Words) × (page ≡ Some words)
-      by_page None none = absurd (none_live group sound place span there slot none (live_if_held span.log slot generation holds))
-      by_page (Some words) stored = (words, refl)
-
-  pub paged_if_held : IsSome group.page
-  paged_if_held = ap is_some page_if_held.1
-
+-- of a sound pool a group with a live key is not without a page
 pub has_page_if_held : (pool : PoolState) → IsSound pool → (index place : ℕ) (group : PooledState) (span : SpanState) (slot generation : ℕ)
     → slice_get pool.groups index ≡ Some group → slice_get (spans_of group) place ≡ Some span → Holds span.log slot generation → group.page ≡ None → ⊥
 has_page_if_held pool sound index place group span slot generation here there holds none =

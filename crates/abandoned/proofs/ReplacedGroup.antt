@@ -11,10 +11,10 @@ use Rattle.groups.specs.Spans.{union_of, with_set_at}
 use Rattle.groups.proofs.Lists.{cases-set}
 use Rattle.groups.proofs.ReplacedGroups.{AreAlike, AreAlike-with_span, AreSoundGroups-replaced, Ascend-replaced, times-replaced}
 use Rattle.groups.proofs.SetGroups.{IsSoundGroup-set, spans_of-set_group}
+use Rattle.groups.proofs.StoredObjects.{paged_if_held}
 use Rattle.groups.proofs.Unions.{keep_held}
 use Rattle.abandoned.specs.Sound.{IsSound}
 use Rattle.abandoned.specs.State.{PoolState, PooledState}
-use Rattle.abandoned.proofs.Released.{paged_if_held}
 
 module _ (old : PoolState) (sound : IsSound old) (index : ℕ) (group : PooledState) (here : slice_get old.groups index ≡ Some group) where
   pub IsSound-replaced : (after : PooledState) → AreAlike group after → IsSoundGroup after → (IsSome after.page → union_of (spans_of after) ≢ empty) → IsSound (record old { groups = set old.groups index after })

@@ -17,6 +17,7 @@ use Rattle.groups.specs.Sound.{IsSoundGroup}
 use Rattle.groups.specs.Spans.{IsSpanOf, SpansState, all_spans, with_set_at, with_span_at}
 use Rattle.groups.proofs.Lists.{get-set, same_some, there_at}
 use Rattle.groups.proofs.ReplacedGroups.{AreAlike-with_span, head-alike}
+use Rattle.groups.proofs.StoredObjects.{paged_if_held}
 use Rattle.abandoned.specs.Groups.{has_page, standing}
 use Rattle.abandoned.specs.Ranked.{AreFound, RankedState, are_ranked}
 use Rattle.abandoned.specs.State.{PooledState, group_of}
@@ -24,7 +25,6 @@ use Rattle.abandoned.proofs.Cases.{where_true}
 use Rattle.abandoned.proofs.GroupPlaces.{AtRank, AtRank-set, get-set_other, place-IsHeadOf}
 use Rattle.abandoned.proofs.Places.{standing-set}
 use Rattle.abandoned.proofs.RankedGroups.{ranked-change}
-use Rattle.abandoned.proofs.Released.{paged_if_held}
 
 -- where a set is done, the group has a page, and the object fits it
 module _ (spans : SpansState) (page : Option Words) (sound : IsSoundGroup (group_of spans page)) (place : ℕ) (within : place < length (all_spans spans)) (slot generation : ℕ) (value : Value) (done : Bool) (is_done : done ≡ true) (new : SpansState)

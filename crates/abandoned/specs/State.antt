@@ -1,7 +1,7 @@
 -- What contracts see of the pool.
-use Rattle.std.specs.Prelude.{ℕ, Bool, List, filter, Option, is_some}
+use Rattle.std.specs.Prelude.{ℕ, Bool, List, Option}
 use Rattle.page.specs.Words.{Words}
-use Rattle.groups.specs.Group.{Group}
+use Rattle.groups.specs.Group.{Group, paged_in}
 use Rattle.groups.specs.Spans.{SpansState}
 
 -- a group of the pool is never closed, so that nothing is kept of that
@@ -21,4 +21,4 @@ group_of spans page = record { head = spans.head; guests = spans.guests; page = 
 
 -- the groups that have a page
 abbrev pub paged_groups : PoolState → List PooledState
-paged_groups pool = filter (λ group. is_some group.page) pool.groups
+paged_groups pool = paged_in pool.groups

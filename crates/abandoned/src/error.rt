@@ -36,7 +36,7 @@ pub enum AdoptError {
     /// The shard's list of groups or its directory could not grow.
     #[error("out of memory")]
     OutOfMemory,
-    /// The shard has all the pages that it may have.
+    /// The shard has as many groups as it may have pages.
     #[error("the shard may have no more pages")]
     PagesSpent,
     /// The shard has ended.

@@ -33,7 +33,7 @@ use std::sync::Wait;
 ///
 /// A key that it leaves to another thread goes in a block with others, and is on its ring, where that thread sees it, at the
 /// latest when the seat tends its own rings, hands over, ends its shard, goes on to the next section or is let go, or makes the
-/// [`MOST_DELAY`]th further call: each `put`, `get`, `set`, `free`, `free_later`, `retire` and `adopt` is one.
+/// [`MOST_DELAY`]th further call: each `put`, `get`, `set`, `free`, `free_later`, `retire`, `trim` and `adopt` is one.
 #[derive(Drop)]
 pub struct Seat {
     worker: u32,
@@ -388,6 +388,20 @@ impl Seat {
         // What has stayed, or all of it where this was refused, is still in the shard.
         arena.words.set_all(&*shard, Place::Shard(self.worker));
         retired
+    }
+
+    /// Gives back the page of each open group of the worker's shard in which no slot is live, under the shard's lock, and answers how
+    /// many went, as [`Shard::trim`](shard::Shard::trim) does; that this is of what the lock guarded no clause can name. It takes no
+    /// memory.
+    pub fn trim<G: Gate, L: Log, R: Wait>(&mut self, rt: &R, arena: &Arena<G, L>) -> usize
+        requires { self.old.limits ≡ arena.now.limits }
+        ensures seat { CountsCall self.old self.new }
+    {
+        self.count_call();
+        let number = self.worker;
+        let mut shard = arena.shards[number as usize].lock(rt);
+        arena.gate.inside(number);
+        shard.trim()
     }
 
     /// The worker's shard adopts the pool's group of lowest head that has a page, under the pool's lock and the shard's,

@@ -74,7 +74,7 @@ impl Words {
     pub(crate) fn set_all<L: Log>(&self, shard: &Shard<L>, place: Place)
         requires { IsPlace place }
     {
-        for index in 0..shard.pages() {
+        for index in 0..shard.len() {
             let spans = shard.spans_at(index);
             for at in 0..spans.len() {
                 self.set(spans.span_at(at).id(), place);

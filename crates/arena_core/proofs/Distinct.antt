@@ -1,22 +1,19 @@
 -- Where no span stands twice in a core, no group stands twice on its side of a mark.
-use Rattle.std.proofs.Common.{◌≡◌, ◌≤◌, Bool, true, false, cond, List, [], ◌∷◌, refl, ap, ◌∙◌, arith, is_some, nat_lt}
-use Rattle.std.specs.Prelude.{filter, count_by}
+use Rattle.std.proofs.Common.{◌≡◌, ◌≤◌, Bool, true, false, cond, List, [], ◌∷◌, refl, ap, ◌∙◌, arith, is_some, map, nat_lt}
+use Rattle.std.specs.Prelude.{count_by}
 use Rattle.std.specs.List.{AllByRecursion, IsDistinct}
 use Rattle.std.proofs.lemmas.List.{map-append}
 use Rattle.span.specs.declared.id.SpanId.{SpanId}
 use Rattle.span.specs.Ids.{same_span}
-use Rattle.shard.specs.Group.{GroupState}
-use Rattle.groups.specs.Group.{spans_in, spans_of}
+use Rattle.groups.specs.Group.{Group, paged_in, spans_in, spans_of, summary}
 use Rattle.shard.specs.State.{ShardState}
 use Rattle.groups.proofs.Lists.{count-append, count-cons, one_where}
-use Rattle.abandoned.specs.State.{PooledState}
 use Rattle.span.specs.declared.entry.Entry.{Entry}
 use Rattle.mesh_graph.specs.Groups.{ids}
 use Rattle.span.proofs.Ids.{same_span-flip}
 use Rattle.marks.specs.Seen.{AreDistinct, abandoned_entries, owned_entries}
 use Rattle.arena_core.specs.Sound.{IsSound}
 use Rattle.arena_core.specs.State.{CoreState, opened_by}
-use Rattle.marks.proofs.Entries.{entries_in, entries_pooled}
 use Rattle.arena_core.proofs.Lists.{cond-le_one}
 use Rattle.arena_core.proofs.Spans.{is_named, same_span-self, times, times-parts, times_owned, times_owned-cons}
 
@@ -47,51 +44,38 @@ IsDistinct-once (id ∷ all) once = (
 
 -- a group's head is one of its spans
 
-heads_in : (id : SpanId) (groups : List GroupState) → count_by (is_id id) (ids (entries_in groups)) ≤ count_by (is_named id) (spans_in groups)
-heads_in id [] = omega arith
-heads_in id (group ∷ groups) =
-    omega (
-      arith,
-      count-cons (is_id id) group.head.id (ids (entries_in groups)),
-      count-append (is_named id) (spans_of group) (spans_in groups),
-      count-cons (is_named id) group.head group.guests,
-      heads_in id groups,
-    )
-
-heads_owned : (id : SpanId) (shards : List ShardState) → count_by (is_id id) (ids (owned_entries shards)) ≤ times_owned id shards
-heads_owned id [] = omega arith
-heads_owned id (shard ∷ shards) =
-    omega (
-      arith,
-      ap (count_by (is_id id)) (map-append (λ (entry : Entry). entry.id) (entries_in shard.groups) (owned_entries shards)),
-      count-append (is_id id) (ids (entries_in shard.groups)) (ids (owned_entries shards)),
-      times_owned-cons id shard shards,
-      heads_in id shard.groups,
-      heads_owned id shards,
-    )
-
-heads_pooled : (id : SpanId) (groups : List PooledState) → count_by (is_id id) (ids (entries_pooled (filter (λ group. is_some group.page) groups))) ≤ count_by (is_named id) (spans_in groups)
-heads_pooled id [] = omega arith
-heads_pooled id (group ∷ groups) = by_page (is_some group.page) (heads_pooled id groups)
+heads_paged : {Closed : Type 0} (id : SpanId) (groups : List (Group Closed)) → count_by (is_id id) (ids (map summary (paged_in groups))) ≤ count_by (is_named id) (spans_in groups)
+heads_paged id [] = omega arith
+heads_paged {Closed} id (group ∷ groups) = by_page (is_some group.page) (heads_paged id groups)
   where
-    rest : List PooledState
-    rest = filter (λ (other : PooledState). is_some other.page) groups
-
-    by_page : (b : Bool) → count_by (is_id id) (ids (entries_pooled rest)) ≤ count_by (is_named id) (spans_in groups)
-        → count_by (is_id id) (ids (entries_pooled (cond b (group ∷ rest) rest))) ≤ count_by (is_named id) (spans_in (group ∷ groups))
+    by_page : (b : Bool) → count_by (is_id id) (ids (map summary (paged_in groups))) ≤ count_by (is_named id) (spans_in groups)
+        → count_by (is_id id) (ids (map summary (cond b (group ∷ paged_in groups) (paged_in groups)))) ≤ count_by (is_named id) (spans_in (group ∷ groups))
     by_page true fewer =
         omega (
           arith,
-          count-cons (is_id id) group.head.id (ids (entries_pooled rest)),
+          count-cons (is_id id) group.head.id (ids (map summary (paged_in groups))),
           count-append (is_named id) (spans_of group) (spans_in groups),
           count-cons (is_named id) group.head group.guests,
         )
     by_page false fewer = omega (arith, count-append (is_named id) (spans_of group) (spans_in groups))
 
+heads_owned : (id : SpanId) (shards : List ShardState) → count_by (is_id id) (ids (owned_entries shards)) ≤ times_owned id shards
+heads_owned id [] = omega arith
+heads_owned id (shard ∷ shards) =
+    let entries : List Entry = map summary (paged_in shard.groups) in
+    omega (
+      arith,
+      ap (count_by (is_id id)) (map-append (λ (entry : Entry). entry.id) entries (owned_entries shards)),
+      count-append (is_id id) (ids entries) (ids (owned_entries shards)),
+      times_owned-cons id shard shards,
+      heads_paged id shard.groups,
+      heads_owned id shards,
+    )
+
 -- where no span stands twice, no group does
 pub AreDistinct-once : (core : CoreState) → ((id : SpanId) → times id core ≤ 1) → AreDistinct core.pool core.shards
 AreDistinct-once core once = record {
-  abandoned = IsDistinct-once (ids (abandoned_entries core.pool)) (λ id. omega (arith, once id, times-parts id core, heads_pooled id core.pool.groups));
+  abandoned = IsDistinct-once (ids (abandoned_entries core.pool)) (λ id. omega (arith, once id, times-parts id core, heads_paged id core.pool.groups));
   owned = IsDistinct-once (ids (owned_entries core.shards)) (λ id. omega (arith, once id, times-parts id core, heads_owned id core.shards));
 }
 

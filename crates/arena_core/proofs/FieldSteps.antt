@@ -27,7 +27,7 @@ use Rattle.abandoned.specs.declared.error.AdoptError.{AdoptError}
 use Rattle.abandoned.specs.declared.error.AdoptError.TheVariants as adopt_error
 use Rattle.abandoned.specs.declared.error.ReceiveError.{ReceiveError}
 use Rattle.abandoned.specs.declared.error.ReceiveError.TheVariants as receive_error
-use Rattle.arena_core.specs.declared.event.Event.TheVariants.{Put, Set, Free, End, Retire, Adopt}
+use Rattle.arena_core.specs.declared.event.Event.TheVariants.{Put, Set, Free, End, Retire, Trim, Adopt}
 use Rattle.arena_core.specs.declared.machine.Core.TheInside.{Inside}
 use Rattle.arena_core.specs.declared.reply.Refusal.{Refusal}
 use Rattle.arena_core.specs.declared.reply.Refusal.TheVariants.{OutOfMemory}
@@ -43,8 +43,9 @@ use Rattle.arena_core.specs.Step.{CoreStep, HasClosed}
 use Rattle.arena_core.proofs.Fields.{IsRead, shard-read, state_of-with_both_at, state_of-with_shard_at, with_both_at, with_shard_at}
 use Rattle.arena_core.proofs.Moves.{CoreStep-adopt_refused, CoreStep-end_refused, CoreStep-retire_refused}
 use Rattle.abandoned.specs.Retires.{HasRetired, Retires}
+use Rattle.shard.specs.Trims.{Trims}
 use Rattle.arena_core.proofs.Moved.{has_span-Frees, has_span-Sets, value-no_other}
-use Rattle.arena_core.proofs.PlanSteps.{IsSoundStep, IsSoundStep-Adopts, IsSoundStep-Frees, IsSoundStep-Puts, IsSoundStep-Receives, IsSoundStep-Retires, IsSoundStep-Sets, IsSoundStep-SetsPooled, IsSoundStep-set_refused}
+use Rattle.arena_core.proofs.PlanSteps.{IsSoundStep, IsSoundStep-Adopts, IsSoundStep-Frees, IsSoundStep-Puts, IsSoundStep-Receives, IsSoundStep-Retires, IsSoundStep-Trims, IsSoundStep-Sets, IsSoundStep-SetsPooled, IsSoundStep-set_refused}
 use Rattle.arena_core.proofs.Steps.{CoreStep-refused, has_span-may_set, may_set-shard, not_doubled, not_in_pool, with_pool-same}
 
 -- a shard that is as it was leaves the fields as they were
@@ -171,6 +172,12 @@ pub IsStep-adopt_fields : {L : Type 0} (c : Inside L) (number : ℕ) (head : Spa
 IsStep-adopt_fields c number head before after pool whereabouts kept no_plan read running adopts sound sound_pool =
     subst (IsSoundStep (state_of c) (Adopt number) (reply.Adopted head)) (sym (state_of-with_both_at c number after pool whereabouts))
     (IsSoundStep-Adopts (state_of c) number head before after pool kept no_plan (shard-read c number before read) running adopts sound sound_pool)
+
+pub IsStep-trim_fields : {L : Type 0} (c : Inside L) (number count : ℕ) (before after : ShardState) → IsSound (state_of c) → IsRead c number before → Trims before count after → shown_by after ≡ shown_by before → IsSoundShard after
+    → IsSoundStep (state_of c) (Trim number) (reply.Trimmed count) (state_of (with_shard_at c number after))
+IsStep-trim_fields c number count before after kept read trims plain sound =
+    subst (IsSoundStep (state_of c) (Trim number) (reply.Trimmed count)) (sym (state_of-with_shard_at c number after))
+    (IsSoundStep-Trims (state_of c) number count before after kept (shard-read c number before read) trims plain sound)
 
 -- where the pool does not know of a plan, none is open
 pub no_plan_if_adopted : {L : Type 0} (c : Inside L) → IsSound (state_of c) → (c.pool.has_plan ≡ true → ⊥) → c.plan ≡ None

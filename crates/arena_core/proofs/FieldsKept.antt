@@ -33,6 +33,8 @@ use Rattle.arena_core.proofs.Groups.{IsCall-ChangesSpan, IsCall-Puts}
 use Rattle.arena_core.proofs.MarkSteps.{with_step_at}
 use Rattle.arena_core.proofs.Noted.{Comes, KnowsMoved-map, KnowsMoved-noted, KnowsMoved-set, has_span-flagged, kept-IsCall, kept-emptied, kept-part}
 use Rattle.abandoned.specs.Retires.{Retires}
+use Rattle.shard.specs.Trims.{Trims}
+use Rattle.arena_core.proofs.Trimmed.{IsCall-Trims}
 use Rattle.arena_core.proofs.OneSpan.{ChangesSpan-Frees, ChangesSpan-Sets}
 use Rattle.arena_core.proofs.Retired.{HasGone-Retires}
 use Rattle.arena_core.proofs.Start.{slice_get-range}
@@ -75,6 +77,9 @@ module _ {L : Type 0} (c : Inside L) (kept : IsKept c) (number : ℕ) (before : 
   pub GetsNone-Retires : (pool_before pool_after : PoolState) (most count : ℕ) (after : ShardState) → IsSoundShard before → IsSoundShard after → Retires pool_before before most count pool_after after → GetsNone number before after
   GetsNone-Retires pool_before pool_after most count after sound sound_after retires id foreign has =
       kept-part before after sound sound_after (HasGone-Retires pool_before before most count pool_after after retires).part id has
+
+  pub GetsNone-Trims : (count : ℕ) (after : ShardState) → Trims before count after → GetsNone number before after
+  GetsNone-Trims count after trims = kept-IsCall before after number number_is (IsCall-Trims before after count trims)
 
   pub IsKept-with_both_at : (after : ShardState) (pool : PoolState) → GetsNone number before after → IsSound (state_of (with_both_at c number after pool c.whereabouts)) → IsKept (with_both_at c number after pool c.whereabouts)
   IsKept-with_both_at after pool none sound = record {

@@ -1,5 +1,6 @@
 pub mod Changes
 pub mod Codes
+pub mod Distinct
 pub mod FieldSteps
 pub mod Fields
 pub mod FieldsKept
@@ -11,7 +12,6 @@ pub mod LiveKeys
 pub mod LiveKeysShown
 pub mod Logged
 pub mod MarkSteps
-pub mod Distinct
 pub mod Moved
 pub mod Moves
 pub mod NextLive
@@ -32,3 +32,4 @@ pub mod Spans
 pub mod Start
 pub mod Stepping
 pub mod Steps
+pub mod Trimmed

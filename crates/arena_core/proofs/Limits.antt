@@ -4,9 +4,9 @@ use Rattle.span.specs.declared.key.Key.{Key}
 use Rattle.span.specs.Log.{Value}
 use Rattle.fold.specs.declared.step.Step.TheVariants.{Absent, Emptied, Clash, Folded}
 use Rattle.arena_core.specs.declared.event.Event.{Event}
-use Rattle.arena_core.specs.declared.event.Event.TheVariants.{Put, Get, Set, Free, Later, Settle, End, Retire, Adopt, Mark, Step, Close}
+use Rattle.arena_core.specs.declared.event.Event.TheVariants.{Put, Get, Set, Free, Later, Settle, End, Retire, Trim, Adopt, Mark, Step, Close}
 use Rattle.arena_core.specs.declared.reply.Reply.{Reply}
-use Rattle.arena_core.specs.declared.reply.Reply.TheVariants.{Issued, Found, Replaced, Freed, Sent, Settled, ShardEnded, Retired, Adopted, Marked, Stepped, NoPairLeft, Closed, NoPlan, Refused}
+use Rattle.arena_core.specs.declared.reply.Reply.TheVariants.{Issued, Found, Replaced, Freed, Sent, Settled, ShardEnded, Retired, Trimmed, Adopted, Marked, Stepped, NoPairLeft, Closed, NoPlan, Refused}
 use Rattle.arena_core.specs.declared.reply.Refusal.TheVariants.{OutOfMemory, PagesSpent, Ended, PlanOpen, TooMany, NothingToAdopt, RingFull, Config}
 use Rattle.arena_core.specs.Rings.{with_keys, with_ring_at}
 use Rattle.arena_core.specs.State.{CoreState, with_rings}
@@ -52,6 +52,8 @@ limits-CoreStep old new (Retire shard most) (Refused Ended) step = limits-same o
 limits-CoreStep old new (Retire shard most) (Refused PlanOpen) (has, closed, same) = limits-same old new same
 limits-CoreStep old new (Retire shard most) (Refused Config) step = limits-same old new step.1
 limits-CoreStep old new (Retire shard most) (Refused OutOfMemory) step = limits-same old new step.1
+limits-CoreStep old new (Trim shard) (Trimmed count) step = ap (λ (c : CoreState). c.limits) step.rest
+limits-CoreStep old new (Trim shard) (Refused Config) step = limits-same old new step.1
 limits-CoreStep old new (Adopt shard) (Adopted head) step = ap (λ (c : CoreState). c.limits) step.rest
 limits-CoreStep old new (Adopt shard) (Refused PagesSpent) step = limits-same old new step.1
 limits-CoreStep old new (Adopt shard) (Refused Ended) step = limits-same old new step.1

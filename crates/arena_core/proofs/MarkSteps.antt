@@ -1,17 +1,19 @@
 -- What a mark and a close leave: a sound core, which shows the same map.
-use Rattle.std.proofs.Common.{◌≡◌, ℕ, ◌<◌, Bool, true, false, refl, sym, ap, subst, ◌∙◌, arith, List, Option, Some, None, slice_get, set, length, map, get_or}
+use Rattle.std.proofs.Common.{◌≡◌, ℕ, ◌<◌, ◌≤◌, ◌&&◌, is_some, Bool, true, false, refl, sym, ap, subst, ◌∙◌, arith, List, Option, Some, None, slice_get, set, length, map, get_or}
 use Rattle.std.proofs.Math.ListN.{length-set}
 use Rattle.std.proofs.lemmas.Option.{get_or_from_slice_get, slice_get_within}
 use Rattle.std.specs.Prelude.{option_map}
+use Rattle.std.proofs.lemmas.Bool.{true≢false}
 use Rattle.std.specs.Vec.{with_item}
 use Rattle.std.proofs.lemmas.List.{length-map}
 use Rattle.span.specs.declared.id.SpanId.{SpanId}
 use Rattle.shard.specs.Closes.{opened_group}
 use Rattle.shard.specs.Group.{GroupState}
-use Rattle.groups.specs.Group.{occupied}
+use Rattle.groups.specs.Group.{IsHeadOf, occupied}
+use Rattle.shard.proofs.HeadsHere.{same_group}
 use Rattle.shard.specs.Sound.{IsSound as IsSoundShard}
 use Rattle.shard.specs.State.{ShardState}
-use Rattle.groups.proofs.Lists.{set-same}
+use Rattle.groups.proofs.Lists.{same_some, set-same}
 use Rattle.abandoned.specs.Sound.{IsSound as IsSoundPool}
 use Rattle.abandoned.specs.State.{PoolState}
 use Rattle.fold.specs.Folds.{Steps}
@@ -22,7 +24,7 @@ use Rattle.arena_core.specs.Kept.{state_of}
 use Rattle.marks.specs.Seen.{IsLargest, with_plan_told}
 use Rattle.marks.specs.Plans.{next_pair, plans_onto, with_next_done, OpenPlan}
 use Rattle.arena_core.specs.Moved.{StandsIn}
-use Rattle.arena_core.specs.Plan.{IsNext, IsOwned}
+use Rattle.arena_core.specs.Plan.{IsNext, IsOwned, IsUnderWay}
 use Rattle.arena_core.specs.Sound.{HasSoundGroups, IsSound}
 use Rattle.arena_core.specs.State.{CoreState, has_span, shown, with_plan, with_pool, with_shard}
 use Rattle.arena_core.specs.Step.{with_plan_closed}
@@ -33,7 +35,9 @@ use Rattle.arena_core.proofs.Flagged.{HasSoundGroups-flagged, shown-flagged, wit
 use Rattle.marks.proofs.Flagged.{map_back}
 use Rattle.marks.proofs.Lists.{slice_get-map_at}
 use Rattle.arena_core.proofs.PlanMarks.{IsUnderWay-marked}
-use Rattle.arena_core.proofs.PlanSteps.{AreAllClosedAsPlanned, IsSoundStep, HasSoundPlan-none}
+use Rattle.arena_core.proofs.Changes.{at_most_once}
+use Rattle.arena_core.proofs.PlanSteps.{AreAllClosedAsPlanned, IsSoundStep, HasSoundPlan-none, plans_onto-none}
+use Rattle.arena_core.proofs.Spans.{shard_with-here, times-parts, times_owned}
 use Rattle.arena_core.proofs.Stepping.{IsSoundStep-Steps, waits}
 use Rattle.arena_core.proofs.Steps.{has_span-here}
 
@@ -55,6 +59,19 @@ HasSoundGroups-retold core told plan sound = record {
 pub AreOpen-none : (core : CoreState) → IsSound core → core.plan ≡ None → AreOpen core.shards
 AreOpen-none core sound none = subst (λ plan. AreAllClosedAsPlanned plan core.shards) none sound.plan.closed
 
+-- one group at most has a head
+one_owned : (core : CoreState) → HasSoundGroups core → (head : SpanId) (a b : GroupState) → IsOwned core head a → IsOwned core head b → a ≡ b
+one_owned core sound head a b is_a is_b =
+    let sound_b = (sound.shards is_b.number is_b.shard is_b.shard_is).sound in
+    let once : times_owned head core.shards ≤ 1 = omega (arith, times-parts head core, at_most_once core sound head) in
+    let found_a = shard_with-here head core.shards is_a.number is_a.shard is_a.shard_is (has_head is_a.number is_a.shard is_a.shard_is is_a.index a is_a.head_of) once in
+    let found_b = shard_with-here head core.shards is_b.number is_b.shard is_b.shard_is (has_head is_b.number is_b.shard is_b.shard_is is_b.index b is_b.head_of) once in
+    let same : is_a.shard ≡ is_b.shard = same_some (sym found_a ∙ found_b) in
+    same_group is_b.shard.groups sound_b.ascending head is_a.index is_b.index a b (subst (λ (s : ShardState). IsHeadOf s.groups head is_a.index a) same is_a.head_of) is_b.head_of
+  where
+    has_head : (number : ℕ) (shard : ShardState) → slice_get core.shards number ≡ Some shard → (index : ℕ) (group : GroupState) → IsHeadOf shard.groups head index group → has_span head shard ≡ true
+    has_head number shard at index group is = has_span-here shard head index 0 group group.head (sound.shards number shard at).sound (record { group_is = is.here; span_is = refl; id_is = is.head_is })
+
 -- a mark
 
 module _ (old : CoreState) (sound : IsSound old) (found : Certificate) (largest : IsLargest old.pool old.shards found) where
@@ -62,12 +79,12 @@ module _ (old : CoreState) (sound : IsSound old) (found : Certificate) (largest 
   marked = record old { shards = map (closed_onto found.plan) old.shards; pool = with_plan_told old.pool true; plan = Some (record { pairs = found.plan; done = 0 }) }
 
   abbrev flag : GroupState → Bool
-  flag group = plans_onto found.plan group.head.id
+  flag group = is_some group.page && plans_onto found.plan group.head.id
 
   marked_groups : HasSoundGroups marked
   marked_groups = HasSoundGroups-retold (with_all_flags flag old) true (Some (record { pairs = found.plan; done = 0 })) (HasSoundGroups-flagged flag old sound.groups)
 
-  owned_still : (head : SpanId) (group : GroupState) → IsOwned old head group → (now : GroupState) × IsOwned marked head now × (now.head.class ≡ group.head.class) × (occupied now ≡ occupied group)
+  owned_still : (head : SpanId) (group : GroupState) → IsOwned old head group → (now : GroupState) × IsOwned marked head now × (now.head.class ≡ group.head.class) × (occupied now ≡ occupied group) × (now.page ≡ group.page)
   owned_still head group is = (
     closed_as_planned found.plan group,
     record {
@@ -79,7 +96,26 @@ module _ (old : CoreState) (sound : IsSound old) (found : Certificate) (largest 
     },
     refl,
     refl,
+    refl,
   )
+
+  under_way : IsUnderWay marked (record { pairs = found.plan; done = 0 })
+  under_way =
+      IsUnderWay-marked old marked found.snapshot found.plan largest.seen.abandoned largest.seen.owned largest.best.plan
+      (λ head group is. record { index = is.index; head_of = is.head_of }) owned_still
+
+  -- a group with no page is not planned, since the group of that head has one
+  paged_if_planned : (number : ℕ) (shard : ShardState) → slice_get marked.shards number ≡ Some shard → (index : ℕ) (before group : GroupState) → slice_get shard.groups index ≡ Some group → closed_as_planned found.plan before ≡ group
+      → (is_some before.page && plans_onto found.plan before.head.id) ≡ plans_onto found.plan before.head.id
+  paged_if_planned number shard here index before group at same = by_page (is_some before.page) refl
+    where
+      by_page : (b : Bool) → is_some before.page ≡ b → (b && plans_onto found.plan before.head.id) ≡ plans_onto found.plan before.head.id
+      by_page true some = refl
+      by_page false none = sym (plans_onto-none found.plan before.head.id (λ k pair at_k named.
+          let waits = under_way.waiting k pair (omega arith) at_k in
+          let mine : IsOwned marked pair.1 group = record { number = number; shard = shard; index = index; shard_is = here; head_of = record { here = at; head_is = ap (λ (g : GroupState). g.head.id) (sym same) ∙ sym named } } in
+          let one : waits.owned ≡ group = one_owned marked marked_groups pair.1 waits.owned group waits.is_owned mine in
+          true≢false (sym waits.paged ∙ ap (λ (g : GroupState). is_some g.page) (one ∙ sym same) ∙ none)))
 
   pub IsSound-marked : IsSound marked
   IsSound-marked = record {
@@ -89,10 +125,8 @@ module _ (old : CoreState) (sound : IsSound old) (found : Certificate) (largest 
       closed = λ number shard here index group at.
           let (was, there, is) = map_back (closed_onto found.plan) old.shards number shard here in
           let (before, stood, same) = map_back (closed_as_planned found.plan) was.groups index group (subst (λ (s : ShardState). slice_get s.groups index ≡ Some group) (sym is) at) in
-          subst (λ (g : GroupState). g.closed ≡ plans_onto found.plan g.head.id) same refl;
-      under_way =
-          IsUnderWay-marked old marked found.snapshot found.plan largest.seen.abandoned largest.seen.owned largest.best.plan
-          (λ head group is. record { index = is.index; head_of = is.head_of }) owned_still;
+          subst (λ (g : GroupState). g.closed ≡ plans_onto found.plan g.head.id) same (paged_if_planned number shard here index before group at same);
+      under_way = under_way;
     };
     rings = sound.rings;
   }

@@ -1,5 +1,6 @@
 -- A set and a free change one span of a group: it keeps its id, its class and its greatest generation, and no slot of it comes to life.
 use Rattle.std.proofs.Common.{zero, suc, ◌≡◌, ℕ, true, refl, sym, ap, ◌∙◌, Option, Some, None, set, slice_get}
+use Rattle.std.specs.Prelude.{IsSome}
 use Rattle.std.specs.FinSet.{contains, contains-remove}
 use Rattle.std.specs.Cmp.{nat_cmp_total}
 use Rattle.std.proofs.lemmas.Bool.{and_parts}
@@ -64,6 +65,7 @@ pub record ChangesSpan (before after : ShardState) : Type 0 where
   pub span : SpanState
   pub now : SpanState
   pub page : Option Words
+  pub still_paged : IsSome group.page → IsSome page
   pub group_is : slice_get before.groups index ≡ Some group
   pub span_is : slice_get (spans_of group) place ≡ Some span
   pub same : IsSame span now
@@ -77,6 +79,7 @@ ChangesSpan-Frees before after key at (index, place, group, span, here, holds, a
   span = span;
   now = with_free span key;
   page = group.page;
+  still_paged = λ some. some;
   group_is = here.group_is;
   span_is = here.span_is;
   same = IsSame-free span key;
@@ -91,6 +94,7 @@ ChangesSpan-Sets before after key value at (index, place, group, span, here, set
   span = span;
   now = with_set span key value;
   page = with_object group.page span.class key.slot value;
+  still_paged = λ some. refl;
   group_is = here.group_is;
   span_is = here.span_is;
   same = IsSame-set span key value settable.0;

@@ -131,6 +131,7 @@ module _ (old : CoreState) (plan : OpenPlan) (pair : SpanId × SpanId) (number :
           owned = waits.owned;
           is_abandoned = IsPooled-other p.0 waits.abandoned (other_abandoned k p at differ) waits.is_abandoned;
           is_owned = IsOwned-other p.1 waits.owned (other_owned k p at differ) waits.is_owned;
+          paged = waits.paged;
           class_is = waits.class_is;
           apart = waits.apart;
         }
@@ -182,5 +183,5 @@ module _ (old : CoreState) (plan : OpenPlan) (under : IsUnderWay old plan) (pair
     carried_out = λ k p below at. carried_next k p below at (cases_eq k plan.done);
     waiting = λ k p past at.
         let waits = under.waiting k p (omega arith) at in
-        record { abandoned = waits.abandoned; owned = waits.owned; is_abandoned = pooled_too p.0 waits.abandoned waits.is_abandoned; is_owned = owned_too p.1 waits.owned waits.is_owned; class_is = waits.class_is; apart = waits.apart };
+        record { abandoned = waits.abandoned; owned = waits.owned; is_abandoned = pooled_too p.0 waits.abandoned waits.is_abandoned; is_owned = owned_too p.1 waits.owned waits.is_owned; class_is = waits.class_is; apart = waits.apart; paged = waits.paged };
   }

@@ -1,5 +1,6 @@
 -- What an event that is no fold does to the groups that an open plan names: each stays, and none grows.
-use Rattle.std.proofs.Common.{◌≡◌, ◌≢◌, ℕ, zero, suc, Bool, true, false, ◌||◌, List, [], ◌∷◌, ◌⊎◌, inl, inr, refl, sym, ap, subst, ◌∙◌, Option, Some, None, set, slice_get}
+use Rattle.std.proofs.Common.{◌≡◌, ◌≢◌, ℕ, zero, suc, Bool, true, false, ◌||◌, List, [], ◌∷◌, ◌⊎◌, inl, inr, refl, sym, ap, subst, ◌∙◌, Option, Some, None, is_some, set, slice_get}
+use Rattle.std.specs.Prelude.{IsSome}
 use Rattle.std.specs.FinSet.{contains, contains-union}
 use Rattle.std.specs.Cmp.{nat_cmp_total}
 use Rattle.std.proofs.Math.Bool.{or-true}
@@ -19,7 +20,7 @@ use Rattle.groups.specs.Spans.{IsSpanAt, union_of, with_put}
 use Rattle.groups.specs.Whole.{WholeState}
 use Rattle.shard.specs.State.{ShardState}
 use Rattle.groups.proofs.Lists.{after-insert, after-set, same_some}
-use Rattle.groups.proofs.Standing.{spans_of-with_span}
+use Rattle.groups.proofs.Standing.{page-with_span, spans_of-with_span}
 use Rattle.page.specs.Words.{Words}
 use Rattle.groups.specs.Pages.{put_group}
 use Rattle.abandoned.specs.Calls.{Receives, TakesAll, TakesIn, with_rooms}
@@ -73,9 +74,10 @@ pub record IsFewer (group now : GroupState) : Type 0 where
   pub slots : IsWithin (occupied now) (occupied group)
   pub guests : (id : SpanId) (place : ℕ) → IsSpanAt group.guests id place → IsSpanAt now.guests id place
   pub closed_is : now.closed ≡ group.closed
+  pub paged : IsSome group.page → IsSome now.page
 
 pub IsFewer-same : (group : GroupState) → IsFewer group group
-IsFewer-same group = record { head_is = refl; class_is = refl; slots = λ slot e. e; guests = λ id place e. e; closed_is = refl }
+IsFewer-same group = record { head_is = refl; class_is = refl; slots = λ slot e. e; guests = λ id place e. e; closed_is = refl; paged = λ some. some }
 
 -- every closed group stays, and none grows
 abbrev pub KeepsClosed : List GroupState → List GroupState → Type 0
@@ -134,6 +136,7 @@ module _ (old new : CoreState) (pooled : KeepsPooled old.pool.groups new.pool.gr
           owned = b;
           is_abandoned = a_is;
           is_owned = b_is;
+          paged = fewer_b.paged waits.paged;
           class_is = class_a ∙ waits.class_is ∙ sym fewer_b.class_is;
           apart = AreDisjoint-within (union_of (spans_of waits.abandoned)) (union_of (spans_of a)) (occupied waits.owned) (occupied b) fewer_a fewer_b.slots waits.apart;
         }
@@ -202,15 +205,16 @@ IsFewer-with_span group place span now here same = record {
   slots = λ slot live. union_of-fewer (spans_of group) place span now here same.slots slot (ap (λ spans. contains (union_of spans) slot) (sym (spans_of-with_span group place now)) ∙ live);
   guests = guests-with_span group place span now here same.id_is;
   closed_is = closed-with_span group place now;
+  paged = λ some. ap is_some (page-with_span group place now) ∙ some;
 }
 
--- which page the group has is nothing to it
-pub IsFewer-paged : (group now : GroupState) (page : Option Words) → IsFewer group now → IsFewer group (record now { page = page })
-IsFewer-paged group now page fewer = record { head_is = fewer.head_is; class_is = fewer.class_is; slots = fewer.slots; guests = fewer.guests; closed_is = fewer.closed_is }
+-- what is on the page is nothing to it
+pub IsFewer-paged : (group now : GroupState) (page : Option Words) → (IsSome group.page → IsSome page) → IsFewer group now → IsFewer group (record now { page = page })
+IsFewer-paged group now page still fewer = record { head_is = fewer.head_is; class_is = fewer.class_is; slots = fewer.slots; guests = fewer.guests; closed_is = fewer.closed_is; paged = still }
 
 pub KeepsClosed-ChangesSpan : (before after : ShardState) → ChangesSpan before after → KeepsClosed before.groups after.groups
 KeepsClosed-ChangesSpan before after changes other there at_other closed =
-    let fewer = IsFewer-paged changes.group (with_span changes.group changes.place changes.now) changes.page (IsFewer-with_span changes.group changes.place changes.span changes.now changes.span_is changes.same) in
+    let fewer = IsFewer-paged changes.group (with_span changes.group changes.place changes.now) changes.page changes.still_paged (IsFewer-with_span changes.group changes.place changes.span changes.now changes.span_is changes.same) in
     let (now, there_now, is) = after-set IsFewer IsFewer-same before.groups changes.index changes.group (record (with_span changes.group changes.place changes.now) { page = changes.page }) changes.group_is fewer other there at_other in
     (other, now, ap (λ (s : ShardState). slice_get s.groups other) changes.after_is ∙ there_now, is)
 

@@ -1,6 +1,6 @@
 -- A mark's pairs wait: what it sees are groups of the pool and of the shards.
 use Rattle.std.proofs.Common.{◌≡◌, ℕ, suc, ◌<◌, ◌≤◌, Bool, true, false, cond, ◌&&◌, ◌||◌, List, [], ◌∷◌, ◌⊎◌, inl, inr, refl, sym, ap, subst, ◌∙◌, arith, Some, slice_get, map, get_or, is_some, eqb, eqb-true, map-id}
-use Rattle.std.specs.Prelude.{filter}
+use Rattle.std.specs.Prelude.{IsSome, filter}
 use Rattle.std.specs.List.{AllByRecursion, IsDistinct, list_any}
 use Rattle.std.specs.List.Sorted.{IsPermutation}
 use Rattle.std.proofs.lemmas.Bool.{and_parts, cases_lt}
@@ -16,7 +16,7 @@ use Rattle.span.specs.Ids.{same_span}
 use Rattle.span.proofs.Ids.{same_id_from_test, test_from_same_id}
 use Rattle.shard.proofs.Classes.{class_from_width}
 use Rattle.shard.specs.Group.{GroupState}
-use Rattle.groups.specs.Group.{occupied, summary}
+use Rattle.groups.specs.Group.{occupied, paged_in, summary}
 use Rattle.shard.specs.State.{ShardState}
 use Rattle.abandoned.specs.State.{PooledState}
 use Rattle.mesh_graph.specs.Groups.{Groups, any_compatible}
@@ -64,22 +64,27 @@ tells_pooled (group ∷ groups) = by_page (is_some group.page) (each-to _ (λ en
     by_page true rest = ((0, group, refl, refl), rest)
     by_page false rest = rest
 
--- the entry is that of a group of these
+-- the entry is that of a group of these, which has a page
 abbrev pub TellsGroup : List GroupState → Entry → Type 0
-TellsGroup groups entry = (index : ℕ) × (group : GroupState) × (slice_get groups index ≡ Some group) × (summary group ≡ entry)
+TellsGroup groups entry = (index : ℕ) × (group : GroupState) × (slice_get groups index ≡ Some group) × (summary group ≡ entry) × IsSome group.page
 
 -- the entry is that of a group of a shard
 abbrev pub TellsOwned : List ShardState → Entry → Type 0
 TellsOwned shards entry = (number : ℕ) × (shard : ShardState) × (slice_get shards number ≡ Some shard) × TellsGroup shard.groups entry
 
-tells_groups : (groups : List GroupState) → AllByRecursion (TellsGroup groups) (map summary groups)
+tells_groups : (groups : List GroupState) → AllByRecursion (TellsGroup groups) (map summary (paged_in groups))
 tells_groups [] = tt
-tells_groups (group ∷ groups) = ((0, group, refl, refl), each-to _ (λ entry tells. (suc tells.0, tells.1, tells.2, tells.3)) (tells_groups groups))
+tells_groups (group ∷ groups) = by_page (is_some group.page) refl (each-to _ (λ entry tells. (suc tells.0, tells.1, tells.2, tells.3, tells.4)) (tells_groups groups))
+  where
+    by_page : (b : Bool) → is_some group.page ≡ b → AllByRecursion (TellsGroup (group ∷ groups)) (map summary (paged_in groups))
+        → AllByRecursion (TellsGroup (group ∷ groups)) (map summary (cond b (group ∷ paged_in groups) (paged_in groups)))
+    by_page true some rest = ((0, group, refl, refl, some), rest)
+    by_page false none rest = rest
 
 tells_owned : (shards : List ShardState) → AllByRecursion (TellsOwned shards) (owned_entries shards)
 tells_owned [] = tt
 tells_owned (shard ∷ shards) =
-    each-append (TellsOwned (shard ∷ shards)) (map summary shard.groups) (owned_entries shards)
+    each-append (TellsOwned (shard ∷ shards)) (map summary (paged_in shard.groups)) (owned_entries shards)
     (each-to _ (λ entry tells. (0, shard, refl, tells)) (tells_groups shard.groups))
     (each-to _ (λ entry tells. (suc tells.0, tells.1, tells.2, tells.3)) (tells_owned shards))
 
@@ -106,12 +111,13 @@ IsWaiting-seen core seen abandoned owned pair compatible =
     let y = right.0 in
     let both = and_parts (same_span y.id pair.1) (are_compatible x y) right.1 in
     let (i, a, at_a, tells_a) = left.2 in
-    let (n, shard, at_shard, (j, b, at_b, tells_b)) = right.2 in
+    let (n, shard, at_shard, (j, b, at_b, tells_b, paged_b)) = right.2 in
     record {
       abandoned = a;
       owned = b;
       is_abandoned = record { index = i; head_of = record { here = at_a; head_is = ap (λ (e : Entry). e.id) tells_a ∙ same_id_from_test x.id pair.0 parts.0 } };
       is_owned = record { number = n; shard = shard; index = j; shard_is = at_shard; head_of = record { here = at_b; head_is = ap (λ (e : Entry). e.id) tells_b ∙ same_id_from_test y.id pair.1 both.0 } };
+      paged = paged_b;
       class_is = ap (λ (e : Entry). e.class) tells_a ∙ class_from_test x y both.1 ∙ sym (ap (λ (e : Entry). e.class) tells_b);
       apart = subst (λ (e : Entry). AreDisjoint e.occupied (occupied b)) (sym tells_a) (subst (λ (e : Entry). AreDisjoint x.occupied e.occupied) (sym tells_b) (apart_from_test x y both.1));
     }
@@ -142,7 +148,7 @@ compatible-sides_of seen a b = refl
 
 pub IsUnderWay-marked : (old new : CoreState) (seen : Groups) (pairs : List (SpanId × SpanId)) → IsPermutation (abandoned_entries old.pool) seen.abandoned → IsPermutation (owned_entries old.shards) seen.owned → IsPlanOf seen pairs
     → ((head : SpanId) (group : PooledState) → IsPooled old head group → IsPooled new head group)
-    → ((head : SpanId) (group : GroupState) → IsOwned old head group → (now : GroupState) × IsOwned new head now × (now.head.class ≡ group.head.class) × (occupied now ≡ occupied group))
+    → ((head : SpanId) (group : GroupState) → IsOwned old head group → (now : GroupState) × IsOwned new head now × (now.head.class ≡ group.head.class) × (occupied now ≡ occupied group) × (now.page ≡ group.page))
     → IsUnderWay new (record { pairs = pairs; done = 0 })
 IsUnderWay-marked old new seen pairs abandoned owned plan pooled_still owned_still = record {
   within = omega arith;
@@ -158,12 +164,13 @@ IsUnderWay-marked old new seen pairs abandoned owned plan pooled_still owned_sti
         let inside = slice_get_within pairs k pair at in
         let compatible : any_compatible seen pair.0 pair.1 ≡ true = subst (λ (p : SpanId × SpanId). any_compatible seen p.0 p.1 ≡ true) (get_or_from_slice_get pairs k pair pair at) (sym (compatible-sides_of seen (get_or pairs k pair).0 (get_or pairs k pair).1) ∙ plan.compatible k pair inside) in
         let found = IsWaiting-seen old seen abandoned owned pair compatible in
-        let (now, now_is, same_class, same) = owned_still pair.1 found.owned found.is_owned in
+        let (now, now_is, same_class, same, same_page) = owned_still pair.1 found.owned found.is_owned in
         record {
           abandoned = found.abandoned;
           owned = now;
           is_abandoned = pooled_still pair.0 found.abandoned found.is_abandoned;
           is_owned = now_is;
+          paged = ap is_some same_page ∙ found.paged;
           class_is = found.class_is ∙ sym same_class;
           apart = subst (AreDisjoint (occupied found.abandoned)) (sym same) found.apart;
         }

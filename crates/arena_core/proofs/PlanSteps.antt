@@ -33,7 +33,7 @@ use Rattle.arena_core.specs.Sound.{AreRings, IsSound}
 use Rattle.arena_core.specs.State.{CoreState, has_span, opened_by, opened_of, shown, with_pool, with_shard}
 use Rattle.arena_core.specs.Step.{CoreStep, HasClosed}
 use Rattle.arena_core.specs.declared.event.Event.{Event}
-use Rattle.arena_core.specs.declared.event.Event.TheVariants.{Put, Set, Free, End, Retire, Adopt}
+use Rattle.arena_core.specs.declared.event.Event.TheVariants.{Put, Set, Free, End, Retire, Trim, Adopt}
 use Rattle.arena_core.specs.declared.reply.Refusal.TheVariants.{OutOfMemory}
 use Rattle.arena_core.specs.declared.reply.Reply.{Reply}
 use Rattle.arena_core.specs.declared.reply.Reply.TheVariants as reply
@@ -44,6 +44,8 @@ use Rattle.arena_core.proofs.OneSpan.{ChangesPooled, ChangesPooled-Frees, Change
 use Rattle.arena_core.proofs.Moves.{IsStep-Adopts, IsStep-Receives, IsStep-Retires, unclosed}
 use Rattle.abandoned.specs.Retires.{HasRetired, Retires}
 use Rattle.arena_core.proofs.Retired.{HasGone-Retires}
+use Rattle.arena_core.proofs.Trimmed.{AreClosedAsPlanned-Trims, IsStep-Trims, KeepsClosed-Trims}
+use Rattle.shard.specs.Trims.{Trims}
 use Rattle.arena_core.proofs.Spans.{times-parts, times_in-found, times_in-le}
 use Rattle.arena_core.proofs.Steps.{IsStep, IsStep-Frees, IsStep-FreesPooled, IsStep-Puts, IsStep-Sets, IsStep-SetsPooled, IsStep-dead, IsStep-unset, has_span-here, with_pool-same, with_shard-same}
 
@@ -89,7 +91,7 @@ HasSoundPlan-none new plan_is told closed = record {
 
 -- a span that no plan knows
 
-plans_onto-none : (pairs : List (SpanId × SpanId)) (id : SpanId) → ((k : ℕ) (pair : SpanId × SpanId) → slice_get pairs k ≡ Some pair → pair.1 ≡ id → ⊥) → plans_onto pairs id ≡ false
+pub plans_onto-none : (pairs : List (SpanId × SpanId)) (id : SpanId) → ((k : ℕ) (pair : SpanId × SpanId) → slice_get pairs k ≡ Some pair → pair.1 ≡ id → ⊥) → plans_onto pairs id ≡ false
 plans_onto-none [] id never = refl
 plans_onto-none (pair ∷ pairs) id never = by_test (same_span pair.1 id) refl (plans_onto-none pairs id (λ k other at. never (suc k) other at))
   where
@@ -211,7 +213,7 @@ IsSoundStep-unset old key value sound never = with_plan_kept old (Set key value)
 
 -- a set that is refused
 pub IsSoundStep-set_refused : (old : CoreState) (key : Key) (value : Value) → IsSound old → may_set (shown old) key value ≡ true → IsSoundStep old (Set key value) (reply.Refused OutOfMemory) old
-IsSoundStep-set_refused old key value sound may = record { kept = sound; exact = (may, refl); plain = refl }
+IsSoundStep-set_refused old key value sound may = record { kept = sound; exact = (may, refl); plain = (may, refl) }
 
 pub IsSoundStep-Sets : (old : CoreState) (key : Key) (value : Value) (number : ℕ) (before after : ShardState) (answer : Replaced) → IsSound old → slice_get old.shards number ≡ Some before → has_span key.span before ≡ true → Sets before key value answer after
     → was_replaced answer ≡ may_set (shown_by before) key value → shown_by after ≡ cond (was_replaced answer) (with_value (shown_by before) key value) (shown_by before) → IsSoundShard after
@@ -284,6 +286,14 @@ pub IsSoundStep-Retires : (old : CoreState) (number most count : ℕ) (before af
     → IsSoundStep old (Retire number most) (reply.Retired count) (with_pool (with_shard old number after) pool)
 IsSoundStep-Retires old number most count before after pool sound here none_closed retires whole sound_after sound_pool =
     with_plan_kept old (Retire number most) (reply.Retired count) (with_pool (with_shard old number after) pool) (IsStep-Retires old number most count before after pool sound.groups here none_closed retires whole sound_after sound_pool) (HasSoundPlan-Retires old sound number most count before after pool here (unclosed before.groups none_closed) retires) sound.rings
+
+pub IsSoundStep-Trims : (old : CoreState) (number count : ℕ) (before after : ShardState) → IsSound old → slice_get old.shards number ≡ Some before → Trims before count after → shown_by after ≡ shown_by before → IsSoundShard after
+    → IsSoundStep old (Trim number) (reply.Trimmed count) (with_shard old number after)
+IsSoundStep-Trims old number count before after sound here trims plain sound_after =
+    with_plan_kept old (Trim number) (reply.Trimmed count) (with_shard old number after) (IsStep-Trims old number count before after sound.groups here trims plain sound_after)
+    (HasSoundPlan-kept old (with_shard old number after) sound.plan refl refl (KeepsPooled-same old.pool.groups) (KeepsAllClosed-set old.shards number before after here (KeepsClosed-Trims before after count trims))
+    (AreAllClosedAsPlanned-set old.plan old.shards number after sound.plan.closed (AreClosedAsPlanned-Trims old.plan before after count trims (sound.plan.closed number before here))))
+    sound.rings
 
 pub IsSoundStep-Adopts : (old : CoreState) (number : ℕ) (head : SpanId) (before after : ShardState) (pool : PoolState) → IsSound old → old.plan ≡ None → slice_get old.shards number ≡ Some before → before.ended ≡ false → Adopts old.pool before head pool after → IsSoundShard after → IsSoundPool pool
     → IsSoundStep old (Adopt number) (reply.Adopted head) (with_pool (with_shard old number after) pool)

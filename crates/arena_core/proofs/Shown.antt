@@ -102,6 +102,13 @@ module _ (old new : CoreState) (a b : PlainMap) (has : SpanId → Bool) (local :
         let gone : b.value_of key ≡ None = ap (λ (m : PlainMap). m.value_of key) frees ∙ ap (λ s. cond s None (a.value_of key)) (same_key-self key) in
         code-injective _ _ (omega (arith, local.value key, ap code now, ap code gone))
 
+-- an owner that shows what it showed leaves the map as it was
+pub shown-unchanged : (old new : CoreState) (a b : PlainMap) (has : SpanId → Bool) → IsLocal old new a b has → b ≡ a → shown new ≡ shown old
+shown-unchanged old new a b has local same = same_plain_map _ _
+    (λ other. bit-injective _ _ (omega (arith, local.issued other, ap (λ (m : PlainMap). bit (m.is_issued other)) same)))
+    (λ other. code-injective _ _ (omega (arith, local.value other, ap (λ (m : PlainMap). code (m.value_of other)) same)))
+    (λ worker shard. ap (λ r. pending_at r worker shard) local.rings)
+
 -- the owners
 
 -- what is read of the maps that the shards and the pool show

@@ -1,12 +1,12 @@
 -- The next pair of the open plan is carried out: it is neither absent nor a clash.
-use Rattle.std.proofs.Common.{◌≡◌, ℕ, ◌≤◌, true, false, inl, inr, refl, sym, ap, subst, ◌∙◌, arith, Some, slice_get, is_some, Bool}
+use Rattle.std.proofs.Common.{◌≡◌, ℕ, ◌+◌, ◌≤◌, length, true, false, inl, inr, refl, sym, ap, subst, ◌∙◌, arith, Some, slice_get, is_some, Bool}
 use Rattle.std.specs.Prelude.{MatchOption}
 use Rattle.std.proofs.lemmas.Option.{none-some}
 use Rattle.bitmap.specs.Slots.{SlotSet, AreDisjoint}
 use Rattle.bitmap.specs.Operations.{AreDisjoint-at, AreDisjoint-by_slot}
 use Rattle.span.specs.declared.id.SpanId.{SpanId}
 use Rattle.shard.specs.Group.{GroupState}
-use Rattle.groups.specs.Group.{IsHeadOf, occupied, spans_of}
+use Rattle.groups.specs.Group.{IsHeadOf, occupied, paged_in, spans_of}
 use Rattle.groups.specs.Spans.{union_of}
 use Rattle.groups.specs.Whole.{WholeState, spans_moved}
 use Rattle.shard.specs.Moves.{with_guests}
@@ -19,17 +19,18 @@ use Rattle.abandoned.specs.State.{PoolState, PooledState}
 use Rattle.abandoned.proofs.Adopted.{one_head}
 use Rattle.fold.specs.Folds as fold
 use Rattle.fold.specs.Folds.{Folds, Steps}
-use Rattle.fold.proofs.Sums.{gens-Folds, number-Folds, opened-Folds, page_limit-Folds, sum_by-Folds}
+use Rattle.fold.proofs.Sums.{gens-Folds, length_paged-Folds, length_shard_pages-Folds, number-Folds, opened-Folds, page_limit-Folds, sum_by-Folds}
 use Rattle.fold.specs.declared.step.Step.{Step as Outcome}
 use Rattle.fold.specs.declared.step.Step.TheVariants.{Absent, Emptied, Clash, Folded}
 use Rattle.arena_core.specs.Plan.{IsEmptyInPool, IsNext, IsUnderWay, IsWaiting}
 use Rattle.marks.specs.Plans.{with_next_done, OpenPlan}
 use Rattle.arena_core.specs.Sound.{IsSound}
-use Rattle.arena_core.specs.State.{CoreState, has_span, with_plan, with_pool, with_shard}
+use Rattle.arena_core.specs.State.{CoreState, has_span, pages, with_plan, with_pool, with_shard}
 use Rattle.arena_core.specs.declared.event.Event.TheVariants.{Step}
 use Rattle.arena_core.specs.declared.reply.Reply.TheVariants.{Stepped}
 use Rattle.arena_core.proofs.Changes.{HasSoundGroups-moved, at_most_once, sum_all-moved}
 use Rattle.arena_core.proofs.Groups.{IsMove}
+use Rattle.arena_core.proofs.Lists.{sum_by-set_at}
 use Rattle.arena_core.proofs.Logged.{shown-same}
 use Rattle.arena_core.proofs.PlanFolds.{AreAllClosedAsPlanned-folded, IsFold, IsUnderWay-folded, IsUnderWay-passed}
 use Rattle.arena_core.proofs.PlanSteps.{AreAllClosedAsPlanned, IsSoundStep}
@@ -120,6 +121,14 @@ module _ (old : CoreState) (sound : IsSound old) (plan : OpenPlan) (pair : SpanI
               (disjoint_swap (union_of (spans_of waits.abandoned)) (occupied waits.owned) waits.apart)))
         ]
 
+    page_goes : (after : ShardState) (pool : PoolState) → Folds old.pool before pair.0 pair.1 pool after → pages (with_plan (with_pool (with_shard old number after) pool) (Some (with_next_done plan))) + 1 ≡ pages old
+    page_goes after pool folds = omega (
+      arith,
+      sum_by-set_at (λ (s : ShardState). length (paged_in s.groups)) old.shards number before after here,
+      length_shard_pages-Folds old.pool before pair.0 pair.1 pool after folds sound_before (waits.is_owned.index, waits.owned, owned_here, waits.paged),
+      length_paged-Folds old.pool before pair.0 pair.1 pool after folds,
+    )
+
     folded : (after : ShardState) (pool : PoolState) → Folds old.pool before pair.0 pair.1 pool after → pool.has_plan ≡ old.pool.has_plan → IsSoundShard after → IsSoundPool pool
         → IsSoundStep old Step (Stepped pair.0 pair.1 Folded) (with_plan (with_pool (with_shard old number after) pool) (Some (with_next_done plan)))
     folded after pool folds told sound_after sound_pool =
@@ -137,7 +146,7 @@ module _ (old : CoreState) (sound : IsSound old) (plan : OpenPlan) (pair : SpanI
             };
             rings = sound.rings;
           };
-          exact = record { plan = plan; number = number; before = before; after = after; pool = pool; next = next; here = here; folds = folds; rest = refl };
+          exact = record { plan = plan; number = number; before = before; after = after; pool = pool; next = next; here = here; folds = folds; rest = refl; page_goes = page_goes after pool folds };
           plain = shown-same old (with_pool (with_shard old number after) pool) sound.groups groups refl (sum_all-moved old sound.groups number before after pool here move);
         }
 

@@ -3,7 +3,7 @@ use Rattle.std.specs.Prelude.{◌≡◌, ◌⊎◌, ◌<◌, ◌≤◌, ℕ, Boo
 use Rattle.span.specs.declared.key.Key.{Key}
 use Rattle.span.specs.PlainMap.{PlainMap, may_set, with_pending, with_put, with_value, without}
 use Rattle.arena_core.specs.declared.event.Event.{Event}
-use Rattle.arena_core.specs.declared.event.Event.TheVariants.{Put, Get, Set, Free, Later, Settle, End, Retire, Adopt, Mark, Step, Close}
+use Rattle.arena_core.specs.declared.event.Event.TheVariants.{Put, Get, Set, Free, Later, Settle, End, Retire, Trim, Adopt, Mark, Step, Close}
 use Rattle.arena_core.specs.declared.reply.Reply.{Reply}
 use Rattle.arena_core.specs.declared.reply.Reply.TheVariants.{Issued, Found, Replaced, Freed, Sent, Settled, Refused}
 use Rattle.arena_core.specs.declared.reply.Refusal.TheVariants.{OutOfMemory, PagesSpent, Ended, RingFull, Config}
@@ -30,7 +30,7 @@ PlainStep limits old (Get key) (Found value) new = (value ≡ old.value_of key) 
 -- where the key has a value of as many words, this one takes its place
 PlainStep limits old (Set key value) (Replaced true) new = (may_set old key value ≡ true) × (new ≡ with_value old key value)
 PlainStep limits old (Set key value) (Replaced false) new = (may_set old key value ≡ false) × (new ≡ old)
-PlainStep limits old (Set key value) (Refused OutOfMemory) new = new ≡ old
+PlainStep limits old (Set key value) (Refused OutOfMemory) new = (may_set old key value ≡ true) × (new ≡ old)
 PlainStep limits old (Free key) (Freed freed) new = Loses old key freed new
 -- where the list has room, the key goes last
 PlainStep limits old (Later worker key) Sent new = (length (old.pending worker key.span.shard) < limits.ring_capacity) × (new ≡ with_pending old worker key.span.shard (old.pending worker key.span.shard ++ key ∷ []))
@@ -43,17 +43,18 @@ PlainStep limits old (Settle worker shard) (Refused Config) new = IsOutside limi
 -- no other pair comes
 PlainStep limits old event reply new = ⊥
 
--- the plain map knows the event: it has no shards that end, retire groups or adopt, and no plans
+-- the plain map knows the event: it has no shards that end, retire groups, give pages back or adopt, and no plans
 abbrev pub is_plain : Event → Bool
 is_plain (End shard) = false
 is_plain (Retire shard most) = false
+is_plain (Trim shard) = false
 is_plain (Adopt shard) = false
 is_plain Mark = false
 is_plain Step = false
 is_plain Close = false
 is_plain event = true
 
--- the events and their replies, with every end, retirement, adoption, mark, step and close, and their replies, taken out
+-- the events and their replies, with every end, retirement, trim, adoption, mark, step and close, and their replies, taken out
 abbrev pub erased : List Event → List Reply → List (Event × Reply)
 erased (event ∷ events) (reply ∷ replies) = if is_plain event then (event, reply) ∷ erased events replies else erased events replies
 erased events replies = []
@@ -62,6 +63,7 @@ erased events replies = []
 abbrev pub ErasedStep : Limits → PlainMap → Event → Reply → PlainMap → Type 0
 ErasedStep limits old (End shard) reply new = new ≡ old
 ErasedStep limits old (Retire shard most) reply new = new ≡ old
+ErasedStep limits old (Trim shard) reply new = new ≡ old
 ErasedStep limits old (Adopt shard) reply new = new ≡ old
 ErasedStep limits old Mark reply new = new ≡ old
 ErasedStep limits old Step reply new = new ≡ old

@@ -1,5 +1,5 @@
 -- The open plan of a core: what becomes of its pairs.
-use Rattle.std.specs.Prelude.{◌≡◌, ◌⊎◌, ℕ, ◌<◌, ◌≤◌, length, Some, None, is_some, MatchOption, slice_get}
+use Rattle.std.specs.Prelude.{◌≡◌, ◌⊎◌, ℕ, ◌<◌, ◌≤◌, length, IsSome, Some, None, is_some, MatchOption, slice_get}
 use Rattle.bitmap.specs.Slots.{AreDisjoint}
 use Rattle.span.specs.declared.id.SpanId.{SpanId}
 use Rattle.shard.specs.Group.{GroupState}
@@ -28,12 +28,13 @@ pub record IsPooled (core : CoreState) (head : SpanId) (group : PooledState) : T
   pub index : ℕ
   pub head_of : IsHeadOf core.pool.groups head index group
 
--- the abandoned group is in the pool and the owned one in a shard, both are of one class, and no slot is occupied in both
+-- the abandoned group is in the pool and the owned one in a shard, where it has a page, both are of one class, and no slot is occupied in both
 pub record IsWaiting (core : CoreState) (pair : SpanId × SpanId) : Type 0 where
   pub abandoned : PooledState
   pub owned : GroupState
   pub is_abandoned : IsPooled core pair.0 abandoned
   pub is_owned : IsOwned core pair.1 owned
+  pub paged : IsSome owned.page
   pub class_is : abandoned.head.class ≡ owned.head.class
   pub apart : AreDisjoint (occupied abandoned) (occupied owned)
 

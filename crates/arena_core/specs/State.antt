@@ -8,7 +8,7 @@ use Rattle.span.specs.State.{SpanState}
 use Rattle.shard.specs.Shown.{shown as shown_by}
 use Rattle.groups.specs.Shown.{span_named}
 use Rattle.shard.specs.State.{ShardState}
-use Rattle.groups.specs.Group.{live_in, spans_in}
+use Rattle.groups.specs.Group.{live_in, paged_in, spans_in}
 use Rattle.abandoned.specs.Shown.{shown as shown_by_pool}
 use Rattle.abandoned.specs.State.{PoolState, paged_groups}
 use Rattle.marks.specs.Numbers.{Limits}
@@ -89,9 +89,9 @@ shown core = record {
   pending = λ worker shard. pending_at core.rings worker shard;
 }
 
--- how many groups have a page: each group of the shards, on a page of its own, and some of the pool
+-- how many groups of the shards and of the pool have a page
 abbrev pub pages : CoreState → ℕ
-pages core = sum_by (λ shard. length shard.groups) core.shards + length (paged_groups core.pool)
+pages core = sum_by (λ shard. length (paged_in shard.groups)) core.shards + length (paged_groups core.pool)
 
 -- how many keys are live in the shard
 abbrev pub shard_keys : ShardState → ℕ

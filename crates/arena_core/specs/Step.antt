@@ -1,5 +1,5 @@
 -- The steps and runs of the core.
-use Rattle.std.specs.Prelude.{◌≡◌, ◌⊎◌, ℕ, ◌<◌, ◌≤◌, Bool, true, false, List, [], ◌∷◌, ◌++◌, length, map, slice_get, Some, None, is_some}
+use Rattle.std.specs.Prelude.{◌≡◌, ◌⊎◌, ℕ, ◌+◌, ◌<◌, ◌≤◌, Bool, true, false, List, [], ◌∷◌, ◌++◌, length, map, slice_get, Some, None, is_some}
 use Rattle.std.specs.List.{list_any}
 use Rattle.span.specs.declared.id.SpanId.{SpanId}
 use Rattle.span.specs.declared.key.Key.{Key}
@@ -10,6 +10,7 @@ use Rattle.span.specs.declared.class.Class.{Class}
 use Rattle.shard.specs.Calls.{Puts, Frees, IsSpent, Sets}
 use Rattle.shard.specs.Group.{GroupState}
 use Rattle.shard.specs.State.{ShardState}
+use Rattle.shard.specs.Trims.{Trims}
 use Rattle.shard.specs.declared.shard.Freed.TheVariants.{Yes}
 use Rattle.shard.specs.declared.shard.replacing.Replaced.TheVariants as replaced
 use Rattle.abandoned.specs.Calls.{Adopts, Frees as FreesPooled, HasNothingToAdopt, Receives, Sets as SetsPooled}
@@ -20,9 +21,9 @@ use Rattle.fold.specs.Folds.{Folds}
 use Rattle.fold.specs.declared.step.Step.{Step as Outcome}
 use Rattle.fold.specs.declared.step.Step.TheVariants.{Absent, Emptied, Clash, Folded}
 use Rattle.arena_core.specs.declared.event.Event.{Event}
-use Rattle.arena_core.specs.declared.event.Event.TheVariants.{Put, Get, Set, Free, Later, Settle, End, Retire, Adopt, Mark, Step, Close}
+use Rattle.arena_core.specs.declared.event.Event.TheVariants.{Put, Get, Set, Free, Later, Settle, End, Retire, Trim, Adopt, Mark, Step, Close}
 use Rattle.arena_core.specs.declared.reply.Reply.{Reply}
-use Rattle.arena_core.specs.declared.reply.Reply.TheVariants.{Issued, Found, Replaced, Freed, Sent, Settled, ShardEnded, Retired, Adopted, Marked, Stepped, NoPairLeft, Closed, NoPlan, Refused}
+use Rattle.arena_core.specs.declared.reply.Reply.TheVariants.{Issued, Found, Replaced, Freed, Sent, Settled, ShardEnded, Retired, Trimmed, Adopted, Marked, Stepped, NoPairLeft, Closed, NoPlan, Refused}
 use Rattle.arena_core.specs.declared.reply.Refusal.TheVariants.{OutOfMemory, PagesSpent, Ended, PlanOpen, TooMany, NothingToAdopt, RingFull, Config}
 use Rattle.arena_core.specs.Sound.{IsSound}
 use Rattle.marks.specs.Closings.{closed_onto, reopened}
@@ -30,7 +31,7 @@ use Rattle.marks.specs.Seen.{AreTooMany, IsLargest, with_plan_told}
 use Rattle.arena_core.specs.Plan.{IsCarriedOut, IsEmptyInPool, IsNext}
 use Rattle.marks.specs.Plans.{with_next_done, OpenPlan}
 use Rattle.arena_core.specs.Rings.{RingState, ring_at, with_keys, with_ring_at}
-use Rattle.arena_core.specs.State.{CoreState, shown, with_plan, with_pool, with_rings, with_shard}
+use Rattle.arena_core.specs.State.{CoreState, pages, shown, with_plan, with_pool, with_rings, with_shard}
 use Rattle.arena_core.specs.Plain.{IsOutside, PlainRun, erased}
 
 -- the shard of this number, which has not ended
@@ -46,7 +47,7 @@ HasEnded core number = (shard : ShardState) × (slice_get core.shards number ≡
 abbrev pub NeedsPage : Class → CoreState → ℕ → Type 0
 NeedsPage class core number = (shard : ShardState) × IsRunning core number shard × IsSpent class shard
 
--- the shard of this number has all the pages that it may have
+-- the shard of this number has as many groups as it may have pages
 abbrev pub HasAllPages : CoreState → ℕ → Type 0
 HasAllPages core number = (shard : ShardState) × (slice_get core.shards number ≡ Some shard) × (shard.page_limit ≡ length shard.groups)
 
@@ -185,6 +186,14 @@ pub record RetiresFrom (old : CoreState) (number most count : ℕ) (new : CoreSt
   pub whole : HasRetired old.pool before count pool after
   pub rest : new ≡ with_pool (with_shard old number after) pool
 
+-- each open group of the shard of this number with no live slot has given its page back, that many did, and all other shards are as they were
+pub record TrimsShard (old : CoreState) (number count : ℕ) (new : CoreState) : Type 0 where
+  pub before : ShardState
+  pub after : ShardState
+  pub here : slice_get old.shards number ≡ Some before
+  pub trims : Trims before count after
+  pub rest : new ≡ with_shard old number after
+
 -- while no plan is open, the pool's group of lowest head that has a page goes to the shard of this number, which has not ended, and all other shards are as they were
 pub record AdoptsInShard (old : CoreState) (number : ℕ) (head : SpanId) (new : CoreState) : Type 0 where
   pub before : ShardState
@@ -213,6 +222,8 @@ pub record FoldsNext (old : CoreState) (pair : SpanId × SpanId) (new : CoreStat
   pub here : slice_get old.shards number ≡ Some before
   pub folds : Folds old.pool before pair.0 pair.1 pool after
   pub rest : new ≡ with_plan (with_pool (with_shard old number after) pool) (Some (with_next_done plan))
+  -- what of it a reader counts: one page goes
+  pub page_goes : pages new + 1 ≡ pages old
 
 -- the next pair's abandoned group is empty: it stays in the pool
 pub record PassesNext (old : CoreState) (pair : SpanId × SpanId) (new : CoreState) : Type 0 where
@@ -270,6 +281,8 @@ CoreStep old (Retire shard most) (Refused Ended) new = HasEnded old shard × (ne
 CoreStep old (Retire shard most) (Refused PlanOpen) new = HasPlan old × HasClosedGroup old shard × (new ≡ old)
 CoreStep old (Retire shard most) (Refused Config) new = (old.limits.shards ≤ shard) × (new ≡ old)
 CoreStep old (Retire shard most) (Refused OutOfMemory) new = MayEnd old shard × (new ≡ old)
+CoreStep old (Trim shard) (Trimmed count) new = TrimsShard old shard count new
+CoreStep old (Trim shard) (Refused Config) new = (old.limits.shards ≤ shard) × (new ≡ old)
 CoreStep old (Adopt shard) (Adopted head) new = AdoptsInShard old shard head new
 CoreStep old (Adopt shard) (Refused PagesSpent) new = HasAllPages old shard × (new ≡ old)
 CoreStep old (Adopt shard) (Refused Ended) new = HasEnded old shard × (new ≡ old)

@@ -21,6 +21,8 @@ pub enum Event {
     /// Move up to `most` groups with a live key of the shard of this number to the pool, those with the fewest first, and let
     /// the shard go on.
     Retire { shard: u32, most: usize },
+    /// Give back the page of each open group of the shard of this number in which no slot is live; the groups stay.
+    Trim { shard: u32 },
     /// Move the pool's group of lowest head that has a page to the shard of this number.
     Adopt { shard: u32 },
     /// Plan as many folds as possible of the pool's groups onto the shards' groups, and close those that are planned onto.

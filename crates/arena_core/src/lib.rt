@@ -23,7 +23,7 @@
 //! A key can also be freed later: it goes on a ring from its worker to the shard that opened its span, and is freed once it is
 //! settled, wherever its span then is.
 //!
-//! The public facts: without ends, retirements, adoptions, marks, steps and closes, the replies are those of a
+//! The public facts: without ends, retirements, trims, adoptions, marks, steps and closes, the replies are those of a
 //! plain map of keys, which knows what is pending, and no pages, groups or plans (`specs/Plain.antt`), and those events
 //! change nothing of the map that the core shows. A mark that is not refused plans as many folds as
 //! any plan, shown by the short set, and the whole can be written as a certificate (`specs/Seen.antt` of the crate `marks`);

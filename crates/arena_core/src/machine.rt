@@ -131,19 +131,19 @@ impl<L: Log> Core<L> {
     }
 
     /// Takes the event and answers it. The replies to puts, look-ups, sets, frees, deferred frees and settlings are those of
-    /// a plain map of keys; ends, retirements, adoptions, marks, steps and closes leave the map that the core shows as it is.
+    /// a plain map of keys; ends, retirements, trims, adoptions, marks, steps and closes leave the map that the core shows as it is.
     ///
     /// A refused event changes nothing. Of several causes that hold, the first of these is answered:
     ///
-    /// | Refusal | Put | Set | End | Retire | Adopt | Mark | Step |
-    /// |---|---|---|---|---|---|---|---|
-    /// | [`Refusal::PagesSpent`] | the shard needs a page that it may not have | | | | the shard has all its pages | | |
-    /// | [`Refusal::Ended`] | the shard has ended | | the shard has ended | the shard has ended | the shard has ended | | |
-    /// | [`Refusal::PlanOpen`] | | | the shard has a closed group | the shard has a closed group | a plan is open | a plan is open | |
-    /// | [`Refusal::TooMany`] | | | | | | a side has more than 4,096 groups | |
-    /// | [`Refusal::NothingToAdopt`] | | | | | no group of the pool has a page | | |
-    /// | [`Refusal::Config`] | there is no such shard | | there is no such shard | there is no such shard | there is no such shard | | |
-    /// | [`Refusal::OutOfMemory`] | an allocation was refused | an allocation was refused | an allocation was refused | an allocation was refused | an allocation was refused | an allocation was refused | an allocation was refused; the pair stays next |
+    /// | Refusal | Put | Set | End | Retire | Trim | Adopt | Mark | Step |
+    /// |---|---|---|---|---|---|---|---|---|
+    /// | [`Refusal::PagesSpent`] | the shard needs a page that it may not have | | | | | the shard has as many groups as it may have pages | | |
+    /// | [`Refusal::Ended`] | the shard has ended | | the shard has ended | the shard has ended | | the shard has ended | | |
+    /// | [`Refusal::PlanOpen`] | | | the shard has a closed group | the shard has a closed group | | a plan is open | a plan is open | |
+    /// | [`Refusal::TooMany`] | | | | | | | a side has more than 4,096 groups | |
+    /// | [`Refusal::NothingToAdopt`] | | | | | | no group of the pool has a page | | |
+    /// | [`Refusal::Config`] | there is no such shard | | there is no such shard | there is no such shard | there is no such shard | there is no such shard | | |
+    /// | [`Refusal::OutOfMemory`] | an allocation was refused | an allocation was refused | an allocation was refused | an allocation was refused | | an allocation was refused | an allocation was refused | an allocation was refused; the pair stays next |
     ///
     /// A look-up, a free and a close are never refused, and take no memory. A set is refused only in place of a yes. A deferred
     /// free and a settling take no memory either: [`Refusal::RingFull`] comes exactly where the ring of the deferred free holds
@@ -186,6 +186,10 @@ impl<L: Log> Core<L> {
                 Ok(count) => Reply::Retired(count),
                 Err(refusal) => Reply::Refused(refusal),
             },
+            Event::Trim { shard } => match self.trim(shard) {
+                Ok(count) => Reply::Trimmed(count),
+                Err(refusal) => Reply::Refused(refusal),
+            },
             Event::Adopt { shard } => match self.adopt(shard) {
                 Ok(head) => Reply::Adopted(head),
                 Err(refusal) => Reply::Refused(refusal),
@@ -220,7 +224,7 @@ impl<L: Log> Core<L> {
         Ok(())
     }
 
-    /// How many pages the shards and the pool have, one a group of a shard, and how many keys are live: that many keys have
+    /// How many pages the shards and the pool have, and how many keys are live: that many keys have
     /// a value in the map that the core shows.
     pub fn totals(&self) -> Totals
         ensures pages { result.pages ≡ pages self.now }

@@ -31,6 +31,8 @@ pub enum Reply {
     ShardEnded,
     /// How many groups of the shard have gone to the pool: as many as were asked for, or all that have a live key.
     Retired(usize),
+    /// How many pages the shard has given back.
+    Trimmed(usize),
     /// The head of the group that the shard has adopted.
     Adopted(SpanId),
     /// What the mark saw, a plan of it that has the most pairs, and the short set that shows it: all of it can be written.
@@ -54,8 +56,8 @@ pub enum Refusal {
     /// Memory ran out, and no other cause holds: the event may be tried again.
     #[error("out of memory: free some and try again")]
     OutOfMemory,
-    /// A put or an adoption needs a page, and the shard has all that it may have; or a put needs a new span, and the shard
-    /// has opened all its 1,024.
+    /// A put or an adoption needs a further group, and the shard has as many as it may have pages; or a put needs a new span,
+    /// and the shard has opened all its 1,024.
     #[error("the shard may have no further page: free keys, or ask another shard")]
     PagesSpent,
     /// The shard has ended.

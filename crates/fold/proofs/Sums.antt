@@ -1,22 +1,24 @@
 -- What a fold does to the spans of pool and shard.
-use Rattle.std.proofs.Common.{◌≡◌, ℕ, ◌+◌, ◌++◌, false, true, Bool, List, ◌∷◌, length, append_assoc, length-set, None, Some, ◌∙◌, ap, sym, refl, arith, Option, is_some, cond, slice_get}
+use Rattle.std.proofs.Common.{◌≡◌, ℕ, ◌+◌, ◌++◌, false, true, Bool, List, ◌∷◌, length, append_assoc, length-set, None, Some, ◌∙◌, ap, sym, refl, arith, Option, is_some, cond, set, slice_get}
 use Rattle.std.specs.Prelude.{remove, sum_by}
 use Rattle.std.proofs.lemmas.Grind.{flat_map-append}
 use Rattle.std.proofs.lemmas.List.Sums.{length-filter, sum_by-append}
 use Rattle.span.specs.State.{SpanState}
 use Rattle.span.specs.declared.id.SpanId.{SpanId}
-use Rattle.groups.specs.Group.{spans_in, spans_of}
+use Rattle.groups.specs.Group.{paged_in, spans_in, spans_of}
 use Rattle.shard.specs.Moves.{Grafts, with_guests, with_room}
 use Rattle.groups.specs.Whole.{WholeState, spans_moved}
 use Rattle.shard.specs.Sound.{IsSound as IsSoundShard}
 use Rattle.shard.specs.State.{ShardState}
-use Rattle.groups.proofs.Lists.{split_at}
+use Rattle.groups.proofs.Lists.{count-set, split_at}
+use Rattle.shard.specs.Group.{GroupState}
+use Rattle.shard.proofs.HeadsHere.{same_group}
 use Rattle.shard.proofs.MovedGroups.{AreBetween}
 use Rattle.abandoned.specs.Calls.{Lifts}
 use Rattle.abandoned.specs.State.{PoolState, PooledState, paged_groups}
 use Rattle.groups.proofs.Removed.{count-remove}
 use Rattle.abandoned.proofs.Together.{spans_in-Lifts}
-use Rattle.fold.specs.Folds.{Folds}
+use Rattle.fold.specs.Folds.{Folds, IsPagedHead}
 
 -- after a graft the spans are the old ones with those that came after the last guest of the group
 pub spans_in-Grafts : (old new : ShardState) (head : SpanId) (whole : WholeState) → Grafts old head whole new → AreBetween (spans_in new.groups) (spans_in old.groups) (spans_moved whole)
@@ -100,6 +102,20 @@ module _ (pool : PoolState) (shard : ShardState) (a b : SpanId) (pool_new : Pool
   -- the shard has as many groups as before
   pub length_groups-Folds : length shard_new.groups ≡ length shard.groups
   length_groups-Folds = ap (λ (s : ShardState). length s.groups) folds.grafts.after ∙ length-set shard.groups folds.grafts.index (with_guests folds.grafts.group (spans_moved folds.whole) folds.grafts.words)
+
+  -- and as many with a page, where the one that takes the spans has one
+  pub length_shard_pages-Folds : IsSoundShard shard → IsPagedHead shard.groups b → length (paged_in shard_new.groups) ≡ length (paged_in shard.groups)
+  length_shard_pages-Folds sound (index, group, at, some) =
+      let same : group ≡ folds.grafts.group = same_group shard.groups sound.ascending b index folds.grafts.index group folds.grafts.group at folds.grafts.here in
+      let now : GroupState = with_guests folds.grafts.group (spans_moved folds.whole) folds.grafts.words in
+      let paged : is_some folds.grafts.group.page ≡ true = ap (λ (g : GroupState). is_some g.page) (sym same) ∙ some in
+      ap (λ (s : ShardState). length (paged_in s.groups)) folds.grafts.after
+      ∙ length-filter is_paged_here (set shard.groups folds.grafts.index now)
+      ∙ count-set is_paged_here shard.groups folds.grafts.index folds.grafts.group now folds.grafts.here.here paged
+      ∙ sym (length-filter is_paged_here shard.groups)
+    where
+      is_paged_here : GroupState → Bool
+      is_paged_here group = is_some group.page
 
   -- and the pool has one page less
   pub length_paged-Folds : length (paged_groups pool_new) + 1 ≡ length (paged_groups pool)

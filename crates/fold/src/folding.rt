@@ -5,7 +5,8 @@ ghost use Rattle.shard.specs.Sound.{IsSound as IsSoundShard};
 ghost use Rattle.abandoned.specs.Shown.{shown, together};
 ghost use Rattle.abandoned.specs.Sound.{IsSound};
 ghost use Rattle.abandoned.specs.State.{paged_groups};
-ghost use Rattle.fold.specs.Folds.{Folds, HasSpans, MayFold, Steps};
+ghost use Rattle.fold.specs.Folds.{Folds, HasSpans, IsPagedHead, MayFold, Steps};
+ghost use Rattle.groups.specs.Group.{paged_in};
 
 use crate::step::Step;
 use abandoned::Pool;
@@ -15,7 +16,7 @@ use std::alloc::AllocError;
 
 /// Folds the pool's group of head `a` onto the shard's group of head `b`, where that can be, and tells what came of
 /// it. By a fold the spans of `a` become the last guests of `b`, their live objects stand at the same slots of the page
-/// of `b`, and the page of `a` goes. Each key keeps its object.
+/// of `b`, and the page of `a` goes, or is that of `b` where this had none. Each key keeps its object.
 ///
 /// The answer is the first of these that holds, exactly: [`Step::Absent`] where `a` heads no group of the pool, or `b`
 /// no group of the shard, or a span of `a`'s group is in the shard already, or one that it may yet open; [`Step::Emptied`]
@@ -38,6 +39,8 @@ pub fn fold_one<L: Log>(
         ≡ together (shown pool.old) (shown_by_shard shard.old) }
     ensures page { result ≡ Ok Step.Folded → length (paged_groups pool.new) + 1
         ≡ length (paged_groups pool.old) }
+    ensures shard_pages { result ≡ Ok Step.Folded → IsPagedHead shard.old.groups b
+        → length (paged_in shard.new.groups) ≡ length (paged_in shard.old.groups) }
     ensures groups { result ≡ Ok Step.Folded → length shard.new.groups ≡ length shard.old.groups }
 
     // What a refusal leaves.

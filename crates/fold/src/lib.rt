@@ -23,14 +23,15 @@
 //!
 //! The public fact of the crate: the answer is exactly the one that the two groups call for (`specs/Folds.antt`), only
 //! [`Step::Folded`] changes anything, pool and shard then show the same map of keys together as before, and the pool
-//! has one page less while the shard has as many as before.
+//! has one page less while the shard has as many groups as before. A group of the shard that has no page keeps the one that
+//! comes.
 //!
 //! # Examples
 //!
 //! ```
 //! // The pool's group of head `a` onto the shard's group of head `b`, of one class and with no slot that is live in both.
 //! match fold_one(&mut pool, &mut shard, a, b)? {
-//!     Step::Folded => {} // one page less, and each key finds its object as before
+//!     Step::Folded => {} // one page less in the pool, and each key finds its object as before
 //!     Step::Emptied => {} // the group has no live slot any more, and so no page
 //!     Step::Clash | Step::Absent => {} // nothing has changed
 //! }

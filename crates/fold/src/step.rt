@@ -9,6 +9,6 @@ pub enum Step {
     Emptied,
     /// The groups are of two classes, or a slot is live in both.
     Clash,
-    /// The spans of the first group are guests of the second, and its page is gone.
+    /// The spans of the first group are guests of the second, and its page is gone, or that of the second where this had none.
     Folded,
 }

@@ -1,5 +1,5 @@
--- What stands in a list after a write or an insertion, and how often.
-use Rattle.std.proofs.Common.{◌≡◌, ℕ, zero, suc, ◌+◌, ◌<◌, ◌≤◌, Bool, true, false, cond, List, [], ◌∷◌, ◌++◌, ◌⊎◌, inl, inr, refl, sym, ap, subst, ◌∙◌, arith, length, insert, Some, None, get_or, set, slice_get}
+-- What stands in a list after a write, an insertion or a map, and how often.
+use Rattle.std.proofs.Common.{◌≡◌, ℕ, zero, suc, ◌+◌, ◌<◌, ◌≤◌, Bool, true, false, cond, List, [], ◌∷◌, ◌++◌, ◌⊎◌, inl, inr, refl, sym, ap, subst, ◌∙◌, arith, length, insert, map, Some, None, get_or, set, slice_get}
 use Rattle.std.specs.Prelude.{find, count_by, remove}
 use Rattle.std.proofs.lemmas.Option.{slice_get_read, slice_get_within}
 use Rattle.std.proofs.lemmas.List.Sums.{sum_by-append, sum_by-cons}
@@ -54,6 +54,12 @@ pub set-same : {X : Type 0} (xs : List X) (at : ℕ) (x : X) → slice_get xs at
 set-same [] at x here = refl
 set-same (y ∷ ys) zero x here = ap (λ z. z ∷ ys) (sym (same_some here))
 set-same (y ∷ ys) (suc at) x here = ap (λ zs. y ∷ zs) (set-same ys at x here)
+
+-- what stands in a list that is mapped comes of what stood there
+pub before-map : {X Y : Type 0} (f : X → Y) (xs : List X) (at : ℕ) (y : Y) → slice_get (map f xs) at ≡ Some y → (x : X) × (slice_get xs at ≡ Some x) × (f x ≡ y)
+before-map f [] at y there = absurd cc
+before-map f (x ∷ xs) zero y there = (x, refl, same_some there)
+before-map f (x ∷ xs) (suc at) y there = before-map f xs at y there
 
 -- what stands in one of two lists stands in both together
 

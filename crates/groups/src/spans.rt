@@ -188,6 +188,14 @@ impl<L: Log> Spans<L> {
         Ok(Some(key))
     }
 
+    /// Whether a put of an object of the head's class has a slot: one that is live in no span, and not worn in the head.
+    pub fn has_usable(&self) -> bool
+        ensures { IsTrue result
+            ↔ (HasAllBelow (taken self.now) (slots_in self.now.head.class) → ⊥) }
+    {
+        self.lowest_usable().is_some()
+    }
+
     // The lowest slot that the head may be put at: it is live in no span, and not worn in the head. Each slot of a set is
     // one of class `C16`, the most frequent.
     #[inline(always)]

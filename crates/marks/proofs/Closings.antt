@@ -1,9 +1,9 @@
 -- How the groups of a plan are closed, one pair after another, and a list written one element after another.
-use Rattle.std.proofs.Common.{◌≡◌, ℕ, zero, suc, ◌+◌, ◌<◌, ◌||◌, Bool, true, false, List, [], ◌∷◌, ◌++◌, length, map, refl, sym, ap, subst, ◌∙◌, arith, inl, inr, Some, None, slice_get, set, take, drop, get_or, append_assoc}
-use Rattle.std.proofs.lemmas.Bool.{cases_Bool, cases_eq, cases_lt, or_right}
+use Rattle.std.proofs.Common.{◌≡◌, ℕ, zero, suc, ◌+◌, ◌<◌, ◌&&◌, ◌||◌, Bool, true, false, is_some, List, [], ◌∷◌, ◌++◌, length, map, refl, sym, ap, subst, ◌∙◌, arith, inl, inr, Some, None, slice_get, set, take, drop, get_or, append_assoc}
+use Rattle.std.proofs.lemmas.Bool.{cases_Bool, cases_eq, cases_lt, false≢true, or_right}
 use Rattle.std.proofs.lemmas.List.{drop_more, get_or_at, length-append, length-drop, length-map, length-take, length-take-le, map-append, set_at, take_more}
 use Rattle.std.proofs.lemmas.List.Folds.{list_any-append}
-use Rattle.std.proofs.Math.Bool.{or-false}
+use Rattle.std.proofs.Math.Bool.{and-false, or-false}
 use Rattle.span.specs.declared.id.SpanId.{SpanId}
 use Rattle.span.specs.Ids.{rank, same_span}
 use Rattle.span.proofs.Ids.{same_id_from_test, test_from_same_id}
@@ -59,41 +59,44 @@ plans_onto-more pairs pair head =
     list_any-append (λ (p : SpanId × SpanId). same_span p.1 head) pairs (pair ∷ [])
     ∙ ap (λ b. plans_onto pairs head || b) (or-false (same_span pair.1 head))
 
--- a group that the pair does not name stays as it was
-closed_by-other : (pairs : List (SpanId × SpanId)) (pair : SpanId × SpanId) (group : GroupState) → (group.head.id ≡ pair.1 → ⊥) → closed_by pairs group ≡ closed_by (pairs ++ pair ∷ []) group
-closed_by-other pairs pair group other =
-    ap (λ b. record group { closed = group.closed || b }) (sym (plans_onto-more pairs pair group.head.id ∙ ap (λ b. plans_onto pairs group.head.id || b) unlike ∙ or-false (plans_onto pairs group.head.id)))
+-- a group that the pair does not name, or that has no page, stays as it was
+closed_by-other : (pairs : List (SpanId × SpanId)) (pair : SpanId × SpanId) (group : GroupState) → (is_some group.page ≡ true → group.head.id ≡ pair.1 → ⊥) → closed_by pairs group ≡ closed_by (pairs ++ pair ∷ []) group
+closed_by-other pairs pair group other = ap (λ b. record group { closed = group.closed || b }) (by_page (is_some group.page) other)
   where
-    unlike : same_span pair.1 group.head.id ≡ false
-    unlike = elim (cases_Bool (same_span pair.1 group.head.id)) [
-      | inl e ↦ absurd (other (sym (same_id_from_test pair.1 group.head.id e)))
-      | inr e ↦ e
-    ]
+    by_page : (paged : Bool) → (paged ≡ true → group.head.id ≡ pair.1 → ⊥) → (paged && plans_onto pairs group.head.id) ≡ (paged && plans_onto (pairs ++ pair ∷ []) group.head.id)
+    by_page false other = refl
+    by_page true other = sym (plans_onto-more pairs pair group.head.id ∙ ap (λ b. plans_onto pairs group.head.id || b) unlike ∙ or-false (plans_onto pairs group.head.id))
+      where
+        unlike : same_span pair.1 group.head.id ≡ false
+        unlike = elim (cases_Bool (same_span pair.1 group.head.id)) [
+          | inl e ↦ absurd (other refl (sym (same_id_from_test pair.1 group.head.id e)))
+          | inr e ↦ e
+        ]
 
--- the group that the pair names is closed
-closed_by-named : (pairs : List (SpanId × SpanId)) (pair : SpanId × SpanId) (group : GroupState) → group.head.id ≡ pair.1 → closed_group (closed_by pairs group) ≡ closed_by (pairs ++ pair ∷ []) group
-closed_by-named pairs pair group named =
-    ap (λ b. record group { closed = b }) (sym (or_right group.closed (plans_onto (pairs ++ pair ∷ []) group.head.id)
-    (plans_onto-more pairs pair group.head.id ∙ or_right (plans_onto pairs group.head.id) (same_span pair.1 group.head.id) (test_from_same_id pair.1 group.head.id (sym named)))))
+-- the group with a page that the pair names is closed
+closed_by-named : (pairs : List (SpanId × SpanId)) (pair : SpanId × SpanId) (group : GroupState) → is_some group.page ≡ true → group.head.id ≡ pair.1 → closed_group (closed_by pairs group) ≡ closed_by (pairs ++ pair ∷ []) group
+closed_by-named pairs pair group paged named =
+    ap (λ b. record group { closed = b }) (sym (or_right group.closed (is_some group.page && plans_onto (pairs ++ pair ∷ []) group.head.id)
+    (ap (λ b. b && plans_onto (pairs ++ pair ∷ []) group.head.id) paged ∙ plans_onto-more pairs pair group.head.id ∙ or_right (plans_onto pairs group.head.id) (same_span pair.1 group.head.id) (test_from_same_id pair.1 group.head.id (sym named)))))
 
-pub closed-others : (pairs : List (SpanId × SpanId)) (pair : SpanId × SpanId) (groups : List GroupState) → ((index : ℕ) (group : GroupState) → slice_get groups index ≡ Some group → group.head.id ≡ pair.1 → ⊥)
+pub closed-others : (pairs : List (SpanId × SpanId)) (pair : SpanId × SpanId) (groups : List GroupState) → ((index : ℕ) (group : GroupState) → slice_get groups index ≡ Some group → is_some group.page ≡ true → group.head.id ≡ pair.1 → ⊥)
     → map (closed_by pairs) groups ≡ map (closed_by (pairs ++ pair ∷ [])) groups
 closed-others pairs pair [] others = refl
 closed-others pairs pair (group ∷ groups) others =
     ap (λ g. g ∷ map (closed_by pairs) groups) (closed_by-other pairs pair group (others 0 group refl))
     ∙ ap (λ gs. closed_by (pairs ++ pair ∷ []) group ∷ gs) (closed-others pairs pair groups (λ index other here. others (suc index) other here))
 
-closed-one : (pairs : List (SpanId × SpanId)) (pair : SpanId × SpanId) (groups : List GroupState) (index : ℕ) (group : GroupState) → slice_get (map (closed_by pairs) groups) index ≡ Some group → group.head.id ≡ pair.1
+closed-one : (pairs : List (SpanId × SpanId)) (pair : SpanId × SpanId) (groups : List GroupState) (index : ℕ) (group : GroupState) → slice_get (map (closed_by pairs) groups) index ≡ Some group → is_some group.page ≡ true → group.head.id ≡ pair.1
     → ((place : ℕ) (other : GroupState) → slice_get groups place ≡ Some other → other.head.id ≡ pair.1 → place ≡ index)
     → set (map (closed_by pairs) groups) index (closed_group group) ≡ map (closed_by (pairs ++ pair ∷ [])) groups
-closed-one pairs pair [] index group here named only = absurd cc
-closed-one pairs pair (first ∷ groups) zero group here named only =
+closed-one pairs pair [] index group here paged named only = absurd cc
+closed-one pairs pair (first ∷ groups) zero group here paged named only =
     let same : closed_by pairs first ≡ group = cc in
-    ap (λ g. g ∷ map (closed_by pairs) groups) (ap closed_group (sym same) ∙ closed_by-named pairs pair first (ap (λ (g : GroupState). g.head.id) same ∙ named))
-    ∙ ap (λ gs. closed_by (pairs ++ pair ∷ []) first ∷ gs) (closed-others pairs pair groups (λ place other there is. let past : suc place ≡ 0 = only (suc place) other there is in absurd (omega (arith, past))))
-closed-one pairs pair (first ∷ groups) (suc index) group here named only =
-    ap (λ g. g ∷ set (map (closed_by pairs) groups) index (closed_group group)) (closed_by-other pairs pair first (λ is. let past : 0 ≡ suc index = only 0 first refl is in absurd (omega (arith, past))))
-    ∙ ap (λ gs. closed_by (pairs ++ pair ∷ []) first ∷ gs) (closed-one pairs pair groups index group here named (λ place other there is. let next : suc place ≡ suc index = only (suc place) other there is in omega (arith, next)))
+    ap (λ g. g ∷ map (closed_by pairs) groups) (ap closed_group (sym same) ∙ closed_by-named pairs pair first (ap (λ (g : GroupState). is_some g.page) same ∙ paged) (ap (λ (g : GroupState). g.head.id) same ∙ named))
+    ∙ ap (λ gs. closed_by (pairs ++ pair ∷ []) first ∷ gs) (closed-others pairs pair groups (λ place other there paged is. let past : suc place ≡ 0 = only (suc place) other there is in absurd (omega (arith, past))))
+closed-one pairs pair (first ∷ groups) (suc index) group here paged named only =
+    ap (λ g. g ∷ set (map (closed_by pairs) groups) index (closed_group group)) (closed_by-other pairs pair first (λ paged is. let past : 0 ≡ suc index = only 0 first refl is in absurd (omega (arith, past))))
+    ∙ ap (λ gs. closed_by (pairs ++ pair ∷ []) first ∷ gs) (closed-one pairs pair groups index group here paged named (λ place other there is. let next : suc place ≡ suc index = only (suc place) other there is in omega (arith, next)))
 
 -- where the heads ascend, one group at most has the head
 one_head : (groups : List GroupState) (head : SpanId) (low high : ℕ) (a b : GroupState) → Ascend groups → slice_get groups low ≡ Some a → slice_get groups high ≡ Some b → a.head.id ≡ head → b.head.id ≡ head → low ≡ high
@@ -108,9 +111,9 @@ one_head groups head low high a b up here there a_is b_is = elim (cases_eq low h
 -- one pair more
 pub closing-more : (shard : ShardState) (pairs : List (SpanId × SpanId)) (pair : SpanId × SpanId) (told : Bool) (after : ShardState) → Ascend after.groups → Closes (closing pairs shard) pair.1 told after → after ≡ closing (pairs ++ pair ∷ []) shard
 closing-more shard pairs pair false after up (none, after_is) =
-    after_is ∙ ap (λ groups. record shard { groups = groups }) (closed-others pairs pair shard.groups (λ index group here is. none index (closed_by pairs group) (record { here = slice_get-map_at (closed_by pairs) shard.groups index group here; head_is = is })))
-closing-more shard pairs pair true after up (index, group, found, after_is) =
-    after_is ∙ ap (λ groups. record shard { groups = groups }) (closed-one pairs pair shard.groups index group found.here found.head_is only)
+    after_is ∙ ap (λ groups. record shard { groups = groups }) (closed-others pairs pair shard.groups (λ index group here paged is. false≢true (sym (ap is_some (none index (closed_by pairs group) (record { here = slice_get-map_at (closed_by pairs) shard.groups index group here; head_is = is }))) ∙ paged)))
+closing-more shard pairs pair true after up (index, group, found, paged, after_is) =
+    after_is ∙ ap (λ groups. record shard { groups = groups }) (closed-one pairs pair shard.groups index group found.here paged found.head_is only)
   where
     so_far : List GroupState
     so_far = map (closed_by pairs) shard.groups
@@ -133,14 +136,14 @@ closing-none shard = ap (λ groups. record shard { groups = groups }) (each shar
     each : (groups : List GroupState) → groups ≡ map (closed_by []) groups
     each [] = refl
     each (group ∷ groups) =
-        ap (λ b. record group { closed = b } ∷ groups) (sym (or-false group.closed))
+        ap (λ b. record group { closed = b } ∷ groups) (sym (ap (λ b. group.closed || b) (and-false (is_some group.page)) ∙ or-false group.closed))
         ∙ ap (λ gs. closed_by [] group ∷ gs) (each groups)
 
--- where no group was closed, just those are onto which the pairs fold
+-- where no group was closed, just those with a page are onto which the pairs fold
 closed_as_planned-open : (pairs : List (SpanId × SpanId)) (groups : List GroupState) → AreClosedAsPlanned None groups → map (closed_by pairs) groups ≡ map (closed_as_planned pairs) groups
 closed_as_planned-open pairs [] none = refl
 closed_as_planned-open pairs (group ∷ groups) none =
-    ap (λ b. record group { closed = b || plans_onto pairs group.head.id } ∷ map (closed_by pairs) groups) (none 0 group refl)
+    ap (λ b. record group { closed = b || (is_some group.page && plans_onto pairs group.head.id) } ∷ map (closed_by pairs) groups) (none 0 group refl)
     ∙ ap (λ gs. closed_as_planned pairs group ∷ gs) (closed_as_planned-open pairs groups (λ index other here. none (suc index) other here))
 
 pub closing-open : (pairs : List (SpanId × SpanId)) (shards : List ShardState) → AreOpen shards → map (closing pairs) shards ≡ map (closed_onto pairs) shards
@@ -175,4 +178,4 @@ AreSound-more lent lenders index lender within is sound one =
 pub AreSound-closing : (pairs : List (SpanId × SpanId)) (shards : List ShardState) → AreSound shards → AreSound (map (closing pairs) shards)
 AreSound-closing pairs shards sound number shard here =
     let (was, there, is) = map_back (closing pairs) shards number shard here in
-    subst IsSoundShard is (IsSoundShard-flagged (λ (group : GroupState). group.closed || plans_onto pairs group.head.id) was (sound number was there))
+    subst IsSoundShard is (IsSoundShard-flagged (λ (group : GroupState). group.closed || (is_some group.page && plans_onto pairs group.head.id)) was (sound number was there))

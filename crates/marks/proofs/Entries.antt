@@ -1,29 +1,31 @@
 -- The groups that a mark sees, as entries.
-use Rattle.std.proofs.Common.{◌≡◌, ℕ, ◌+◌, ◌<◌, ◌≤◌, List, [], ◌∷◌, ◌++◌, length, map, refl, sym, ap, ◌∙◌, arith, inl, inr, nat_lt, get_or, take, Some, slice_get, ◌-◌, ◌^◌, ◌↔◌}
+use Rattle.std.proofs.Common.{◌≡◌, ℕ, ◌+◌, ◌<◌, ◌≤◌, List, [], ◌∷◌, ◌++◌, length, map, refl, sym, ap, ◌∙◌, arith, inl, inr, nat_lt, get_or, take, Some, slice_get, ◌-◌, ◌^◌, ◌↔◌, append-nil, cond, is_some, true, false}
 use Rattle.std.specs.Prelude.{IsTrue, min, sum_by}
 use Rattle.std.proofs.lemmas.Bool.{lt-ltb, ltb-true}
 use Rattle.std.proofs.lemmas.List.{flat_map_more, length-append, length-map, map-append, take_more}
+use Rattle.std.proofs.lemmas.List.Elements.{filter_more}
 use Rattle.std.proofs.lemmas.List.Sums.{sum_by-cons}
 use Rattle.std.proofs.lemmas.Option.{get_or_from_slice_get, slice_get_within}
 use Rattle.shard.specs.Group.{GroupState}
 use Rattle.shard.specs.State.{ShardState}
-use Rattle.groups.specs.Group.{summary}
+use Rattle.groups.specs.Group.{paged_in, summary}
 use Rattle.abandoned.specs.State.{PoolState, PooledState, paged_groups}
 use Rattle.span.specs.declared.entry.Entry.{Entry}
 use Rattle.marks.specs.Seen.{AreTooMany, owned_entries}
 
+-- of the groups that have a page
 abbrev pub entries_in : List GroupState → List Entry
-entries_in groups = map summary groups
+entries_in groups = map summary (paged_in groups)
 
 abbrev pub entries_pooled : List PooledState → List Entry
 entries_pooled groups = map summary groups
 
 -- as many owned groups as the shards have pages
-pub length-owned : (shards : List ShardState) → length (owned_entries shards) ≡ sum_by (λ shard. length shard.groups) shards
+pub length-owned : (shards : List ShardState) → length (owned_entries shards) ≡ sum_by (λ shard. length (paged_in shard.groups)) shards
 length-owned [] = refl
 length-owned (shard ∷ shards) =
     length-append (entries_in shard.groups) (owned_entries shards)
-    ∙ omega (arith, length-map shard.groups summary, length-owned shards, sum_by-cons (λ (s : ShardState). length s.groups) shard shards)
+    ∙ omega (arith, length-map (paged_in shard.groups) summary, length-owned shards, sum_by-cons (λ (s : ShardState). length (paged_in s.groups)) shard shards)
 
 -- the entries of one shard more
 pub owned-more : {H : Type 0} (lent : H → ShardState) (shards : List H) (index : ℕ) (shard : H) → index < length shards → shard ≡ get_or shards index shard
@@ -33,7 +35,7 @@ owned-more lent shards index shard within is =
     ∙ ap owned_entries (sym (map-append lent (take index shards) (shard ∷ [])) ∙ ap (map lent) (ap (λ s. take index shards ++ s ∷ []) is ∙ sym (take_more shards index shard within)))
 
 -- where the pool has few groups, a side has too many exactly where the shards have
-pub too_many-owned : (pool : PoolState) (shards : List ShardState) (pages owned : ℕ) → pages ≡ length (paged_groups pool) → pages ≤ 4096 → owned ≡ min (sum_by (λ shard. length shard.groups) shards) (2 ^ 64 - 1)
+pub too_many-owned : (pool : PoolState) (shards : List ShardState) (pages owned : ℕ) → pages ≡ length (paged_groups pool) → pages ≤ 4096 → owned ≡ min (sum_by (λ shard. length (paged_in shard.groups)) shards) (2 ^ 64 - 1)
     → IsTrue (nat_lt 4096 owned) ↔ AreTooMany pool shards
 too_many-owned pool shards pages owned pages_is few owned_is = (
   λ more. inr (omega (arith, ltb-true 4096 owned more, length-owned shards)),
@@ -43,8 +45,18 @@ too_many-owned pool shards pages owned pages_is few owned_is = (
   ],
 )
 
--- the entry of one group more of a shard
-pub entries-more : (groups : List GroupState) (index : ℕ) (group : GroupState) → slice_get groups index ≡ Some group → entries_in (take index groups) ++ summary group ∷ [] ≡ entries_in (take (index + 1) groups)
-entries-more groups index group here =
-    sym (map-append summary (take index groups) (group ∷ []))
-    ∙ ap (map summary) (ap (λ g. take index groups ++ g ∷ []) (sym (get_or_from_slice_get groups index group group here)) ∙ sym (take_more groups index group (slice_get_within groups index group here)))
+-- one group more of a shard: where it has a page, the mark sees its entry too
+
+paged-more : (groups : List GroupState) (index : ℕ) (group : GroupState) → slice_get groups index ≡ Some group → paged_in (take (index + 1) groups) ≡ paged_in (take index groups) ++ cond (is_some group.page) (group ∷ []) []
+paged-more groups index group here =
+    filter_more (λ (g : GroupState). is_some g.page) groups index group (slice_get_within groups index group here)
+    ∙ ap (λ (g : GroupState). paged_in (take index groups) ++ cond (is_some g.page) (g ∷ []) []) (get_or_from_slice_get groups index group group here)
+
+pub entries-paged : (groups : List GroupState) (index : ℕ) (group : GroupState) → slice_get groups index ≡ Some group → is_some group.page ≡ true → entries_in (take index groups) ++ summary group ∷ [] ≡ entries_in (take (index + 1) groups)
+entries-paged groups index group here paged =
+    sym (map-append summary (paged_in (take index groups)) (group ∷ []))
+    ∙ ap (map summary) (ap (λ b. paged_in (take index groups) ++ cond b (group ∷ []) []) (sym paged) ∙ sym (paged-more groups index group here))
+
+pub entries-bare : (groups : List GroupState) (index : ℕ) (group : GroupState) → slice_get groups index ≡ Some group → is_some group.page ≡ false → entries_in (take index groups) ≡ entries_in (take (index + 1) groups)
+entries-bare groups index group here bare =
+    ap (map summary) (sym (paged-more groups index group here ∙ ap (λ b. paged_in (take index groups) ++ cond b (group ∷ []) []) bare ∙ append-nil (paged_in (take index groups))))

@@ -1,5 +1,5 @@
 -- The groups that a mark sees have slots of their class.
-use Rattle.std.proofs.Common.{◌≡◌, ◌<◌, ℕ, List, [], ◌∷◌, map as map_list, get_or, refl, sym, ap, ◌∙◌, suc, inl, inr, Option, Some, None, is_some, slice_get}
+use Rattle.std.proofs.Common.{◌≡◌, ◌<◌, List, [], ◌∷◌, map as map_list, get_or, refl, sym, ap, ◌∙◌, suc, inl, inr, Option, Some, None, is_some}
 use Rattle.std.specs.Cmp.{nat_cmp_total}
 use Rattle.std.specs.FinMap as map
 use Rattle.std.specs.FinSet.{contains, contains-empty, contains-union}
@@ -16,9 +16,10 @@ use Rattle.span.specs.State.{SpanState}
 use Rattle.span.specs.declared.class.Class.{Class}
 use Rattle.span.proofs.OfClass.{Fits-replay}
 use Rattle.span.proofs.Slots.{contains-live_slots}
-use Rattle.groups.specs.Group.{Group, spans_of, summary}
+use Rattle.groups.specs.Group.{Group, paged_in, spans_of, summary}
 use Rattle.groups.specs.Sound.{AreSoundGroups}
 use Rattle.groups.specs.Spans.{AreSpansOf, IsSpanOf, union_of}
+use Rattle.shard.specs.Group.{GroupState}
 use Rattle.shard.specs.State.{ShardState}
 use Rattle.abandoned.specs.Sound.{IsSound as IsSoundPool}
 use Rattle.abandoned.specs.State.{PoolState, PooledState, paged_groups}
@@ -60,8 +61,8 @@ abandoned_fit pool sound =
 owned_fit : (shards : List ShardState) → AreSound shards → All FitsClass (owned_entries shards)
 owned_fit [] sound = All-nil FitsClass
 owned_fit (shard ∷ shards) sound =
-    All-append FitsClass (map_list summary shard.groups) (owned_entries shards)
-    (All-map FitsClass summary shard.groups (groups_fit shard.groups (sound 0 shard refl).groups))
+    All-append FitsClass (map_list summary (paged_in shard.groups)) (owned_entries shards)
+    (All-map FitsClass summary (paged_in shard.groups) (All-filter (λ (group : GroupState). is_some group.page) (λ group. FitsClass (summary group)) shard.groups (groups_fit shard.groups (sound 0 shard refl).groups)))
     (owned_fit shards (λ number other at. sound (suc number) other at))
 
 -- so do those of the snapshot

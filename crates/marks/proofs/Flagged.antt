@@ -1,6 +1,6 @@
 -- Groups of a shard that are closed or opened, and nothing else of them changes.
-use Rattle.std.proofs.Common.{◌≡◌, ℕ, zero, suc, ◌<◌, ◌≤◌, Bool, eqb, List, [], ◌∷◌, ◌++◌, refl, sym, ap, subst, ◌∙◌, arith, Some, slice_get, map}
-use Rattle.std.specs.Prelude.{IsSome, count_by}
+use Rattle.std.proofs.Common.{◌≡◌, ℕ, zero, suc, ◌<◌, ◌≤◌, Bool, List, [], ◌∷◌, ◌++◌, refl, sym, ap, subst, arith, Some, slice_get, map}
+use Rattle.std.specs.Prelude.{count_by}
 use Rattle.std.proofs.lemmas.List.{length-map}
 use Rattle.span.specs.Ids.{rank, same_span}
 use Rattle.span.specs.State.{SpanState}
@@ -50,9 +50,6 @@ module _ (closed : GroupState → Bool) where
           classes = fine.classes;
           page = fine.page;
         });
-    paged = λ index group at.
-        let (was, here, is) = map_back (with_flag closed) shard.groups index group at in
-        subst (λ (g : GroupState). IsSome g.page) is (sound.paged index was here);
     once = λ id. subst (λ spans. count_by (λ (s : SpanState). same_span s.id id) spans ≤ 1) (sym (spans_in-flagged shard.groups)) (sound.once id);
     limit = let same = length-map shard.groups (with_flag closed) in omega (arith, same, sound.limit);
     serials = λ index place group span stands named_so.

@@ -1,24 +1,24 @@
 -- Groups that a plan closes, and opens again at its end.
-use Rattle.std.specs.Prelude.{◌≡◌, ◌||◌, ℕ, List, map, None, Some, slice_get}
+use Rattle.std.specs.Prelude.{◌≡◌, ◌&&◌, ◌||◌, ℕ, List, map, None, Some, is_some, slice_get}
 use Rattle.span.specs.declared.id.SpanId.{SpanId}
 use Rattle.shard.specs.Closes.{opened_group}
 use Rattle.shard.specs.Group.{GroupState}
 use Rattle.shard.specs.State.{ShardState}
 use Rattle.marks.specs.Plans.{AreClosedAsPlanned, plans_onto}
 
--- the group, closed also where the pairs fold onto it
+-- the group, closed also where it has a page and the pairs fold onto it
 abbrev pub closed_by : List (SpanId × SpanId) → GroupState → GroupState
-closed_by pairs group = record group { closed = group.closed || plans_onto pairs group.head.id }
+closed_by pairs group = record group { closed = group.closed || (is_some group.page && plans_onto pairs group.head.id) }
 
--- the shard, of which just those groups are closed in addition onto which the pairs fold
+-- the shard, of which just those groups with a page are closed in addition onto which the pairs fold
 abbrev pub closing : List (SpanId × SpanId) → ShardState → ShardState
 closing pairs shard = record shard { groups = map (closed_by pairs) shard.groups }
 
--- the group, closed exactly where the pairs fold onto it
+-- the group, closed exactly where it has a page and the pairs fold onto it
 abbrev pub closed_as_planned : List (SpanId × SpanId) → GroupState → GroupState
-closed_as_planned pairs group = record group { closed = plans_onto pairs group.head.id }
+closed_as_planned pairs group = record group { closed = is_some group.page && plans_onto pairs group.head.id }
 
--- the shard, of which just those groups are closed onto which the pairs fold
+-- the shard, of which just those groups with a page are closed onto which the pairs fold
 abbrev pub closed_onto : List (SpanId × SpanId) → ShardState → ShardState
 closed_onto pairs shard = record shard { groups = map (closed_as_planned pairs) shard.groups }
 

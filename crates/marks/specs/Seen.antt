@@ -5,7 +5,7 @@ use Rattle.std.specs.List.Sorted.{IsPermutation}
 use Rattle.span.specs.Ids.{same_span}
 use Rattle.shard.specs.Sound.{IsSound as IsSoundShard}
 use Rattle.shard.specs.State.{ShardState}
-use Rattle.groups.specs.Group.{summary}
+use Rattle.groups.specs.Group.{paged_in, summary}
 use Rattle.abandoned.specs.State.{PoolState, paged_groups}
 use Rattle.span.specs.declared.entry.Entry.{Entry}
 use Rattle.mesh_graph.specs.Groups.{Groups, IsAscending, ids}
@@ -18,11 +18,11 @@ use Rattle.mesh_graph.specs.declared.build.TheConstants.{MOST_GROUPS}
 abbrev pub abandoned_entries : PoolState → List Entry
 abandoned_entries pool = map summary (paged_groups pool)
 
--- every group of every shard; a shard that has ended has none
+-- every group of every shard that has a page; a shard that has ended has none
 abbrev pub owned_entries : List ShardState → List Entry
-owned_entries shards = flat_map (λ shard. map summary shard.groups) shards
+owned_entries shards = flat_map (λ shard. map summary (paged_in shard.groups)) shards
 
--- every group of the pool that has a page, and every group of every shard, each once, by ascending head
+-- every group of the pool and of every shard that has a page, each once, by ascending head
 pub record IsSeen (pool : PoolState) (shards : List ShardState) (groups : Groups) : Type 0 where
   pub abandoned : IsPermutation (abandoned_entries pool) groups.abandoned
   pub owned : IsPermutation (owned_entries shards) groups.owned
@@ -38,7 +38,7 @@ pub record AreDistinct (pool : PoolState) (shards : List ShardState) : Type 0 wh
 abbrev pub AreSound : List ShardState → Type 0
 AreSound shards = (number : ℕ) (shard : ShardState) → slice_get shards number ≡ Some shard → IsSoundShard shard
 
--- a side has more groups than a plan may have
+-- a side has more groups with a page than a plan may have
 abbrev pub AreTooMany : PoolState → List ShardState → Type 0
 AreTooMany pool shards = (MOST_GROUPS < length (abandoned_entries pool)) ⊎ (MOST_GROUPS < length (owned_entries shards))
 

@@ -13,8 +13,8 @@ use crate::lends_shard::LendsShard;
 use shard::Shard;
 use span::{Log, SpanId};
 
-/// Closes each owned group onto which a pair folds, in the shard that has it, so that it takes no put. It takes no
-/// memory.
+/// Closes each owned group that has a page and onto which a pair folds, in the shard that has it, so that it takes no put.
+/// It takes no memory.
 pub(crate) fn close_planned<H: LendsShard>(shards: &mut [H], pairs: &[(SpanId, SpanId)])
     requires { IsDistinct same_span (ids (owned_entries (map H.lent shards.old))) }
     ensures { map H.lent shards.new ≡ map (closing pairs.now) (map H.lent shards.old) }
@@ -50,7 +50,7 @@ fn close_one<H: LendsShard>(shards: &mut [H], pair: (SpanId, SpanId))
     }
 }
 
-// Closes the group of the head in the shard at the place, if there is one, and says whether it has the group.
+// Closes the group of the head in the shard at the place, if there is one, and says whether it has the group, with a page.
 fn close_at<H: LendsShard>(shards: &mut [H], place: usize, head: SpanId) -> bool
     ensures { ClosesAt (map H.lent shards.old) place head result (map H.lent shards.new) }
 {

@@ -22,7 +22,8 @@ pub trait LendsShard {
     fn shard(&self) -> &Shard<Self::Log>
         ensures { result.now ≡ lent self.now };
 
-    /// Closes the group of the head, and says whether the shard has it, as [`Shard::close`] does. It takes no memory.
+    /// Closes the group of the head where it has a page, and says whether the shard has such a group, as [`Shard::close`] does.
+    /// It takes no memory.
     fn close(&mut self, head: SpanId) -> bool
         ensures closes { Closes (lent self.old) head result (lent self.new) }
         ensures sound { IsSound (lent self.new) };

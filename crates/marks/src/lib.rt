@@ -7,7 +7,7 @@
 //! ```text
 //!   pool    ──► groups that have a page ──┐
 //!                                         ├─► Snapshot ──► Graph ──► plan, short set ──► Certificate
-//!   shards  ──► all groups ───────────────┘                           │
+//!   shards  ──► groups that have a page ──┘                           │
 //!     ▲                                                               ├─► CurrentPlan::begin, next, advance, end
 //!     └──────────── the groups that are folded onto are closed ◄──────┘
 //! ```

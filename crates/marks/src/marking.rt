@@ -2,7 +2,7 @@
 ghost use Rattle.std.specs.Prelude.{◌≡◌, ◌≢◌, ◌↔◌, ◌+◌, ◌-◌, ◌^◌, ◌≤◌, ◌++◌, Err, IfOk, IsTrue, MatchResult, OnErr, OnOk, false, length, map, min, sum_by, true};
 ghost use Rattle.std.specs.List.{All};
 ghost use Rattle.shard.specs.Sound.{IsSound as IsSoundShard};
-ghost use Rattle.groups.specs.Group.{summary};
+ghost use Rattle.groups.specs.Group.{paged_in, summary};
 ghost use Rattle.abandoned.specs.Sound.{IsSound as IsSoundPool};
 ghost use Rattle.certificate.specs.Plans.{IsBestPlanOf, IsCertificateOf, IsShortOf};
 ghost use Rattle.certificate.specs.Text.{FitsClass, IsWritable};
@@ -20,16 +20,16 @@ use certificate::{Certificate, Plan, Short};
 use mesh_graph::{BuildError, Doubled, Entry, Graph, MOST_GROUPS, Snapshot};
 use std::alloc::{AllocError, Global};
 
-/// A mark of the pool and the shards that are lent: it takes a snapshot of every group of the pool that has a page and
-/// every group of the shards, makes a plan of as many folds as can be, tells the pool that a plan is open, and closes the
+/// A mark of the pool and the shards that are lent: it takes a snapshot of every group of the pool and of the shards that
+/// has a page, makes a plan of as many folds as can be, tells the pool that a plan is open, and closes the
 /// groups onto which the plan folds, so that they take no put. It gives the snapshot, the plan and the short set that
 /// shows the plan best.
 ///
 /// # Errors
 ///
-/// The first of these that holds: `PlanOpen` where a plan is open; `TooMany` where a side has more than 4,096 groups;
-/// `Doubled` where two groups of a side have the same head, which takes memory to tell. `OutOfMemory` where an allocation was
-/// refused and neither of the first two holds. All allocations stand before the first change.
+/// The first of these that holds: `PlanOpen` where a plan is open; `TooMany` where a side has more than 4,096 groups with a
+/// page; `Doubled` where two of those of a side have the same head, which takes memory to tell. `OutOfMemory` where an
+/// allocation was refused and neither of the first two holds. All allocations stand before the first change.
 pub fn mark_in<H: LendsShard>(
     alloc: Global,
     pool: &mut Pool<H::Log>,
@@ -70,8 +70,7 @@ pub fn mark_in<H: LendsShard>(
     Ok(found)
 }
 
-/// Whether a side has more than 4,096 groups: the pool, of groups that have a page, or all shards together. It takes no
-/// memory.
+/// Whether a side has more than 4,096 groups that have a page: the pool, or all shards together. It takes no memory.
 pub(crate) fn has_too_many<H: LendsShard>(pool: &Pool<H::Log>, shards: &[H]) -> bool
     ensures { IsTrue result ↔ AreTooMany pool.now (map H.lent shards.now) }
 {
@@ -102,7 +101,7 @@ fn largest_plan(alloc: Global, snapshot: Snapshot, pieces: usize) -> Result<Cert
     })
 }
 
-// Every group of the pool that has a page, and every group of every shard, unless two of a side have one head.
+// Every group of the pool and of every shard that has a page, unless two of a side have one head.
 pub(crate) fn snapshot_of<H: LendsShard>(
     alloc: Global,
     pool: &Pool<H::Log>,
@@ -139,7 +138,7 @@ fn plan_of(alloc: Global, snapshot: &Snapshot, pieces: usize) -> Result<(Plan, S
     }
 }
 
-/// The groups of all shards, each with its occupied set.
+/// The groups of all shards that have a page, each with its occupied set.
 pub(crate) fn list_owned<H: LendsShard>(
     alloc: Global,
     shards: &[H],
@@ -154,25 +153,27 @@ pub(crate) fn list_owned<H: LendsShard>(
     Ok(entries)
 }
 
-// Appends the groups of the shard, where it has not ended. One that has ended has none.
+// Appends the groups of the shard that have a page, where it has not ended. One that has ended has none.
 fn push_groups<H: LendsShard>(entries: &mut Vec<Entry>, lender: &H) -> Result<(), AllocError>
     ensures items { IfOk result (λ _. entries.new.items ≡ entries.old.items ++ map summary
-        (H.lent lender.now).groups) }
+        (paged_in (H.lent lender.now).groups)) }
     ensures sound { IsSoundShard (H.lent lender.now) }
 {
     let shard = lender.shard();
     if shard.ended() {
         return Ok(());
     }
-    for index in 0..shard.pages() {
-        entries.push(shard.spans_at(index).entry())?;
+    for index in 0..shard.len() {
+        if shard.is_paged(index) {
+            entries.push(shard.spans_at(index).entry())?;
+        }
     }
     Ok(())
 }
 
-// How many groups the shards have, or the greatest number where there are more.
+// How many pages the shards have, or the greatest number where there are more.
 fn owned_pages<H: LendsShard>(shards: &[H]) -> usize
-    ensures { result ≡ min (sum_by (λ shard. length shard.groups) (map H.lent shards.now))
+    ensures { result ≡ min (sum_by (λ shard. length (paged_in shard.groups)) (map H.lent shards.now))
         (2 ^ 64 - 1) }
 {
     let mut pages: usize = 0;

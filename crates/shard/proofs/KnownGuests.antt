@@ -6,7 +6,6 @@ use Rattle.span.specs.Ids.{same_span}
 use Rattle.span.specs.State.{SpanState}
 use Rattle.span.specs.declared.id.SpanId.{SpanId}
 use Rattle.groups.specs.Group.{IsElsewhere}
-use Rattle.shard.specs.Closes.{opened_group}
 use Rattle.groups.specs.Directory.{Entries, KnowsGuests, entered}
 use Rattle.shard.specs.Group.{GroupState}
 use Rattle.page.specs.Words.{Words}
@@ -15,7 +14,7 @@ use Rattle.groups.proofs.FoundGuests.{IsDirectory-joined}
 use Rattle.groups.proofs.GuestDirectory.{IsDirectory-insert}
 use Rattle.groups.proofs.KnownGuests.{guests_in, head_in}
 use Rattle.groups.proofs.Standing.{head_id}
-use Rattle.shard.proofs.Opened.{alike}
+use Rattle.shard.proofs.AlikeGroups.{alike, bare}
 
 -- the guests from the place on are those that came
 pub entered-behind : (entries : Entries) (group : GroupState) (more : List SpanState) (head : SpanId) (first : ℕ) (guests : List SpanState) → guests ≡ group.guests ++ more → first ≡ length group.guests → group.head.id ≡ head
@@ -27,8 +26,8 @@ entered-behind entries group more head first guests all is head_is =
     ∙ ap (λ i. entered entries more i (suc (length group.guests))) (sym head_is)
 
 module _ (groups : List GroupState) (entries : Entries) (knows : KnowsGuests groups entries) where
-  -- a change of flags
-  pub KnowsGuests-alike : (after : List GroupState) → map_list opened_group after ≡ map_list opened_group groups → KnowsGuests after entries
+  -- a change of pages and flags
+  pub KnowsGuests-alike : (after : List GroupState) → map_list bare after ≡ map_list bare groups → KnowsGuests after entries
   KnowsGuests-alike after same = record {
     known = λ index place group guest here there.
         let was = (alike groups after same).stood index group here in

@@ -1,6 +1,5 @@
--- A shard stays sound where one of its groups is replaced by a sound group of the same ids, which has a page: so it is at a free, a set and a put.
-use Rattle.std.proofs.Common.{◌≡◌, ℕ, length-set, length, Some, set, slice_get, ◌∙◌, ap, sym, subst, refl, inl, inr}
-use Rattle.std.specs.Option.{IsSome}
+-- A shard stays sound where one of its groups is replaced by a sound group of the same ids: so it is at a free, a set and a put.
+use Rattle.std.proofs.Common.{◌≡◌, ℕ, length-set, length, Some, set, slice_get, ◌∙◌, ap, sym, refl}
 use Rattle.std.proofs.lemmas.Option.{none-some}
 use Rattle.span.specs.Classes.{width_of}
 use Rattle.span.specs.Log.{Holds, Value}
@@ -14,11 +13,9 @@ use Rattle.groups.specs.Sound.{IsSoundGroup}
 use Rattle.groups.specs.Spans.{with_free, with_put, with_set_at}
 use Rattle.groups.proofs.FreedGroups.{IsSoundGroup-free}
 use Rattle.groups.proofs.GuestDirectory.{HaveSameIds-set}
-use Rattle.groups.proofs.Lists.{cases-set}
 use Rattle.groups.proofs.PutGroups.{IsSoundGroup-put}
 use Rattle.groups.proofs.ReplacedGroups.{AreAlike, AreAlike-with_span, AreSoundGroups-replaced, Ascend-replaced, times-replaced, was_alike}
 use Rattle.groups.proofs.SetGroups.{IsSoundGroup-set}
-use Rattle.groups.proofs.Standing.{page-with_span}
 use Rattle.groups.proofs.Unions.{outside_left, outside_right}
 use Rattle.shard.specs.Calls.{IsLowestRoom}
 use Rattle.shard.specs.Group.{GroupState}
@@ -27,14 +24,10 @@ use Rattle.shard.specs.State.{ShardState}
 
 module _ (old : ShardState) (sound : IsSound old) (index : ℕ) (group : GroupState) (here : slice_get old.groups index ≡ Some group) where
   module _ (after : GroupState) (ids : AreAlike group after) where
-    pub IsSound-replaced : IsSoundGroup after → IsSome after.page → IsSound (record old { groups = set old.groups index after })
-    IsSound-replaced after_sound after_paged = record {
+    pub IsSound-replaced : IsSoundGroup after → IsSound (record old { groups = set old.groups index after })
+    IsSound-replaced after_sound = record {
       ascending = Ascend-replaced old.groups index group after here ids sound.ascending;
       groups = AreSoundGroups-replaced old.groups index after sound.groups after_sound;
-      paged = λ other g there. elim (cases-set old.groups index after other g there) [
-        | inl this ↦ subst (λ (g : GroupState). IsSome g.page) this.1 after_paged
-        | inr that ↦ sound.paged other g that.1
-      ];
       once = λ id. rw (times-replaced old.groups index group after here ids id) (sound.once id);
       limit = rw (length-set old.groups index after) sound.limit;
       serials = λ at_group at g s there own.
@@ -53,17 +46,14 @@ module _ (old : ShardState) (sound : IsSound old) (index : ℕ) (group : GroupSt
     IsSound-put = IsSound-replaced (put_group group class slot value) (HaveSameIds-set (spans_of group) 0 group.head (with_put group.head slot value) refl refl)
         (IsSoundGroup-put group (sound.groups index group here) class room.slot_is.class_is slot room.slot_is.on_page value width
         (outside_left _ _ slot room.slot_is.lowest.outside) (outside_right _ _ slot room.slot_is.lowest.outside))
-        refl
 
   module _ (place : ℕ) (span : SpanState) (there : slice_get (spans_of group) place ≡ Some span) where
     -- a free in the group
     pub IsSound-free : (key : Key) → Holds span.log key.slot key.generation → IsSound (record old { groups = set old.groups index (with_span group place (with_free span key)) })
     IsSound-free key holds = IsSound-replaced (with_span group place (with_free span key)) (AreAlike-with_span group place span (with_free span key) there refl)
         (IsSoundGroup-free group (sound.groups index group here) place span key there holds)
-        (subst IsSome (sym (page-with_span group place (with_free span key))) (sound.paged index group here))
 
     -- a set in the group
     pub IsSound-set : (slot generation : ℕ) (value : Value) → IsSettable span slot generation value → IsSound (record old { groups = set old.groups index (set_group group place span slot generation value) })
     IsSound-set slot generation value settable = IsSound-replaced (set_group group place span slot generation value) (AreAlike-with_span group place span (with_set_at span slot generation value) there refl)
         (IsSoundGroup-set group (sound.groups index group here) place span there slot generation value settable)
-        refl

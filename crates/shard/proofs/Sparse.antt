@@ -11,7 +11,7 @@ use Rattle.std.proofs.lemmas.List.Sorted.{Contains-permutation, IsPermutation-sy
 use Rattle.std.proofs.lemmas.Map.Keys.{IsDistinct-IsPermutation, IsDistinct-from_apart, apart_from_distinct, ge_from_not_lt}
 use Rattle.std.proofs.lemmas.Option.{get_or_from_slice_get, slice_get-map, slice_get_read, slice_get_within}
 use Rattle.span.specs.Ids.{rank}
-use Rattle.groups.proofs.Lists.{same_some, there_at}
+use Rattle.groups.proofs.Lists.{before-map, same_some, there_at}
 use Rattle.groups.proofs.Removed.{after-remove, before-remove}
 use Rattle.groups.specs.Group.{Ascend}
 use Rattle.shard.specs.Group.{GroupState}
@@ -66,7 +66,7 @@ before-filter p (y ∷ xs) at x there = elim (cases_Bool (p y)) [
     first_or_later p y xs (suc at) x is rest here = let later = rest at x here in (suc later.0, later.1, later.2)
 
 -- what passes is kept
-after-filter : {X : Type 0} (p : X → Bool) (xs : List X) (at : ℕ) (x : X) → slice_get xs at ≡ Some x → p x ≡ true → (now : ℕ) × (slice_get (filter p xs) now ≡ Some x)
+pub after-filter : {X : Type 0} (p : X → Bool) (xs : List X) (at : ℕ) (x : X) → slice_get xs at ≡ Some x → p x ≡ true → (now : ℕ) × (slice_get (filter p xs) now ≡ Some x)
 after-filter p [] at x there is = absurd cc
 after-filter p (y ∷ xs) zero x there is = (0, ap (λ zs. slice_get zs 0) (filter-yes p y xs (ap p (same_some there) ∙ is)) ∙ there)
 after-filter p (y ∷ xs) (suc at) x there is =
@@ -80,7 +80,7 @@ after-filter p (y ∷ xs) (suc at) x there is =
 abbrev Pairs : {X : Type 0} → (X → X → Type 0) → List X → Type 0
 Pairs {X} R xs = (low high : ℕ) (a b : X) → low < high → slice_get xs low ≡ Some a → slice_get xs high ≡ Some b → R a b
 
-pairs-filter : {X : Type 0} (R : X → X → Type 0) (p : X → Bool) (xs : List X) → Pairs R xs → Pairs R (filter p xs)
+pub pairs-filter : {X : Type 0} (R : X → X → Type 0) (p : X → Bool) (xs : List X) → Pairs R xs → Pairs R (filter p xs)
 pairs-filter R p [] pairs low high a b less at_low at_high = absurd cc
 pairs-filter R p (x ∷ xs) pairs low high a b less at_low at_high =
     let rest : Pairs R (filter p xs) = pairs-filter R p xs (λ low high a b less at_low at_high. pairs (suc low) (suc high) a b (omega arith) at_low at_high) in
@@ -103,19 +103,14 @@ pairs-filter R p (x ∷ xs) pairs low high a b less at_low at_high =
 
 -- ---- what is told of a shard's groups
 
-told_at : (groups : List GroupState) (at : ℕ) (one : LiveGroup) → slice_get (map told_of groups) at ≡ Some one → (group : GroupState) × (slice_get groups at ≡ Some group) × (told_of group ≡ one)
-told_at [] at one there = absurd cc
-told_at (group ∷ groups) zero one there = (group, refl, same_some there)
-told_at (group ∷ groups) (suc at) one there = told_at groups at one there
-
 -- heads rise
 abbrev Rises : LiveGroup → LiveGroup → Type 0
 Rises a b = rank a.head < rank b.head
 
 rises-told : (groups : List GroupState) → Ascend groups → Pairs Rises (map told_of groups)
 rises-told groups ascend low high a b less at_low at_high =
-    let first = told_at groups low a at_low in
-    let second = told_at groups high b at_high in
+    let first = before-map told_of groups low a at_low in
+    let second = before-map told_of groups high b at_high in
     omega (arith, ascend low high first.0 second.0 less first.1 second.1, ap (λ (x : LiveGroup). rank x.head) first.2, ap (λ (x : LiveGroup). rank x.head) second.2)
 
 abbrev same_head : LiveGroup → LiveGroup → Bool
@@ -169,7 +164,7 @@ AreSparsestFirst-sorted groups live told ascend live_is permutation order =
       only = λ place one there.
           let was = moved told live place one (IsPermutation-sym live told permutation) there in
           let kept = before-filter is_live (map told_of groups) was.0 one (ap (λ zs. slice_get zs was.0) (sym live_is) ∙ was.1) in
-          let of = told_at groups kept.0 one kept.1 in
+          let of = before-map told_of groups kept.0 one kept.1 in
           (kept.0, of.0, of.1, told_live of.0 (ap is_live of.2 ∙ kept.2), of.2);
       order = λ low high a b less at_low at_high. elim (order low high a b less at_low at_high) [
         | inl fewer ↦ inl fewer

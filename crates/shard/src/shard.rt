@@ -1,12 +1,12 @@
 // A shard and its calls on keys.
-ghost use Rattle.std.specs.Prelude.{◌*◌, ◌+◌, ◌≡◌, ◌<◌, ◌≤◌, ℕ, [], insert, vec_len, vec_capacity, map, length, IsTrue, IsOk, IfOk, IfSome, IsSome, IsOkUnless, ◌↔◌, OnErr, MatchOption, Some, None, nat_lt, true, false, slice_get, if◌then◌else◌, is_some};
+ghost use Rattle.std.specs.Prelude.{◌*◌, ◌+◌, ◌≡◌, ◌<◌, ◌≤◌, ℕ, [], insert, vec_len, vec_capacity, map, length, IsTrue, IsOk, IfOk, IfSome, IsOkUnless, ◌↔◌, OnErr, MatchOption, Some, None, nat_lt, true, false, slice_get, if◌then◌else◌, is_some};
 ghost use Rattle.std.specs.List.Sorted.{IsStrictlyIncreasing};
 ghost use Rattle.span.specs.Ids.{rank};
 ghost use Rattle.span.specs.Order.{HasNoneFrom, IsFirstFrom};
 ghost use Rattle.span.specs.State.{SpanState};
 ghost use Rattle.span.specs.PlainMap as plain;
 ghost use Rattle.shard.specs.Group.{GroupState};
-ghost use Rattle.groups.specs.Group.{Ascend, HasNoHead, IsElsewhere, IsHeadOf, IsHere, live_in, summary};
+ghost use Rattle.groups.specs.Group.{Ascend, HasNoHead, IsElsewhere, IsHeadOf, IsHere, live_in, paged_in, summary};
 ghost use Rattle.shard.specs.Rooms.{HasRooms, PutsFirst, rooms_of};
 ghost use Rattle.span.specs.Classes.{class_of, width_of};
 ghost use Rattle.span.specs.declared.class.Class.{Class};
@@ -32,6 +32,7 @@ mod logs;
 mod moves;
 mod replacing;
 mod retiring;
+mod trimming;
 
 pub use replacing::Replaced;
 pub use retiring::LiveGroup;
@@ -58,7 +59,7 @@ pub enum Freed {
     NotHere,
 }
 
-/// The groups of spans that one thread owns, by ascending head, each with its page of 256 words.
+/// The groups of spans that one thread owns, by ascending head, each with its page of 256 words, or with none where nothing is live.
 ///
 /// It keeps that it is sound, and that a group whose index is not in `rooms` has no usable slot.
 #[derive(Drop)]
@@ -161,11 +162,25 @@ impl<L: Log> Shard<L> {
         })
     }
 
-    /// How many pages it has, one a group.
-    pub fn pages(&self) -> usize
+    /// How many groups it has.
+    pub fn len(&self) -> usize
         ensures { result ≡ length self.now.groups }
     {
         self.groups.len()
+    }
+
+    /// How many pages it has, one a group that has any: a trim takes those on which nothing is live.
+    pub fn pages(&self) -> usize
+        ensures pages { result ≡ length (paged_in self.now.groups) }
+        ensures at_most { result ≤ length self.now.groups }
+    {
+        let mut pages = 0;
+        for group in &self.groups {
+            if group.is_paged() {
+                pages += 1;
+            }
+        }
+        pages
     }
 
     /// Whether it has ended, and so takes no put.
@@ -191,11 +206,11 @@ impl<L: Log> Shard<L> {
         self.opened
     }
 
-    /// Whether it has all the pages that it may have.
+    /// Whether it has as many groups as it may have pages.
     pub fn is_full(&self) -> bool
         ensures { IsTrue result ↔ (self.now.page_limit ≡ length self.now.groups) }
     {
-        self.pages() == self.page_limit
+        self.groups.len() == self.page_limit
     }
 
     /// How many keys are live in it.
@@ -210,15 +225,17 @@ impl<L: Log> Shard<L> {
         live
     }
 
-    /// The head of each group and the slots that are live in one of its spans, by ascending head. The
+    /// Of each group that has a page the head and the slots that are live in one of its spans, by ascending head. The
     /// error means that memory ran out for the list.
     pub fn groups(&self) -> Result<Vec<Entry>, AllocError>
-        ensures items { IfOk result (λ groups. groups.items ≡ map summary self.now.groups) }
-        ensures ascending { IsStrictlyIncreasing (map
-            (λ group. rank group.head.id) self.now.groups) }
+        ensures items { IfOk result (λ groups. groups.items
+            ≡ map summary (paged_in self.now.groups)) }
+        ensures ascending { IsStrictlyIncreasing (map (λ group. rank group.head.id)
+            (paged_in self.now.groups)) }
     {
         self.groups
             .iter()
+            .filter(|group| group.is_paged())
             .map(|group| group.entry())
             .collect(self.alloc)
     }
@@ -286,7 +303,7 @@ impl<L: Log> Shard<L> {
     /// out, and the number of changes that the head's log had before.
     ///
     /// It is refused with `Ended` exactly after the shard's end, and with `PagesSpent` exactly where it has not
-    /// ended, no open group has a usable slot, and it has all its pages or has opened 1,024 spans. With
+    /// ended, no open group has a usable slot, and it has as many groups as it may have pages, or has opened 1,024 spans. With
     /// `OutOfMemory` an allocation was refused; each stands before the first change.
     pub fn put(&mut self, object: Object) -> Result<(Key, usize), PutError>
         ensures ok { IfOk result (λ made.
@@ -342,7 +359,7 @@ impl<L: Log> Shard<L> {
         ensures room { OnErr result (IsFull class self.old.groups → ⊥) }
         ensures err { OnErr result (self.new ≡ self.old) }
     {
-        let made = put_first(&mut self.groups, &mut self.rooms, class, words)?;
+        let made = put_first(&mut self.groups, &mut self.rooms, self.alloc, class, words)?;
         Ok(made)
     }
 
@@ -477,6 +494,7 @@ fn lower_heads<L: Log>(groups: &[Group<L>], id: SpanId) -> usize
 fn put_first<L: Log>(
     groups: &mut Vec<Group<L>>,
     rooms: &mut ClassRooms,
+    alloc: Global,
     class: Class,
     words: &[u128],
 ) -> Result<Option<(Key, usize)>, AllocError>
@@ -484,8 +502,6 @@ fn put_first<L: Log>(
     requires rooms { (other : Class) → HasRooms other groups.old.items
         (rooms_of rooms.old other) }
     requires many { length groups.old.items ≤ MOST_PAGES }
-    requires pages { (index : ℕ) (group : GroupState)
-        → slice_get groups.old.items index ≡ Some group → IsSome group.page }
     ensures ok { IfOk result (λ found. MatchOption found
         (IsFull class groups.old.items × (groups.new.items ≡ groups.old.items))
         (λ made. PutsFirst class groups.old.items words.now made.0 made.1 groups.new.items)) }
@@ -498,7 +514,7 @@ fn put_first<L: Log>(
     while let Some(index) = rooms.lowest(class) {
         let group = &mut groups[index];
         let at = group.span_at(0).changes();
-        if let Some(key) = group.put(class, words)? {
+        if let Some(key) = group.put(alloc, class, words)? {
             return Ok(Some((key, at)));
         }
         rooms.remove(class, index);

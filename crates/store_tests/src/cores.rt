@@ -9,6 +9,7 @@ mod classes;
 mod plans;
 mod retiring;
 mod setting;
+mod trimming;
 
 fn key(shard: u32, serial: u32, slot: u8, generation: u32) -> Option<Key> {
     Key::new(SpanId::new(shard, serial)?, slot, generation)
@@ -41,6 +42,7 @@ enum Told {
     Settled(Option<Key>),
     ShardEnded,
     Retired(usize),
+    Trimmed(usize),
     Adopted(SpanId),
     Marked(usize),
     Stepped(SpanId, SpanId, Step),
@@ -65,6 +67,7 @@ fn tell(reply: &Reply) -> Told {
         Reply::Settled(key) => Told::Settled(*key),
         Reply::ShardEnded => Told::ShardEnded,
         Reply::Retired(count) => Told::Retired(*count),
+        Reply::Trimmed(count) => Told::Trimmed(*count),
         Reply::Adopted(head) => Told::Adopted(*head),
         Reply::Marked(certificate) => Told::Marked(certificate.plan.pairs().len()),
         Reply::Stepped(abandoned, owned, step) => Told::Stepped(*abandoned, *owned, *step),

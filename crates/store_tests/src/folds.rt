@@ -123,6 +123,50 @@ fn folds_two_groups(rt: HostRuntime) {
     }
 }
 
+// The same where nothing is live in the one group of the shard, which has given its page back.
+fn seen_with_no_page(
+    pool: &mut Pool,
+    ended: &mut Shard,
+    shard: &mut Shard,
+    class: Class,
+) -> Option<(usize, Step, Seen)> {
+    abandon(pool, ended, class)?;
+    open_groups(shard, class, 1)?;
+    shard.reopen();
+    shard.free(&key(1, 1)?);
+    let trimmed = shard.trim();
+    let step = fold(pool, shard, 1)?;
+    Some((trimmed, step, look(pool, shard)?))
+}
+
+fn folded_with_no_page(alloc: Global, class: Class) -> Option<(usize, Step, Seen)> {
+    let mut ended = Shard::new(alloc, 0, 4, 2).ok()?;
+    let mut shard = Shard::new(alloc, 1, 4, 2).ok()?;
+    let mut pool = Pool::new(alloc);
+    seen_with_no_page(&mut pool, &mut ended, &mut shard, class)
+}
+
+// The page of the pool's group is then that of the shard's.
+#[test]
+fn folds_onto_a_group_with_no_page(rt: HostRuntime) {
+    for class in [Class::C16, Class::C64, Class::C256] {
+        let wanted = Seen {
+            pages: [0, 1],
+            live: [0, 1],
+            found: [
+                Sought::NotHere,
+                Sought::Value(object(class, 7), 1),
+                Sought::NotHere,
+                Sought::Gone(4),
+            ],
+        };
+        assert_eq!(rt;
+            folded_with_no_page(rt.alloc(), class),
+            Some((1, Step::Folded, wanted))
+        );
+    }
+}
+
 // No slot is live in both, and each key finds its object where it was.
 #[test]
 fn leaves_two_classes_apart(rt: HostRuntime) {

@@ -110,6 +110,14 @@ fn tend<G: Gate, R: Wait>(rt: &R, arena: &Arena<G, Counted>, seat: &mut Seat) ->
     seat.tend(rt, arena, &mut Dropped::new()).ok()
 }
 
+// How many pages the worker's shard gave back.
+fn trim<G: Gate, R: Wait>(rt: &R, arena: &Arena<G, Counted>, seat: &mut Seat) -> usize
+    requires { seat.old.limits ≡ arena.now.limits }
+    ensures { seat.new.limits ≡ seat.old.limits }
+{
+    seat.trim(rt, arena)
+}
+
 fn end<G: Gate, R: Wait>(rt: &R, arena: &Arena<G, Counted>, seat: &mut Seat) -> bool
     requires { seat.old.limits ≡ arena.now.limits }
     ensures { seat.new.limits ≡ seat.old.limits }
@@ -118,14 +126,14 @@ fn end<G: Gate, R: Wait>(rt: &R, arena: &Arena<G, Counted>, seat: &mut Seat) -> 
 }
 
 // How often each shard was entered so far, after a put of each worker, a look-up, a set, a free and a tend of keys in the first
-// shard, an end of that shard, and a look-up in the pool.
+// shard, a trim and an end of that shard, and a look-up in the pool.
 fn entered<R: Wait>(
     rt: &R,
     arena: &Arena<Counting<'_>, Counted>,
     passes: &Passes,
     first: &mut Seat,
     second: &mut Seat,
-) -> Option<[(u64, u64); 7]>
+) -> Option<[(u64, u64); 8]>
     requires first { first.old.limits ≡ arena.now.limits }
     requires second { second.old.limits ≡ arena.now.limits }
 {
@@ -143,10 +151,20 @@ fn entered<R: Wait>(
     let left = leave(second, later);
     let tended = tend(rt, arena, first);
     let after_tend = passes.so_far();
+    let trimmed = trim(rt, arena, first);
+    let after_trim = passes.so_far();
     let ended = end(rt, arena, first);
     let after_end = passes.so_far();
     let pooled = get(rt, arena, second, &kept);
-    if !(found && replaced && freed && left && tended == Some(1) && ended && pooled) {
+    if !(found
+        && replaced
+        && freed
+        && left
+        && tended == Some(1)
+        && trimmed == 0
+        && ended
+        && pooled)
+    {
         return None;
     }
     Some([
@@ -155,13 +173,14 @@ fn entered<R: Wait>(
         after_set,
         after_free,
         after_tend,
+        after_trim,
         after_end,
         passes.so_far(),
     ])
 }
 
 // The same of a new arena.
-fn entered_anew<R: Wait>(rt: &R, alloc: Global) -> Option<[(u64, u64); 7]> {
+fn entered_anew<R: Wait>(rt: &R, alloc: Global) -> Option<[(u64, u64); 8]> {
     let passes = Passes {
         first: AtomicU64::new(0),
         second: AtomicU64::new(0),
@@ -183,7 +202,16 @@ fn passes_the_gate(rt: HostRuntime) -> Result<(), Fail> {
     };
     assert_eq!(rt;
         entered,
-        Some([(3, 1), (4, 1), (5, 1), (6, 1), (7, 1), (7, 1), (7, 1)])
+        Some([
+            (3, 1),
+            (4, 1),
+            (5, 1),
+            (6, 1),
+            (7, 1),
+            (8, 1),
+            (8, 1),
+            (8, 1)
+        ])
     );
     Ok(())
 }

@@ -41,4 +41,6 @@ mod tends;
 #[cfg(test)]
 mod tests;
 #[cfg(test)]
+mod trims;
+#[cfg(test)]
 mod worker;

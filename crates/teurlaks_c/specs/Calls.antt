@@ -8,9 +8,9 @@ use Rattle.certificate.specs.declared.certificate.Certificate.{Certificate}
 use Rattle.certificate.specs.Text.{IsWritable, certificate_text}
 use Rattle.fold.specs.declared.step.Step.TheVariants.{Folded, Emptied}
 use Rattle.arena_core.specs.declared.event.Event.{Event}
-use Rattle.arena_core.specs.declared.event.Event.TheVariants.{Put, Set, Free, End, Retire, Adopt, Mark, Step, Close}
+use Rattle.arena_core.specs.declared.event.Event.TheVariants.{Put, Set, Free, End, Retire, Trim, Adopt, Mark, Step, Close}
 use Rattle.arena_core.specs.declared.reply.Reply.{Reply}
-use Rattle.arena_core.specs.declared.reply.Reply.TheVariants.{Issued, Replaced, Freed, ShardEnded, Retired, Adopted, Marked, Stepped, NoPairLeft, Closed, NoPlan, Refused}
+use Rattle.arena_core.specs.declared.reply.Reply.TheVariants.{Issued, Replaced, Freed, ShardEnded, Retired, Trimmed, Adopted, Marked, Stepped, NoPairLeft, Closed, NoPlan, Refused}
 use Rattle.arena_core.specs.Plain.{ErasedStep}
 use Rattle.arena_core.specs.Sound.{IsSound}
 use Rattle.arena_core.specs.State.{CoreState, HasKeys, new_core, pages, shown}
@@ -25,6 +25,7 @@ use Rattle.teurlaks_c.specs.declared.replies.GetReply.{GetReply}
 use Rattle.teurlaks_c.specs.declared.replies.WordsReply.{WordsReply}
 use Rattle.teurlaks_c.specs.declared.replies.NextReply.{NextReply}
 use Rattle.teurlaks_c.specs.declared.replies.RetireReply.{RetireReply}
+use Rattle.teurlaks_c.specs.declared.replies.TrimReply.{TrimReply}
 use Rattle.teurlaks_c.specs.declared.replies.AdoptReply.{AdoptReply}
 use Rattle.teurlaks_c.specs.declared.replies.MarkReply.{MarkReply}
 use Rattle.teurlaks_c.specs.declared.replies.StepReply.{StepReply}
@@ -150,7 +151,7 @@ abbrev pub SaysEnd : ℕ → Reply → Type 0
 SaysEnd says ShardEnded = says ≡ done
 SaysEnd says (Refused refusal) = says ≡ refusal_status refusal
 -- no other reply comes
-SaysEnd says reply = Unit {0}
+SaysEnd says reply = ⊥
 
 -- the shard ends, or is refused its end
 abbrev pub Ends : Option Held → ℕ → ℕ → Option Held → Type 0
@@ -161,18 +162,29 @@ abbrev pub SaysRetired : RetireReply → Reply → Type 0
 SaysRetired says (Retired count) = (says.status ≡ done) × (says.count ≡ count)
 SaysRetired says (Refused refusal) = (says.status ≡ refusal_status refusal) × (says.count ≡ 0)
 -- no other reply comes
-SaysRetired says reply = Unit {0}
+SaysRetired says reply = ⊥
 
 -- groups of the shard go to the pool, or the retirement is refused
 abbrev pub Retires : Option Held → ℕ → ℕ → RetireReply → Option Held → Type 0
 Retires old shard most says new = (reply : Reply) × Steps old (Retire shard most) reply new × SaysRetired says reply
+
+-- what C reads of the reply to a trim
+abbrev pub SaysTrimmed : TrimReply → Reply → Type 0
+SaysTrimmed says (Trimmed count) = (says.status ≡ done) × (says.count ≡ count)
+SaysTrimmed says (Refused refusal) = (says.status ≡ refusal_status refusal) × (says.count ≡ 0)
+-- no other reply comes
+SaysTrimmed says reply = ⊥
+
+-- the shard gives pages back, or there is no such shard
+abbrev pub Trims : Option Held → ℕ → TrimReply → Option Held → Type 0
+Trims old shard says new = (reply : Reply) × Steps old (Trim shard) reply new × SaysTrimmed says reply
 
 -- what C reads of the reply to an adoption
 abbrev pub SaysAdopted : AdoptReply → Reply → Type 0
 SaysAdopted says (Adopted head) = (says.status ≡ done) × IsSpanOf says.head head
 SaysAdopted says (Refused refusal) = says.status ≡ refusal_status refusal
 -- no other reply comes
-SaysAdopted says reply = Unit {0}
+SaysAdopted says reply = ⊥
 
 -- a group is adopted, or the adoption is refused
 abbrev pub Adopts : Option Held → ℕ → AdoptReply → Option Held → Type 0
@@ -191,7 +203,7 @@ abbrev pub SaysMarked : MarkReply → Reply → Type 0
 SaysMarked says (Marked certificate) = CountsOf says certificate
 SaysMarked says (Refused refusal) = says.status ≡ refusal_status refusal
 -- no other reply comes
-SaysMarked says reply = Unit {0}
+SaysMarked says reply = ⊥
 
 -- the certificate that is kept, if there is one
 abbrev pub kept : Option Witness → Option Certificate
@@ -203,10 +215,11 @@ abbrev pub Keeps : Option Witness → Reply → Option Witness → Type 0
 Keeps old (Marked certificate) new = kept new ≡ Some certificate
 Keeps old reply new = new ≡ old
 
--- a certificate in the reply is within the grammar of texts
-abbrev pub HasWritable : Reply → Type 0
-HasWritable (Marked certificate) = IsWritable certificate
-HasWritable reply = Unit {0}
+-- what a mark may reply: a certificate within the grammar of texts, or a refusal
+abbrev pub IsOfMark : Reply → Type 0
+IsOfMark (Marked certificate) = IsWritable certificate
+IsOfMark (Refused refusal) = Unit {0}
+IsOfMark reply = ⊥
 
 -- a largest plan is opened and its certificate kept, or the mark is refused
 pub record Marks (old : Option Held) (says : MarkReply) (new : Option Held) : Type 0 where
@@ -227,7 +240,7 @@ SaysStepped says NoPairLeft = says.status ≡ no_pair_left
 SaysStepped says NoPlan = says.status ≡ no_plan
 SaysStepped says (Refused refusal) = says.status ≡ refusal_status refusal
 -- no other reply comes
-SaysStepped says reply = Unit {0}
+SaysStepped says reply = ⊥
 
 -- the next pair is carried out, or there is none, or memory is refused
 abbrev pub TakesStep : Option Held → StepReply → Option Held → Type 0
@@ -238,7 +251,7 @@ abbrev pub SaysClosed : ℕ → Reply → Type 0
 SaysClosed says Closed = says ≡ done
 SaysClosed says NoPlan = says ≡ no_plan
 -- no other reply comes
-SaysClosed says reply = Unit {0}
+SaysClosed says reply = ⊥
 
 -- the plan is closed, or there is none
 abbrev pub Closes : Option Held → ℕ → Option Held → Type 0

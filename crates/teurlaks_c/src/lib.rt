@@ -46,5 +46,5 @@ pub use calls::{
 };
 pub use meshing::{
     teurlaks_adopt, teurlaks_certificate, teurlaks_close, teurlaks_end, teurlaks_mark,
-    teurlaks_retire, teurlaks_step,
+    teurlaks_retire, teurlaks_step, teurlaks_trim,
 };

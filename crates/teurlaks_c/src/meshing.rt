@@ -1,12 +1,14 @@
-// Shards that end or retire groups, groups that are adopted, and plans of folds.
+// Shards that end, retire groups or give pages back, groups that are adopted, and plans of folds.
 ghost use Rattle.std.specs.Prelude.{◌≡◌, IsSome};
-ghost use Rattle.teurlaks_c.specs.Calls.{Adopts, Closes, CountsOf, Ends, HasWritable, Keeps, Marks, Retires, SaysMarked, Steps, TakesStep, Tells, Writes};
+ghost use Rattle.teurlaks_c.specs.Calls.{Adopts, Closes, CountsOf, Ends, IsOfMark, Keeps, Marks, Retires, SaysMarked, Steps, TakesStep, Tells, Trims, Writes};
 ghost use Rattle.teurlaks_c.specs.Keys.{IsSpanOf};
 
 use crate::handle::Handle;
 use crate::held::{Held, Witness};
 use crate::keys::raw_span;
-use crate::replies::{AdoptReply, CertificateReply, MarkReply, RawSpan, RetireReply, StepReply};
+use crate::replies::{
+    AdoptReply, CertificateReply, MarkReply, RawSpan, RetireReply, StepReply, TrimReply,
+};
 use crate::status::{
     EMPTIED, NO_PAIR_LEFT, NO_PLAN, NONE, OK, OUT_OF_MEMORY, TOO_SMALL, status_of,
 };
@@ -52,6 +54,26 @@ pub extern "C" fn teurlaks_retire(
         },
         // No other reply comes.
         _ => RetireReply {
+            status: NONE,
+            count: 0,
+        },
+    }
+}
+
+/// Gives back the page of each open group of the shard in which no slot is live; the count is how many went. The groups stay, and a
+/// later put opens a page anew. Refused with `CONFIG` alone, where there is no such shard. It takes no memory.
+#[unsafe(no_mangle)]
+pub extern "C" fn teurlaks_trim(alloc: Global, handle: &mut Handle, shard: u32) -> TrimReply
+    requires live { IsSome handle.old.held }
+    ensures { Trims handle.old.held shard result handle.new.held }
+{
+    match step(alloc, handle, Event::Trim { shard }) {
+        Reply::Trimmed(count) => TrimReply { status: OK, count },
+        Reply::Refused(refusal) => TrimReply {
+            status: status_of(refusal),
+            count: 0,
+        },
+        _ => TrimReply {
             status: NONE,
             count: 0,
         },
@@ -186,7 +208,7 @@ fn write_last(alloc: Global, last: &Option<Witness>, room: &mut [u8]) -> Certifi
 
 // What C reads of the reply to a mark, whose certificate is kept.
 fn keep(held: &mut Held, reply: Reply) -> MarkReply
-    requires { HasWritable reply }
+    requires { IsOfMark reply }
     ensures core { held.new.core ≡ held.old.core }
     ensures told { SaysMarked result reply }
     ensures keeps { Keeps held.old.last reply held.new.last }

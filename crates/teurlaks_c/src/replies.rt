@@ -67,6 +67,14 @@ pub struct RetireReply {
     pub count: usize,
 }
 
+/// What a trim answers: how many pages went where the status is `OK`, else 0.
+#[repr(C)]
+#[derive(Clone, Copy)]
+pub struct TrimReply {
+    pub status: u32,
+    pub count: usize,
+}
+
 /// What an adoption answers: the head of the group where the status is `OK`.
 #[repr(C)]
 #[derive(Clone, Copy)]

@@ -5,7 +5,7 @@ use Rattle.std.specs.List.{AllByRecursion}
 use Rattle.std.proofs.lemmas.Bool.Decides.{eqb_tells}
 use Rattle.marks.proofs.Lists.{slice_get-set_other, slice_get-set_same}
 use Rattle.arena.specs.Receipts.{free_receipt, get_receipt, put_receipt, set_receipt}
-use Rattle.span.specs.Receipts.{free, look_up, set as set_call}
+use Rattle.span.specs.Receipts.{look_up, set as set_call}
 use Rattle.span.specs.declared.key.Key.{Key}
 use Rattle.span.specs.declared.receipt.Receipt.{Receipt}
 use Rattle.thread_runner.specs.Asked.{Answers, Asked, Called, Frees, Gets, GivenKeys, IsLeft, IsSetTo, Outcome, Puts, Sets, is_look_up, is_sending}

@@ -12,7 +12,7 @@ use Rattle.span.specs.State.{SpanState}
 use Rattle.span.specs.declared.receipt.Receipt.{Receipt}
 use Rattle.span.specs.declared.span_log.SpanLog.{SpanLog}
 use Rattle.groups.specs.Spans.{live_count}
-use Rattle.groups.proofs.MappedSpans.{drop_step}
+use Rattle.groups.proofs.Maps.{drop_step}
 use Rattle.audit.proofs.Replies.{take_more}
 use Rattle.trace_runner.specs.declared.report.LineAnswer.{LineAnswer}
 use Rattle.thread_runner.specs.Told.{lineless}

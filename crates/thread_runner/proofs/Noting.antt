@@ -15,7 +15,7 @@ use Rattle.arena_core.proofs.Lists.{each-append}
 use Rattle.certificate.specs.Text.{certificate_text}
 use Rattle.certificate.specs.declared.certificate.Certificate.{Certificate}
 use Rattle.fold.specs.declared.step.Step.{Step}
-use Rattle.groups.proofs.MappedSpans.{drop_step}
+use Rattle.groups.proofs.Maps.{drop_step}
 use Rattle.marks.specs.Plans.{OpenPlan, next_pair, with_next_done}
 use Rattle.span.specs.declared.id.SpanId.{SpanId}
 use Rattle.trace_text.specs.declared.line.Line.{Line}

@@ -1,5 +1,5 @@
 -- What the lines of a thread ask it for, and what may come of it.
-use Rattle.std.specs.Prelude.{◌≡◌, ℕ, ◌+◌, ◌-◌, ◌==◌, Bool, true, false, List, [], ◌∷◌, length, map, slice_get, Option, None, Some, unwrap_or, if◌then◌else◌}
+use Rattle.std.specs.Prelude.{◌≡◌, ℕ, ◌+◌, ◌-◌, ◌==◌, Bool, true, false, List, [], ◌∷◌, map, slice_get, Option, None, Some, unwrap_or, if◌then◌else◌}
 use Rattle.std.specs.List.{AllByRecursion, range_with_len}
 use Rattle.std.specs.Option.{option_map_or}
 use Rattle.span.specs.declared.key.Key.{Key}
@@ -11,7 +11,7 @@ use Rattle.trace_text.specs.Causes.{keys_in}
 use Rattle.trace_text.specs.Objects.{counted_from}
 use Rattle.trace_text.specs.Places.{first_of}
 use Rattle.trace_text.specs.declared.line.Call.{Call as LineCall}
-use Rattle.trace_text.specs.declared.line.Call.TheVariants.{Put, Fill, Get, Set, Free, Sweep, Later, Tend, End}
+use Rattle.trace_text.specs.declared.line.Call.TheVariants.{Put, Fill, Get, Set, Free, Sweep, Later, Tend, Trim, End}
 use Rattle.trace_text.specs.declared.line.Line.{Line}
 use Rattle.trace_text.specs.declared.line.Line.TheVariants as line
 use Rattle.trace_text.specs.declared.name.Reference.{Reference}
@@ -35,6 +35,8 @@ pub data Asked : Type 0 where
   Leaves : ℕ → Asked
   -- that the keys be taken and freed that have come in on the rings
   Tends : Asked
+  -- that its shard give back the pages on which nothing is live
+  Trims : Asked
   -- the end of the thread
   Ends : Asked
   -- that its shard adopt a group
@@ -54,6 +56,7 @@ asked_by above (Free key) = Frees (place_named above key) ∷ []
 asked_by above (Sweep name from to) = map (λ i. Frees (first_of above name + i)) (range_with_len from (to - from))
 asked_by above (Later key) = Leaves (place_named above key) ∷ []
 asked_by above Tend = Tends ∷ []
+asked_by above Trim = Trims ∷ []
 asked_by above End = Ends ∷ []
 
 -- what a line below those asks for, of the thread that calls or whose shard adopts
@@ -127,7 +130,12 @@ is_sending other.Sent = true
 is_sending other.RingFull = true
 is_sending other = false
 
--- a group was adopted, or the adoption was refused: its shard had all its pages, or there was no group
+-- so many pages went
+abbrev pub is_trim : Other → Bool
+is_trim (other.Trimmed count) = true
+is_trim other = false
+
+-- a group was adopted, or the adoption was refused: its shard had all its groups, or there was none to adopt
 abbrev pub is_adoption : Other → Bool
 is_adoption (other.Adopted head) = true
 is_adoption other.PagesSpent = true
@@ -168,6 +176,7 @@ Answers given section thread (Frees place) (Called receipt) = IsCallOn given sec
 Answers given section thread (Frees place) (Said what) = (given place ≡ None) × (what ≡ other.Unbound)
 Answers given section thread (Leaves place) (Said what) = IsLeft (given place) what
 Answers given section thread Tends (Took receipts) = AllByRecursion (IsFreeBy section thread) receipts
+Answers given section thread Trims (Said what) = is_trim what ≡ true
 Answers given section thread Ends (Said what) = what ≡ other.Ended
 Answers given section thread Adopts (Said what) = is_adoption what ≡ true
 Answers given section thread asked outcome = ⊥

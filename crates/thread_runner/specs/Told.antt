@@ -54,6 +54,7 @@ answer_without other.NothingToAdopt = answer.NothingToAdopt
 answer_without other.Sent = answer.Sent
 answer_without other.RingFull = answer.RingFull
 answer_without (other.Settled count) = answer.Settled count
+answer_without (other.Trimmed count) = answer.Trimmed count
 
 -- its reply
 abbrev pub other_line : OtherLine → LineAnswer

@@ -8,7 +8,7 @@ ghost use Rattle.trace_text.specs.declared.line.Line.{Line};
 ghost use Rattle.trace_text.specs.Causes.{is_adopt, is_call_over, keys_in};
 ghost use Rattle.trace_text.specs.Objects.{counted_from, last_word};
 ghost use Rattle.trace_text.specs.Places.{place_by};
-ghost use Rattle.thread_runner.specs.Asked.{Called, Frees, Gets, GivenKeys, Leaves, Puts, Said, Sets, Tends, asked_at, asked_by, is_adoption};
+ghost use Rattle.thread_runner.specs.Asked.{Called, Frees, Gets, GivenKeys, Leaves, Puts, Said, Sets, Tends, Trims, asked_at, asked_by, is_adoption};
 ghost use Rattle.thread_runner.specs.Followed.{entries_on};
 ghost use Rattle.thread_runner.specs.Grown.{Grows, IsEmptyDiary, TakesIn, Tells, TellsAdoption};
 ghost use Rattle.thread_runner.specs.Known.{AreFresh, AreKept, AreKnown};
@@ -197,6 +197,7 @@ impl<'a, G: Gate> Caller<'a, G> {
             Call::Sweep { from, to, .. } => self.sweep(rt, text, keys, number, reads, *from..*to),
             Call::Later { key } => self.later(text, keys, number, place_of(reads, key.index)?),
             Call::Tend => self.tend(rt, number),
+            Call::Trim => self.trim(rt, number),
             Call::End => {
                 self.leaves = true;
                 self.other(number, Other::Ended)
@@ -469,6 +470,21 @@ impl<'a, G: Gate> Caller<'a, G> {
         let count = self.diary.tend(rt, &mut self.seat, self.arena)?;
         self.diary.keep_other(number, Other::Settled(count))?;
         Ok(())
+    }
+
+    // Gives back the pages of its shard on which nothing is live.
+    fn trim<R: Wait>(&mut self, rt: &R, number: usize) -> Result<(), Halt>
+        ensures told { (kept : List (Option (Option Key)))
+            → OnOk result (Tells self.old.seat.section self.old.seat.worker number (Trims ∷ [])
+            (AreKnown kept self.old.fresh.items)
+            (AreKnown kept self.new.fresh.items)
+            self.old.diary self.new.diary) }
+        ensures thread { self.new.seat.worker ≡ self.old.seat.worker }
+        ensures table { self.new.seat.table ≡ self.old.seat.table }
+        ensures section { self.new.seat.section ≡ self.old.seat.section }
+    {
+        let count = self.seat.trim(rt, self.arena);
+        self.other(number, Other::Trimmed(count))
     }
 
     /// Hands over the keys that its lines left to the threads of their shards.

@@ -16,7 +16,7 @@ use trace_runner::{Answer, LineAnswer};
 /// What a line came to other than by a call on a key.
 #[derive(Clone, Copy, Debug, PartialEq, Eq)]
 pub enum Other {
-    /// A put found no usable slot, and the shard may have no further page; or an adoption found the shard to have all its pages.
+    /// A put found no usable slot, and the shard may have no further page; or an adoption found the shard to have all its groups.
     PagesSpent,
     /// The put that should have bound the name was refused.
     Unbound,
@@ -32,6 +32,8 @@ pub enum Other {
     RingFull,
     /// That many keys that had come in were taken, and freed where they were live.
     Settled(usize),
+    /// Its shard gave that many pages back, on which nothing was live.
+    Trimmed(usize),
 }
 
 /// What a line came to other than by a call on a key, with its place in the trace.
@@ -324,6 +326,7 @@ fn answer_without(other: &Other) -> Answer
         Other::Sent => Answer::Sent,
         Other::RingFull => Answer::RingFull,
         Other::Settled(count) => Answer::Settled(*count),
+        Other::Trimmed(count) => Answer::Trimmed(*count),
     }
 }
 

@@ -203,7 +203,7 @@ fn keys_by(call: &Call) -> usize
         Call::Put { .. } => 1,
         Call::Fill { count, .. } => *count as usize,
         Call::Get { .. } | Call::Set { .. } | Call::Free { .. } | Call::Sweep { .. } => 0,
-        Call::Later { .. } | Call::Tend | Call::End => 0,
+        Call::Later { .. } | Call::Tend | Call::Trim | Call::End => 0,
     }
 }
 

@@ -9,7 +9,7 @@ use Rattle.span.specs.declared.class.Class.{Class}
 use Rattle.span.specs.declared.key.Key.{Key}
 use Rattle.shard.specs.Calls.{Puts}
 use Rattle.shard.specs.Group.{GroupState}
-use Rattle.groups.specs.Spans.{with_put}
+use Rattle.groups.specs.Pages.{put_group}
 use Rattle.shard.specs.State.{ShardState}
 use Rattle.arena_core.specs.Sound.{IsSound}
 use Rattle.arena_core.specs.State.{CoreState}
@@ -32,11 +32,11 @@ use Rattle.trace_runner.specs.Runs.{IsAnswered, key_given}
 module _ (core : CoreState) (sound : IsSound core) (number : ℕ) (after : ShardState) (here : slice_get core.shards number ≡ Some after) where
   home-Puts : (before : ShardState) (class : Class) (value : Value) (key : Key) (at : ℕ) → Puts before class value key at after → key.span.shard < core.limits.shards
   home-Puts before class value key at (running, inl (index, group, room, span, generation, count, is)) =
-      let placed : GroupState = record group { head = with_put group.head key.slot value } in
+      let placed : GroupState = put_group group class key.slot value in
       let there : slice_get after.groups index ≡ Some placed = ap (λ (s : ShardState). slice_get s.groups index) is ∙ slice_get-set_same before.groups index group placed room.here in
       let has = has_span-here after key.span index 0 placed placed.head (sound.groups.shards number after here).sound (record { group_is = there; span_is = refl; id_is = sym span }) in
       omega (arith, home-within core sound.groups key.span number (after, here, has), sound.groups.count)
-  home-Puts before class value key at (running, inr (full, pages, opened, (shard, serial, slot, generation, count, (page, index, fresh, place, is)))) =
+  home-Puts before class value key at (running, inr (full, pages, opened, (shard, serial, slot, generation, count, (index, place, is)))) =
       omega (arith, shard, ap (λ (s : ShardState). s.number) is, (sound.groups.shards number after here).number_is, slice_get_within core.shards number after here, sound.groups.count)
 
 home-Issued : (old new : CoreState) (event : Event) (key : Key) → CoreStep old event (Issued key) new → IsSound new → key.span.shard < new.limits.shards

@@ -23,7 +23,7 @@ use Rattle.trace_runner.specs.News.{News, news_of, no_news, with_all_made, with_
 use Rattle.trace_runner.specs.Runs.{DoLines, Does, IsRun, asked_by, calls_at, calls_in, ends_asked, finishing, pairs_left_of, planning_at, rings_asked, settling_at}
 use Rattle.trace_runner.specs.declared.plans.Plans.{Plans}
 use Rattle.trace_text.specs.declared.header.Header.{Header}
-use Rattle.trace_text.specs.declared.line.Call.TheVariants.{Put, Fill, Get, Set, Free, Sweep, Later, Tend, End}
+use Rattle.trace_text.specs.declared.line.Call.TheVariants.{Put, Fill, Get, Set, Free, Sweep, Later, Tend, Trim, End}
 use Rattle.trace_text.specs.declared.line.Line.{Line}
 use Rattle.trace_text.specs.declared.line.Line.TheVariants as line
 use Rattle.trace_runner.proofs.Barriers.{has_ended-open, has_ended-open-push}
@@ -95,6 +95,7 @@ ends-thread (line.Call thread (Free key)) t e = cc
 ends-thread (line.Call thread (Sweep name from to)) t e = cc
 ends-thread (line.Call thread (Later key)) t e = cc
 ends-thread (line.Call thread Tend) t e = cc
+ends-thread (line.Call thread Trim) t e = cc
 ends-thread (line.Call thread End) t e = ap Some (eqb-true thread t e)
 ends-thread (line.Adopt s) t e = cc
 ends-thread line.Mark t e = cc

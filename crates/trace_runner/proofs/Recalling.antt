@@ -16,7 +16,7 @@ use Rattle.arena_core.specs.declared.event.Event.{Event}
 use Rattle.arena_core.specs.declared.event.Event.TheVariants as event
 use Rattle.arena_core.specs.declared.reply.Refusal.TheVariants.{NothingToAdopt, RingFull}
 use Rattle.arena_core.specs.declared.reply.Reply.{Reply}
-use Rattle.arena_core.specs.declared.reply.Reply.TheVariants.{Issued, Found, Replaced, Freed, Refused, Sent}
+use Rattle.arena_core.specs.declared.reply.Reply.TheVariants.{Issued, Found, Replaced, Freed, Refused, Sent, Trimmed}
 use Rattle.trace_runner.specs.Kept.{FindsAt, FindsOne, Kept, Recalls, is_put, keeping, kept_none, kept_of, keys_of}
 use Rattle.trace_runner.specs.Made.{Asked, Calls, Did, Made, asked_of, one_call}
 use Rattle.trace_runner.specs.Answers.{answer_told, on_line, put_told, told_of}
@@ -31,7 +31,7 @@ use Rattle.trace_text.specs.Places.{first_of, place_at}
 use Rattle.trace_text.specs.declared.header.Header.{Header}
 use Rattle.trace_text.specs.declared.line.Binding.{Binding}
 use Rattle.trace_text.specs.Objects.{counted_from}
-use Rattle.trace_text.specs.declared.line.Call.TheVariants.{Put, Fill, Get, Set, Free, Sweep, Later, Tend, End}
+use Rattle.trace_text.specs.declared.line.Call.TheVariants.{Put, Fill, Get, Set, Free, Sweep, Later, Tend, Trim, End}
 use Rattle.trace_text.specs.declared.line.Keys.{Keys}
 use Rattle.trace_text.specs.declared.line.Keys.TheVariants.{One, Many}
 use Rattle.trace_text.specs.declared.line.Line.{Line}
@@ -127,6 +127,7 @@ answer_key-told event (Freed false) core = refl
 answer_key-told event (Refused NothingToAdopt) core = refl
 answer_key-told event (Refused RingFull) core = refl
 answer_key-told event Sent core = refl
+answer_key-told event (Trimmed count) core = refl
 answer_key-told event reply core = refl
 
 keys_of-push : (done : List Did) (did : Did) → flat_map (λ (d : Did). keys_of d.calls) (done ++ did ∷ []) ≡ flat_map (λ (d : Did). keys_of d.calls) done ++ keys_of did.calls
@@ -218,6 +219,7 @@ Keyed-asked shards all done (line.Call t (Free key)) made is = asks_none made _ 
 Keyed-asked shards all done (line.Call t (Sweep name from to)) made is = asks_none made _ is (NoPuts-map _ (λ place. free_is_no_put _) (range_with_len from (to - from)))
 Keyed-asked shards all done (line.Call t (Later key)) made is = asks_none made _ is (later_is_no_put t _, tt)
 Keyed-asked shards all done (line.Call t Tend) made is = asks_none made _ is (refl, tt)
+Keyed-asked shards all done (line.Call t Trim) made is = asks_none made _ is (refl, tt)
 Keyed-asked shards all done (line.Call t End) made is = asks_none made _ is (refl, tt)
 
 as_many : (made : List Made) (n : ℕ) → (keys_of made ≡ map key_made made) × (length made ≡ n) → length (keys_of made) ≡ n
@@ -235,6 +237,7 @@ length-Keyed (line.Call t (Free key)) made keyed = ap length keyed
 length-Keyed (line.Call t (Sweep name from to)) made keyed = ap length keyed
 length-Keyed (line.Call t (Later key)) made keyed = ap length keyed
 length-Keyed (line.Call t Tend) made keyed = ap length keyed
+length-Keyed (line.Call t Trim) made keyed = ap length keyed
 length-Keyed (line.Call t End) made keyed = ap length keyed
 
 -- ---- the keys of a name
@@ -291,6 +294,7 @@ IsBound-at place section first name (line.Call t (Free key)) made b keyed e = cc
 IsBound-at place section first name (line.Call t (Sweep bound from to)) made b keyed e = cc
 IsBound-at place section first name (line.Call t (Later key)) made b keyed e = cc
 IsBound-at place section first name (line.Call t Tend) made b keyed e = cc
+IsBound-at place section first name (line.Call t Trim) made b keyed e = cc
 IsBound-at place section first name (line.Call t End) made b keyed e = cc
 
 pub Recalls-none : (keys : List (Option Key)) → Recalls [] [] keys
@@ -378,6 +382,7 @@ module _ (h : Header) (lines : List Line) (n : ℕ) (done : List Did) (keys : Li
   FindsAt-fine (line.Call t (Put name class v)) fine = tt
   FindsAt-fine (line.Call t (Fill name class m v)) fine = tt
   FindsAt-fine (line.Call t Tend) fine = tt
+  FindsAt-fine (line.Call t Trim) fine = tt
   FindsAt-fine (line.Call t End) fine = tt
   FindsAt-fine (line.Call t (Later key)) fine =
       let (b, is, has) = known (has_key key.index) (binding_of key.name (take n lines)) (all_fine h (take n lines) (line.Call t (Later key)) fine).known in

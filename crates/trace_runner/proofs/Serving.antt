@@ -15,9 +15,9 @@ use Rattle.arena_core.specs.State.{CoreState, with_shard}
 use Rattle.arena_core.specs.Step.{CoreStep}
 use Rattle.trace_runner.specs.Recalls.{EndsOne, IsOpen, IsPutServed, IsServed, IsSetServed, KeepsPlan, KeepsShards, MayCall, ended_at, reply_to_put}
 use Rattle.arena_core.specs.declared.event.Event.{Event}
-use Rattle.arena_core.specs.declared.event.Event.TheVariants.{Put, Get, Set, Free, Later, Settle, End, Retire, Adopt, Mark, Step, Close}
+use Rattle.arena_core.specs.declared.event.Event.TheVariants.{Put, Get, Set, Free, Later, Settle, End, Retire, Trim, Adopt, Mark, Step, Close}
 use Rattle.arena_core.specs.declared.reply.Reply.{Reply}
-use Rattle.arena_core.specs.declared.reply.Reply.TheVariants.{Issued, Found, Replaced, Freed, Sent, ShardEnded, Adopted, Refused}
+use Rattle.arena_core.specs.declared.reply.Reply.TheVariants.{Issued, Found, Replaced, Freed, Sent, ShardEnded, Trimmed, Adopted, Refused}
 use Rattle.arena_core.specs.declared.reply.Refusal.{Refusal}
 use Rattle.arena_core.specs.declared.reply.Refusal.TheVariants.{OutOfMemory, PagesSpent, Ended, PlanOpen, NothingToAdopt, RingFull, Config}
 
@@ -69,7 +69,7 @@ KeepsPlan-same old new same = record { shards = KeepsShards-same old new same; p
 
 ended-Puts : (old new : ShardState) (class : Class) (value : Value) (key : Key) (at : ℕ) → Puts old class value key at new → new.ended ≡ old.ended
 ended-Puts old new class value key at (running, inl (index, group, room, span, generation, count, is)) = ap (λ (s : ShardState). s.ended) is
-ended-Puts old new class value key at (running, inr (full, pages, opened, (shard, serial, slot, generation, count, (page, index, fresh, place, is)))) = ap (λ (s : ShardState). s.ended) is
+ended-Puts old new class value key at (running, inr (full, pages, opened, (shard, serial, slot, generation, count, (index, place, is)))) = ap (λ (s : ShardState). s.ended) is
 
 ended-Sets : (old new : ShardState) (key : Key) (value : Value) (at : ℕ) → Sets old key value (replaced.Yes at) new → new.ended ≡ old.ended
 ended-Sets old new key value at (index, place, group, span, here, settable, count, is) = ap (λ (s : ShardState). s.ended) is
@@ -103,6 +103,8 @@ KeepsPlan-step old new (Later worker key) (Refused Config) may step = KeepsPlan-
 KeepsPlan-step old new (Settle worker shard) reply may step = absurd may
 KeepsPlan-step old new (End shard) reply may step = absurd may
 KeepsPlan-step old new (Retire shard most) reply may step = absurd may
+KeepsPlan-step old new (Trim shard) (Trimmed count) may step = subst (KeepsPlan old) (sym step.rest) (record { shards = KeepsShards-with_shard old shard step.before step.after step.here (ap (λ (s : ShardState). s.ended) step.trims.after); plan = refl })
+KeepsPlan-step old new (Trim shard) (Refused Config) may step = KeepsPlan-same old new step.1
 KeepsPlan-step old new (Adopt shard) (Adopted head) may step =
     let adopted = ap (λ (s : ShardState). s.ended) step.adopts.takes_in.after in
     let keeps = KeepsShards-with_shard old shard step.before step.after step.here adopted in
@@ -150,6 +152,8 @@ IsServed-step old new (Later worker key) (Refused Config) may step = elim step.0
 IsServed-step old new (Settle worker shard) reply may step = absurd may
 IsServed-step old new (End shard) reply may step = absurd may
 IsServed-step old new (Retire shard most) reply may step = absurd may
+IsServed-step old new (Trim shard) (Refused Config) may step = omega (arith, may.within, step.0)
+IsServed-step old new (Trim shard) (Trimmed count) may step = tt
 IsServed-step old new (Adopt shard) (Refused Config) may step = omega (arith, may.0.within, step.0)
 IsServed-step old new (Adopt shard) (Refused Ended) may step = has_ended-clash old shard step.0.0 may.0 step.0.1 step.0.2
 IsServed-step old new (Adopt shard) (Refused PlanOpen) may step = clash (sym step.1 ∙ ap is_some may.1)

@@ -3,7 +3,7 @@ use Rattle.std.specs.Prelude.{ℕ, Bool, true, false, List, ◌∷◌, map, Opti
 use Rattle.span.specs.declared.key.Key.{Key}
 use Rattle.arena_core.specs.declared.reply.Refusal.TheVariants.{NothingToAdopt, RingFull}
 use Rattle.arena_core.specs.declared.reply.Reply.{Reply}
-use Rattle.arena_core.specs.declared.reply.Reply.TheVariants.{Issued, Found, Replaced, Freed, Sent, ShardEnded, Adopted, Refused}
+use Rattle.arena_core.specs.declared.reply.Reply.TheVariants.{Issued, Found, Replaced, Freed, Sent, ShardEnded, Trimmed, Adopted, Refused}
 use Rattle.trace_runner.specs.Made.{Asked, Calls, Leaves, Tends, CalledEvent, Called, Made, keys_taken}
 use Rattle.trace_runner.specs.Report.{answers_text}
 use Rattle.trace_runner.specs.declared.report.Answer.{Answer}
@@ -21,6 +21,7 @@ answer_told (Freed true) = answer.Freed
 answer_told (Freed false) = answer.NotFreed
 answer_told Sent = answer.Sent
 answer_told ShardEnded = answer.Ended
+answer_told (Trimmed count) = answer.Trimmed count
 answer_told (Adopted head) = answer.Adopted head
 answer_told (Refused NothingToAdopt) = answer.NothingToAdopt
 answer_told (Refused RingFull) = answer.RingFull

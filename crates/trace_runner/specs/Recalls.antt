@@ -13,7 +13,7 @@ use Rattle.trace_runner.specs.News.{News, news_of, with_all_made}
 use Rattle.trace_runner.specs.Runs.{AreSteps, DoLines, IsAnswered, ends_asked, finishing, pairs_left_of, planning_at, rings_asked}
 use Rattle.trace_runner.specs.declared.plans.Plans.{Plans}
 use Rattle.arena_core.specs.declared.event.Event.{Event}
-use Rattle.arena_core.specs.declared.event.Event.TheVariants.{Put, Later, Settle, End, Retire, Adopt, Mark, Step, Close}
+use Rattle.arena_core.specs.declared.event.Event.TheVariants.{Put, Later, Settle, End, Retire, Trim, Adopt, Mark, Step, Close}
 use Rattle.arena_core.specs.declared.reply.Reply.{Reply}
 use Rattle.arena_core.specs.declared.reply.Reply.TheVariants.{Issued, Settled, Retired, Marked, Stepped, NoPairLeft, Closed, NoPlan, Refused}
 use Rattle.arena_core.specs.declared.reply.Refusal.{Refusal}
@@ -91,6 +91,7 @@ pub record EndsBelow (old : CoreState) (bound : ℕ) (test : ℕ → Bool) (new 
 -- the event may be called for a line: its shard is open, or its worker and shard are there, and no plan is where it would be in the way; the barrier alone ends shards, steps and closes, and no line retires
 abbrev pub MayCall : CoreState → Event → Type 0
 MayCall core (Put shard value) = IsOpen core shard
+MayCall core (Trim shard) = IsOpen core shard
 MayCall core (Adopt shard) = IsOpen core shard × (core.plan ≡ None)
 MayCall core (Later worker key) = (worker < core.limits.shards) × (key.span.shard < core.limits.shards)
 MayCall core (Settle worker shard) = ⊥

@@ -37,6 +37,7 @@ answer_text answer.NothingToAdopt = codes "refused nothing"
 answer_text answer.Sent = codes "sent"
 answer_text answer.RingFull = codes "full"
 answer_text (answer.Settled count) = codes "settled " ++ decimal count
+answer_text (answer.Trimmed count) = codes "trimmed " ++ decimal count
 
 -- the line's number, a space, the answer
 abbrev pub answer_line : LineAnswer → List ℕ

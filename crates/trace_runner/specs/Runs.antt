@@ -18,7 +18,7 @@ use Rattle.arena_core.specs.declared.reply.Reply.{Reply}
 use Rattle.arena_core.specs.declared.reply.Reply.TheVariants.{Issued, NoPairLeft, NoPlan, Refused}
 use Rattle.trace_text.specs.declared.line.Binding.{Binding}
 use Rattle.trace_text.specs.declared.line.Call.{Call}
-use Rattle.trace_text.specs.declared.line.Call.TheVariants.{Put, Fill, Get, Set, Free, Sweep, Later, Tend, End}
+use Rattle.trace_text.specs.declared.line.Call.TheVariants.{Put, Fill, Get, Set, Free, Sweep, Later, Tend, Trim, End}
 use Rattle.trace_text.specs.declared.line.Line.{Line}
 use Rattle.trace_text.specs.declared.line.Line.TheVariants as line
 use Rattle.trace_text.specs.declared.name.Reference.{Reference}
@@ -61,6 +61,7 @@ asked_by_call shards lines done thread (Free key) = on_key event.Free (key_of li
 asked_by_call shards lines done thread (Sweep name from to) = map (λ place. on_key event.Free (key_at lines done name place)) (range_with_len from (to - from))
 asked_by_call shards lines done thread (Later key) = on_key (event.Later thread) (key_of lines done key) ∷ []
 asked_by_call shards lines done thread Tend = Tends shards thread ∷ []
+asked_by_call shards lines done thread Trim = Calls (event.Trim thread) ∷ []
 asked_by_call shards lines done thread End = Leaves ∷ []
 
 -- the same for a line; an adoption is made at the barrier that it begins or goes on with
@@ -127,7 +128,7 @@ abbrev pub Happens : CoreState → List CalledEvent → Type 0
 Happens core [] = Unit {0}
 Happens core (Called event reply after ∷ called) = CoreStep core event reply after × Happens after called
 
--- the core answers the events so, which without ends, adoptions and what is done with plans is a run of the plain map that it shows
+-- the core answers the events so, which without ends, trims, adoptions and what is done with plans is a run of the plain map that it shows
 pub record AreSteps (old : CoreState) (called : List CalledEvent) (new : CoreState) : Type 0 where
   pub each : Happens old called
   pub last : new ≡ core_called old called

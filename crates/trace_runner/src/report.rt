@@ -13,7 +13,7 @@ use std::marker::Model;
 pub enum Answer {
     /// A put stored its object under this key.
     Key(Key),
-    /// A put found no usable slot, and the shard may have no further page; or an adoption found the shard to have all its pages.
+    /// A put found no usable slot, and the shard may have no further page; or an adoption found the shard to have all its groups.
     PagesSpent,
     /// A look-up found this object.
     Value(Object),
@@ -41,6 +41,8 @@ pub enum Answer {
     RingFull,
     /// That many keys that had come in were taken, and freed where they were live.
     Settled(usize),
+    /// A shard gave that many pages back, on which nothing was live.
+    Trimmed(usize),
 }
 
 /// An answer with its place in the trace.

@@ -362,6 +362,20 @@ impl<'t> Run<'t> {
         Ok(())
     }
 
+    /// Gives back the pages of the thread's shard on which nothing is live. It stays out of line, as an adoption does.
+    #[inline(never)]
+    fn trim(&mut self, number: usize, thread: u32) -> Result<(), AllocError>
+        requires { IsOpen self.old.core thread }
+        ensures made { OnOk result (Makes number (Calls (event.Trim thread) ∷ []) self.old.core
+            (kept_in self.old.replies) self.new.core (kept_in self.new.replies)) }
+        ensures shards { KeepsPlan self.old.core self.new.core }
+        ensures plans { self.new.plans ≡ self.old.plans }
+        ensures leaving { self.new.leaving ≡ self.old.leaving }
+        ensures trace { self.new.trace.now ≡ self.old.trace.now }
+    {
+        self.call(number, Event::Trim { shard: thread })
+    }
+
     /// Keeps that the thread has ended. Its shard is abandoned at the barrier.
     fn leave(&mut self, number: usize, thread: u32) -> Result<(), AllocError>
         ensures made { OnOk result (Makes number (Leaves ∷ []) self.old.core
@@ -432,6 +446,7 @@ impl<'t> Run<'t> {
                 self.later(number, thread, key)
             }
             Call::Tend => self.tend(number, thread),
+            Call::Trim => self.trim(number, thread),
             Call::End => self.leave(number, thread),
         }
     }
@@ -679,6 +694,7 @@ fn answer_to(reply: Reply) -> Result<Answer, AllocError>
         Reply::Freed(freed) => Ok(answer_to_free(freed)),
         Reply::Sent => Ok(Answer::Sent),
         Reply::ShardEnded => Ok(Answer::Ended),
+        Reply::Trimmed(count) => Ok(Answer::Trimmed(count)),
         Reply::Adopted(head) => Ok(Answer::Adopted(head)),
         Reply::Refused(refusal) => answer_to_refusal(refusal),
         // The others come of events that rings and plans are asked by.

@@ -9,7 +9,7 @@ use Rattle.trace_text.specs.Within.{IsNextUnlessBound, cause_but_bound, within}
 use Rattle.trace_text.specs.declared.cause.Cause.{Cause}
 use Rattle.trace_text.specs.declared.cause.Cause.TheVariants.{Limit, Thread, Ended, Adopt, Bound, Unknown, Early}
 use Rattle.trace_text.specs.declared.header.Header.{Header}
-use Rattle.trace_text.specs.declared.line.Call.TheVariants.{Put, Fill, Get, Set, Free, Sweep, Later, Tend, End}
+use Rattle.trace_text.specs.declared.line.Call.TheVariants.{Put, Fill, Get, Set, Free, Sweep, Later, Tend, Trim, End}
 use Rattle.trace_text.specs.declared.line.Line.{Line}
 use Rattle.trace_text.specs.declared.line.Line.TheVariants as line
 use Rattle.trace_text.proofs.Texts.{fine_line, refused_line}
@@ -68,6 +68,7 @@ known before (line.Call t (Free k)) binds = cc
 known before (line.Call t (Sweep n a b)) binds = cc
 known before (line.Call t (Later k)) binds = cc
 known before (line.Call t Tend) binds = refl
+known before (line.Call t Trim) binds = refl
 known before (line.Call t End) binds = refl
 
 late : (before : List Line) (l : Line) → is_call (binds_again before) l ≡ true → is_call_of (reads_early before) l ≡ false
@@ -82,6 +83,7 @@ late before (line.Call t (Free k)) binds = cc
 late before (line.Call t (Sweep n a b)) binds = cc
 late before (line.Call t (Later k)) binds = cc
 late before (line.Call t Tend) binds = refl
+late before (line.Call t Trim) binds = refl
 late before (line.Call t End) binds = refl
 
 -- another cause is the first of all

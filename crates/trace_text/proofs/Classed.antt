@@ -10,7 +10,7 @@ use Rattle.trace_text.specs.Within.{clip_line, is_value_over}
 use Rattle.trace_text.specs.declared.header.Version.{Version}
 use Rattle.trace_text.specs.declared.name.Reference.{Reference}
 use Rattle.trace_text.specs.declared.line.Binding.{Binding}
-use Rattle.trace_text.specs.declared.line.Call.TheVariants.{Put, Fill, Get, Set, Free, Sweep, Later, Tend, End}
+use Rattle.trace_text.specs.declared.line.Call.TheVariants.{Put, Fill, Get, Set, Free, Sweep, Later, Tend, Trim, End}
 use Rattle.trace_text.specs.declared.line.Keys.{Keys}
 use Rattle.trace_text.specs.declared.line.Keys.TheVariants.{One, Many}
 use Rattle.trace_text.specs.declared.line.Line.{Line}
@@ -30,6 +30,7 @@ HasForm-classed version before bytes (line.Call t (Free key)) form = form
 HasForm-classed version before bytes (line.Call t (Sweep name from to)) form = form
 HasForm-classed version before bytes (line.Call t (Later key)) form = form
 HasForm-classed version before bytes (line.Call t Tend) form = form
+HasForm-classed version before bytes (line.Call t Trim) form = form
 HasForm-classed version before bytes (line.Call t End) form = form
 
 -- a class that is given twice is the one that is given once
@@ -45,6 +46,7 @@ classed-again before (line.Call t (Free key)) = refl
 classed-again before (line.Call t (Sweep name from to)) = refl
 classed-again before (line.Call t (Later key)) = refl
 classed-again before (line.Call t Tend) = refl
+classed-again before (line.Call t Trim) = refl
 classed-again before (line.Call t End) = refl
 
 -- and the one that stood there before is nothing to it
@@ -60,6 +62,7 @@ classed-plain before (line.Call t (Free key)) = refl
 classed-plain before (line.Call t (Sweep name from to)) = refl
 classed-plain before (line.Call t (Later key)) = refl
 classed-plain before (line.Call t Tend) = refl
+classed-plain before (line.Call t Trim) = refl
 classed-plain before (line.Call t End) = refl
 
 -- a value is over in any class
@@ -75,6 +78,7 @@ value_over-classed before (line.Call t (Free key)) = refl
 value_over-classed before (line.Call t (Sweep name from to)) = refl
 value_over-classed before (line.Call t (Later key)) = refl
 value_over-classed before (line.Call t Tend) = refl
+value_over-classed before (line.Call t Trim) = refl
 value_over-classed before (line.Call t End) = refl
 
 -- ---- clipping an index changes no class
@@ -104,4 +108,5 @@ classed-clip before (line.Call t (Free key)) = refl
 classed-clip before (line.Call t (Sweep name from to)) = refl
 classed-clip before (line.Call t (Later key)) = refl
 classed-clip before (line.Call t Tend) = refl
+classed-clip before (line.Call t Trim) = refl
 classed-clip before (line.Call t End) = refl

@@ -17,7 +17,7 @@ use Rattle.trace_text.specs.Causes.{bound_name, read_name, has_key, has_range, h
 use Rattle.trace_text.specs.declared.header.Header.{Header}
 use Rattle.trace_text.specs.declared.name.Reference.{Reference}
 use Rattle.trace_text.specs.declared.line.Call.{Call}
-use Rattle.trace_text.specs.declared.line.Call.TheVariants.{Put, Fill, Get, Set, Free, Sweep, Later, Tend, End}
+use Rattle.trace_text.specs.declared.line.Call.TheVariants.{Put, Fill, Get, Set, Free, Sweep, Later, Tend, Trim, End}
 use Rattle.trace_text.specs.declared.line.Line.{Line}
 use Rattle.trace_text.specs.declared.line.Line.TheVariants as line
 use Rattle.trace_text.specs.declared.line.Keys.{Keys}
@@ -95,6 +95,7 @@ has_keys-clip (Free key) keys few = has_key-clip key.index keys few
 has_keys-clip (Sweep name from to) keys few = has_range-clip from to keys few
 has_keys-clip (Later key) keys few = has_key-clip key.index keys few
 has_keys-clip Tend keys few = refl
+has_keys-clip Trim keys few = refl
 has_keys-clip End keys few = refl
 
 read_name-clip : (c : Call) → read_name (clip_call c) ≡ read_name c
@@ -106,6 +107,7 @@ read_name-clip (Free key) = refl
 read_name-clip (Sweep name from to) = refl
 read_name-clip (Later key) = refl
 read_name-clip Tend = refl
+read_name-clip Trim = refl
 read_name-clip End = refl
 
 bound_name-clip : (c : Call) → bound_name (clip_call c) ≡ bound_name c
@@ -117,6 +119,7 @@ bound_name-clip (Free key) = refl
 bound_name-clip (Sweep name from to) = refl
 bound_name-clip (Later key) = refl
 bound_name-clip Tend = refl
+bound_name-clip Trim = refl
 bound_name-clip End = refl
 
 over-clip : (before : List Line) (c : Call) → is_call_over before (clip_call c) ≡ is_call_over before c
@@ -128,6 +131,7 @@ over-clip before (Free key) = refl
 over-clip before (Sweep name from to) = refl
 over-clip before (Later key) = refl
 over-clip before Tend = refl
+over-clip before Trim = refl
 over-clip before End = refl
 
 -- a value that is over makes its call so
@@ -143,6 +147,7 @@ over-value before (line.Call t (Free key)) over = cc
 over-value before (line.Call t (Sweep name from to)) over = cc
 over-value before (line.Call t (Later key)) over = cc
 over-value before (line.Call t Tend) over = cc
+over-value before (line.Call t Trim) over = cc
 over-value before (line.Call t End) over = cc
 
 -- ---- causes
@@ -245,6 +250,7 @@ call_known before (Set key class v) few within known = ap (λ k. Set k class v) 
 call_known before (Free key) few within known = ap Free (same_reference key (key_known key.index (binding_of key.name before) (few key.name) known))
 call_known before (Later key) few within known = ap Later (same_reference key (key_known key.index (binding_of key.name before) (few key.name) known))
 call_known before Tend few within known = refl
+call_known before Trim few within known = refl
 call_known before End few within known = refl
 call_known before (Sweep name from to) few within known = let near = range_known from to (binding_of name before) (few name) known in ap₂ (λ a b. Sweep name a b) near.0 near.1
 

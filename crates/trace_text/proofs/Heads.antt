@@ -11,7 +11,7 @@ use Rattle.trace_text.specs.Number.{IsOutside, KeepsNumber}
 use Rattle.trace_text.specs.Words.{words_of}
 use Rattle.trace_text.specs.declared.header.Header.{Header}
 use Rattle.trace_text.specs.declared.header.Version.{Version}
-use Rattle.trace_text.specs.declared.header.Version.TheVariants.{One, Two, Three}
+use Rattle.trace_text.specs.declared.header.Version.TheVariants.{One, Two, Three, Four}
 use Rattle.trace_text.specs.declared.numeral.Number.{Number}
 use Rattle.trace_text.specs.declared.cause.Cause.{Cause}
 use Rattle.trace_text.specs.declared.cause.Cause.TheVariants as cause
@@ -72,17 +72,29 @@ pub size_range : (word : List ℕ) (most n : ℕ) (lines below : List (List ℕ)
 size_range word most n [] below begin = absurd begin
 size_range word most n (line ∷ lines) below begin = begin.0.1
 
--- each version has its own first line
+-- the version of a number
+abbrev of_number : ℕ → Version
+of_number n = if n == 4 then Four else (if n == 3 then Three else (if n == 2 then Two else One))
+
+of_number_of : (version : Version) → of_number (number_of version) ≡ version
+of_number_of One = refl
+of_number_of Two = refl
+of_number_of Three = refl
+of_number_of Four = refl
+
+-- the last byte of each first line is its version's digit
+digit_of-opening : (version : Version) → get_or (opening_of version) 5 0 ≡ 48 + number_of version
+digit_of-opening One = refl
+digit_of-opening Two = refl
+digit_of-opening Three = refl
+digit_of-opening Four = refl
+
+-- so each version has its own first line
 opening_of-same : (version other : Version) → opening_of version ≡ opening_of other → version ≡ other
-opening_of-same One One same = refl
-opening_of-same One Two same = let clash : 49 ≡ 50 = ap (λ bytes. get_or bytes 5 0) same in absurd (omega (arith, clash))
-opening_of-same One Three same = let clash : 49 ≡ 51 = ap (λ bytes. get_or bytes 5 0) same in absurd (omega (arith, clash))
-opening_of-same Two One same = let clash : 50 ≡ 49 = ap (λ bytes. get_or bytes 5 0) same in absurd (omega (arith, clash))
-opening_of-same Two Two same = refl
-opening_of-same Two Three same = let clash : 50 ≡ 51 = ap (λ bytes. get_or bytes 5 0) same in absurd (omega (arith, clash))
-opening_of-same Three One same = let clash : 51 ≡ 49 = ap (λ bytes. get_or bytes 5 0) same in absurd (omega (arith, clash))
-opening_of-same Three Two same = let clash : 51 ≡ 50 = ap (λ bytes. get_or bytes 5 0) same in absurd (omega (arith, clash))
-opening_of-same Three Three same = refl
+opening_of-same version other same =
+    let digits : 48 + number_of version ≡ 48 + number_of other = sym (digit_of-opening version) ∙ ap (λ bytes. get_or bytes 5 0) same ∙ digit_of-opening other in
+    let numbers : number_of version ≡ number_of other = omega (arith, digits) in
+    sym (of_number_of version) ∙ ap of_number numbers ∙ of_number_of other
 
 -- a line that says no version is no first line
 pub opening_fault : (lines below : List (List ℕ)) (line : List ℕ) → lines ≡ line ∷ below → ((version : Version) → line ≡ opening_of version → ⊥) → IsAtFault Opening lines cause.Header
@@ -107,15 +119,6 @@ BeginWith-same (f ∷ fs) (n ∷ ns) (m ∷ ms) (line ∷ lines) below other a b
     let one = says_one f line n m a.0.0 b.0.0 in
     let more = BeginWith-same fs ns ms lines below other a.1 b.1 in
     (ap (λ x. x ∷ ns) one ∙ ap (λ xs. m ∷ xs) more.0, more.1)
-
--- the version of a number
-abbrev of_number : ℕ → Version
-of_number n = if n == 3 then Three else (if n == 2 then Two else One)
-
-of_number_of : (version : Version) → of_number (number_of version) ≡ version
-of_number_of One = refl
-of_number_of Two = refl
-of_number_of Three = refl
 
 -- the header of these numbers
 abbrev of_numbers : List ℕ → Header

@@ -15,14 +15,14 @@ use Rattle.span.specs.declared.class.Class.TheVariants.{C16, C64, C256}
 use Rattle.trace_text.specs.declared.header.Version.{Version}
 use Rattle.trace_text.specs.declared.name.Reference.{Reference}
 use Rattle.trace_text.specs.declared.line.Call.{Call}
-use Rattle.trace_text.specs.declared.line.Call.TheVariants.{Put, Fill, Get, Set, Free, Sweep, Later, Tend, End}
+use Rattle.trace_text.specs.declared.line.Call.TheVariants.{Put, Fill, Get, Set, Free, Sweep, Later, Tend, Trim, End}
 use Rattle.trace_text.specs.declared.line.Line.{Line}
 use Rattle.trace_text.specs.declared.line.Line.TheVariants as line
 use Rattle.certificate.specs.Number.{number_in, is_numeral}
 use Rattle.trace_text.specs.Name.{is_name}
 use Rattle.trace_text.specs.Reference.{reference_in}
 use Rattle.trace_text.specs.Words.{words_of}
-use Rattle.trace_text.specs.Form.{Word, Verb, Number, Named, Refers, IsWord, AreWords, SaysLine, HasForm, has_verb, class_filled, class_put, fill_verb, put_verb, set_verb, verb_of, words_of_call, bare_call, key_call, with_name, value_call, set_call, valued_call, with_two, counted_call, thread_line, one_word, two_words, form_of_words, form_of}
+use Rattle.trace_text.specs.Form.{Word, Verb, Number, Named, Refers, IsWord, AreWords, SaysLine, HasForm, has_verb, class_filled, class_put, fill_verb, put_verb, set_verb, trim_verb, verb_of, words_of_call, bare_call, key_call, with_name, value_call, set_call, valued_call, with_two, counted_call, thread_line, one_word, two_words, form_of_words, form_of}
 
 -- which way a test went
 pub chosen : {X : Type 0} (b : Bool) (x y z : X) → cond b x y ≡ z → ((b ≡ true) × (x ≡ z)) ⊎ ((b ≡ false) × (y ≡ z))
@@ -47,7 +47,10 @@ bare_found verb w e = elim (chosen (bytes_eq verb (codes "end")) _ _ (Some w) e)
   | inl p ↦ let is : End ≡ w = cc p.1 in subst (SaysCall (verb ∷ [])) is (same_bytes verb (codes "end") p.0, tt)
   | inr p ↦ elim (chosen (bytes_eq verb (codes "tend")) _ _ (Some w) p.1) [
     | inl q ↦ let is : Tend ≡ w = cc q.1 in subst (SaysCall (verb ∷ [])) is (same_bytes verb (codes "tend") q.0, tt)
-    | inr q ↦ cc
+    | inr q ↦ elim (chosen (bytes_eq verb trim_verb) _ _ (Some w) q.1) [
+      | inl r ↦ let is : Trim ≡ w = cc r.1 in subst (SaysCall (verb ∷ [])) is (same_bytes verb trim_verb r.0, tt)
+      | inr r ↦ cc
+    ]
   ]
 ]
 
@@ -287,6 +290,8 @@ call_again version words t (Later key) says = let w = one_more words (Number t) 
     rw (w.2, u.2, u.3) (thread_again version w.0 _ t _ (Later key) says.0 refl w.3 (rw u.4 refl))
 call_again version words t Tend says = let w = one_more words (Number t) _ says.1 in let u = one w.1 _ w.4 in
     rw (w.2, u.1, u.2, not_adopt w.0 t w.3) (thread_again version w.0 _ t _ Tend says.0 refl w.3 refl)
+call_again version words t Trim says = let w = one_more words (Number t) _ says.1 in let u = one w.1 _ w.4 in
+    rw (w.2, u.1, u.2, not_adopt w.0 t w.3) (thread_again version w.0 _ t _ Trim says.0 refl w.3 refl)
 call_again version words t End says = let w = one_more words (Number t) _ says.1 in let u = one w.1 _ w.4 in
     rw (w.2, u.1, u.2, not_adopt w.0 t w.3) (thread_again version w.0 _ t _ End says.0 refl w.3 refl)
 

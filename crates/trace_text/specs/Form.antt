@@ -9,10 +9,10 @@ use Rattle.trace_text.specs.Words.{words_of}
 use Rattle.span.specs.declared.class.Class.{Class}
 use Rattle.span.specs.declared.class.Class.TheVariants.{C16, C64, C256}
 use Rattle.trace_text.specs.declared.header.Version.{Version}
-use Rattle.trace_text.specs.declared.header.Version.TheVariants.{One, Two, Three}
+use Rattle.trace_text.specs.declared.header.Version.TheVariants.{One, Two, Three, Four}
 use Rattle.trace_text.specs.declared.name.Reference.{Reference}
 use Rattle.trace_text.specs.declared.line.Call.{Call}
-use Rattle.trace_text.specs.declared.line.Call.TheVariants.{Put, Fill, Get, Set, Free, Sweep, Later, Tend, End}
+use Rattle.trace_text.specs.declared.line.Call.TheVariants.{Put, Fill, Get, Set, Free, Sweep, Later, Tend, Trim, End}
 use Rattle.trace_text.specs.declared.line.Line.{Line}
 use Rattle.trace_text.specs.declared.line.Line.TheVariants as line
 
@@ -51,7 +51,11 @@ reading_verbs = codes "get" ∷ codes "free" ∷ codes "sweep" ∷ codes "later"
 abbrev pub set_verb : List ℕ
 set_verb = codes "set"
 
--- the verbs of calls with no more words
+-- the verb of calls that give pages with no live slot back
+abbrev pub trim_verb : List ℕ
+trim_verb = codes "trim"
+
+-- the verbs of calls with no more words, which every version has
 abbrev pub bare_verbs : List (List ℕ)
 bare_verbs = codes "tend" ∷ codes "end" ∷ []
 
@@ -59,11 +63,12 @@ bare_verbs = codes "tend" ∷ codes "end" ∷ []
 abbrev pub is_common_verb : List ℕ → Bool
 is_common_verb verb = list_any (bytes_eq verb) binding_verbs || (list_any (bytes_eq verb) reading_verbs || list_any (bytes_eq verb) bare_verbs)
 
--- a thread's call may have the verb, in a trace of each version; the second adds the verbs of objects of more words, and the third that of sets
+-- a thread's call may have the verb, in a trace of each version; the second adds the verbs of objects of more words, the third that of sets, and the fourth that of trims
 abbrev pub has_verb : Version → List ℕ → Bool
 has_verb One verb = is_common_verb verb
 has_verb Two verb = is_common_verb verb || list_any (bytes_eq verb) wide_verbs
 has_verb Three verb = is_common_verb verb || (list_any (bytes_eq verb) wide_verbs || bytes_eq verb set_verb)
+has_verb Four verb = is_common_verb verb || (list_any (bytes_eq verb) wide_verbs || (bytes_eq verb set_verb || bytes_eq verb trim_verb))
 
 -- the verb of each call
 abbrev pub verb_of : Call → List ℕ
@@ -75,6 +80,7 @@ verb_of (Free key) = codes "free"
 verb_of (Sweep name from to) = codes "sweep"
 verb_of (Later key) = codes "later"
 verb_of Tend = codes "tend"
+verb_of Trim = trim_verb
 verb_of End = codes "end"
 
 -- the words of each call, after its verb; the class of a set is in none of them
@@ -87,6 +93,7 @@ words_behind (Free key) = Refers key ∷ []
 words_behind (Sweep name from to) = Named name ∷ Number from ∷ Number to ∷ []
 words_behind (Later key) = Refers key ∷ []
 words_behind Tend = []
+words_behind Trim = []
 words_behind End = []
 
 -- the words of each call, after its thread's number
@@ -128,7 +135,8 @@ with_name call name = if is_name name then Some (call name) else None
 abbrev pub bare_call : List ℕ → Option Call
 bare_call verb =
     if bytes_eq verb (codes "end") then Some End
-    else (if bytes_eq verb (codes "tend") then Some Tend else None)
+    else (if bytes_eq verb (codes "tend") then Some Tend
+    else (if bytes_eq verb trim_verb then Some Trim else None))
 
 -- a call on a key
 abbrev pub key_call : List ℕ → List ℕ → Option Call

@@ -5,7 +5,7 @@ ghost use Rattle.std.specs.Int.{IsInRange};
 ghost use Rattle.certificate.specs.Words.{contents_of};
 ghost use Rattle.std.specs.List.{list_any};
 ghost use Rattle.std.specs.Str.{bytes_eq};
-ghost use Rattle.trace_text.specs.Form.{bare_verbs, binding_verbs, reading_verbs, set_verb, wide_verbs};
+ghost use Rattle.trace_text.specs.Form.{bare_verbs, binding_verbs, reading_verbs, set_verb, trim_verb, wide_verbs};
 ghost use Rattle.trace_text.specs.Header.{BeginWith, FailsField, FailsHeader, HasHeader, IsWithinLimits, Opening, Size, field_in, number_of, opening_of};
 ghost use Rattle.trace_text.specs.Number.{IsOutside, KeepsNumber};
 ghost use Rattle.trace_text.specs.Words.{lines_of, words_of};
@@ -26,6 +26,8 @@ pub enum Version {
     Two,
     /// The first line is `mesh 3`: objects of all sizes are put, and set.
     Three,
+    /// The first line is `mesh 4`: as `mesh 3`, and shards give pages with no live slot back.
+    Four,
 }
 
 /// Whether the verb is one of a call that binds a name to objects of one word.
@@ -59,11 +61,18 @@ fn sets(verb: &[u8]) -> bool
     verb == b"set".as_slice()
 }
 
-/// Whether the verb is one of a call with no more words.
+/// Whether the verb is one of a call with no more words, which every version has.
 fn is_bare(verb: &[u8]) -> bool
     ensures { result ≡ list_any (bytes_eq verb.now) bare_verbs }
 {
     matches!(verb, b"tend" | b"end")
+}
+
+/// Whether the verb is that of a call that gives pages with no live slot back.
+fn trims(verb: &[u8]) -> bool
+    ensures { result ≡ bytes_eq verb.now trim_verb }
+{
+    verb == b"trim".as_slice()
 }
 
 impl Version {
@@ -81,6 +90,7 @@ impl Version {
             Version::One => in_each,
             Version::Two => in_each || binds_wide(verb),
             Version::Three => in_each || binds_wide(verb) || sets(verb),
+            Version::Four => in_each || binds_wide(verb) || sets(verb) || trims(verb),
         }
     }
 }
@@ -140,6 +150,7 @@ fn version_of(line: &[u8]) -> Option<Version>
         b"mesh 1" => Some(Version::One),
         b"mesh 2" => Some(Version::Two),
         b"mesh 3" => Some(Version::Three),
+        b"mesh 4" => Some(Version::Four),
         _ => None,
     }
 }

@@ -32,6 +32,9 @@
 //! A trace whose first line is `mesh 3` may have all of these, and also `0 set a 8`, which replaces the object of a key by the one
 //! that begins with the value and has the class that the key was bound with.
 //!
+//! A trace whose first line is `mesh 4` may have all of these, and also `0 trim`, which gives back the pages of the open groups of the
+//! thread's shard that have no live slot.
+//!
 //! A shard has 1 to 1,024 pages, a ring 1 to 1,024 places, and a slot 1 to 4,294,967,295
 //! generations. A fill has 1 to 262,144 keys. Each word of an object, the last one of a fill or of a set too, is below 2^128.
 //!

@@ -47,6 +47,8 @@ pub enum Call {
     },
     /// Frees the keys that wait on the rings to the thread's shard.
     Tend,
+    /// Gives back the pages of the open groups of the thread's shard that have no live slot.
+    Trim,
     /// Ends the thread. Its shard is abandoned at the next barrier.
     End,
 }

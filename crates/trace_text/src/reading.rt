@@ -22,6 +22,7 @@ fn bare_call(verb: &[u8]) -> Result<Call, Cause>
     match verb {
         b"end" => Ok(Call::End),
         b"tend" => Ok(Call::Tend),
+        b"trim" => Ok(Call::Trim),
         _ => Err(Cause::Form),
     }
 }

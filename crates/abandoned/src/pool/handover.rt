@@ -87,7 +87,7 @@ impl<L: Log> Pool<L> {
         ensures sound { IsSound self.new }
         ensures sound_shard { IsSoundShard shard.new }
     {
-        self.reserve(shard.pages(), shard.span_count())?;
+        self.reserve(shard.len(), shard.span_count())?;
         self.take_all(shard);
         shard.set_ended();
         Ok(())
@@ -119,7 +119,7 @@ impl<L: Log> Pool<L> {
         ensures sound { IsSound self.now }
     {
         let _ = &self.groups;
-        for index in 0..shard.pages() {
+        for index in 0..shard.len() {
             if self.has_any(shard.spans_at(index)) {
                 return true;
             }
@@ -144,7 +144,7 @@ impl<L: Log> Pool<L> {
     ///
     /// # Errors
     ///
-    /// The first of these that holds, exactly: `PagesSpent` where the shard has all the pages that it may have,
+    /// The first of these that holds, exactly: `PagesSpent` where the shard has as many groups as it may have pages,
     /// whatever the pool holds; `Ended` where the shard has ended; `Doubled` where a span of the group is in the
     /// shard already, or one that it may yet open; `PlanOpen` where a plan of folds is open; `NothingToAdopt` where no group
     /// has a page. `OutOfMemory` where none

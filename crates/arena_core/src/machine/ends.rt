@@ -54,6 +54,25 @@ impl<L: Log> Core<L> {
         Ok(count)
     }
 
+    /// Gives back the page of each open group of the shard of this number in which no slot is live, and answers how many went. The
+    /// groups stay: a later put opens a page anew for the first that it takes a slot of. It takes no memory.
+    ///
+    /// What [`Core::step`] does with [`Event::Trim`], without a reply to take apart. It is refused by [`Refusal::Config`] exactly
+    /// where there is no such shard.
+    pub fn trim(&mut self, number: u32) -> Result<usize, Refusal>
+        ensures exact { MatchResult result
+            (λ count. CoreStep self.old (event.Trim number) (reply.Trimmed count) self.new)
+            (λ refusal. CoreStep self.old (event.Trim number)
+            (reply.Refused refusal) self.new) }
+        ensures same { shown self.new ≡ shown self.old }
+        ensures sound { IsSound self.new }
+    {
+        let Some(shard) = self.shards.get_mut(number as usize) else {
+            return Err(Refusal::Config);
+        };
+        Ok(shard.trim())
+    }
+
     // Why no group is adopted by a shard that there is not.
     fn no_adopter(&self, number: u32) -> Refusal
         requires { self.now.limits.shards ≤ number }

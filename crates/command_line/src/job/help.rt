@@ -52,10 +52,12 @@ The other lines, where T is a thread and S a shard:
   adopt S                at the next mark the shard takes a group of the pool
   mark                   all threads meet, and as many folds as possible are planned
 
-Where the first line is mesh 2 or mesh 3, put64, put256, fill64 and fill256 put objects of 4 and of
-16 words, which hold V, V+1, .., and are found so. Where it is mesh 3, there is one line more:
+Where the first line is mesh 2, mesh 3 or mesh 4, put64, put256, fill64 and fill256 put objects of 4
+and of 16 words, which hold V, V+1, .., and are found so. Where it is mesh 3 or mesh 4, there is one
+line more, and where it is mesh 4 another:
 
   T set NAME V           replaces the value of the key by V, or by V, V+1, .., as wide as before
+  T trim                 gives back the pages of the thread's shard on which nothing is live
 
 docs/FORMATS.md describes traces and reports, and examples/ has some of each.
 

@@ -55,6 +55,10 @@ fn push_answer(out: &mut Vec<u8>, answer: &Answer) -> Result<(), AllocError>
             out.extend_from_slice(b"settled ")?;
             push_number(out, *count)
         }
+        Answer::Trimmed(count) => {
+            out.extend_from_slice(b"trimmed ")?;
+            push_number(out, *count)
+        }
     }
 }
 

@@ -1,6 +1,6 @@
-use Rattle.std.proofs.Common.{ap, subst}
+use Rattle.std.proofs.Common.{subst}
 use Rattle.std.specs.Prelude.{◌∷◌, []}
-use mathlib.Core.Logic.{inl, inr}
+use mathlib.Core.Logic.{inr}
 use Rattle.teurlaks_c.specs.Calls.{SetsKey}
 use Rattle.teurlaks_c.proofs.calls.teurlaks_set.Goals as goal
 

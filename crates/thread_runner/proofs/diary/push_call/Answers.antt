@@ -1,6 +1,5 @@
 use Rattle.std.proofs.Common.{◌∙◌, ◌++◌, ◌∷◌, [], ap, map, sym}
 use Rattle.span.specs.ReceiptLists.{kept_receipts}
-use Rattle.trace_runner.specs.declared.report.LineAnswer.{LineAnswer}
 use Rattle.thread_runner.specs.Told.{call_line}
 use Rattle.thread_runner.proofs.Lists.{drop-more, take-drop_one}
 use Rattle.thread_runner.proofs.diary.push_call.Goals as goal

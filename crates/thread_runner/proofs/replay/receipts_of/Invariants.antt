@@ -1,6 +1,5 @@
 use Rattle.span.specs.ReceiptLists.{kept_receipts}
 use Rattle.std.proofs.Common.{◌≡◌, map}
-use Rattle.std.specs.Prelude.{vec_items}
 use Rattle.thread_runner.specs.declared.diary.Diary.{Diary}
 use Rattle.thread_runner.proofs.replay.receipts_of.Given as goal
 

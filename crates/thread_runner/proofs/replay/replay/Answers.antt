@@ -1,5 +1,4 @@
 use Rattle.std.proofs.Common.{◌≡◌}
-use Rattle.std.specs.List.{range_with_len}
 use Rattle.arena.specs.Seats.{SeatState}
 use Rattle.thread_runner.proofs.Each.{each-All, each-first}
 use Rattle.thread_runner.proofs.replay.replay.Goals as goal

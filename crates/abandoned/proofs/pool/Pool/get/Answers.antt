@@ -5,7 +5,7 @@ use Rattle.page.specs.Words.{object_in}
 use Rattle.groups.specs.Pages.{words_of}
 use Rattle.shard.specs.declared.shard.Found.TheVariants.{Gone, NotHere, Value}
 use Rattle.abandoned.proofs.Here.{IsHere-read, place_within}
-use Rattle.abandoned.proofs.Released.{page_if_held, paged_if_held}
+use Rattle.groups.proofs.StoredObjects.{page_if_held, paged_if_held}
 use Rattle.abandoned.proofs.ShownLogs.{value_found-Gets}
 use Rattle.abandoned.proofs.pool.Pool.get.Goals as goal
 

@@ -15,7 +15,7 @@ take_all-requires-clause-apart g c =
 
 pub returns-clause-ok : goal.returns-clause-ok
 returns-clause-ok g c = record {
-  group_room = c.pages.result;
+  group_room = c.len.result;
   span_room = c.span_count.result;
   running = c.requires.running;
   moved = subst (λ (p : PoolState). TakesAll p (map whole_of c.args.shard.now.groups) c.take_all.new.self) (c.in_ok-reserve.ensures {u = tt}).ok c.take_all.ensures.moved;
@@ -24,11 +24,11 @@ returns-clause-ok g c = record {
 
 pub returns-clause-kept : goal.returns-clause-kept
 returns-clause-kept g c =
-    together-Receives c.args.self.now c.take_all.new.self c.args.shard.now c.pages.result c.span_count.result c.requires.sound c.take_all.ensures.sound c.requires.sound_shard
+    together-Receives c.args.self.now c.take_all.new.self c.args.shard.now c.len.result c.span_count.result c.requires.sound c.take_all.ensures.sound c.requires.sound_shard
     (AreApart-receiving c.args.self.now c.args.shard.now c.requires.sound c.requires.sound_shard c.requires.apart)
     (subst (λ (p : PoolState). TakesAll p (map whole_of c.args.shard.now.groups) c.take_all.new.self) (c.in_ok-reserve.ensures {u = tt}).ok c.take_all.ensures.moved)
 
 pub returns-clause-whole : goal.returns-clause-whole
 returns-clause-whole g c =
-    HasReceived-TakesAll c.args.self.now c.take_all.new.self c.args.shard.now c.pages.result c.span_count.result (IsSound-with_rooms c.args.self.now c.pages.result c.span_count.result c.requires.sound)
+    HasReceived-TakesAll c.args.self.now c.take_all.new.self c.args.shard.now c.len.result c.span_count.result (IsSound-with_rooms c.args.self.now c.len.result c.span_count.result c.requires.sound)
     (subst (λ (p : PoolState). TakesAll p (map whole_of c.args.shard.now.groups) c.take_all.new.self) (c.in_ok-reserve.ensures {u = tt}).ok c.take_all.ensures.moved)

@@ -1,4 +1,4 @@
-use Rattle.std.proofs.Common.{◌≡◌, false, Some, Ok, Err, ap, inl, inr, length, map, map-id, subst, sym, ◌∙◌, refl}
+use Rattle.std.proofs.Common.{◌≡◌, ◌&&◌, false, is_some, Some, Ok, Err, ap, inl, inr, length, map, map-id, subst, sym, ◌∙◌, refl}
 use Rattle.std.proofs.lemmas.Bool.{cases_Bool}
 use Rattle.std.proofs.lemmas.List.{length-map, with_items_is}
 use Rattle.std.proofs.option.Match.{None-if_not_some}
@@ -71,7 +71,7 @@ kept : (g : _) (c : goal.After-begin g) → IsSound (state_of (fields g c))
 kept g c = subst IsSound (sym (is_marked g c)) (IsSound-marked (state_of c.self.inside) c.self.invariant.sound c.in-Ok.certificate (largest g c))
 
 pub invariant_of-self-2 : goal.invariant_of-self-2
-invariant_of-self-2 g c = IsKept-mapped c.self.inside (fields g c) c.self.invariant refl (λ (group : GroupState). plans_onto c.in-Ok.certificate.plan group.head.id) (items_are g c) (kept g c)
+invariant_of-self-2 g c = IsKept-mapped c.self.inside (fields g c) c.self.invariant refl (λ (group : GroupState). is_some group.page && plans_onto c.in-Ok.certificate.plan group.head.id) (items_are g c) (kept g c)
 
 pub returns-clause-exact : goal.returns-clause-exact
 returns-clause-exact g c =

@@ -46,6 +46,13 @@ returns-in_err-replaced-clause-exact g c =
     (record { within = c.in-Some.ensures.variant.0 refl; value = c.in-Some.ensures.value }) c.in_err-replaced.ensures.refused c.in_err-replaced.ensures.err in
     rw (refused.1, refused.2) step.exact
 
+pub returns-in_err-replaced-clause-plain : goal.returns-in_err-replaced-clause-plain
+returns-in_err-replaced-clause-plain g c =
+    let refused = err_from_is_err_and c.from_residual.result c.from_residual.ensures.1 in
+    let step = IsStep-set_refused_home c.self.inside c.args.self.now c.args.key.now.span.shard c.args.key.now c.args.words.now c.in-Some.shard.now c.set.new.self c.self.view_is c.self.invariant.sound
+    (record { within = c.in-Some.ensures.variant.0 refl; value = c.in-Some.ensures.value }) c.in_err-replaced.ensures.refused c.in_err-replaced.ensures.err in
+    rw (refused.1, refused.2) step.plain
+
 -- the shard answers
 
 pub invariant_of-self-else-matches : goal.invariant_of-self-else-matches

@@ -50,3 +50,15 @@ returns-in_err-pooled-clause-exact g c =
     let step = IsStep-set_refused_pooled c.self.inside c.args.self.now c.args.key.now c.args.words.now c.set.new.self (c.self.view_is ∙ nowhere.1) c.self.invariant.sound c.requires nowhere.0
     c.in_err-pooled.ensures.refused c.in_err-pooled.ensures.err in
     rw (refused.1, refused.2) step.exact
+
+pub returns-in_err-pooled-clause-plain : goal.returns-in_err-pooled-clause-plain
+returns-in_err-pooled-clause-plain g c =
+    let refused = err_from_is_err_and c.from_residual-in_err-pooled.result c.from_residual-in_err-pooled.ensures.1 in
+    let absent : c.in_ok-replaced.replaced ≡ NotHere = elim c.match-matches.branch [
+      | in-NotHere w ↦ w.in-NotHere.is
+      | in_default w ↦ absurd (let both : false ≡ true = sym w.matches-is ∙ c.if-matches.true in cc)
+    ] in
+    let nowhere = c.in_ok-replaced.ensures.not_here absent in
+    let step = IsStep-set_refused_pooled c.self.inside c.args.self.now c.args.key.now c.args.words.now c.set.new.self (c.self.view_is ∙ nowhere.1) c.self.invariant.sound c.requires nowhere.0
+    c.in_err-pooled.ensures.refused c.in_err-pooled.ensures.err in
+    rw (refused.1, refused.2) step.plain

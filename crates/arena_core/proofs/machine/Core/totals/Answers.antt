@@ -2,6 +2,7 @@ use Rattle.std.proofs.Common.{◌≡◌, ap, arith, is_some, length, subst, sym,
 use Rattle.std.specs.Prelude.{sum_by}
 use Rattle.std.proofs.lemmas.List.{take_all}
 use Rattle.std.proofs.lemmas.List.Sums.{sum_by_more}
+use Rattle.groups.specs.Group.{paged_in}
 use Rattle.shard.specs.State.{ShardState}
 use Rattle.abandoned.specs.State.{PooledState}
 use Rattle.arena_core.proofs.Fields.{IsFew, IsFew-fields}
@@ -25,7 +26,7 @@ pub loop-shard-preserved : goal.loop-shard-preserved
 loop-shard-preserved g c =
     let few : IsFew c.loop-shard.shard-index c.shard-item.result = IsFew-fields c.self.inside c.deref-shard-items.result.now c.loop-shard.shard-index c.shard-item.result c.self.invariant.sound.groups c.deref-shard-items.ensures.value c.loop-shard-test.true c.shard-item.is in
     record {
-      pages = omega (arith, sum_by_more (λ (shard : ShardState). length shard.groups) c.deref-shard-items.result.now c.loop-shard.shard-index c.shard-item.result c.loop-shard-test.true, ap (λ (shard : ShardState). length shard.groups) c.shard-item.is);
+      pages = omega (arith, sum_by_more (λ (shard : ShardState). length (paged_in shard.groups)) c.deref-shard-items.result.now c.loop-shard.shard-index c.shard-item.result c.loop-shard-test.true, ap (λ (shard : ShardState). length (paged_in shard.groups)) c.shard-item.is);
       live = omega (arith, sum_by_more shard_keys c.deref-shard-items.result.now c.loop-shard.shard-index c.shard-item.result c.loop-shard-test.true, ap shard_keys c.shard-item.is);
       few_pages = omega (arith, few.pages);
       few_keys = omega (arith, few.pages, c.live-in-loop-shard.ensures.at_most);

@@ -3,6 +3,7 @@ use Rattle.std.proofs.lemmas.Bool.{true≢false}
 use Rattle.shard.specs.State.{ShardState}
 use Rattle.groups.specs.Group.{IsHere}
 use Rattle.shard.specs.declared.shard.Found.TheVariants.{Gone, NotHere, Value}
+use Rattle.groups.proofs.StoredObjects.{paged_if_held}
 use Rattle.shard.proofs.Here.{found_in, here_read, read_is}
 use Rattle.shard.proofs.ShownLogs.{value_found-Gets}
 use Rattle.shard.proofs.shard.Shard.get.Goals as goal
@@ -16,7 +17,9 @@ returns-in_default-clause-plain g c = value_found-Gets c.args.self.now c.find.en
 pub value_at-words-requires-clause-paged : goal.value_at-words-requires-clause-paged
 value_at-words-requires-clause-paged g c =
     let found = found_in c.args.self.now.groups c.self.inside.groups.items c.args.key.now.span c.in-Some.index c.in-Some.place (ap (λ (s : ShardState). s.groups) (sym c.self.view_is)) c.in-Some.ensures.place in
-    c.self.invariant.sound.paged c.in-Some.index c.index-group.result.now (read_is _ _ _ _ found.0 found.1 found.2 c.index-group.result.now c.index-group.ensures)
+    let group = c.index-group.result.now in
+    let read = read_is _ _ _ _ found.0 found.1 found.2 group c.index-group.ensures in
+    paged_if_held group (c.self.invariant.sound.groups c.in-Some.index group read) c.in-Some.place c.span_at-span.result.now c.args.key.now.slot c.args.key.now.generation c.span_at-span.ensures (c.if-holds.ensures.live.0 refl)
 
 pub returns-then-holds-clause-found : goal.returns-then-holds-clause-found
 returns-then-holds-clause-found g c =

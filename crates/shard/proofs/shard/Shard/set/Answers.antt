@@ -59,7 +59,6 @@ set-requires g c =
     record {
       place = place_within _ _ _ _ found.0 found.1 found.2 c.index_mut-group.result.now c.index_mut-group.ensures.value;
       sound = c.self.invariant.sound.groups c.in-Some.index c.index_mut-group.result.now read;
-      paged = c.self.invariant.sound.paged c.in-Some.index c.index_mut-group.result.now read;
     }
 
 pub invariant_of-self : goal.invariant_of-self

@@ -1,8 +1,7 @@
-use Rattle.std.proofs.Common.{◌≡◌, ◌+◌, ◌∙◌, ◌∷◌, [], List, Option, arith, map, refl, subst, sym, ℕ, zero-add}
+use Rattle.std.proofs.Common.{◌≡◌, ◌+◌, ◌∙◌, ◌∷◌, [], List, arith, map, refl, subst, sym, ℕ, zero-add}
 use Rattle.trace_text.specs.Objects.{counted_from}
 use Rattle.std.specs.List.{range_with_len}
 use Rattle.std.proofs.lemmas.List.FromFn.{map-range_with_len_more}
-use Rattle.span.specs.declared.key.Key.{Key}
 use Rattle.thread_runner.specs.Asked.{Asked, Puts}
 use Rattle.thread_runner.specs.Grown.{Tells}
 use Rattle.thread_runner.specs.Known.{AreKnown}

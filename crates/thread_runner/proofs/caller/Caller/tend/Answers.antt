@@ -1,4 +1,3 @@
-use Rattle.std.proofs.Common.{subst, sym}
 use Rattle.thread_runner.specs.Known.{AreKnown}
 use Rattle.thread_runner.proofs.Growing.{Tells-tended}
 use Rattle.thread_runner.proofs.caller.Caller.tend.Goals as goal

@@ -1,0 +1,29 @@
+use Rattle.std.proofs.Common.{refl, subst}
+use Rattle.arena_core.specs.declared.event.Event.TheVariants.{Trim}
+use Rattle.arena_core.specs.declared.reply.Reply.TheVariants.{Trimmed}
+use Rattle.arena_core.specs.Kept.{state_of}
+use Rattle.arena_core.proofs.FieldSteps.{IsStep-trim_fields}
+use Rattle.arena_core.proofs.Fields.{IsRead, with_shard_at}
+use Rattle.arena_core.proofs.FieldsKept.{GetsNone-Trims, IsKept-with_shard_at}
+use Rattle.arena_core.proofs.PlanSteps.{IsSoundStep}
+use Rattle.arena_core.proofs.machine.Core.trim.Goals as goal
+
+trimmed : (g : _) (c : goal.After-self-2-1 g) → IsSoundStep c.args.self.now (Trim c.args.number) (Trimmed c.trim.result) (state_of (with_shard_at c.self.inside c.args.number c.trim.new.self))
+trimmed g c =
+    subst (λ old. IsSoundStep old (Trim c.args.number) (Trimmed c.trim.result) (state_of (with_shard_at c.self.inside c.args.number c.trim.new.self))) c.self.view_is
+    (IsStep-trim_fields c.self.inside c.args.number c.trim.result c.in-Some.shard.now c.trim.new.self c.self.invariant.sound
+    (record { within = c.in-Some.ensures.variant.0 refl; value = c.in-Some.ensures.value }) c.trim.ensures.trims c.trim.ensures.plain c.trim.ensures.sound)
+
+pub invariant_of-self-2 : goal.invariant_of-self-2
+invariant_of-self-2 g c =
+    let read : IsRead c.self.inside c.args.number c.in-Some.shard.now = record { within = c.in-Some.ensures.variant.0 refl; value = c.in-Some.ensures.value } in
+    IsKept-with_shard_at c.self.inside c.self.invariant c.args.number c.in-Some.shard.now read c.trim.new.self (GetsNone-Trims c.self.inside c.self.invariant c.args.number c.in-Some.shard.now read c.trim.result c.trim.new.self c.trim.ensures.trims) (trimmed g c).kept
+
+pub returns-clause-exact : goal.returns-clause-exact
+returns-clause-exact g c = (trimmed g c).exact
+
+pub returns-clause-same : goal.returns-clause-same
+returns-clause-same g c = (trimmed g c).plain
+
+pub returns-clause-sound : goal.returns-clause-sound
+returns-clause-sound g c = (trimmed g c).kept

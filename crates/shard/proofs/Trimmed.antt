@@ -1,0 +1,65 @@
+-- What stays where groups with no live slot give their pages back.
+use Rattle.std.proofs.Common.{◌≡◌, true, false, Bool, cond, ◌&&◌, List, None, not, nat_eq, is_some, eqb-true, ◌∙◌, subst, refl}
+use Rattle.std.specs.Prelude.{map as map_list}
+use Rattle.std.specs.FinSet.{empty, empty_of_len}
+use Rattle.std.proofs.lemmas.Bool.{and_parts}
+use Rattle.std.proofs.lemmas.List.{length-map}
+use Rattle.bitmap.specs.Slots.{SlotSet}
+use Rattle.span.specs.declared.class.Class.{Class}
+use Rattle.groups.specs.Group.{spans_of}
+use Rattle.groups.specs.Sound.{AreSoundGroups, IsSoundGroup}
+use Rattle.groups.specs.Spans.{live_count, union_of}
+use Rattle.groups.proofs.FreedGroups.{IsSoundGroup-unpaged}
+use Rattle.groups.proofs.Lists.{before-map}
+use Rattle.groups.proofs.LiveCounts.{len-union_of}
+use Rattle.shard.specs.Group.{GroupState, HasNoRoom}
+use Rattle.shard.specs.Rooms.{HasRooms}
+use Rattle.shard.specs.Trims.{is_idle, trimmed}
+use Rattle.shard.proofs.AlikeGroups.{AreSoundGroups-map, bare, map_bare-map}
+
+-- the group without its page
+abbrev unpaged : GroupState → GroupState
+unpaged group = record group { page = None }
+
+bare-trimmed : (group : GroupState) → bare (trimmed group) ≡ bare group
+bare-trimmed group = by_test (is_idle group)
+  where
+    by_test : (b : Bool) → bare (cond b (unpaged group) group) ≡ bare group
+    by_test true = refl
+    by_test false = refl
+
+-- a sound group that gives its page back has no live slot
+none_live : (group : GroupState) → IsSoundGroup group → is_idle group ≡ true → union_of (spans_of group) ≡ empty
+none_live group sound idle =
+    let open_and_none = (and_parts (is_some group.page) (not group.closed && nat_eq (live_count (spans_of group)) 0) idle).1 in
+    let none = (and_parts (not group.closed) (nat_eq (live_count (spans_of group)) 0) open_and_none).1 in
+    empty_of_len (union_of (spans_of group)) (len-union_of (spans_of group) sound.apart ∙ eqb-true (live_count (spans_of group)) 0 none)
+
+IsSoundGroup-trimmed : (group : GroupState) → IsSoundGroup group → IsSoundGroup (trimmed group)
+IsSoundGroup-trimmed group sound = by_test (is_idle group) refl
+  where
+    by_test : (b : Bool) → is_idle group ≡ b → IsSoundGroup (cond b (unpaged group) group)
+    by_test true idle = IsSoundGroup-unpaged group sound (none_live group sound idle)
+    by_test false used = sound
+
+pub map_bare-trimmed : (groups : List GroupState) → map_list bare (map_list trimmed groups) ≡ map_list bare groups
+map_bare-trimmed groups = map_bare-map trimmed bare-trimmed groups
+
+pub AreSoundGroups-trimmed : (groups : List GroupState) → AreSoundGroups groups → AreSoundGroups (map_list trimmed groups)
+AreSoundGroups-trimmed groups sound = AreSoundGroups-map trimmed IsSoundGroup-trimmed groups sound
+
+-- a group that takes no put takes none afterwards
+HasNoRoom-trimmed : (class : Class) (group : GroupState) → HasNoRoom class group → HasNoRoom class (trimmed group)
+HasNoRoom-trimmed class group none = by_test (is_idle group)
+  where
+    by_test : (b : Bool) → HasNoRoom class (cond b (unpaged group) group)
+    by_test true = none
+    by_test false = none
+
+pub HasRooms-trimmed : (class : Class) (groups : List GroupState) (rooms : SlotSet) → HasRooms class groups rooms → HasRooms class (map_list trimmed groups) rooms
+HasRooms-trimmed class groups rooms has = record {
+  within = λ q member. rw (length-map groups trimmed) (has.within q member);
+  others = λ q other there out.
+      let before = before-map trimmed groups q other there in
+      subst (HasNoRoom class) before.2 (HasNoRoom-trimmed class before.0 (has.others q before.0 before.1 out));
+}

@@ -1,0 +1,17 @@
+use Rattle.std.proofs.Common.{subst}
+use Rattle.bitmap.specs.Slots.{HasAllBelow}
+use Rattle.span.specs.Classes.{slots_in}
+use Rattle.groups.proofs.Maps.{at_err}
+use Rattle.shard.specs.Group.{GroupState, unusable}
+use Rattle.shard.proofs.OpenGroups.{HasNoRoom-open}
+use Rattle.shard.proofs.group.Group.put_on_new.Goals as goal
+
+pub returns-in_err-page-clause-room : goal.returns-in_err-page-clause-room
+returns-in_err-page-clause-room g c =
+    at_err c.from_residual.result (HasNoRoom-open c.args.class c.args.self.now c.requires.open c.requires.class
+    (subst (λ (group : GroupState). HasAllBelow (unusable group) (slots_in group.head.class) → ⊥) c.self.view_is (c.has_usable.ensures.0 c.if-not-has_usable.false)))
+
+pub returns-in_err-key-clause-room : goal.returns-in_err-key-clause-room
+returns-in_err-key-clause-room g c =
+    at_err c.from_residual-in_err-key.result (HasNoRoom-open c.args.class c.args.self.now c.requires.open c.requires.class
+    (subst (λ (group : GroupState). HasAllBelow (unusable group) (slots_in group.head.class) → ⊥) c.self.view_is (c.in_err-key.ensures {u = tt}).room))

@@ -1,0 +1,14 @@
+use Rattle.std.proofs.Common.{◌≡◌, ◌≤◌, length, take}
+use Rattle.std.specs.List.{filter}
+use Rattle.std.specs.Prelude.{vec_capacity}
+use Rattle.shard.specs.Trims.{is_idle, trimmed}
+use Rattle.shard.proofs.ChangedBelow.{changed_below}
+use Rattle.shard.proofs.shard.trimming.trim_all.Given as goal
+
+abbrev pub invariant-loop-index : goal.invariant-loop-index
+invariant-loop-index g l = record {
+  items : l.groups.items ≡ changed_below trimmed l.index l.fn.groups.items;
+  capacity : vec_capacity l.groups ≡ vec_capacity l.fn.groups;
+  count : l.count ≡ length (filter is_idle (take l.index l.fn.groups.items));
+  most : l.count ≤ l.index;
+}

@@ -1,0 +1,48 @@
+// Pages with nothing live, which go while the shard goes on.
+ghost use Rattle.std.specs.Prelude.{◌≡◌, ◌<◌, Some, is_some, length, map, slice_get, vec_capacity};
+ghost use Rattle.std.specs.List.{filter};
+ghost use Rattle.shard.specs.Group.{GroupState};
+ghost use Rattle.shard.specs.Shown.{shown};
+ghost use Rattle.shard.specs.Sound.{IsSound};
+ghost use Rattle.shard.specs.Trims.{Trims, is_idle, trimmed};
+
+use super::Shard;
+use crate::group::Group;
+use span::Log;
+
+impl<L: Log> Shard<L> {
+    /// Gives back the page of each open group in which no slot is live, and answers how many went. The groups stay, and with
+    /// them their keys' generations: a later put opens a page anew for the first that it takes a slot of. A closed group keeps
+    /// its page. It takes no memory.
+    pub fn trim(&mut self) -> usize
+        ensures trims { Trims self.old result self.new }
+        ensures plain { shown self.new ≡ shown self.old }
+        ensures sound { IsSound self.new }
+    {
+        trim_all(&mut self.groups)
+    }
+
+    /// Whether the group at the index, by ascending head, has a page.
+    pub fn is_paged(&self, index: usize) -> bool
+        requires { index < length self.now.groups }
+        ensures { (group : GroupState) → slice_get self.now.groups index ≡ Some group
+            → result ≡ is_some group.page }
+    {
+        self.groups[index].is_paged()
+    }
+}
+
+// Trims the groups, and says how many gave their page back.
+fn trim_all<L: Log>(groups: &mut Vec<Group<L>>) -> usize
+    ensures items { groups.new.items ≡ map trimmed groups.old.items }
+    ensures count { result ≡ length (filter is_idle groups.old.items) }
+    ensures capacity { vec_capacity groups.new ≡ vec_capacity groups.old }
+{
+    let mut count = 0;
+    for index in 0..groups.len() {
+        if groups[index].trim() {
+            count += 1;
+        }
+    }
+    count
+}
