@@ -13,6 +13,9 @@
  *   runs where neighbours are free. So at most KEEP - 1 system pages of a range are neither used nor given back.
  * - Where a range cannot be had, or is spent, or the system opens no more of it, malloc is asked, and where that refuses the request is
  *   refused.
+ * - When the last block of all comes back, as with the last core that is dropped, what is kept goes to the system too. If more than
+ *   LET_GO bytes were asked of malloc since the last such time, glibc's malloc_trim(0) has malloc do likewise, which else keeps
+ *   some MB of free blocks; it looks at all of the process's free blocks.
  *
  * Any number of threads may call: each range has a lock, which is not held while the system takes pages back. The forked child of a
  * process with threads makes no call, as teurlaks.h says.
@@ -26,6 +29,9 @@
 #include <string.h>
 #include <sys/mman.h>
 #include <unistd.h>
+#ifdef __GLIBC__
+#include <malloc.h>
+#endif
 
 #define SYSTEM_PAGE 4096
 /* System pages of a range: a multiple of 4,096. 1,048,576 of them are 4 GB, sixteen full cores. */
@@ -40,6 +46,10 @@
 /* How many free system pages a range keeps, less one. 1: each is given back at once. */
 #ifndef KEEP
 #define KEEP 64
+#endif
+/* From how many bytes on that were asked of malloc it is to let go of what is free, once no block is in use. */
+#ifndef LET_GO
+#define LET_GO (1 << 20)
 #endif
 
 /* What the library is answered: whether there is a block, and where; never NULL. */
@@ -80,6 +90,8 @@ static struct blocks of_pages, of_quarters;
 static struct range pages = {.lock = PTHREAD_MUTEX_INITIALIZER, .blocks = &of_pages, .size = 4096, .per = 1};
 static struct range quarters = {.lock = PTHREAD_MUTEX_INITIALIZER, .blocks = &of_quarters, .size = 1024, .per = 4};
 static uint8_t nothing[1];
+static atomic_size_t in_use; /* blocks that the library has */
+static atomic_size_t asked;  /* bytes asked of malloc since there was none in use */
 
 static void insert(struct blocks *b, size_t n) {
     b->low[n / 64] |= 1ull << n % 64;
@@ -189,21 +201,41 @@ static void put_back(struct range *r, void *at) {
     pthread_mutex_unlock(&r->lock);
 }
 
+static struct range *const ranges[] = {&pages, &quarters};
+enum { RANGES = sizeof ranges / sizeof ranges[0] };
+
 /* Whose block it is, or NULL for one of malloc. */
 static struct range *of(const void *at) {
-    struct range *both[2] = {&pages, &quarters};
-    for (int i = 0; i < 2; i++) {
-        uint8_t *base = atomic_load_explicit(&both[i]->base, memory_order_acquire);
-        if (base && (uintptr_t)at - (uintptr_t)base < RANGE_BYTES) return both[i];
+    for (int i = 0; i < RANGES; i++) {
+        uint8_t *base = atomic_load_explicit(&ranges[i]->base, memory_order_acquire);
+        if (base && (uintptr_t)at - (uintptr_t)base < RANGE_BYTES) return ranges[i];
     }
     return NULL;
+}
+
+/* Hands all that is kept to the system, once nothing is in use. That another thread takes a block meanwhile is no matter. */
+static void let_go(void) {
+    for (int i = 0; i < RANGES; i++) {
+        pthread_mutex_lock(&ranges[i]->lock);
+        if (ranges[i]->kept) give_back(ranges[i]);
+        pthread_mutex_unlock(&ranges[i]->lock);
+    }
+#ifdef __GLIBC__
+    if (atomic_exchange(&asked, 0) >= LET_GO) malloc_trim(0);
+#endif
+}
+
+static void *of_malloc(size_t size) {
+    atomic_fetch_add_explicit(&asked, size, memory_order_relaxed);
+    return malloc(size);
 }
 
 struct got rattle_alloc(size_t size, size_t least) {
     void *at = NULL;
     if (size == pages.size) at = take(&pages);
     else if (size == quarters.size) at = take(&quarters);
-    if (!at) at = malloc(size ? size : least);
+    if (!at) at = of_malloc(size ? size : least);
+    if (at) atomic_fetch_add_explicit(&in_use, 1, memory_order_relaxed);
     return (struct got){at != NULL, at ? at : nothing};
 }
 
@@ -211,18 +243,19 @@ void rattle_dealloc(void *at) {
     struct range *r = of(at);
     if (r) put_back(r, at);
     else free(at);
+    if (atomic_fetch_sub_explicit(&in_use, 1, memory_order_relaxed) == 1) let_go();
 }
 
 struct got rattle_realloc(void *at, size_t old, size_t size, size_t least) {
-    struct range *r = of(at);
-    if (!r) {
+    if (!of(at)) {
+        atomic_fetch_add_explicit(&asked, size, memory_order_relaxed);
         void *now = realloc(at, size ? size : least);
         return (struct got){now != NULL, now ? now : nothing};
     }
     struct got got = rattle_alloc(size, least);
     if (got.ok) {
         memcpy(got.at, at, old < size ? old : size);
-        put_back(r, at);
+        rattle_dealloc(at);
     }
     return got;
 }

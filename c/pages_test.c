@@ -166,6 +166,21 @@ static void leave_and_come(void) {
         WANT(is_whole(&(struct kept){quarter[i], 1024, 2}, 1024));
     }
 }
+
+/* Where nothing is in use any more, hardly anything stays, also where malloc has learnt to keep much: a block that it had mapped and that
+ * was freed has glibc keep up to twice as much from then on. */
+static void all_goes(void) {
+    long before = resident();
+    rattle_dealloc(alloc(8 << 20, 1));
+    for (int i = 0; i < COUNT; i++) page[i] = alloc(448, 1);
+    for (int i = 0; i < COUNT; i++) rattle_dealloc(page[i]);
+    WANT(WATCHED || resident() - before < 1024);
+    rattle_dealloc(alloc(4096, 1));
+    long empty = resident();
+    for (int i = 0; i < 32; i++) page[i] = alloc(4096, 1);
+    for (int i = 0; i < 32; i++) rattle_dealloc(page[i]);
+    WANT(WATCHED || resident() <= empty);
+}
 #endif
 
 int main(int argc, char **argv) {
@@ -185,6 +200,9 @@ int main(int argc, char **argv) {
             rattle_dealloc(page[i]);
             rattle_dealloc(quarter[i]);
         }
+#ifndef FEW
+        all_goes();
+#endif
     }
     threads();
     return 0;

@@ -183,7 +183,7 @@ uint32_t teurlaks_end(struct teurlaks_handle *handle, uint32_t shard);
 struct teurlaks_retire_reply teurlaks_retire(struct teurlaks_handle *handle, uint32_t shard, size_t most);
 
 /* Gives back the page of each group of the shard in which nothing is live, but for a group of the open plan. The groups stay, and a
- * later put opens a page anew. TEURLAKS_CONFIG where there is no such shard, and no other refusal. Takes no memory. */
+ * later put into one of them opens a page for it. TEURLAKS_CONFIG where there is no such shard, and no other refusal. Takes no memory. */
 struct teurlaks_trim_reply teurlaks_trim(struct teurlaks_handle *handle, uint32_t shard);
 
 /* Moves the pool's group of lowest head that has a page to the shard. */
