@@ -42,16 +42,6 @@ contains-remove_same s slot = contains-remove nat_cmp_total s slot slot ∙ rw (
 pub contains-remove_apart : (s : SlotSet) (slot other : ℕ) → (other ≡ slot → ⊥) → contains (remove s slot) other ≡ contains s other
 contains-remove_apart s slot other apart = contains-remove nat_cmp_total s slot other ∙ rw (unsigned_tied other slot, ne_eqb other slot apart) refl
 
--- one more part of no number changes no answer
-get_or-push : (parts : List SlotSet) (at : ℕ) → get_or (parts ++ empty ∷ []) at empty ≡ get_or parts at empty
-get_or-push [] zero = refl
-get_or-push [] (suc at) = refl
-get_or-push (part ∷ parts) zero = refl
-get_or-push (part ∷ parts) (suc at) = get_or-push parts at
-
-pub has_index-push : (parts : List SlotSet) (number : ℕ) → has_index (parts ++ empty ∷ []) number ≡ has_index parts number
-has_index-push parts number = ap (λ s. contains s (number % 256)) (get_or-push parts (number / 256))
-
 -- where a part has no number, the next that may be in is the first of the next part
 pub no_number_in : (parts : List SlotSet) (from number : ℕ) (part : SlotSet) → number / 256 < length parts → part ≡ get_or parts (number / 256) part → part ≡ empty
     → ((other : ℕ) → from ≤ other → other < number → has_index parts other ≡ false) → (other : ℕ) → from ≤ other → other < number + (256 - number % 256) → has_index parts other ≡ false

@@ -1,5 +1,5 @@
 // The groups of the pool, each at the place of its head.
-ghost use Rattle.std.specs.Prelude.{◌≡◌, ◌<◌, ◌≤◌, ◌-◌, ◌+◌, ◌++◌, ◌*◌, ◌↔◌, ◌⊎◌, ℕ, [], IfOk, IfSome, IsTrue, MatchOption, OnErr, OnOk, Some, filter, insert, is_some, length, map, max, slice_get, slice_set, vec_capacity};
+ghost use Rattle.std.specs.Prelude.{◌≡◌, ◌<◌, ◌≤◌, ◌-◌, ◌+◌, ◌++◌, ◌*◌, ◌↔◌, ◌⊎◌, ℕ, [], IfOk, IfSome, IsTrue, MatchOption, OnErr, OnOk, Some, insert, length, map, max, slice_get, slice_set, vec_capacity};
 ghost use Rattle.std.specs.Bool.{OnTrue, OnFalse};
 ghost use Rattle.span.specs.Ids.{rank};
 ghost use Rattle.span.specs.Log.{Holds};
@@ -9,7 +9,7 @@ ghost use Rattle.groups.specs.Pages.{set_group};
 ghost use Rattle.groups.specs.Sound.{IsSoundGroup};
 ghost use Rattle.groups.specs.Spans.{with_free_at, with_set_at, live_count};
 ghost use Rattle.abandoned.specs.Calls.{HasNoPage, IsFirstPaged};
-ghost use Rattle.groups.specs.Group.{HasNoHead, IsHeadOf, IsPlaceFor, spans_in, spans_of, summary, with_span};
+ghost use Rattle.groups.specs.Group.{HasNoHead, IsHeadOf, IsPlaceFor, paged_in, spans_in, spans_of, summary, with_span};
 ghost use Rattle.abandoned.specs.Groups.{FreesIn, HasHeadAt, Removes};
 ghost use Rattle.abandoned.specs.Numbers.{HasNoneFrom};
 ghost use Rattle.abandoned.specs.State.{PooledState};
@@ -193,7 +193,7 @@ impl<L: Log> Groups<L> {
 
     /// How many groups have a page.
     pub(crate) fn pages(&self) -> usize
-        ensures { result ≡ length (filter (λ group. is_some group.page) self.now.groups) }
+        ensures { result ≡ length (paged_in self.now.groups) }
     {
         let mut pages = 0;
         let mut from = 0;
@@ -206,8 +206,7 @@ impl<L: Log> Groups<L> {
 
     /// How many keys are live in those that have a page.
     pub(crate) fn live(&self) -> usize
-        ensures live { result ≡ live_count (spans_in
-            (filter (λ group. is_some group.page) self.now.groups)) }
+        ensures live { result ≡ live_count (spans_in (paged_in self.now.groups)) }
         ensures at_most { result ≤ SLOTS * length self.now.groups }
     {
         let mut live = 0;
@@ -242,8 +241,7 @@ impl<L: Log> Groups<L> {
     ///
     /// `AllocError` where the list could not grow.
     pub(crate) fn summaries(&self, alloc: Global) -> Result<Vec<Entry>, AllocError>
-        ensures { IfOk result (λ list. list.items
-            ≡ map summary (filter (λ group. is_some group.page) self.now.groups)) }
+        ensures { IfOk result (λ list. list.items ≡ map summary (paged_in self.now.groups)) }
     {
         let mut list = Vec::new(alloc);
         let mut from = 0;

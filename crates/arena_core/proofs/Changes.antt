@@ -20,9 +20,6 @@ use Rattle.arena_core.proofs.Spans.{named, sum_all, sum_all-with_pool, sum_all-w
 abbrev pub indicator : ℕ → ℕ → ℕ
 indicator serial opened = cond {A = ℕ} (ltb serial opened) 1 0
 
-pub below-indicator : (serial opened : ℕ) → serial < opened → indicator serial opened ≡ 1
-below-indicator serial opened below = grind (arith, nat_tests)
-
 pub past-indicator : (serial opened : ℕ) → opened ≤ serial → indicator serial opened ≡ 0
 past-indicator serial opened past = grind (arith, nat_tests)
 

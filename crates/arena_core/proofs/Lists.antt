@@ -106,10 +106,6 @@ flat-set w f xs i x y here = omega (arith, sum_by-flat_map w f xs, sum_by-flat_m
 pub flat-insert : {X Y : Type 0} (w : Y → ℕ) (f : X → List Y) (xs : List X) (i : ℕ) (y : X) → sum_by w (flat_map f (insert xs i y)) ≡ sum_by w (flat_map f xs) + sum_by w (f y)
 flat-insert w f xs i y = omega (arith, sum_by-flat_map w f xs, sum_by-flat_map w f (insert xs i y), sum_by-insert (λ z. sum_by w (f z)) xs i y)
 
-pub flat-remove : {X Y : Type 0} (w : Y → ℕ) (f : X → List Y) (xs : List X) (i : ℕ) (x : X) → slice_get xs i ≡ Some x → sum_by w (flat_map f (remove xs i)) + sum_by w (f x) ≡ sum_by w (flat_map f xs)
-flat-remove w f xs i x here =
-    omega (arith, sum_by-flat_map w f xs, sum_by-flat_map w f (remove xs i), sum_by-remove (λ z. sum_by w (f z)) xs i x (slice_get_within xs i x here), ap (λ z. sum_by w (f z)) (get_or_from_slice_get xs i x x here))
-
 -- sums of what is the same of each element
 pub sum_by-same : {X : Type 0} (f g : X → ℕ) (xs : List X) → ((i : ℕ) (x : X) → slice_get xs i ≡ Some x → f x ≡ g x) → sum_by f xs ≡ sum_by g xs
 sum_by-same f g [] same = refl

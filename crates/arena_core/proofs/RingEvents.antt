@@ -104,13 +104,3 @@ IsSettled-freed old mid new worker shard key freed (ring, left, here, oldest, af
         subst (λ m. Loses m key freed (shown new)) (ap shown mid_is ∙ shown-with_ring old worker shard ring (with_keys ring left) here) plain,
       );
     }
-
--- no key waits
-pub IsSettled-none : (old new : CoreState) (worker shard : ℕ) → Takes old.rings worker shard None new.rings → new ≡ with_rings old new.rings → IsSettled old worker shard (Ok None) new
-IsSettled-none old new worker shard (ring, here, empty, same) is =
-    let still : new ≡ old = is ∙ ap (with_rings old) same in
-    record { exact = ((ring, here, empty), still); plain = (pending-here old.rings worker shard ring here ∙ empty, ap shown still) }
-
--- there is no such ring
-pub IsSettled-outside : (old new : CoreState) (worker shard : ℕ) (refusal : Refusal) → refusal ≡ Config → IsOutside old.limits worker shard → new ≡ old → IsSettled old worker shard (Err refusal) new
-IsSettled-outside old new worker shard refusal is outside same = subst (λ r. IsSettled old worker shard (Err r) new) (sym is) (record { exact = (outside, same); plain = (outside, ap shown same) })

@@ -48,8 +48,8 @@ abbrev pub NeedsPage : Class → CoreState → ℕ → Type 0
 NeedsPage class core number = (shard : ShardState) × IsRunning core number shard × IsSpent class shard
 
 -- the shard of this number has as many groups as it may have pages
-abbrev pub HasAllPages : CoreState → ℕ → Type 0
-HasAllPages core number = (shard : ShardState) × (slice_get core.shards number ≡ Some shard) × (shard.page_limit ≡ length shard.groups)
+abbrev pub HasAllGroups : CoreState → ℕ → Type 0
+HasAllGroups core number = (shard : ShardState) × (slice_get core.shards number ≡ Some shard) × (shard.page_limit ≡ length shard.groups)
 
 -- the shard of this number, if there is one, has not ended and may have another page
 abbrev pub MayTake : CoreState → ℕ → Type 0
@@ -284,7 +284,7 @@ CoreStep old (Retire shard most) (Refused OutOfMemory) new = MayEnd old shard ×
 CoreStep old (Trim shard) (Trimmed count) new = TrimsShard old shard count new
 CoreStep old (Trim shard) (Refused Config) new = (old.limits.shards ≤ shard) × (new ≡ old)
 CoreStep old (Adopt shard) (Adopted head) new = AdoptsInShard old shard head new
-CoreStep old (Adopt shard) (Refused PagesSpent) new = HasAllPages old shard × (new ≡ old)
+CoreStep old (Adopt shard) (Refused PagesSpent) new = HasAllGroups old shard × (new ≡ old)
 CoreStep old (Adopt shard) (Refused Ended) new = HasEnded old shard × (new ≡ old)
 CoreStep old (Adopt shard) (Refused PlanOpen) new = MayTake old shard × HasPlan old × (new ≡ old)
 CoreStep old (Adopt shard) (Refused NothingToAdopt) new = MayTake old shard × (old.plan ≡ None) × HasNothingToAdopt old.pool × (new ≡ old)

@@ -18,7 +18,8 @@ use Rattle.abandoned.specs.Calls.{Lifts}
 use Rattle.abandoned.specs.State.{PoolState, PooledState, paged_groups}
 use Rattle.groups.proofs.Removed.{count-remove}
 use Rattle.abandoned.proofs.Together.{spans_in-Lifts}
-use Rattle.fold.specs.Folds.{Folds, IsPagedHead}
+use Rattle.fold.specs.Folds.{Folds}
+use Rattle.shard.specs.Closes.{HasPagedHead}
 
 -- after a graft the spans are the old ones with those that came after the last guest of the group
 pub spans_in-Grafts : (old new : ShardState) (head : SpanId) (whole : WholeState) → Grafts old head whole new → AreBetween (spans_in new.groups) (spans_in old.groups) (spans_moved whole)
@@ -104,7 +105,7 @@ module _ (pool : PoolState) (shard : ShardState) (a b : SpanId) (pool_new : Pool
   length_groups-Folds = ap (λ (s : ShardState). length s.groups) folds.grafts.after ∙ length-set shard.groups folds.grafts.index (with_guests folds.grafts.group (spans_moved folds.whole) folds.grafts.words)
 
   -- and as many with a page, where the one that takes the spans has one
-  pub length_shard_pages-Folds : IsSoundShard shard → IsPagedHead shard.groups b → length (paged_in shard_new.groups) ≡ length (paged_in shard.groups)
+  pub length_shard_pages-Folds : IsSoundShard shard → HasPagedHead shard.groups b → length (paged_in shard_new.groups) ≡ length (paged_in shard.groups)
   length_shard_pages-Folds sound (index, group, at, some) =
       let same : group ≡ folds.grafts.group = same_group shard.groups sound.ascending b index folds.grafts.index group folds.grafts.group at folds.grafts.here in
       let now : GroupState = with_guests folds.grafts.group (spans_moved folds.whole) folds.grafts.words in

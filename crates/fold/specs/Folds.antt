@@ -1,5 +1,5 @@
 -- What a fold of a group of the pool onto a group of a shard does, and where there is none.
-use Rattle.std.specs.Prelude.{◌≡◌, ◌⊎◌, ℕ, List, length, IsSome, None, Some}
+use Rattle.std.specs.Prelude.{◌≡◌, ◌⊎◌, ℕ, List, length, None, Some}
 use Rattle.bitmap.specs.Slots.{AreDisjoint}
 use Rattle.span.specs.declared.id.SpanId.{SpanId}
 use Rattle.shard.specs.Group.{GroupState}
@@ -42,10 +42,6 @@ pub record Folds (pool : PoolState) (shard : ShardState) (a b : SpanId) (pool_ne
   pub whole : WholeState
   pub lifts : Lifts pool a (Some whole) pool_new
   pub grafts : Grafts (with_room shard (Some b) (length (spans_moved whole))) b whole shard_new
-
--- the group of this head has a page
-abbrev pub IsPagedHead : List GroupState → SpanId → Type 0
-IsPagedHead groups head = (index : ℕ) × (group : GroupState) × IsHeadOf groups head index group × IsSome group.page
 
 -- the group of this head has that many spans
 abbrev pub HasSpans : List PooledState → SpanId → ℕ → Type 0

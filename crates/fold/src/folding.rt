@@ -5,7 +5,8 @@ ghost use Rattle.shard.specs.Sound.{IsSound as IsSoundShard};
 ghost use Rattle.abandoned.specs.Shown.{shown, together};
 ghost use Rattle.abandoned.specs.Sound.{IsSound};
 ghost use Rattle.abandoned.specs.State.{paged_groups};
-ghost use Rattle.fold.specs.Folds.{Folds, HasSpans, IsPagedHead, MayFold, Steps};
+ghost use Rattle.fold.specs.Folds.{Folds, HasSpans, MayFold, Steps};
+ghost use Rattle.shard.specs.Closes.{HasPagedHead};
 ghost use Rattle.groups.specs.Group.{paged_in};
 
 use crate::step::Step;
@@ -39,7 +40,7 @@ pub fn fold_one<L: Log>(
         ≡ together (shown pool.old) (shown_by_shard shard.old) }
     ensures page { result ≡ Ok Step.Folded → length (paged_groups pool.new) + 1
         ≡ length (paged_groups pool.old) }
-    ensures shard_pages { result ≡ Ok Step.Folded → IsPagedHead shard.old.groups b
+    ensures shard_pages { result ≡ Ok Step.Folded → HasPagedHead shard.old.groups b
         → length (paged_in shard.new.groups) ≡ length (paged_in shard.old.groups) }
     ensures groups { result ≡ Ok Step.Folded → length shard.new.groups ≡ length shard.old.groups }
 

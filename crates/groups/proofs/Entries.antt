@@ -49,9 +49,6 @@ pub record IsEntering (before now : DirectoryState) (guests : List SpanState) (h
   pub room : now.room + place ≡ before.room + first
   pub least : first ≤ place
 
-pub IsEntering-first : (directory : DirectoryState) (guests : List SpanState) (head : SpanId) (first : ℕ) → IsEntering directory directory guests head first first
-IsEntering-first directory guests head first = record { entries = refl; room = refl; least = omega arith }
-
 module _ (before now : DirectoryState) (guests : List SpanState) (head : SpanId) (first place : ℕ) (is : IsEntering before now guests head first place) where
   pub IsEntering-next : (guest : SpanState) → slice_get guests place ≡ Some guest → 1 ≤ now.room
       → IsEntering before (record { entries = map.insert now.entries (rank guest.id) (record { head = head; place = place + 1 }); room = now.room - 1 }) guests head first (place + 1)

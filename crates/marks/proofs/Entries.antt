@@ -8,17 +8,11 @@ use Rattle.std.proofs.lemmas.List.Sums.{sum_by-cons}
 use Rattle.std.proofs.lemmas.Option.{get_or_from_slice_get, slice_get_within}
 use Rattle.shard.specs.Group.{GroupState}
 use Rattle.shard.specs.State.{ShardState}
+use Rattle.shard.proofs.Entries.{entries_in}
 use Rattle.groups.specs.Group.{paged_in, summary}
 use Rattle.abandoned.specs.State.{PoolState, PooledState, paged_groups}
 use Rattle.span.specs.declared.entry.Entry.{Entry}
 use Rattle.marks.specs.Seen.{AreTooMany, owned_entries}
-
--- of the groups that have a page
-abbrev pub entries_in : List GroupState → List Entry
-entries_in groups = map summary (paged_in groups)
-
-abbrev pub entries_pooled : List PooledState → List Entry
-entries_pooled groups = map summary groups
 
 -- as many owned groups as the shards have pages
 pub length-owned : (shards : List ShardState) → length (owned_entries shards) ≡ sum_by (λ shard. length (paged_in shard.groups)) shards
@@ -44,19 +38,3 @@ too_many-owned pool shards pages owned pages_is few owned_is = (
     | inr in_shards ↦ lt-ltb 4096 owned (omega (arith, length-owned shards))
   ],
 )
-
--- one group more of a shard: where it has a page, the mark sees its entry too
-
-paged-more : (groups : List GroupState) (index : ℕ) (group : GroupState) → slice_get groups index ≡ Some group → paged_in (take (index + 1) groups) ≡ paged_in (take index groups) ++ cond (is_some group.page) (group ∷ []) []
-paged-more groups index group here =
-    filter_more (λ (g : GroupState). is_some g.page) groups index group (slice_get_within groups index group here)
-    ∙ ap (λ (g : GroupState). paged_in (take index groups) ++ cond (is_some g.page) (g ∷ []) []) (get_or_from_slice_get groups index group group here)
-
-pub entries-paged : (groups : List GroupState) (index : ℕ) (group : GroupState) → slice_get groups index ≡ Some group → is_some group.page ≡ true → entries_in (take index groups) ++ summary group ∷ [] ≡ entries_in (take (index + 1) groups)
-entries-paged groups index group here paged =
-    sym (map-append summary (paged_in (take index groups)) (group ∷ []))
-    ∙ ap (map summary) (ap (λ b. paged_in (take index groups) ++ cond b (group ∷ []) []) (sym paged) ∙ sym (paged-more groups index group here))
-
-pub entries-bare : (groups : List GroupState) (index : ℕ) (group : GroupState) → slice_get groups index ≡ Some group → is_some group.page ≡ false → entries_in (take index groups) ≡ entries_in (take (index + 1) groups)
-entries-bare groups index group here bare =
-    ap (map summary) (sym (paged-more groups index group here ∙ ap (λ b. paged_in (take index groups) ++ cond b (group ∷ []) []) bare ∙ append-nil (paged_in (take index groups))))

@@ -10,17 +10,17 @@ use Rattle.span.specs.Ids.{same_span}
 use Rattle.span.proofs.Ids.{test_from_same_id}
 use Rattle.groups.specs.Group.{paged_in, summary}
 use Rattle.groups.proofs.Lists.{get_left, get_right, same_some, set-same}
-use Rattle.shard.specs.Closes.{Closes, HasNoPagedHead}
+use Rattle.shard.specs.Closes.{Closes, HasNoPagedHead, HasPagedHead}
 use Rattle.shard.specs.Group.{GroupState}
 use Rattle.shard.specs.Sound.{IsSound as IsSoundShard}
 use Rattle.shard.specs.State.{ShardState}
 use Rattle.shard.proofs.Sparse.{after-filter}
 use Rattle.mesh_graph.specs.Groups.{ids}
 use Rattle.marks.specs.Closings.{closed_by, closing}
-use Rattle.marks.specs.OneShard.{ClosesAt, HasPagedHead, IsOnce}
+use Rattle.marks.specs.OneShard.{ClosesAt, IsOnce}
 use Rattle.marks.specs.Seen.{owned_entries}
 use Rattle.marks.proofs.Closings.{closed-others, closing-more, closing-none, lent-set}
-use Rattle.marks.proofs.Entries.{entries_in}
+use Rattle.shard.proofs.Entries.{entries_in}
 use Rattle.marks.proofs.Flagged.{map_back}
 use Rattle.marks.proofs.Lists.{slice_get-map_at}
 
@@ -49,7 +49,7 @@ distinct_apart (first ∷ left) right id distinct (zero, here) there =
 distinct_apart (first ∷ left) right id distinct (suc at, here) there = distinct_apart left right id distinct.1 (at, here) there
 
 -- the head of a group with a page stands among the ids of its shard's entries
-head_stands : (shard : ShardState) (head : SpanId) → HasPagedHead shard head → Stands (ids (entries_in shard.groups)) head
+head_stands : (shard : ShardState) (head : SpanId) → HasPagedHead shard.groups head → Stands (ids (entries_in shard.groups)) head
 head_stands shard head (index, group, found, paged) =
     let now = after-filter (λ (g : GroupState). is_some g.page) shard.groups index group found.here paged in (
       now.0,
@@ -60,10 +60,10 @@ head_stands shard head (index, group, found, paged) =
 ids-shards : (shard : ShardState) (shards : List ShardState) → ids (owned_entries (shard ∷ shards)) ≡ ids (entries_in shard.groups) ++ ids (owned_entries shards)
 ids-shards shard shards = map-append (λ (entry : Entry). entry.id) (entries_in shard.groups) (owned_entries shards)
 
-head_owned : (shards : List ShardState) (number : ℕ) (shard : ShardState) (head : SpanId) → slice_get shards number ≡ Some shard → HasPagedHead shard head → Stands (ids (owned_entries shards)) head
+head_owned : (shards : List ShardState) (number : ℕ) (shard : ShardState) (head : SpanId) → slice_get shards number ≡ Some shard → HasPagedHead shard.groups head → Stands (ids (owned_entries shards)) head
 head_owned [] number shard head here has = absurd cc
 head_owned (first ∷ shards) zero shard head here has =
-    let stands = head_stands first head (subst (λ (s : ShardState). HasPagedHead s head) (sym (same_some here)) has) in
+    let stands = head_stands first head (subst (λ (s : ShardState). HasPagedHead s.groups head) (sym (same_some here)) has) in
     subst (λ list. Stands list head) (sym (ids-shards first shards)) (stands.0, get_left _ _ stands.0 head stands.1)
 head_owned (first ∷ shards) (suc number) shard head here has =
     let stands = head_owned shards number shard head here has in
@@ -75,13 +75,13 @@ IsOnce-distinct (shard ∷ shards) head distinct zero zero a b at_low at_high ha
 IsOnce-distinct (shard ∷ shards) head distinct zero (suc high) a b at_low at_high has_a has_b =
     absurd (
     distinct_apart (ids (entries_in shard.groups)) (ids (owned_entries shards)) head (subst (IsDistinct same_span) (ids-shards shard shards) distinct)
-    (head_stands shard head (subst (λ (s : ShardState). HasPagedHead s head) (sym (same_some at_low)) has_a))
+    (head_stands shard head (subst (λ (s : ShardState). HasPagedHead s.groups head) (sym (same_some at_low)) has_a))
     (head_owned shards high b head at_high has_b)
     )
 IsOnce-distinct (shard ∷ shards) head distinct (suc low) zero a b at_low at_high has_a has_b =
     absurd (
     distinct_apart (ids (entries_in shard.groups)) (ids (owned_entries shards)) head (subst (IsDistinct same_span) (ids-shards shard shards) distinct)
-    (head_stands shard head (subst (λ (s : ShardState). HasPagedHead s head) (sym (same_some at_high)) has_b))
+    (head_stands shard head (subst (λ (s : ShardState). HasPagedHead s.groups head) (sym (same_some at_high)) has_b))
     (head_owned shards low a head at_low has_a)
     )
 IsOnce-distinct (shard ∷ shards) head distinct (suc low) (suc high) a b at_low at_high has_a has_b =
@@ -90,11 +90,11 @@ IsOnce-distinct (shard ∷ shards) head distinct (suc low) (suc high) a b at_low
 -- one pair more, over all shards
 
 -- a shard in which the group has no page, or that has no such group, stays
-closing-other : (done : List (SpanId × SpanId)) (pair : SpanId × SpanId) (shard : ShardState) → (HasPagedHead shard pair.1 → ⊥) → closing done shard ≡ closing (done ++ pair ∷ []) shard
+closing-other : (done : List (SpanId × SpanId)) (pair : SpanId × SpanId) (shard : ShardState) → (HasPagedHead shard.groups pair.1 → ⊥) → closing done shard ≡ closing (done ++ pair ∷ []) shard
 closing-other done pair shard none =
     ap (λ groups. record shard { groups = groups }) (closed-others done pair shard.groups (λ index group here paged is. none (index, group, record { here = here; head_is = is }, paged)))
 
-closing-others : (done : List (SpanId × SpanId)) (pair : SpanId × SpanId) (shards : List ShardState) → ((number : ℕ) (shard : ShardState) → slice_get shards number ≡ Some shard → HasPagedHead shard pair.1 → ⊥)
+closing-others : (done : List (SpanId × SpanId)) (pair : SpanId × SpanId) (shards : List ShardState) → ((number : ℕ) (shard : ShardState) → slice_get shards number ≡ Some shard → HasPagedHead shard.groups pair.1 → ⊥)
     → map (closing done) shards ≡ map (closing (done ++ pair ∷ [])) shards
 closing-others done pair [] none = refl
 closing-others done pair (shard ∷ shards) none =
@@ -102,7 +102,7 @@ closing-others done pair (shard ∷ shards) none =
     ∙ ap (λ rest. closing (done ++ pair ∷ []) shard ∷ rest) (closing-others done pair shards (λ number other here. none (suc number) other here))
 
 closing-set : (done : List (SpanId × SpanId)) (pair : SpanId × SpanId) (shards : List ShardState) (number : ℕ) (shard after : ShardState) → slice_get shards number ≡ Some shard → after ≡ closing (done ++ pair ∷ []) shard
-    → ((other : ℕ) (s : ShardState) → slice_get shards other ≡ Some s → HasPagedHead s pair.1 → other ≡ number)
+    → ((other : ℕ) (s : ShardState) → slice_get shards other ≡ Some s → HasPagedHead s.groups pair.1 → other ≡ number)
     → set (map (closing done) shards) number after ≡ map (closing (done ++ pair ∷ [])) shards
 closing-set done pair [] number shard after here after_is only = absurd cc
 closing-set done pair (first ∷ shards) zero shard after here after_is only =
@@ -113,7 +113,7 @@ closing-set done pair (first ∷ shards) (suc number) shard after here after_is 
     ∙ ap (λ rest. closing (done ++ pair ∷ []) first ∷ rest) (closing-set done pair shards number shard after here after_is (λ other s there has. let next : suc other ≡ suc number = only (suc other) s there has in omega (arith, next)))
 
 -- closing groups changes no head, and no page
-HasPagedHead-closing : (done : List (SpanId × SpanId)) (shard : ShardState) (head : SpanId) → HasPagedHead (closing done shard) head → HasPagedHead shard head
+HasPagedHead-closing : (done : List (SpanId × SpanId)) (shard : ShardState) (head : SpanId) → HasPagedHead (closing done shard).groups head → HasPagedHead shard.groups head
 HasPagedHead-closing done shard head (index, group, found, paged) =
     let was = map_back (closed_by done) shard.groups index group found.here in
     (index, was.0, record { here = was.1; head_is = ap (λ (g : GroupState). g.head.id) was.2 ∙ found.head_is }, ap (λ (g : GroupState). is_some g.page) was.2 ∙ paged)
@@ -123,7 +123,7 @@ pub closing-found : (first : List ShardState) (done : List (SpanId × SpanId)) (
     → ClosesAt old place pair.1 true new → new ≡ map (closing (done ++ pair ∷ [])) first
 closing-found first done pair old new place once old_is (shard, after, here, closes, up, new_is) =
     let was = map_back (closing done) first place shard (ap (λ shards. slice_get shards place) (sym old_is) ∙ here) in
-    let has : HasPagedHead was.0 pair.1 = HasPagedHead-closing done was.0 pair.1 (subst (λ (s : ShardState). HasPagedHead s pair.1) (sym was.2) (closes.0, closes.1, closes.2, closes.3)) in
+    let has : HasPagedHead was.0.groups pair.1 = HasPagedHead-closing done was.0 pair.1 (subst (λ (s : ShardState). HasPagedHead s.groups pair.1) (sym was.2) (closes.0, closes.1, closes.2, closes.3)) in
     let more = closing-more was.0 done pair true after up (subst (λ (s : ShardState). Closes s pair.1 true after) (sym was.2) closes) in
     new_is ∙ ap (λ shards. set shards place after) old_is
     ∙ closing-set done pair first place was.0 after was.1 more (λ other s there has_too. once other place s was.0 there was.1 has_too has)

@@ -1,18 +1,13 @@
 -- The one shard that has a group with a page, and what closes there. No public clause cites this module.
-use Rattle.std.specs.Prelude.{◌≡◌, ℕ, Bool, true, false, List, Some, IsSome, slice_get, slice_set}
+use Rattle.std.specs.Prelude.{◌≡◌, ℕ, Bool, true, false, List, Some, slice_get, slice_set}
 use Rattle.span.specs.declared.id.SpanId.{SpanId}
-use Rattle.groups.specs.Group.{Ascend, IsHeadOf}
-use Rattle.shard.specs.Closes.{Closes, HasNoPagedHead}
-use Rattle.shard.specs.Group.{GroupState}
+use Rattle.groups.specs.Group.{Ascend}
+use Rattle.shard.specs.Closes.{Closes, HasNoPagedHead, HasPagedHead}
 use Rattle.shard.specs.State.{ShardState}
-
--- the shard has a group of this head, and the group has a page
-abbrev pub HasPagedHead : ShardState → SpanId → Type 0
-HasPagedHead shard head = (index : ℕ) × (group : GroupState) × IsHeadOf shard.groups head index group × IsSome group.page
 
 -- one shard at most has a group of this head with a page
 abbrev pub IsOnce : List ShardState → SpanId → Type 0
-IsOnce shards head = (low high : ℕ) (a b : ShardState) → slice_get shards low ≡ Some a → slice_get shards high ≡ Some b → HasPagedHead a head → HasPagedHead b head → low ≡ high
+IsOnce shards head = (low high : ℕ) (a b : ShardState) → slice_get shards low ≡ Some a → slice_get shards high ≡ Some b → HasPagedHead a.groups head → HasPagedHead b.groups head → low ≡ high
 
 -- the shard at the place, if there is one, closes the group of the head, or has none with a page
 abbrev pub ClosesAt : List ShardState → ℕ → SpanId → Bool → List ShardState → Type 0

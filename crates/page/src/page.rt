@@ -34,7 +34,7 @@ impl Page {
     ///
     /// `AllocError` where the 4,096 bytes are refused.
     pub fn blank(alloc: Global) -> Result<Page, AllocError>
-        ensures { IfOk result (λ words. words ≡ blank_page) }
+        ensures { IfOk result (λ page. page ≡ blank_page) }
     {
         Ok(Page {
             words: vec![in alloc; 0; SLOTS]?,

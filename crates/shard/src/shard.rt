@@ -225,19 +225,24 @@ impl<L: Log> Shard<L> {
         live
     }
 
-    /// Of each group that has a page the head and the slots that are live in one of its spans, by ascending head. The
-    /// error means that memory ran out for the list.
+    /// Of each group that has a page the head and the slots that are live in one of its spans, by ascending head.
+    ///
+    /// # Errors
+    ///
+    /// `AllocError` where the list could not grow.
     pub fn groups(&self) -> Result<Vec<Entry>, AllocError>
         ensures items { IfOk result (λ groups. groups.items
             ≡ map summary (paged_in self.now.groups)) }
         ensures ascending { IsStrictlyIncreasing (map (λ group. rank group.head.id)
             (paged_in self.now.groups)) }
     {
-        self.groups
-            .iter()
-            .filter(|group| group.is_paged())
-            .map(|group| group.entry())
-            .collect(self.alloc)
+        let mut list = Vec::new(self.alloc);
+        for group in &self.groups {
+            if group.is_paged() {
+                list.push(group.entry())?;
+            }
+        }
+        Ok(list)
     }
 
     /// The words of the key's object, where it is live here. They are lent from the page, which all spans of a group share.

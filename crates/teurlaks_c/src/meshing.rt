@@ -61,7 +61,7 @@ pub extern "C" fn teurlaks_retire(
 }
 
 /// Gives back the page of each open group of the shard in which no slot is live; the count is how many went. The groups stay, and a
-/// later put opens a page anew. Refused with `CONFIG` alone, where there is no such shard. It takes no memory.
+/// later put into one of them opens a page for it. Refused with `CONFIG` alone, where there is no such shard. It takes no memory.
 #[unsafe(no_mangle)]
 pub extern "C" fn teurlaks_trim(alloc: Global, handle: &mut Handle, shard: u32) -> TrimReply
     requires live { IsSome handle.old.held }

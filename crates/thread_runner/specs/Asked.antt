@@ -135,7 +135,7 @@ abbrev pub is_trim : Other → Bool
 is_trim (other.Trimmed count) = true
 is_trim other = false
 
--- a group was adopted, or the adoption was refused: its shard had all its groups, or there was none to adopt
+-- a group was adopted, or the adoption was refused: its shard had as many groups as it may have pages, or there was none to adopt
 abbrev pub is_adoption : Other → Bool
 is_adoption (other.Adopted head) = true
 is_adoption other.PagesSpent = true

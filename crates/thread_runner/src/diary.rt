@@ -16,7 +16,8 @@ use trace_runner::{Answer, LineAnswer};
 /// What a line came to other than by a call on a key.
 #[derive(Clone, Copy, Debug, PartialEq, Eq)]
 pub enum Other {
-    /// A put found no usable slot, and the shard may have no further page; or an adoption found the shard to have all its groups.
+    /// A put found no usable slot, and the shard may have no further page; or an adoption found the shard to have as many groups
+    /// as it may have pages.
     PagesSpent,
     /// The put that should have bound the name was refused.
     Unbound,

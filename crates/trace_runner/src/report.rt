@@ -13,7 +13,8 @@ use std::marker::Model;
 pub enum Answer {
     /// A put stored its object under this key.
     Key(Key),
-    /// A put found no usable slot, and the shard may have no further page; or an adoption found the shard to have all its groups.
+    /// A put found no usable slot, and the shard may have no further page; or an adoption found the shard to have as many groups
+    /// as it may have pages.
     PagesSpent,
     /// A look-up found this object.
     Value(Object),

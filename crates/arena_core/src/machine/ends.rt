@@ -55,7 +55,7 @@ impl<L: Log> Core<L> {
     }
 
     /// Gives back the page of each open group of the shard of this number in which no slot is live, and answers how many went. The
-    /// groups stay: a later put opens a page anew for the first that it takes a slot of. It takes no memory.
+    /// groups stay: a later put into one of them opens a page for it. It takes no memory.
     ///
     /// What [`Core::step`] does with [`Event::Trim`], without a reply to take apart. It is refused by [`Refusal::Config`] exactly
     /// where there is no such shard.

@@ -12,8 +12,7 @@ use span::Log;
 
 impl<L: Log> Shard<L> {
     /// Gives back the page of each open group in which no slot is live, and answers how many went. The groups stay, and with
-    /// them their keys' generations: a later put opens a page anew for the first that it takes a slot of. A closed group keeps
-    /// its page. It takes no memory.
+    /// them their keys' generations: a later put into one of them opens a page for it. A closed group keeps its page. It takes no memory.
     pub fn trim(&mut self) -> usize
         ensures trims { Trims self.old result self.new }
         ensures plain { shown self.new ≡ shown self.old }

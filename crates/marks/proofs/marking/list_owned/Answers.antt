@@ -2,7 +2,8 @@ use Rattle.std.proofs.Common.{◌∙◌, ◌++◌, List, ap, arith, map, subst}
 use Rattle.std.proofs.lemmas.List.{take_all}
 use Rattle.marks.specs.Seen.{AreSound}
 use Rattle.marks.proofs.Closings.{AreSound-more}
-use Rattle.marks.proofs.Entries.{entries_in, owned-more}
+use Rattle.shard.proofs.Entries.{entries_in}
+use Rattle.marks.proofs.Entries.{owned-more}
 use Rattle.marks.proofs.marking.list_owned.Goals as goal
 
 pub loop-shard-preserved : goal.loop-shard-preserved

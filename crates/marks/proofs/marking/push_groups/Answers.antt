@@ -5,7 +5,7 @@ use Rattle.groups.specs.Spans.{SpansState, all_spans, union_of}
 use Rattle.shard.specs.Group.{GroupState}
 use Rattle.shard.specs.State.{ShardState}
 use Rattle.span.specs.declared.entry.Entry.{Entry}
-use Rattle.marks.proofs.Entries.{entries-bare, entries-paged}
+use Rattle.shard.proofs.Entries.{entries-bare, entries-paged}
 use Rattle.marks.proofs.marking.push_groups.Goals as goal
 use Rattle.marks.proofs.marking.push_groups.Goals.{then-is_paged+in_ok-push, else-is_paged}
 

@@ -1,5 +1,5 @@
 use Rattle.std.proofs.Common.{◌≡◌, ◌++◌, take}
-use Rattle.marks.proofs.Entries.{entries_in}
+use Rattle.shard.proofs.Entries.{entries_in}
 use Rattle.marks.proofs.marking.push_groups.Given as goal
 
 abbrev pub invariant-loop-index : goal.invariant-loop-index
