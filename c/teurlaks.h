@@ -192,6 +192,10 @@ struct teurlaks_adopt_reply teurlaks_adopt(struct teurlaks_handle *handle, uint3
 /* Plans as many folds as can be, and opens the plan. */
 struct teurlaks_mark_reply teurlaks_mark(struct teurlaks_handle *handle);
 
+/* Marks as teurlaks_mark does, but sees of each side the 4,096 groups with the fewest live keys, or all where there are no more, and so is
+ * never refused with TEURLAKS_TOO_MANY. Its plan and its certificate are of what it saw: a further mark may find more. */
+struct teurlaks_mark_reply teurlaks_mark_some(struct teurlaks_handle *handle);
+
 /* Carries out the next pair of the open plan. */
 struct teurlaks_step_reply teurlaks_step(struct teurlaks_handle *handle);
 

@@ -126,7 +126,8 @@ static void tour(void) {
     struct teurlaks_mark_reply marked;
     AGAIN(marked, marked.status, teurlaks_mark(&core));
     WANT(marked.status == TEURLAKS_OK && marked.abandoned == 1 && marked.owned == 1 && marked.folds == 1 && marked.short_set == 0);
-    WANT(teurlaks_mark(&core).status == TEURLAKS_PLAN_OPEN && teurlaks_adopt(&core, 1).status == TEURLAKS_PLAN_OPEN);
+    WANT(teurlaks_mark(&core).status == TEURLAKS_PLAN_OPEN && teurlaks_mark_some(&core).status == TEURLAKS_PLAN_OPEN);
+    WANT(teurlaks_adopt(&core, 1).status == TEURLAKS_PLAN_OPEN);
 
     struct teurlaks_certificate_reply told;
     memset(text, 'x', sizeof text);

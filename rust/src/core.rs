@@ -1,6 +1,7 @@
 //! All shards as one value.
 
 use crate::bytes::{words_for, Bytes, BytesKey, Words, MOST_BYTES, MOST_WORDS};
+use crate::compact::Compact;
 use crate::names::{Group, Key};
 use crate::raw;
 use crate::refused::Refused;
@@ -32,12 +33,18 @@ impl Default for Limits {
     }
 }
 
+/// How many groups a plan may have on a side.
+const MOST_GROUPS: usize = 4096;
+
+/// How many shards there are at most.
+pub(crate) const MOST_SHARDS: usize = 64;
+
 /// What a mark saw and planned.
 #[derive(Clone, Copy, Debug, PartialEq, Eq)]
 pub struct Marked {
-    /// How many groups of the pool have a page.
+    /// How many groups of the pool it saw.
     pub abandoned: usize,
-    /// How many groups the shards have.
+    /// How many groups of the shards it saw.
     pub owned: usize,
     /// How many folds are planned: no plan has more.
     pub folds: usize,
@@ -83,6 +90,7 @@ pub struct Core {
     // SAFETY: only this module has it, so it is what `teurlaks_new` left there until `drop`. A call through `&self` writes to it, and none
     // runs beside another, since the type is not `Sync` and no call calls back.
     handle: UnsafeCell<raw::Handle>,
+    shards: u32,
 }
 
 impl Core {
@@ -95,6 +103,7 @@ impl Core {
         } = limits;
         let core = Core {
             handle: UnsafeCell::new(raw::Handle { at: ptr::null_mut() }),
+            shards,
         };
         // SAFETY: the handle has no core yet. A core that has none is not dropped below.
         match unsafe { raw::teurlaks_new(core.handle.get(), shards, pages, 1, generations) } {
@@ -372,22 +381,18 @@ impl Core {
         done(adopted.status).map(|()| Group(adopted.head))
     }
 
-    /// Plans as many folds as can be, and opens the plan. Until it is closed, the groups that it folds onto take no object.
+    /// Plans as many folds as can be, and opens the plan. Until it is closed, the groups that it folds onto take no object. It is refused
+    /// with [`Refused::TooMany`] where a side has more than 4,096 groups that have a page.
     pub fn mark(&mut self) -> Result<Marked, Refused> {
         // SAFETY: as in `insert`.
-        let raw::MarkReply {
-            status,
-            abandoned,
-            owned,
-            folds,
-            short_set,
-        } = unsafe { raw::teurlaks_mark(self.handle.get()) };
-        done(status).map(|()| Marked {
-            abandoned,
-            owned,
-            folds,
-            short_set,
-        })
+        marked(unsafe { raw::teurlaks_mark(self.handle.get()) })
+    }
+
+    /// Marks as [`Core::mark`] does, but sees of each side the 4,096 groups with the fewest live keys, or all where there are no more. So
+    /// it is never refused with [`Refused::TooMany`], its plan and its certificate are of what it saw, and a further mark may find more.
+    pub fn mark_some(&mut self) -> Result<Marked, Refused> {
+        // SAFETY: as in `insert`.
+        marked(unsafe { raw::teurlaks_mark_some(self.handle.get()) })
     }
 
     /// Carries out the next pair of the open plan. It is refused where memory runs out; the pair is then still the next.
@@ -412,25 +417,69 @@ impl Core {
         done(unsafe { raw::teurlaks_close(self.handle.get()) })
     }
 
-    /// Marks, takes all steps and closes, and says how many pages came back. Where a step is refused, the plan is closed all the same.
+    /// Marks, takes all steps and closes, and says how many pages came back. The mark is that of [`Core::mark_some`]; where it may not have
+    /// seen all groups, and folds at least a sixteenth of those that it saw of the pool, there is another. Where a step is refused, the plan is closed all the
+    /// same.
     pub fn mesh(&mut self) -> Result<usize, Refused> {
         self.mesh_with(|_, _| ())
+    }
+
+    /// Gives back the pages on which no key is live, folds sparse pages onto others until that hardly gives any back, and says how many
+    /// pages went. Every key stays valid, and all groups are in shards afterwards, also those that an end or a retirement had left to the
+    /// pool.
+    ///
+    /// Half of the pages, of each shard those with the fewest live keys, go to the pool, as many as can be are folded onto the other half, and
+    /// the shards adopt the rest in turn; where that gave at least a sixteenth of the pages back, once more. A page that is folded takes no
+    /// object of its own any more, so each fold uses up one of the 1,024 pages that a shard opens in its life.
+    ///
+    /// It is refused with [`Refused::PlanOpen`] where a plan is open, and then only pages without a live key have gone. With
+    /// [`Refused::OutOfMemory`] it stops where it is, and may be tried again.
+    ///
+    /// ```
+    /// # use teurlaks::{Core, Limits};
+    /// let mut core = Core::new(Limits { shards: 2, ..Limits::default() })?;
+    /// let keys: Vec<_> = (0..1024).map(|i| core.insert(i % 2, i.into())).collect::<Result<_, _>>()?;
+    /// for (i, key) in keys.iter().enumerate().filter(|(i, _)| i % 23 != 0) {
+    ///     core.free(*key);
+    /// }
+    /// assert_eq!((core.pages(), core.compact()?, core.pages()), (4, 3, 1));
+    /// assert_eq!(core.get(keys[46]), Some(46));
+    /// # Ok::<(), teurlaks::Refused>(())
+    /// ```
+    pub fn compact(&mut self) -> Result<usize, Refused> {
+        self.compact_all()
+    }
+
+    /// How many shards there are, with those that have ended.
+    pub(crate) fn shards(&self) -> u32 {
+        self.shards
     }
 
     /// As `mesh`, and tells of each fold when it is done.
     pub(crate) fn mesh_with(&mut self, mut folded: impl FnMut(Group, Group)) -> Result<usize, Refused> {
         let before = self.pages();
-        self.mark()?;
-        let taken = loop {
-            match self.step() {
-                Ok(Stepped::NoPairLeft) => break Ok(()),
-                Ok(Stepped::Folded(abandoned, owned)) => folded(abandoned, owned),
-                Ok(Stepped::Emptied(..)) => {}
-                Err(refused) => break Err(refused),
+        loop {
+            let Marked {
+                abandoned, owned, folds, ..
+            } = self.mark_some()?;
+            let taken = self.take_steps(&mut folded);
+            self.close()?;
+            taken?;
+            let sees_all = abandoned.max(owned) < MOST_GROUPS;
+            if sees_all || folds * 16 < abandoned.max(1) {
+                return Ok(before - self.pages());
             }
-        };
-        self.close()?;
-        taken.map(|()| before - self.pages())
+        }
+    }
+
+    fn take_steps(&mut self, folded: &mut impl FnMut(Group, Group)) -> Result<(), Refused> {
+        loop {
+            match self.step()? {
+                Stepped::NoPairLeft => return Ok(()),
+                Stepped::Folded(abandoned, owned) => folded(abandoned, owned),
+                Stepped::Emptied(..) => {}
+            }
+        }
     }
 
     /// The text of the last mark's certificate, which shows that no plan has more folds, or `None` before the first mark. `meshrun check`
@@ -526,6 +575,23 @@ const NO_KEY: raw::RawKey = raw::RawKey {
     generation: 0,
 };
 
+/// What the mark says, where it was not refused.
+fn marked(reply: raw::MarkReply) -> Result<Marked, Refused> {
+    let raw::MarkReply {
+        status,
+        abandoned,
+        owned,
+        folds,
+        short_set,
+    } = reply;
+    done(status).map(|()| Marked {
+        abandoned,
+        owned,
+        folds,
+        short_set,
+    })
+}
+
 fn done(status: u32) -> Result<(), Refused> {
     match status {
         raw::OK => Ok(()),
@@ -590,6 +656,11 @@ macro_rules! letting_go {
             self.core.mark()
         }
 
+        /// Plans folds of the sparsest groups, as [`Core::mark_some`](crate::Core::mark_some).
+        pub fn mark_some(&mut self) -> Result<crate::Marked, crate::Refused> {
+            self.core.mark_some()
+        }
+
         /// How many pages of 4,096 bytes there are.
         pub fn pages(&self) -> usize {
             self.core.pages()
@@ -626,6 +697,11 @@ macro_rules! meshing {
         /// Marks, takes all steps and closes, as [`Core::mesh`](crate::Core::mesh).
         pub fn mesh(&mut self) -> Result<usize, crate::Refused> {
             self.core.mesh()
+        }
+
+        /// Folds sparse pages onto others until that hardly gives any back, as [`Core::compact`](crate::Core::compact).
+        pub fn compact(&mut self) -> Result<usize, crate::Refused> {
+            self.core.compact()
         }
     };
 }

@@ -3,6 +3,7 @@
 
 mod blocks;
 mod bytes;
+mod compact;
 mod core;
 mod names;
 mod raw;

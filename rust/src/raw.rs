@@ -116,6 +116,7 @@ extern "C" {
     pub fn teurlaks_trim(handle: *mut Handle, shard: u32) -> TrimReply;
     pub fn teurlaks_adopt(handle: *mut Handle, shard: u32) -> AdoptReply;
     pub fn teurlaks_mark(handle: *mut Handle) -> MarkReply;
+    pub fn teurlaks_mark_some(handle: *mut Handle) -> MarkReply;
     pub fn teurlaks_step(handle: *mut Handle) -> StepReply;
     pub fn teurlaks_close(handle: *mut Handle) -> u32;
     pub fn teurlaks_certificate(handle: *mut Handle, text: *mut u8, text_len: usize) -> CertificateReply;

@@ -1,6 +1,7 @@
 //! A slab that owns its values.
 
-use crate::core::{Core, Limits, Stepped};
+use crate::compact::Compact;
+use crate::core::{Core, Limits, Stepped, MOST_SHARDS};
 use crate::names::{Group, Key};
 use crate::refused::Refused;
 use crate::values::{Values, Walk};
@@ -12,9 +13,6 @@ const SHARDS: u32 = 16;
 
 /// The words of the core's object beside a value, which tell nothing: where the value is follows from its key.
 const NO_WORDS: [u128; 4] = [0; 4];
-
-/// How many groups a plan may have on a side.
-const MOST_GROUPS: usize = 4096;
 
 /// Values of one type under keys that never lie.
 ///
@@ -42,7 +40,6 @@ pub struct Slab<T> {
     // A key is live here exactly where it has a value there.
     core: Core,
     values: Values<T>,
-    shards: u32,
     // The shard that an insert without a shard asks first.
     first: u32,
 }
@@ -61,7 +58,6 @@ impl<T> Slab<T> {
         Ok(Slab {
             core: Core::new(limits)?,
             values: Values::new(),
-            shards: limits.shards,
             first: 0,
         })
     }
@@ -85,7 +81,7 @@ impl<T> Slab<T> {
     #[cold]
     fn insert_elsewhere(&mut self, value: T) -> Result<Key, Refused> {
         let mut why = Refused::Ended;
-        for shard in (self.first..self.shards).chain(0..self.first) {
+        for shard in (self.first..self.core.shards()).chain(0..self.first) {
             match self.insert_key(shard) {
                 Ok(key) => {
                     self.values.put(shard, key, value);
@@ -236,13 +232,13 @@ impl<T> Slab<T> {
     /// Every key stays valid, and all groups are in shards afterwards, also those that an end or a retirement had left to the pool.
     ///
     /// Half of the pages, those with the fewest values, go to the pool, as many as can be are folded onto the other half, and the shards
-    /// adopt the rest; where that gave at least a sixteenth of the pages back, once more. Each fold copies the values of a page, and a plan
-    /// looks at each pair of pages; measured were 15 ms for 1,600 pages and 80 to 190 ms for 7,800. A page that is folded takes no value of
-    /// its own any more, so each fold uses up one of the 1,024 pages that a shard opens in its life: after 16,384 pages a slab of 16 shards
-    /// opens no other, and one that is filled and compacted again and again wants more shards.
+    /// adopt the rest in turn; where that gave at least a sixteenth of the pages back, once more. Each fold copies the values of a page, and a plan
+    /// looks at each pair of up to 4,096 pages on each side, those with the fewest values, so that there are as many plans as it takes; measured
+    /// were 15 ms for 1,600 pages and 80 to 190 ms for 7,800. A page that is folded takes no value of its own any more, so each fold uses up one
+    /// of the 1,024 pages that a shard opens in its life: after 16,384 pages a slab of 16 shards opens no other, and one that is filled and
+    /// compacted again and again wants more shards.
     ///
-    /// It is refused with [`Refused::PlanOpen`] where a plan is open, and with [`Refused::TooMany`] where there are more than 8,192 pages with a
-    /// value, since a plan has 4,096 on a side; and then only pages without a value have gone. With
+    /// It is refused with [`Refused::PlanOpen`] where a plan is open, and then only pages without a value have gone. With
     /// [`Refused::OutOfMemory`] it stops where it is: every key has its value, and it may be tried again.
     ///
     /// ```
@@ -255,75 +251,35 @@ impl<T> Slab<T> {
     /// # Ok::<(), teurlaks::Refused>(())
     /// ```
     pub fn compact(&mut self) -> Result<usize, Refused> {
-        let before = self.pages();
-        for shard in 0..self.shards {
-            self.trim(shard)?;
-        }
-        if self.pages() > 2 * MOST_GROUPS {
-            return Err(Refused::TooMany);
-        }
-        // What the pool has already, where shards have few enough for a plan. An open plan is refused here, before anything else changes.
-        match self.mesh() {
-            Ok(_) | Err(Refused::TooMany) => self.adopt_all()?,
-            Err(refused) => return Err(refused),
-        }
-        loop {
-            let pages = self.pages();
-            let regained = self.fold_sparse_pages()?;
-            if regained == 0 || regained * 16 < pages {
-                break;
-            }
-        }
+        let went = self.compact_all();
         self.values.cool();
-        Ok(before - self.pages())
+        went
+    }
+}
+
+impl<T> Compact for Slab<T> {
+    fn core(&mut self) -> &mut Core {
+        &mut self.core
     }
 
-    /// Folds the sparser half of the pages onto the other one, and says how many went.
-    fn fold_sparse_pages(&mut self) -> Result<usize, Refused> {
-        let regained = self.retire_sparse_pages().and_then(|()| self.mesh());
-        self.adopt_all()?;
-        regained
-    }
-
-    fn retire_sparse_pages(&mut self) -> Result<(), Refused> {
-        for (shard, pages) in (0..self.shards).zip(self.sparse_pages()?) {
-            match self.core.retire(shard, pages) {
-                Ok(_) | Err(Refused::Ended) => {}
-                Err(refused) => return Err(refused),
-            }
-        }
-        Ok(())
-    }
-
-    /// How many pages of each shard are of the sparser half of all. Each half has 4,096 at most, where that can be, for a plan has no more.
-    fn sparse_pages(&self) -> Result<[usize; 64], Refused> {
+    fn sparse_pages(&self) -> Result<[usize; MOST_SHARDS], Refused> {
         let mut pages = Vec::new();
         pages.try_reserve(self.pages()).map_err(|_| Refused::OutOfMemory)?;
         pages.extend(self.values.pages());
         pages.sort_unstable();
-        let half = (pages.len() / 2)
-            .max(self.pages().saturating_sub(MOST_GROUPS))
-            .min(MOST_GROUPS);
-        let mut counts = [0; 64];
-        for (_, shard) in pages.iter().take(half) {
+        let mut counts = [0; MOST_SHARDS];
+        for (_, shard) in &pages[..pages.len() / 2] {
             counts[usize::from(*shard)] += 1;
         }
         Ok(counts)
     }
 
-    /// Moves the groups of the pool that have a page to the shards that may have them.
-    fn adopt_all(&mut self) -> Result<(), Refused> {
-        for shard in 0..self.shards {
-            loop {
-                match self.adopt(shard) {
-                    Ok(_) => {}
-                    Err(Refused::NothingToAdopt) => return Ok(()),
-                    Err(Refused::PagesSpent | Refused::Ended) => break,
-                    Err(refused) => return Err(refused),
-                }
-            }
-        }
-        Ok(())
+    fn mesh_all(&mut self) -> Result<usize, Refused> {
+        self.mesh()
+    }
+
+    fn adopt_one(&mut self, shard: u32) -> Result<Group, Refused> {
+        self.adopt(shard)
     }
 }
 

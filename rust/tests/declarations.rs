@@ -212,7 +212,7 @@ fn exported() -> Declarations {
             &mut declarations,
         );
     }
-    assert_eq!(declarations.functions.len(), 19);
+    assert_eq!(declarations.functions.len(), 20);
     assert_eq!(declarations.structs.len(), 15);
     declarations
 }

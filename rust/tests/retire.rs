@@ -1,6 +1,6 @@
 //! One shard that goes on, and whose pages fold.
 
-use teurlaks::{Key, Limits, Refused, Slab};
+use teurlaks::{Core, Key, Limits, Refused, Slab, Stepped};
 
 /// Numbers that look random, the same in each run.
 struct Numbers(u64);
@@ -81,24 +81,78 @@ fn retires_what_has_a_live_key() -> Result<(), Refused> {
     Ok(())
 }
 
-/// A plan has 4,096 groups on a side at most, so 8,192 pages are compacted at most.
+/// A plan has 4,096 groups on a side at most, and there are as many plans as it takes.
 #[test]
 fn more_pages_than_a_plan_has() -> Result<(), Refused> {
     const SLOTS: usize = 64;
+    const PAGES: usize = 10_000;
     let mut slab = Slab::new()?;
-    let keys = (0..8193 * SLOTS)
-        .map(|_| slab.insert([0_u8; 129]))
+    let keys = (0..PAGES * SLOTS)
+        .map(|place| slab.insert((place, [0_u8; 129])))
         .collect::<Result<Vec<_>, _>>()?;
-    for key in keys.iter().filter(|key| **key != keys[0]).step_by(2) {
-        slab.remove(*key);
+    // On each page four values stay, at four slots of its own of the sixteen fours.
+    let stays = |place: usize| place % SLOTS / 4 == place / SLOTS % 16;
+    for (place, key) in keys.iter().enumerate().filter(|(place, _)| !stays(*place)) {
+        assert_eq!(slab.remove(*key).map(|value| value.0), Some(place));
     }
-    assert_eq!((slab.pages(), slab.compact()), (8193, Err(Refused::TooMany)));
-    assert_eq!((slab.pages(), slab.get(keys[0])), (8193, Some(&[0; 129])));
+    assert_eq!(slab.pages(), PAGES);
+    let went = slab.compact()?;
+    assert!(slab.pages() <= PAGES / 8 && slab.pages() + went == PAGES);
+    for (place, key) in keys.iter().enumerate() {
+        assert_eq!(slab.get(*key).map(|value| value.0), stays(place).then_some(place));
+    }
 
     // Of pages with nothing on them there may be any number.
     slab.retain(|key, _| key == keys[0]);
-    assert_eq!(slab.compact(), Ok(8192));
-    assert_eq!((slab.pages(), slab.len(), slab.get(keys[0])), (1, 1, Some(&[0; 129])));
+    slab.compact()?;
+    assert_eq!((slab.pages(), slab.len(), slab[keys[0]].0), (1, 1, 0));
+    Ok(())
+}
+
+/// With more groups on a side than a plan may have a mark is refused, and a mark of some sees those with the fewest live keys.
+#[test]
+fn marks_some_of_many() -> Result<(), Refused> {
+    const SHARDS: u32 = 10;
+    let mut core = Core::new(Limits {
+        shards: SHARDS,
+        ..Limits::default()
+    })?;
+    // Half of the shards end. On a page of theirs the first slot stays, on one of the others the ninth; in the first and the last shard so
+    // do the two after it.
+    let mut kept = Vec::new();
+    for shard in 0..SHARDS {
+        let first = if shard < SHARDS / 2 { 0 } else { 8 };
+        let stay = if shard == 0 || shard == SHARDS - 1 { 3 } else { 1 };
+        let words = |place: usize| [u128::from(shard) << 64 | place as u128; 16];
+        let keys = (0..PAGES * 16)
+            .map(|place| core.insert_words(shard, &words(place)))
+            .collect::<Result<Vec<_>, _>>()?;
+        for (place, key) in keys.into_iter().enumerate() {
+            if (first..first + stay).contains(&(place % 16)) {
+                kept.push((key, words(place)));
+            } else {
+                assert!(core.free(key));
+            }
+        }
+    }
+    for shard in 0..SHARDS / 2 {
+        core.end(shard)?;
+    }
+    let pages = core.pages();
+    assert_eq!((pages, core.mark()), (10 * PAGES, Err(Refused::TooMany)));
+
+    let marked = core.mark_some()?;
+    assert_eq!((marked.abandoned, marked.owned, marked.folds), (4096, 4096, 4096));
+    assert_eq!(core.mark_some(), Err(Refused::PlanOpen));
+    // Those of the first shard and of the last were left out.
+    while let Stepped::Folded(abandoned, owned) = core.step()? {
+        assert!(!abandoned.to_string().starts_with("0.") && !owned.to_string().starts_with("9."));
+    }
+    core.close()?;
+    assert_eq!(core.pages(), pages - 4096);
+    for (key, words) in &kept {
+        assert_eq!(core.get_words(*key).as_deref(), Some(words.as_slice()));
+    }
     Ok(())
 }
 

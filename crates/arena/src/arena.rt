@@ -1,8 +1,9 @@
 // Shards behind locks.
-ghost use Rattle.std.specs.Prelude.{◌≡◌, ◌≤◌, Err, IfOk, IsSome, None, OnErr, is_some, vec_len};
+ghost use Rattle.std.specs.Prelude.{◌≡◌, ◌≢◌, ◌≤◌, Err, IfOk, IsSome, None, OnErr, is_some, length, vec_len};
 ghost use Rattle.certificate.specs.Plans.{IsBestPlanOf, IsCertificateOf, IsShortOf};
 ghost use Rattle.certificate.specs.Text.{IsWritable};
 ghost use Rattle.marks.specs.Plans.{next_pair};
+ghost use Rattle.mesh_graph.specs.declared.build.TheConstants.{MOST_GROUPS};
 ghost use Rattle.arena.specs.Seats.{IsTableOf};
 ghost use Rattle.arena.specs.Stewards.{Steps, begun};
 
@@ -14,7 +15,7 @@ use crate::words::{Place, Words};
 use abandoned::Pool;
 use certificate::Certificate;
 use fold::{Step, fold_one};
-use marks::{Limits, MarkError, Totals, mark_in};
+use marks::{Limits, MarkError, Totals, mark_in, mark_some_in};
 use mesh_graph::MOST_GROUPS;
 use shard::Shard;
 use span::{Kept, Log, SpanId};
@@ -50,6 +51,13 @@ pub enum Stepped {
     NoPlan,
 }
 
+// What a mark sees: every group with a page, or of each side those with the fewest live slots.
+#[derive(Clone, Copy)]
+enum Sight {
+    All,
+    Sparsest,
+}
+
 impl<G: Gate, L: Log> Arena<G, L> {
     /// Makes a plan of as many folds as can be of what stands now, under all locks, hands it to the steward, and closes
     /// the groups that it folds onto. It gives what it saw, the plan, and the short set that shows it best.
@@ -78,17 +86,78 @@ impl<G: Gate, L: Log> Arena<G, L> {
         ensures plan_open { IsSome steward.old.plan → result ≡ Err MarkError.PlanOpen }
         ensures err { OnErr result (steward.new ≡ steward.old) }
     {
+        self.mark_within(rt, steward, Sight::All)
+    }
+
+    /// A mark that sees of each side the 4,096 groups with the fewest live slots, or all where there are no more: what [`Arena::mark`] does
+    /// with all groups it does with these.
+    ///
+    /// # Errors
+    ///
+    /// As those of [`mark_some_in`](marks::mark_some_in) on what all locks lend: `PlanOpen`, `Doubled`, and `OutOfMemory` where an
+    /// allocation was refused. The plan of the steward is as it was.
+    pub fn mark_some<R: Wait>(
+        &self,
+        rt: &R,
+        steward: &mut Steward,
+    ) -> Result<Certificate, MarkError>
+        // The steward is of this arena.
+        requires { steward.old.limits ≡ self.now.limits }
+
+        // The plan, and the certificate that shows it.
+        ensures few { IfOk result (λ found. (length found.snapshot.abandoned ≤ MOST_GROUPS)
+            × (length found.snapshot.owned ≤ MOST_GROUPS)) }
+        ensures best { IfOk result (λ found. IsBestPlanOf found.snapshot found.plan) }
+        ensures short { IfOk result (λ found. IsShortOf found.snapshot found.plan found.short) }
+        ensures certificate { IfOk result (λ found. IsCertificateOf found.snapshot found.plan
+            found.short) }
+        ensures writable { IfOk result IsWritable }
+
+        // What the steward keeps of it.
+        ensures begun { IfOk result (λ found. (steward.old.plan ≡ None)
+            × (steward.new ≡ begun steward.old found.plan)) }
+
+        // The refusals.
+        ensures plan_open { IsSome steward.old.plan → result ≡ Err MarkError.PlanOpen }
+        ensures too_many { result ≢ Err MarkError.TooMany }
+        ensures err { OnErr result (steward.new ≡ steward.old) }
+    {
+        self.mark_within(rt, steward, Sight::Sparsest)
+    }
+
+    // A mark of what is in sight.
+    fn mark_within<R: Wait>(
+        &self,
+        rt: &R,
+        steward: &mut Steward,
+        sight: Sight,
+    ) -> Result<Certificate, MarkError>
+        requires { steward.old.limits ≡ self.now.limits }
+        ensures best { IfOk result (λ found. IsBestPlanOf found.snapshot found.plan) }
+        ensures short { IfOk result (λ found. IsShortOf found.snapshot found.plan found.short) }
+        ensures certificate { IfOk result (λ found. IsCertificateOf found.snapshot found.plan
+            found.short) }
+        ensures writable { IfOk result IsWritable }
+        ensures begun { IfOk result (λ found. (steward.old.plan ≡ None)
+            × (steward.new ≡ begun steward.old found.plan)) }
+        ensures plan_open { IsSome steward.old.plan → result ≡ Err MarkError.PlanOpen }
+        ensures too_many { sight ≡ Sight.Sparsest → result ≢ Err MarkError.TooMany }
+        ensures err { OnErr result (steward.new ≡ steward.old) }
+    {
         if steward.plan.is_open() {
             return Err(MarkError::PlanOpen);
         }
         let Ok(mut guards) = Vec::with_capacity(self.alloc, self.shards.len()) else {
-            return Err(self.why_no_mark(rt));
+            return Err(self.why_no_mark(rt, sight));
         };
         let mut pool = self.pool.lock(rt);
         for shard in &self.shards {
             guards.push_reserved(shard.lock(rt));
         }
-        let found = mark_in(self.alloc, &mut *pool, guards.as_mut_slice())?;
+        let found = match sight {
+            Sight::All => mark_in(self.alloc, &mut *pool, guards.as_mut_slice())?,
+            Sight::Sparsest => mark_some_in(self.alloc, &mut *pool, guards.as_mut_slice())?,
+        };
         steward.plan.begin(found.plan.pairs());
         Ok(found)
     }
@@ -146,15 +215,19 @@ impl<G: Gate, L: Log> Arena<G, L> {
     }
 
     // Why no mark is made where there is no room for the guards of all locks: told under all locks, without memory.
-    fn why_no_mark<R: Wait>(&self, rt: &R) -> MarkError {
+    fn why_no_mark<R: Wait>(&self, rt: &R, sight: Sight) -> MarkError
+        ensures too_many { sight ≡ Sight.Sparsest → result ≢ MarkError.TooMany }
+    {
         let pool = self.pool.lock(rt);
         if pool.has_plan() {
             return MarkError::PlanOpen;
         }
-        if pool.pages() > MOST_GROUPS || totals_of(rt, &self.shards).pages > MOST_GROUPS {
-            return MarkError::TooMany;
+        match sight {
+            Sight::All
+                if pool.pages() > MOST_GROUPS || totals_of(rt, &self.shards).pages > MOST_GROUPS =>
+                { MarkError::TooMany }
+            _ => MarkError::OutOfMemory,
         }
-        MarkError::OutOfMemory
     }
 
     // Folds the pair, and says from now on that the spans that came are in the shard of the owned group. Where the word of

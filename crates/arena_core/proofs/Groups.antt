@@ -11,7 +11,7 @@ use Rattle.span.specs.Classes.{class_of}
 use Rattle.span.specs.Log.{Value}
 use Rattle.span.specs.State.{SpanState}
 use Rattle.shard.specs.Calls.{Puts, new_group}
-use Rattle.groups.specs.Spans.{new_span, union_of, with_put}
+use Rattle.groups.specs.Spans.{new_span, with_put}
 use Rattle.shard.specs.Group.{GroupState}
 use Rattle.groups.specs.Group.{spans_of, with_span}
 use Rattle.page.specs.Words.{Words}

@@ -12,6 +12,7 @@ pub mod LiveKeys
 pub mod LiveKeysShown
 pub mod Logged
 pub mod MarkSteps
+pub mod Marking
 pub mod Moved
 pub mod Moves
 pub mod NextLive

@@ -4,7 +4,7 @@ use Rattle.span.specs.declared.key.Key.{Key}
 use Rattle.span.specs.Log.{Value}
 use Rattle.fold.specs.declared.step.Step.TheVariants.{Absent, Emptied, Clash, Folded}
 use Rattle.arena_core.specs.declared.event.Event.{Event}
-use Rattle.arena_core.specs.declared.event.Event.TheVariants.{Put, Get, Set, Free, Later, Settle, End, Retire, Trim, Adopt, Mark, Step, Close}
+use Rattle.arena_core.specs.declared.event.Event.TheVariants.{Put, Get, Set, Free, Later, Settle, End, Retire, Trim, Adopt, Mark, MarkSome, Step, Close}
 use Rattle.arena_core.specs.declared.reply.Reply.{Reply}
 use Rattle.arena_core.specs.declared.reply.Reply.TheVariants.{Issued, Found, Replaced, Freed, Sent, Settled, ShardEnded, Retired, Trimmed, Adopted, Marked, Stepped, NoPairLeft, Closed, NoPlan, Refused}
 use Rattle.arena_core.specs.declared.reply.Refusal.TheVariants.{OutOfMemory, PagesSpent, Ended, PlanOpen, TooMany, NothingToAdopt, RingFull, Config}
@@ -65,6 +65,9 @@ limits-CoreStep old new Mark (Marked certificate) step = ap (λ (c : CoreState).
 limits-CoreStep old new Mark (Refused PlanOpen) step = limits-same old new step.1
 limits-CoreStep old new Mark (Refused TooMany) (no_plan, many, same) = limits-same old new same
 limits-CoreStep old new Mark (Refused OutOfMemory) step = limits-same old new step.1
+limits-CoreStep old new MarkSome (Marked certificate) step = ap (λ (c : CoreState). c.limits) step.after
+limits-CoreStep old new MarkSome (Refused PlanOpen) step = limits-same old new step.1
+limits-CoreStep old new MarkSome (Refused OutOfMemory) step = limits-same old new step.1
 limits-CoreStep old new Step (Stepped abandoned owned Folded) step = ap (λ (c : CoreState). c.limits) step.rest
 limits-CoreStep old new Step (Stepped abandoned owned Emptied) step = ap (λ (c : CoreState). c.limits) step.rest
 limits-CoreStep old new Step (Stepped abandoned owned Clash) step = absurd step

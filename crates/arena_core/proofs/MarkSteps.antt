@@ -21,13 +21,13 @@ use Rattle.fold.specs.declared.step.Step.{Step as Outcome}
 use Rattle.certificate.specs.declared.certificate.Certificate.{Certificate}
 use Rattle.marks.specs.Closings.{AreOpen, closed_as_planned, closed_onto, reopened}
 use Rattle.arena_core.specs.Kept.{state_of}
-use Rattle.marks.specs.Seen.{IsLargest, with_plan_told}
+use Rattle.marks.specs.Seen.{IsLargestInPart, with_plan_told}
 use Rattle.marks.specs.Plans.{next_pair, plans_onto, with_next_done, OpenPlan}
 use Rattle.arena_core.specs.Moved.{StandsIn}
 use Rattle.arena_core.specs.Plan.{IsNext, IsOwned, IsUnderWay}
 use Rattle.arena_core.specs.Sound.{HasSoundGroups, IsSound}
 use Rattle.arena_core.specs.State.{CoreState, has_span, shown, with_plan, with_pool, with_shard}
-use Rattle.arena_core.specs.Step.{with_plan_closed}
+use Rattle.arena_core.specs.Step.{with_plan_closed, with_plan_opened}
 use Rattle.arena_core.specs.declared.event.Event.TheVariants.{Step}
 use Rattle.arena_core.specs.declared.machine.Core.TheInside.{Inside}
 use Rattle.arena_core.specs.declared.reply.Reply.TheVariants.{Stepped}
@@ -74,9 +74,9 @@ one_owned core sound head a b is_a is_b =
 
 -- a mark
 
-module _ (old : CoreState) (sound : IsSound old) (found : Certificate) (largest : IsLargest old.pool old.shards found) where
+module _ (old : CoreState) (sound : IsSound old) (found : Certificate) (largest : IsLargestInPart old.pool old.shards found) where
   abbrev pub marked : CoreState
-  marked = record old { shards = map (closed_onto found.plan) old.shards; pool = with_plan_told old.pool true; plan = Some (record { pairs = found.plan; done = 0 }) }
+  marked = with_plan_opened old found.plan
 
   abbrev flag : GroupState → Bool
   flag group = is_some group.page && plans_onto found.plan group.head.id
@@ -101,7 +101,7 @@ module _ (old : CoreState) (sound : IsSound old) (found : Certificate) (largest 
 
   under_way : IsUnderWay marked (record { pairs = found.plan; done = 0 })
   under_way =
-      IsUnderWay-marked old marked found.snapshot found.plan largest.seen.abandoned largest.seen.owned largest.best.plan
+      IsUnderWay-marked old marked found.snapshot found.plan largest.seen largest.best.plan
       (λ head group is. record { index = is.index; head_of = is.head_of }) owned_still
 
   -- a group with no page is not planned, since the group of that head has one

@@ -17,7 +17,7 @@ use Rattle.shard.specs.declared.shard.Freed.TheVariants as freed
 use Rattle.shard.specs.declared.shard.replacing.Replaced.TheVariants as replaced
 use Rattle.groups.specs.Group.{spans_of, with_span}
 use Rattle.groups.specs.Pages.{set_group, with_object}
-use Rattle.groups.specs.Spans.{union_of, with_free, with_set}
+use Rattle.groups.specs.Spans.{with_free, with_set}
 use Rattle.groups.proofs.Standing.{spans_of-with_span}
 use Rattle.abandoned.specs.Calls.{Frees as FreesPooled, Sets as SetsPooled}
 use Rattle.abandoned.specs.Sound.{IsSound as IsSoundPool}

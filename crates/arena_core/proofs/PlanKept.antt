@@ -16,7 +16,7 @@ use Rattle.span.specs.State.{SpanState}
 use Rattle.shard.specs.Calls.{Puts}
 use Rattle.shard.specs.Group.{GroupState}
 use Rattle.groups.specs.Group.{occupied, spans_of, with_span}
-use Rattle.groups.specs.Spans.{IsSpanAt, union_of, with_put}
+use Rattle.groups.specs.Spans.{IsSpanAt, union_of}
 use Rattle.groups.specs.Whole.{WholeState}
 use Rattle.shard.specs.State.{ShardState}
 use Rattle.groups.proofs.Lists.{after-insert, after-set, same_some}

@@ -1,14 +1,12 @@
 -- A mark's pairs wait: what it sees are groups of the pool and of the shards.
-use Rattle.std.proofs.Common.{◌≡◌, ℕ, suc, ◌<◌, ◌≤◌, Bool, true, false, cond, ◌&&◌, ◌||◌, List, [], ◌∷◌, ◌⊎◌, inl, inr, refl, sym, ap, subst, ◌∙◌, arith, Some, slice_get, map, get_or, is_some, eqb, eqb-true, map-id}
+use Rattle.std.proofs.Common.{◌≡◌, ℕ, suc, ◌<◌, ◌≤◌, Bool, true, false, cond, ◌&&◌, ◌||◌, List, [], ◌∷◌, ◌⊎◌, inl, inr, refl, sym, ap, subst, ◌∙◌, arith, Some, slice_get, map, get_or, is_some, eqb, eqb-true}
 use Rattle.std.specs.Prelude.{IsSome, filter}
 use Rattle.std.specs.List.{AllByRecursion, IsDistinct, list_any}
-use Rattle.std.specs.List.Sorted.{IsPermutation}
 use Rattle.std.proofs.lemmas.Bool.{and_parts, cases_lt}
 use Rattle.std.proofs.lemmas.List.{length-map}
 use Rattle.std.proofs.lemmas.List.Elements.{All-from_recursion, recursion_from_All}
 use Rattle.std.proofs.lemmas.Option.{get_or_from_slice_get, slice_get_within}
 use Rattle.std.proofs.lemmas.Map.Keys.{apart_from_distinct}
-use Rattle.std.proofs.lemmas.Map.Views.{All-map-IsPermutation}
 use Rattle.std.specs.FinSet.{intersection, len, empty_of_len}
 use Rattle.bitmap.specs.Slots.{AreDisjoint}
 use Rattle.span.specs.declared.id.SpanId.{SpanId}
@@ -20,12 +18,14 @@ use Rattle.groups.specs.Group.{occupied, paged_in, summary}
 use Rattle.shard.specs.State.{ShardState}
 use Rattle.abandoned.specs.State.{PooledState}
 use Rattle.mesh_graph.specs.Groups.{Groups, any_compatible}
+use Rattle.mesh_graph.specs.Sparsest.{AreSparsest}
+use Rattle.mesh_graph.proofs.Sparsest.{All-sparsest}
 use Rattle.span.specs.Classes.{width_of}
 use Rattle.span.specs.Entries.{are_compatible}
 use Rattle.span.specs.declared.entry.Entry.{Entry}
 use Rattle.certificate.specs.Plans.{IsPlanOf, sides_of}
 use Rattle.arena_core.specs.Plan.{IsOwned, IsPooled, IsUnderWay, IsWaiting}
-use Rattle.marks.specs.Seen.{abandoned_entries, owned_entries}
+use Rattle.marks.specs.Seen.{IsSeenInPart, abandoned_entries, owned_entries}
 use Rattle.arena_core.specs.State.{CoreState}
 use Rattle.arena_core.proofs.Lists.{each-append}
 use Rattle.marks.proofs.Lists.{slice_get-map_at}
@@ -36,9 +36,9 @@ each-to : {X : Type 0} {P Q : X → Type 0} (xs : List X) → ((x : X) → P x �
 each-to [] to all = tt
 each-to (x ∷ xs) to all = (to x all.0, each-to xs to all.1)
 
-each-permuted : {X : Type 0} (P : X → Type 0) (xs ys : List X) → IsPermutation xs ys → AllByRecursion P xs → AllByRecursion P ys
-each-permuted P xs ys moved all =
-    subst (AllByRecursion P) (map-id ys) (recursion_from_All P (map (λ x. x) ys) (All-map-IsPermutation (λ x. x) P xs ys moved (All-from_recursion P (map (λ x. x) xs) (subst (AllByRecursion P) (sym (map-id xs)) all))))
+-- what holds of each entry holds of those that a mark sees
+each-chosen : (P : Entry → Type 0) (entries chosen : List Entry) → AreSparsest 4096 entries chosen → AllByRecursion P entries → AllByRecursion P chosen
+each-chosen P entries chosen sparsest all = recursion_from_All P chosen (All-sparsest P 4096 entries chosen sparsest (All-from_recursion P entries all))
 
 -- the element by which a test of the list passes
 any-which : {X : Type 0} {P : X → Type 0} (test : X → Bool) (xs : List X) → AllByRecursion P xs → list_any test xs ≡ true → (x : X) × (test x ≡ true) × P x
@@ -99,15 +99,14 @@ apart_from_test x y e =
 
 -- a compatible pair
 
-pub IsWaiting-seen : (core : CoreState) (seen : Groups) → IsPermutation (abandoned_entries core.pool) seen.abandoned → IsPermutation (owned_entries core.shards) seen.owned
-    → (pair : SpanId × SpanId) → any_compatible seen pair.0 pair.1 ≡ true → IsWaiting core pair
-IsWaiting-seen core seen abandoned owned pair compatible =
-    let left = any-which (λ x. same_span x.id pair.0 && list_any (λ y. same_span y.id pair.1 && are_compatible x y) seen.owned) seen.abandoned
-    (each-permuted (TellsPooled core.pool.groups) (abandoned_entries core.pool) seen.abandoned abandoned (tells_pooled core.pool.groups)) compatible in
+pub IsWaiting-seen : (core : CoreState) (groups : Groups) → IsSeenInPart core.pool core.shards groups → (pair : SpanId × SpanId) → any_compatible groups pair.0 pair.1 ≡ true → IsWaiting core pair
+IsWaiting-seen core groups seen pair compatible =
+    let left = any-which (λ x. same_span x.id pair.0 && list_any (λ y. same_span y.id pair.1 && are_compatible x y) groups.owned) groups.abandoned
+    (each-chosen (TellsPooled core.pool.groups) (abandoned_entries core.pool) groups.abandoned seen.abandoned (tells_pooled core.pool.groups)) compatible in
     let x = left.0 in
-    let parts = and_parts (same_span x.id pair.0) (list_any (λ y. same_span y.id pair.1 && are_compatible x y) seen.owned) left.1 in
-    let right = any-which (λ y. same_span y.id pair.1 && are_compatible x y) seen.owned
-    (each-permuted (TellsOwned core.shards) (owned_entries core.shards) seen.owned owned (tells_owned core.shards)) parts.1 in
+    let parts = and_parts (same_span x.id pair.0) (list_any (λ y. same_span y.id pair.1 && are_compatible x y) groups.owned) left.1 in
+    let right = any-which (λ y. same_span y.id pair.1 && are_compatible x y) groups.owned
+    (each-chosen (TellsOwned core.shards) (owned_entries core.shards) groups.owned seen.owned (tells_owned core.shards)) parts.1 in
     let y = right.0 in
     let both = and_parts (same_span y.id pair.1) (are_compatible x y) right.1 in
     let (i, a, at_a, tells_a) = left.2 in
@@ -142,15 +141,15 @@ once-IsDistinct f xs distinct i j p q at_i at_j same = by_order (cases_lt i j) (
 
 -- the plan that a mark opens
 
-compatible-sides_of : (seen : Groups) (a b : SpanId) → (sides_of seen).compatible a b ≡ any_compatible seen a b
+compatible-sides_of : (groups : Groups) (a b : SpanId) → (sides_of groups).compatible a b ≡ any_compatible groups a b
 unfolding sides_of
-compatible-sides_of seen a b = refl
+compatible-sides_of groups a b = refl
 
-pub IsUnderWay-marked : (old new : CoreState) (seen : Groups) (pairs : List (SpanId × SpanId)) → IsPermutation (abandoned_entries old.pool) seen.abandoned → IsPermutation (owned_entries old.shards) seen.owned → IsPlanOf seen pairs
+pub IsUnderWay-marked : (old new : CoreState) (groups : Groups) (pairs : List (SpanId × SpanId)) → IsSeenInPart old.pool old.shards groups → IsPlanOf groups pairs
     → ((head : SpanId) (group : PooledState) → IsPooled old head group → IsPooled new head group)
     → ((head : SpanId) (group : GroupState) → IsOwned old head group → (now : GroupState) × IsOwned new head now × (now.head.class ≡ group.head.class) × (occupied now ≡ occupied group) × (now.page ≡ group.page))
     → IsUnderWay new (record { pairs = pairs; done = 0 })
-IsUnderWay-marked old new seen pairs abandoned owned plan pooled_still owned_still = record {
+IsUnderWay-marked old new groups pairs seen plan pooled_still owned_still = record {
   within = omega arith;
   abandoned_once = once-IsDistinct (λ p. p.0) pairs plan.left.distinct;
   owned_once = once-IsDistinct (λ p. p.1) pairs plan.right.distinct;
@@ -162,8 +161,8 @@ IsUnderWay-marked old new seen pairs abandoned owned plan pooled_still owned_sti
     waits_at : (k : ℕ) (pair : SpanId × SpanId) → slice_get pairs k ≡ Some pair → IsWaiting new pair
     waits_at k pair at =
         let inside = slice_get_within pairs k pair at in
-        let compatible : any_compatible seen pair.0 pair.1 ≡ true = subst (λ (p : SpanId × SpanId). any_compatible seen p.0 p.1 ≡ true) (get_or_from_slice_get pairs k pair pair at) (sym (compatible-sides_of seen (get_or pairs k pair).0 (get_or pairs k pair).1) ∙ plan.compatible k pair inside) in
-        let found = IsWaiting-seen old seen abandoned owned pair compatible in
+        let compatible : any_compatible groups pair.0 pair.1 ≡ true = subst (λ (p : SpanId × SpanId). any_compatible groups p.0 p.1 ≡ true) (get_or_from_slice_get pairs k pair pair at) (sym (compatible-sides_of groups (get_or pairs k pair).0 (get_or pairs k pair).1) ∙ plan.compatible k pair inside) in
+        let found = IsWaiting-seen old groups seen pair compatible in
         let (now, now_is, same_class, same, same_page) = owned_still pair.1 found.owned found.is_owned in
         record {
           abandoned = found.abandoned;

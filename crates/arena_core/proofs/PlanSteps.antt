@@ -13,7 +13,6 @@ use Rattle.span.proofs.Ids.{same_id_from_test}
 use Rattle.shard.specs.Calls.{Frees, Puts, Sets, new_group, was_freed, was_replaced}
 use Rattle.shard.specs.Group.{GroupState}
 use Rattle.groups.specs.Group.{with_span}
-use Rattle.groups.specs.Spans.{with_put}
 use Rattle.shard.specs.State.{ShardState}
 use Rattle.shard.specs.Shown.{shown as shown_by}
 use Rattle.shard.specs.Sound.{IsSound as IsSoundShard}

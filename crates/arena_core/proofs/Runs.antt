@@ -3,7 +3,7 @@ use Rattle.std.proofs.Common.{◌≡◌, ℕ, ◌+◌, ◌<◌, Bool, true, fals
 use Rattle.std.proofs.lemmas.List.{length_push, take_more}
 use Rattle.span.specs.PlainMap.{PlainMap}
 use Rattle.arena_core.specs.declared.event.Event.{Event}
-use Rattle.arena_core.specs.declared.event.Event.TheVariants.{Put, Get, Set, Free, Later, Settle, End, Retire, Trim, Adopt, Mark, Step, Close}
+use Rattle.arena_core.specs.declared.event.Event.TheVariants.{Put, Get, Set, Free, Later, Settle, End, Retire, Trim, Adopt, Mark, MarkSome, Step, Close}
 use Rattle.arena_core.specs.declared.reply.Reply.{Reply}
 use Rattle.arena_core.specs.Plain.{ErasedStep, PlainRun, PlainStep, erased, is_plain}
 use Rattle.arena_core.specs.Sound.{IsSound}
@@ -35,6 +35,7 @@ PlainRun-added limits old mid new steps (Retire shard most) reply run step = Pla
 PlainRun-added limits old mid new steps (Trim shard) reply run step = PlainRun-stay limits old mid new steps run step
 PlainRun-added limits old mid new steps (Adopt shard) reply run step = PlainRun-stay limits old mid new steps run step
 PlainRun-added limits old mid new steps Mark reply run step = PlainRun-stay limits old mid new steps run step
+PlainRun-added limits old mid new steps MarkSome reply run step = PlainRun-stay limits old mid new steps run step
 PlainRun-added limits old mid new steps Step reply run step = PlainRun-stay limits old mid new steps run step
 PlainRun-added limits old mid new steps Close reply run step = PlainRun-stay limits old mid new steps run step
 

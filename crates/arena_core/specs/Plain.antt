@@ -3,7 +3,7 @@ use Rattle.std.specs.Prelude.{◌≡◌, ◌⊎◌, ◌<◌, ◌≤◌, ℕ, Boo
 use Rattle.span.specs.declared.key.Key.{Key}
 use Rattle.span.specs.PlainMap.{PlainMap, may_set, with_pending, with_put, with_value, without}
 use Rattle.arena_core.specs.declared.event.Event.{Event}
-use Rattle.arena_core.specs.declared.event.Event.TheVariants.{Put, Get, Set, Free, Later, Settle, End, Retire, Trim, Adopt, Mark, Step, Close}
+use Rattle.arena_core.specs.declared.event.Event.TheVariants.{Put, Get, Set, Free, Later, Settle, End, Retire, Trim, Adopt, Mark, MarkSome, Step, Close}
 use Rattle.arena_core.specs.declared.reply.Reply.{Reply}
 use Rattle.arena_core.specs.declared.reply.Reply.TheVariants.{Issued, Found, Replaced, Freed, Sent, Settled, Refused}
 use Rattle.arena_core.specs.declared.reply.Refusal.TheVariants.{OutOfMemory, PagesSpent, Ended, RingFull, Config}
@@ -50,6 +50,7 @@ is_plain (Retire shard most) = false
 is_plain (Trim shard) = false
 is_plain (Adopt shard) = false
 is_plain Mark = false
+is_plain MarkSome = false
 is_plain Step = false
 is_plain Close = false
 is_plain event = true
@@ -66,6 +67,7 @@ ErasedStep limits old (Retire shard most) reply new = new ≡ old
 ErasedStep limits old (Trim shard) reply new = new ≡ old
 ErasedStep limits old (Adopt shard) reply new = new ≡ old
 ErasedStep limits old Mark reply new = new ≡ old
+ErasedStep limits old MarkSome reply new = new ≡ old
 ErasedStep limits old Step reply new = new ≡ old
 ErasedStep limits old Close reply new = new ≡ old
 ErasedStep limits old event reply new = PlainStep limits old event reply new

@@ -21,13 +21,13 @@ use Rattle.fold.specs.Folds.{Folds}
 use Rattle.fold.specs.declared.step.Step.{Step as Outcome}
 use Rattle.fold.specs.declared.step.Step.TheVariants.{Absent, Emptied, Clash, Folded}
 use Rattle.arena_core.specs.declared.event.Event.{Event}
-use Rattle.arena_core.specs.declared.event.Event.TheVariants.{Put, Get, Set, Free, Later, Settle, End, Retire, Trim, Adopt, Mark, Step, Close}
+use Rattle.arena_core.specs.declared.event.Event.TheVariants.{Put, Get, Set, Free, Later, Settle, End, Retire, Trim, Adopt, Mark, MarkSome, Step, Close}
 use Rattle.arena_core.specs.declared.reply.Reply.{Reply}
 use Rattle.arena_core.specs.declared.reply.Reply.TheVariants.{Issued, Found, Replaced, Freed, Sent, Settled, ShardEnded, Retired, Trimmed, Adopted, Marked, Stepped, NoPairLeft, Closed, NoPlan, Refused}
 use Rattle.arena_core.specs.declared.reply.Refusal.TheVariants.{OutOfMemory, PagesSpent, Ended, PlanOpen, TooMany, NothingToAdopt, RingFull, Config}
 use Rattle.arena_core.specs.Sound.{IsSound}
 use Rattle.marks.specs.Closings.{closed_onto, reopened}
-use Rattle.marks.specs.Seen.{AreTooMany, IsLargest, with_plan_told}
+use Rattle.marks.specs.Seen.{AreTooMany, IsLargest, IsLargestInPart, with_plan_told}
 use Rattle.arena_core.specs.Plan.{IsCarriedOut, IsEmptyInPool, IsNext}
 use Rattle.marks.specs.Plans.{with_next_done, OpenPlan}
 use Rattle.arena_core.specs.Rings.{RingState, ring_at, with_keys, with_ring_at}
@@ -205,11 +205,21 @@ pub record AdoptsInShard (old : CoreState) (number : ℕ) (head : SpanId) (new :
   pub adopts : Adopts old.pool before head pool after
   pub rest : new ≡ with_pool (with_shard old number after) pool
 
+-- the pairs of a new plan are open, none of them done with, the groups that are planned onto are closed, and all else is as it was
+abbrev pub with_plan_opened : CoreState → List (SpanId × SpanId) → CoreState
+with_plan_opened core pairs = record core { shards = map (closed_onto pairs) core.shards; pool = with_plan_told core.pool true; plan = Some (record { pairs = pairs; done = 0 }) }
+
 -- a mark: of what it sees it makes a largest plan with its short set, opens the plan and closes the groups that are planned onto
 pub record Marks (old : CoreState) (certificate : Certificate) (new : CoreState) : Type 0 where
   pub no_plan : old.plan ≡ None
   pub largest : IsLargest old.pool old.shards certificate
-  pub after : new ≡ record old { shards = map (closed_onto certificate.plan) old.shards; pool = with_plan_told old.pool true; plan = Some (record { pairs = certificate.plan; done = 0 }) }
+  pub after : new ≡ with_plan_opened old certificate.plan
+
+-- a mark of the groups of each side with the fewest live slots does the same with these
+pub record MarksSome (old : CoreState) (certificate : Certificate) (new : CoreState) : Type 0 where
+  pub no_plan : old.plan ≡ None
+  pub largest : IsLargestInPart old.pool old.shards certificate
+  pub after : new ≡ with_plan_opened old certificate.plan
 
 -- the next pair is folded: the spans of the abandoned group are guests of the owned one, on its page, and all other shards are as they were
 pub record FoldsNext (old : CoreState) (pair : SpanId × SpanId) (new : CoreState) : Type 0 where
@@ -294,6 +304,9 @@ CoreStep old Mark (Marked certificate) new = Marks old certificate new
 CoreStep old Mark (Refused PlanOpen) new = HasPlan old × (new ≡ old)
 CoreStep old Mark (Refused TooMany) new = (old.plan ≡ None) × HasTooMany old × (new ≡ old)
 CoreStep old Mark (Refused OutOfMemory) new = MayMark old × (new ≡ old)
+CoreStep old MarkSome (Marked certificate) new = MarksSome old certificate new
+CoreStep old MarkSome (Refused PlanOpen) new = HasPlan old × (new ≡ old)
+CoreStep old MarkSome (Refused OutOfMemory) new = (old.plan ≡ None) × (new ≡ old)
 CoreStep old Step (Stepped abandoned owned outcome) new = TakesNext old (abandoned, owned) outcome new
 CoreStep old Step NoPairLeft new = HasNoPairLeft old × (new ≡ old)
 CoreStep old Step NoPlan new = (old.plan ≡ None) × (new ≡ old)

@@ -27,6 +27,8 @@ pub enum Event {
     Adopt { shard: u32 },
     /// Plan as many folds as possible of the pool's groups onto the shards' groups, and close those that are planned onto.
     Mark,
+    /// Do as a mark does, with the 4,096 groups of each side that have the fewest live slots, or all where there are no more.
+    MarkSome,
     /// Carry out the next pair of the open plan.
     Step,
     /// End the open plan, and open all groups.

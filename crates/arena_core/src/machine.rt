@@ -149,8 +149,9 @@ impl<L: Log> Core<L> {
     /// free and a settling take no memory either: [`Refusal::RingFull`] comes exactly where the ring of the deferred free holds
     /// as many keys as it may, and [`Refusal::Config`] exactly where there is no such worker or shard.
     ///
-    /// A mark that is not refused plans as many folds as can be, and shows it: no plan of what stands has more pairs. Until the
-    /// plan is closed, the groups that it folds onto take no put, and each step carries out its next pair.
+    /// A mark that is not refused plans as many folds as can be, and shows it: no plan of what stands has more pairs. A mark of some
+    /// ([`Event::MarkSome`]) sees at most 4,096 groups of each side, those with the fewest live slots, and no plan of these has more pairs;
+    /// it is refused as a mark is, but never with [`Refusal::TooMany`]. Until the plan is closed, the groups that it folds onto take no put, and each step carries out its next pair.
     // Inlined, it makes no event and no reply that its caller takes apart at once. Both have the room of the largest object,
     // and a call passes them through memory, which costs several times the shard's own look-up.
     #[inline(always)]
@@ -195,6 +196,10 @@ impl<L: Log> Core<L> {
                 Err(refusal) => Reply::Refused(refusal),
             },
             Event::Mark => match self.mark() {
+                Ok(certificate) => Reply::Marked(certificate),
+                Err(refusal) => Reply::Refused(refusal),
+            },
+            Event::MarkSome => match self.mark_some() {
                 Ok(certificate) => Reply::Marked(certificate),
                 Err(refusal) => Reply::Refused(refusal),
             },

@@ -1,17 +1,13 @@
 -- The groups that a mark sees, as entries.
-use Rattle.std.proofs.Common.{◌≡◌, ℕ, ◌+◌, ◌<◌, ◌≤◌, List, [], ◌∷◌, ◌++◌, length, map, refl, sym, ap, ◌∙◌, arith, inl, inr, nat_lt, get_or, take, Some, slice_get, ◌-◌, ◌^◌, ◌↔◌, append-nil, cond, is_some, true, false}
+use Rattle.std.proofs.Common.{◌≡◌, ℕ, ◌+◌, ◌<◌, ◌≤◌, List, [], ◌∷◌, ◌++◌, length, map, refl, sym, ap, ◌∙◌, arith, inl, inr, nat_lt, get_or, take, ◌-◌, ◌^◌, ◌↔◌}
 use Rattle.std.specs.Prelude.{IsTrue, min, sum_by}
 use Rattle.std.proofs.lemmas.Bool.{lt-ltb, ltb-true}
 use Rattle.std.proofs.lemmas.List.{flat_map_more, length-append, length-map, map-append, take_more}
-use Rattle.std.proofs.lemmas.List.Elements.{filter_more}
 use Rattle.std.proofs.lemmas.List.Sums.{sum_by-cons}
-use Rattle.std.proofs.lemmas.Option.{get_or_from_slice_get, slice_get_within}
-use Rattle.shard.specs.Group.{GroupState}
 use Rattle.shard.specs.State.{ShardState}
 use Rattle.shard.proofs.Entries.{entries_in}
 use Rattle.groups.specs.Group.{paged_in, summary}
-use Rattle.abandoned.specs.State.{PoolState, PooledState, paged_groups}
-use Rattle.span.specs.declared.entry.Entry.{Entry}
+use Rattle.abandoned.specs.State.{PoolState, paged_groups}
 use Rattle.marks.specs.Seen.{AreTooMany, owned_entries}
 
 -- as many owned groups as the shards have pages

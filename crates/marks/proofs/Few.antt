@@ -1,10 +1,8 @@
 -- A plan has no more pairs than there are groups.
-use Rattle.std.proofs.Common.{◌≡◌, ◌≤◌, true, List, length, map, arith, inl, inr}
+use Rattle.std.proofs.Common.{◌≡◌, ◌≤◌, true, List, length, map, arith}
 use Rattle.std.specs.List.{All}
-use Rattle.std.proofs.lemmas.Bool.{cases_lt}
 use Rattle.std.proofs.lemmas.List.{length-map}
 use Rattle.std.proofs.lemmas.List.Elements.{recursion_from_All}
-use Rattle.std.proofs.lemmas.List.Sorted.{length_permutation}
 use Rattle.span.specs.declared.id.SpanId.{SpanId}
 use Rattle.span.specs.Ids.{same_span}
 use Rattle.shard.specs.State.{ShardState}
@@ -17,19 +15,11 @@ use Rattle.certificate.specs.Sides.{IsChoice, among}
 use Rattle.certificate.specs.Text.{FitsClass, IsWritable}
 use Rattle.certificate.proofs.Members.{length-le_from_distinct}
 use Rattle.certificate.proofs.Verdicts.{tells_span}
-use Rattle.marks.specs.Seen.{AreTooMany, IsSeen, abandoned_entries, owned_entries}
+use Rattle.marks.specs.Seen.{IsSeenInPart}
 
-pub few_seen : (pool : PoolState) (shards : List ShardState) (groups : Groups) → IsSeen pool shards groups → (AreTooMany pool shards → ⊥) → (length groups.abandoned ≤ 4096) × (length groups.owned ≤ 4096)
-few_seen pool shards groups seen few = (
-  elim (cases_lt 4096 (length (abandoned_entries pool))) [
-    | inl many ↦ absurd (few (inl many))
-    | inr fine ↦ omega (arith, length_permutation (abandoned_entries pool) groups.abandoned seen.abandoned)
-  ],
-  elim (cases_lt 4096 (length (owned_entries shards))) [
-    | inl many ↦ absurd (few (inr many))
-    | inr fine ↦ omega (arith, length_permutation (owned_entries shards) groups.owned seen.owned)
-  ],
-)
+-- a mark that sees a part sees few
+pub few_in_part : (pool : PoolState) (shards : List ShardState) (groups : Groups) → IsSeenInPart pool shards groups → (length groups.abandoned ≤ 4096) × (length groups.owned ≤ 4096)
+few_in_part pool shards groups seen = (omega (arith, seen.abandoned.count), omega (arith, seen.owned.count))
 
 -- no more can be chosen than there are abandoned groups
 few_chosen : (groups : Groups) (chosen : List SpanId) → IsChoice same_span (ids groups.abandoned) chosen → length groups.abandoned ≤ 4096 → length chosen ≤ 4096

@@ -7,7 +7,6 @@ use Rattle.std.specs.Ordering.{nat_cmp}
 use Rattle.std.proofs.lemmas.Bool.{both_ways, or_cases}
 use Rattle.std.specs.List.{All}
 use Rattle.std.proofs.lemmas.List.Elements.{All-append, All-filter, All-map, All-nil}
-use Rattle.std.proofs.lemmas.List.Sorted.{All-permutation}
 use Rattle.std.proofs.lemmas.Option.{slice_get-get_or}
 use Rattle.bitmap.specs.Slots.{IsBelow}
 use Rattle.span.specs.Classes.{slots_in}
@@ -24,8 +23,9 @@ use Rattle.shard.specs.State.{ShardState}
 use Rattle.abandoned.specs.Sound.{IsSound as IsSoundPool}
 use Rattle.abandoned.specs.State.{PoolState, PooledState, paged_groups}
 use Rattle.mesh_graph.specs.Groups.{Groups}
+use Rattle.mesh_graph.proofs.Sparsest.{All-sparsest}
 use Rattle.certificate.specs.Text.{FitsClass}
-use Rattle.marks.specs.Seen.{AreSound, IsSeen, abandoned_entries, owned_entries}
+use Rattle.marks.specs.Seen.{AreSound, IsSeenInPart, abandoned_entries, owned_entries}
 
 -- what is live in a span of the class
 live_below : (class : Class) (span : SpanState) → IsSpanOf class span → IsBelow (live_slots span.log) (slots_in class)
@@ -65,9 +65,9 @@ owned_fit (shard ∷ shards) sound =
     (All-map FitsClass summary (paged_in shard.groups) (All-filter (λ (group : GroupState). is_some group.page) (λ group. FitsClass (summary group)) shard.groups (groups_fit shard.groups (sound 0 shard refl).groups)))
     (owned_fit shards (λ number other at. sound (suc number) other at))
 
--- so do those of the snapshot
-pub fit_seen : (pool : PoolState) (shards : List ShardState) (groups : Groups) → IsSeen pool shards groups → IsSoundPool pool → AreSound shards → All FitsClass groups.abandoned × All FitsClass groups.owned
-fit_seen pool shards groups seen sound sound_shards = (
-  All-permutation FitsClass (abandoned_entries pool) groups.abandoned seen.abandoned (abandoned_fit pool sound),
-  All-permutation FitsClass (owned_entries shards) groups.owned seen.owned (owned_fit shards sound_shards),
+-- so do those that a mark sees, also one that sees a part
+pub fit_in_part : (pool : PoolState) (shards : List ShardState) (groups : Groups) → IsSeenInPart pool shards groups → IsSoundPool pool → AreSound shards → All FitsClass groups.abandoned × All FitsClass groups.owned
+fit_in_part pool shards groups seen sound sound_shards = (
+  All-sparsest FitsClass 4096 (abandoned_entries pool) groups.abandoned seen.abandoned (abandoned_fit pool sound),
+  All-sparsest FitsClass 4096 (owned_entries shards) groups.owned seen.owned (owned_fit shards sound_shards),
 )

@@ -4,4 +4,5 @@ pub mod Closings
 pub mod Entries
 pub mod Few
 pub mod Fitting
+pub mod InPart
 pub mod OneShard

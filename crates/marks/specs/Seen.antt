@@ -9,6 +9,7 @@ use Rattle.groups.specs.Group.{paged_in, summary}
 use Rattle.abandoned.specs.State.{PoolState, paged_groups}
 use Rattle.span.specs.declared.entry.Entry.{Entry}
 use Rattle.mesh_graph.specs.Groups.{Groups, IsAscending, ids}
+use Rattle.mesh_graph.specs.Sparsest.{AreSparsest}
 use Rattle.certificate.specs.declared.certificate.Certificate.{Certificate}
 use Rattle.certificate.specs.Plans.{IsBestPlanOf, IsCertificateOf, IsShortOf}
 use Rattle.certificate.specs.Text.{IsWritable}
@@ -29,6 +30,13 @@ pub record IsSeen (pool : PoolState) (shards : List ShardState) (groups : Groups
   pub abandoned_ascending : IsAscending (ids groups.abandoned)
   pub owned_ascending : IsAscending (ids groups.owned)
 
+-- of the groups that have a page on each side the 4,096 with the fewest live slots, or all where there are no more, each once, by ascending head
+pub record IsSeenInPart (pool : PoolState) (shards : List ShardState) (groups : Groups) : Type 0 where
+  pub abandoned : AreSparsest MOST_GROUPS (abandoned_entries pool) groups.abandoned
+  pub owned : AreSparsest MOST_GROUPS (owned_entries shards) groups.owned
+  pub abandoned_ascending : IsAscending (ids groups.abandoned)
+  pub owned_ascending : IsAscending (ids groups.owned)
+
 -- no group stands twice on its side
 pub record AreDistinct (pool : PoolState) (shards : List ShardState) : Type 0 where
   pub abandoned : IsDistinct same_span (ids (abandoned_entries pool))
@@ -45,6 +53,14 @@ AreTooMany pool shards = (MOST_GROUPS < length (abandoned_entries pool)) ⊎ (MO
 -- a snapshot of the pool and the shards, a plan of it with the most pairs, and the short set that shows this; the whole can be written as a text
 pub record IsLargest (pool : PoolState) (shards : List ShardState) (found : Certificate) : Type 0 where
   pub seen : IsSeen pool shards found.snapshot
+  pub best : IsBestPlanOf found.snapshot found.plan
+  pub short : IsShortOf found.snapshot found.plan found.short
+  pub certificate : IsCertificateOf found.snapshot found.plan found.short
+  pub writable : IsWritable found
+
+-- the same of a snapshot of the groups with the fewest live slots
+pub record IsLargestInPart (pool : PoolState) (shards : List ShardState) (found : Certificate) : Type 0 where
+  pub seen : IsSeenInPart pool shards found.snapshot
   pub best : IsBestPlanOf found.snapshot found.plan
   pub short : IsShortOf found.snapshot found.plan found.short
   pub certificate : IsCertificateOf found.snapshot found.plan found.short

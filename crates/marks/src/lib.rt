@@ -44,5 +44,5 @@ pub use current_plan::CurrentPlan;
 pub use error::MarkError;
 pub use lends_shard::LendsShard;
 pub use limits::Limits;
-pub use marking::mark_in;
+pub use marking::{has_too_many, mark_in, mark_some_in};
 pub use totals::Totals;

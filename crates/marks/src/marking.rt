@@ -7,7 +7,7 @@ ghost use Rattle.abandoned.specs.Sound.{IsSound as IsSoundPool};
 ghost use Rattle.certificate.specs.Plans.{IsBestPlanOf, IsCertificateOf, IsShortOf};
 ghost use Rattle.certificate.specs.Text.{FitsClass, IsWritable};
 ghost use Rattle.marks.specs.Closings.{closing};
-ghost use Rattle.marks.specs.Seen.{AreDistinct, AreSound, AreTooMany, IsLargest, IsSeen, with_plan_told, owned_entries};
+ghost use Rattle.marks.specs.Seen.{AreDistinct, AreSound, AreTooMany, IsLargest, IsLargestInPart, IsSeen, with_plan_told, owned_entries};
 ghost use Rattle.mesh_graph.specs.Groups.{IsAscending};
 ghost use Rattle.mesh_graph.specs.declared.build.TheConstants.{MOST_GROUPS};
 
@@ -28,8 +28,9 @@ use std::alloc::{AllocError, Global};
 /// # Errors
 ///
 /// The first of these that holds: `PlanOpen` where a plan is open; `TooMany` where a side has more than 4,096 groups with a
-/// page; `Doubled` where two of those of a side have the same head, which takes memory to tell. `OutOfMemory` where an
-/// allocation was refused and neither of the first two holds. All allocations stand before the first change.
+/// page, of which [`mark_some_in`] sees a part; `Doubled` where two of those of a side have the same head, which takes memory to
+/// tell. `OutOfMemory` where an allocation was refused and neither of the first two holds. All allocations stand before the
+/// first change.
 pub fn mark_in<H: LendsShard>(
     alloc: Global,
     pool: &mut Pool<H::Log>,
@@ -55,23 +56,58 @@ pub fn mark_in<H: LendsShard>(
     ensures err { OnErr result (pool.new ≡ pool.old) }
     ensures err_shards { OnErr result (shards.new ≡ shards.old) }
 {
+    if !pool.has_plan() && has_too_many(pool, shards) {
+        return Err(MarkError::TooMany);
+    }
+    mark_some_in(alloc, pool, shards)
+}
+
+/// A mark that sees of each side the 4,096 groups with a page that have the fewest live slots, or all where there are no more, and does
+/// with these what [`mark_in`] does. So a plan of it folds as many of them as can be, and after it more can be folded by a further mark.
+///
+/// # Errors
+///
+/// The first of these that holds: `PlanOpen` where a plan is open; `Doubled` where two groups of a side that have a page have the same
+/// head, which takes memory to tell. `OutOfMemory` where an allocation was refused and no plan is open. All allocations stand before
+/// the first change.
+pub fn mark_some_in<H: LendsShard>(
+    alloc: Global,
+    pool: &mut Pool<H::Log>,
+    shards: &mut [H],
+) -> Result<Certificate, MarkError>
+    requires { 1 ≤ length shards.old }
+    // What it gives, and what has changed then.
+    ensures largest { IfOk result (IsLargestInPart pool.old (map H.lent shards.old)) }
+    ensures distinct { OnOk result (AreDistinct pool.old (map H.lent shards.old)) }
+    ensures closed { IfOk result
+        (λ found. map H.lent shards.new ≡ map (closing found.plan) (map H.lent shards.old)) }
+    ensures opened { OnOk result (pool.new ≡ with_plan_told pool.old true) }
+    // All is sound, before and after.
+    ensures sound { OnOk result (AreSound (map H.lent shards.old)) }
+    ensures sound_new { OnOk result (AreSound (map H.lent shards.new)) }
+    ensures sound_pool { OnOk result (IsSoundPool pool.new) }
+    // When it is refused, and that nothing has changed then.
+    ensures plan_open { (result ≡ Err MarkError.PlanOpen) ↔ (pool.old.has_plan ≡ true) }
+    ensures too_many { result ≢ Err MarkError.TooMany }
+    ensures doubled { result ≡ Err MarkError.Doubled → AreDistinct pool.old (map H.lent shards.old)
+        → ⊥ }
+    ensures err { OnErr result (pool.new ≡ pool.old) }
+    ensures err_shards { OnErr result (shards.new ≡ shards.old) }
+{
     if pool.has_plan() {
         return Err(MarkError::PlanOpen);
-    }
-    if has_too_many(pool, shards) {
-        return Err(MarkError::TooMany);
     }
     let Ok(snapshot) = snapshot_of(alloc, pool, shards)? else {
         return Err(MarkError::Doubled);
     };
-    let found = largest_plan(alloc, snapshot, shards.len())?;
+    let found = largest_plan(alloc, snapshot.sparsest(MOST_GROUPS), shards.len())?;
     close_planned(shards, found.plan.pairs());
     pool.plan_opened();
     Ok(found)
 }
 
 /// Whether a side has more than 4,096 groups that have a page: the pool, or all shards together. It takes no memory.
-pub(crate) fn has_too_many<H: LendsShard>(pool: &Pool<H::Log>, shards: &[H]) -> bool
+pub fn has_too_many<H: LendsShard>(pool: &Pool<H::Log>, shards: &[H]) -> bool
     ensures { IsTrue result ↔ AreTooMany pool.now (map H.lent shards.now) }
 {
     pool.pages() > MOST_GROUPS || owned_pages(shards) > MOST_GROUPS

@@ -1,8 +1,7 @@
 -- Rows of bits that keep to one class.
-use Rattle.std.proofs.Common.{ℕ, ◌+◌, ◌/◌, ◌%◌, ◌^◌, ◌*◌, ◌<◌, ◌≤◌, ◌≡◌, ◌==◌, ◌&&◌, ◌||◌, Bool, true, false, List, [], ◌∷◌, length, map, refl, sym, ◌∙◌, ap, arith, get_or, inl, inr, Option, Some, None, nat_lt, lt-ltb, le-ltb, eqb, eq-eqb, eqb-true, set, bit_and, bit_or, min}
+use Rattle.std.proofs.Common.{ℕ, ◌+◌, ◌/◌, ◌%◌, ◌^◌, ◌*◌, ◌<◌, ◌≤◌, ◌≡◌, ◌==◌, ◌&&◌, Bool, true, false, List, length, map, refl, sym, ◌∙◌, ap, arith, get_or, inl, inr, Option, Some, None, nat_lt, lt-ltb, le-ltb, eqb, eq-eqb, eqb-true, set, bit_and, bit_or, min}
 use Rattle.std.specs.Bool.{OnTrue}
 use Rattle.std.specs.List.{list_all, slice_get}
-use Rattle.std.specs.Int.{bit_at}
 use Rattle.std.specs.Prelude.{MatchOption, option_map}
 use Rattle.std.proofs.Math.Bool.{and-false}
 use Rattle.std.proofs.lemmas.Bool.{both_ways, cases_Bool, cases_eq, cases_lt, ne_eqb}

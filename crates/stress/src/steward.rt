@@ -81,7 +81,7 @@ impl<'a> Keeper<'a> {
     /// That many marks, each with its steps and its close, beside whoever runs.
     pub fn mark_beside<R: Wait>(&mut self, rt: &R, count: usize) {
         for _ in 0..count {
-            if self.arena.mark(rt, &mut self.steward).is_ok() {
+            if self.arena.mark_some(rt, &mut self.steward).is_ok() {
                 self.marks.made = self.marks.made.saturating_add(1);
             } else {
                 self.marks.refused = self.marks.refused.saturating_add(1);

@@ -8,7 +8,7 @@ use Rattle.certificate.specs.declared.certificate.Certificate.{Certificate}
 use Rattle.certificate.specs.Text.{IsWritable, certificate_text}
 use Rattle.fold.specs.declared.step.Step.TheVariants.{Folded, Emptied}
 use Rattle.arena_core.specs.declared.event.Event.{Event}
-use Rattle.arena_core.specs.declared.event.Event.TheVariants.{Put, Set, Free, End, Retire, Trim, Adopt, Mark, Step, Close}
+use Rattle.arena_core.specs.declared.event.Event.TheVariants.{Put, Set, Free, End, Retire, Trim, Adopt, Step, Close}
 use Rattle.arena_core.specs.declared.reply.Reply.{Reply}
 use Rattle.arena_core.specs.declared.reply.Reply.TheVariants.{Issued, Replaced, Freed, ShardEnded, Retired, Trimmed, Adopted, Marked, Stepped, NoPairLeft, Closed, NoPlan, Refused}
 use Rattle.arena_core.specs.Plain.{ErasedStep}
@@ -221,14 +221,14 @@ IsOfMark (Marked certificate) = IsWritable certificate
 IsOfMark (Refused refusal) = Unit {0}
 IsOfMark reply = ⊥
 
--- a largest plan is opened and its certificate kept, or the mark is refused
-pub record Marks (old : Option Held) (says : MarkReply) (new : Option Held) : Type 0 where
+-- by a mark, of all groups or of the sparsest, a largest plan is opened and its certificate kept, or the mark is refused
+pub record Marks (event : Event) (old : Option Held) (says : MarkReply) (new : Option Held) : Type 0 where
   pub before : Held
   pub after : Held
   pub reply : Reply
   pub before_is : old ≡ Some before
   pub after_is : new ≡ Some after
-  pub replies : Replies before.core Mark reply after.core
+  pub replies : Replies before.core event reply after.core
   pub told : SaysMarked says reply
   pub keeps : Keeps before.last reply after.last
 

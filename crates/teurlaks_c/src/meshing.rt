@@ -1,5 +1,6 @@
 // Shards that end, retire groups or give pages back, groups that are adopted, and plans of folds.
 ghost use Rattle.std.specs.Prelude.{◌≡◌, IsSome};
+ghost use Rattle.arena_core.specs.declared.event.Event.TheVariants as event;
 ghost use Rattle.teurlaks_c.specs.Calls.{Adopts, Closes, CountsOf, Ends, IsOfMark, Keeps, Marks, Retires, SaysMarked, Steps, TakesStep, Tells, Trims, Writes};
 ghost use Rattle.teurlaks_c.specs.Keys.{IsSpanOf};
 
@@ -108,10 +109,24 @@ pub extern "C" fn teurlaks_adopt(alloc: Global, handle: &mut Handle, shard: u32)
 #[unsafe(no_mangle)]
 pub extern "C" fn teurlaks_mark(alloc: Global, handle: &mut Handle) -> MarkReply
     requires live { IsSome handle.old.held }
-    ensures { Marks handle.old.held result handle.new.held }
+    ensures { Marks event.Mark handle.old.held result handle.new.held }
 {
     let mut held = replace(handle, Handle::none()).into_box(alloc);
     let reply = held.core.step(Event::Mark);
+    let says = keep(&mut held, reply);
+    *handle = Handle::of(held);
+    says
+}
+
+/// Does as [`teurlaks_mark`] does with the 4,096 groups of each side that have the fewest live keys, or with all where there are no more.
+/// Refused with `PLAN_OPEN` or `OUT_OF_MEMORY`; nothing has changed then, and the certificate of the mark before is kept.
+#[unsafe(no_mangle)]
+pub extern "C" fn teurlaks_mark_some(alloc: Global, handle: &mut Handle) -> MarkReply
+    requires live { IsSome handle.old.held }
+    ensures { Marks event.MarkSome handle.old.held result handle.new.held }
+{
+    let mut held = replace(handle, Handle::none()).into_box(alloc);
+    let reply = held.core.step(Event::MarkSome);
     let says = keep(&mut held, reply);
     *handle = Handle::of(held);
     says

@@ -20,7 +20,7 @@ use Rattle.trace_runner.specs.declared.plans.Plans.{Plans}
 use Rattle.trace_text.specs.declared.line.Call.{Call}
 use Rattle.trace_text.specs.declared.line.Line.TheVariants as line
 use Rattle.arena_core.specs.declared.event.Event.{Event}
-use Rattle.arena_core.specs.declared.event.Event.TheVariants.{Put, Get, Set, Free, Later, Settle, End, Retire, Trim, Adopt, Mark, Step, Close}
+use Rattle.arena_core.specs.declared.event.Event.TheVariants.{Put, Get, Set, Free, Later, Settle, End, Retire, Trim, Adopt, Mark, MarkSome, Step, Close}
 use Rattle.arena_core.specs.declared.reply.Reply.TheVariants.{ShardEnded}
 use Rattle.arena_core.specs.declared.reply.Reply.{Reply}
 use Rattle.span.specs.PlainMap.{PlainMap}
@@ -76,6 +76,7 @@ erased-one limits a b (Retire shard most) reply step = step
 erased-one limits a b (Trim shard) reply step = step
 erased-one limits a b (Adopt shard) reply step = step
 erased-one limits a b Mark reply step = step
+erased-one limits a b MarkSome reply step = step
 erased-one limits a b Step reply step = step
 erased-one limits a b Close reply step = step
 

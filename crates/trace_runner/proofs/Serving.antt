@@ -15,7 +15,7 @@ use Rattle.arena_core.specs.State.{CoreState, with_shard}
 use Rattle.arena_core.specs.Step.{CoreStep}
 use Rattle.trace_runner.specs.Recalls.{EndsOne, IsOpen, IsPutServed, IsServed, IsSetServed, KeepsPlan, KeepsShards, MayCall, ended_at, reply_to_put}
 use Rattle.arena_core.specs.declared.event.Event.{Event}
-use Rattle.arena_core.specs.declared.event.Event.TheVariants.{Put, Get, Set, Free, Later, Settle, End, Retire, Trim, Adopt, Mark, Step, Close}
+use Rattle.arena_core.specs.declared.event.Event.TheVariants.{Put, Get, Set, Free, Later, Settle, End, Retire, Trim, Adopt, Mark, MarkSome, Step, Close}
 use Rattle.arena_core.specs.declared.reply.Reply.{Reply}
 use Rattle.arena_core.specs.declared.reply.Reply.TheVariants.{Issued, Found, Replaced, Freed, Sent, ShardEnded, Trimmed, Adopted, Refused}
 use Rattle.arena_core.specs.declared.reply.Refusal.{Refusal}
@@ -116,6 +116,7 @@ KeepsPlan-step old new (Adopt shard) (Refused PagesSpent) may step = KeepsPlan-s
 KeepsPlan-step old new (Adopt shard) (Refused NothingToAdopt) may step = KeepsPlan-same old new step.3
 KeepsPlan-step old new (Adopt shard) (Refused OutOfMemory) may step = KeepsPlan-same old new step.1
 KeepsPlan-step old new Mark reply may step = absurd may
+KeepsPlan-step old new MarkSome reply may step = absurd may
 KeepsPlan-step old new Step reply may step = absurd may
 KeepsPlan-step old new Close reply may step = absurd may
 KeepsPlan-step old new event reply may step = absurd step
@@ -162,6 +163,7 @@ IsServed-step old new (Adopt shard) (Refused NothingToAdopt) may step = tt
 IsServed-step old new (Adopt shard) (Refused OutOfMemory) may step = tt
 IsServed-step old new (Adopt shard) (Adopted head) may step = tt
 IsServed-step old new Mark reply may step = absurd may
+IsServed-step old new MarkSome reply may step = absurd may
 IsServed-step old new Step reply may step = absurd may
 IsServed-step old new Close reply may step = absurd may
 IsServed-step old new event reply may step = absurd step

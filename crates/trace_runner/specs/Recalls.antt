@@ -13,7 +13,7 @@ use Rattle.trace_runner.specs.News.{News, news_of, with_all_made}
 use Rattle.trace_runner.specs.Runs.{AreSteps, DoLines, IsAnswered, ends_asked, finishing, pairs_left_of, planning_at, rings_asked}
 use Rattle.trace_runner.specs.declared.plans.Plans.{Plans}
 use Rattle.arena_core.specs.declared.event.Event.{Event}
-use Rattle.arena_core.specs.declared.event.Event.TheVariants.{Put, Later, Settle, End, Retire, Trim, Adopt, Mark, Step, Close}
+use Rattle.arena_core.specs.declared.event.Event.TheVariants.{Put, Later, Settle, End, Retire, Trim, Adopt, Mark, MarkSome, Step, Close}
 use Rattle.arena_core.specs.declared.reply.Reply.{Reply}
 use Rattle.arena_core.specs.declared.reply.Reply.TheVariants.{Issued, Settled, Retired, Marked, Stepped, NoPairLeft, Closed, NoPlan, Refused}
 use Rattle.arena_core.specs.declared.reply.Refusal.{Refusal}
@@ -98,6 +98,7 @@ MayCall core (Settle worker shard) = ⊥
 MayCall core (End shard) = ⊥
 MayCall core (Retire shard most) = ⊥
 MayCall core Mark = ⊥
+MayCall core MarkSome = ⊥
 MayCall core Step = ⊥
 MayCall core Close = ⊥
 MayCall core event = Unit {0}

@@ -12,9 +12,6 @@ use teurlaks::{Limits, Refused};
 
 const VALUES: usize = 1_000_000;
 
-/// A plan has at most 4,096 pages on a side, so a store of more than twice as many can't fold.
-const MOST_PAGES: usize = 8192;
-
 /// How many pages a shard has at most.
 const PAGES_OF_A_SHARD: usize = 1024;
 
@@ -43,132 +40,75 @@ fn number<const N: usize>(value: &[u8; N]) -> usize {
     usize::from_le_bytes(std::array::from_fn(|byte| value[byte]))
 }
 
-/// How many values a store gets, so that all take as few stores of at most `MOST_PAGES` as can be.
-fn values_of_a_store(slots: usize) -> usize {
-    VALUES.div_ceil(VALUES.div_ceil(MOST_PAGES * slots))
-}
+struct Slab<const N: usize>(teurlaks::Slab<[u8; N]>);
 
-/// `teurlaks::Slab`s, one after another.
-struct Slabs<const N: usize> {
-    slabs: Vec<teurlaks::Slab<[u8; N]>>,
-    each: usize,
-}
-
-impl<const N: usize> Slabs<N> {
-    fn new() -> Result<Slabs<N>, Refused> {
-        let each = values_of_a_store(if N <= 128 { 256 } else { 64 });
-        let slabs = (0..VALUES.div_ceil(each)).map(|_| teurlaks::Slab::new());
-        Ok(Slabs {
-            slabs: slabs.collect::<Result<_, _>>()?,
-            each,
-        })
-    }
-}
-
-impl<const N: usize> Values<N> for Slabs<N> {
+impl<const N: usize> Values<N> for Slab<N> {
     type Key = teurlaks::Key;
-    fn put(&mut self, number: usize, value: [u8; N]) -> Self::Key {
-        self.slabs[number / self.each].insert(value).expect("it has room")
+    fn put(&mut self, _: usize, value: [u8; N]) -> Self::Key {
+        self.0.insert(value).expect("it has room")
     }
-    fn get(&self, number: usize, key: Self::Key) -> Option<[u8; N]> {
-        self.slabs[number / self.each].get(key).copied()
+    fn get(&self, _: usize, key: Self::Key) -> Option<[u8; N]> {
+        self.0.get(key).copied()
     }
-    fn free(&mut self, number: usize, key: Self::Key) -> bool {
-        self.slabs[number / self.each].remove(key).is_some()
+    fn free(&mut self, _: usize, key: Self::Key) -> bool {
+        self.0.remove(key).is_some()
     }
     fn give_back(&mut self, _: &mut Keys<Self::Key>) {
-        for slab in &mut self.slabs {
-            slab.compact().expect("it has few enough pages");
-        }
+        self.0.compact().expect("there is memory");
     }
     fn pages(&self) -> usize {
-        self.slabs.iter().map(teurlaks::Slab::pages).sum()
+        self.0.pages()
     }
 }
 
-/// `teurlaks::Store`s, one after another, each of as few shards as have room.
-struct Stores<const N: usize> {
-    stores: Vec<teurlaks::Store<[u8; N]>>,
-    each: usize,
+/// A store of as few shards as have room, which are filled in turn.
+struct Store<const N: usize> {
+    store: teurlaks::Store<[u8; N]>,
     shards: u32,
 }
 
-impl<const N: usize> Stores<N> {
-    fn new() -> Result<Stores<N>, Refused> {
+impl<const N: usize> Store<N> {
+    fn new() -> Result<Store<N>, Refused> {
         let slots = match N {
             0..=16 => 256,
             17..=64 => 64,
             _ => 16,
         };
-        let each = values_of_a_store(slots);
+        let shards = VALUES.div_ceil(slots).div_ceil(PAGES_OF_A_SHARD) as u32;
         let limits = Limits {
-            shards: each.div_ceil(slots).div_ceil(PAGES_OF_A_SHARD) as u32,
+            shards,
             ..Limits::default()
         };
-        let stores = (0..VALUES.div_ceil(each)).map(|_| teurlaks::Store::with_limits(limits));
-        Ok(Stores {
-            stores: stores.collect::<Result<_, _>>()?,
-            each,
-            shards: limits.shards,
+        Ok(Store {
+            store: teurlaks::Store::with_limits(limits)?,
+            shards,
         })
-    }
-
-    /// Folds the sparser half of each shard's pages onto other pages, until that gives back less than a sixteenth, as `Slab::compact` does.
-    fn compact(store: &mut teurlaks::Store<[u8; N]>, shards: u32) -> Result<(), Refused> {
-        loop {
-            let pages = store.pages();
-            for shard in 0..shards {
-                store.retire(shard, pages / 2 / shards as usize)?;
-            }
-            store.mesh()?;
-            Self::adopt_all(store, shards)?;
-            if (pages - store.pages()) * 16 < pages {
-                return Ok(());
-            }
-        }
-    }
-
-    /// Moves the pool's pages to the shards in turn.
-    fn adopt_all(store: &mut teurlaks::Store<[u8; N]>, shards: u32) -> Result<(), Refused> {
-        let mut full = 0;
-        for shard in (0..shards).cycle() {
-            match store.adopt(shard) {
-                Ok(_) => full = 0,
-                Err(Refused::NothingToAdopt) => break,
-                Err(Refused::PagesSpent) if full < shards => full += 1,
-                Err(refused) => return Err(refused),
-            }
-        }
-        Ok(())
     }
 }
 
-impl<const N: usize> Values<N> for Stores<N> {
+impl<const N: usize> Values<N> for Store<N> {
     type Key = teurlaks::Key;
     fn put(&mut self, number: usize, value: [u8; N]) -> Self::Key {
         let shard = number as u32 % self.shards;
-        let store = &mut self.stores[number / self.each];
-        store.insert_in(shard, value).expect("it has room")
+        self.store.insert_in(shard, value).expect("it has room")
     }
-    fn get(&self, number: usize, key: Self::Key) -> Option<[u8; N]> {
-        self.stores[number / self.each].get(key)
+    fn get(&self, _: usize, key: Self::Key) -> Option<[u8; N]> {
+        self.store.get(key)
     }
-    fn free(&mut self, number: usize, key: Self::Key) -> bool {
-        self.stores[number / self.each].remove(key).is_some()
+    fn free(&mut self, _: usize, key: Self::Key) -> bool {
+        self.store.remove(key).is_some()
     }
     fn give_back(&mut self, _: &mut Keys<Self::Key>) {
-        for store in &mut self.stores {
-            Self::compact(store, self.shards).expect("it has few enough pages");
-        }
+        self.store.compact().expect("there is memory");
     }
     fn pages(&self) -> usize {
-        self.stores.iter().map(teurlaks::Store::pages).sum()
+        self.store.pages()
     }
 }
 
 /// `REKEYS`: by `Slab::compact`, which moves values and so changes keys, and otherwise by `Slab::shrink_to_fit`, which cuts off a free end.
-struct Slab<const N: usize, const REKEYS: bool>(slab::Slab<[u8; N]>);
-impl<const N: usize, const REKEYS: bool> Values<N> for Slab<N, REKEYS> {
+struct Plain<const N: usize, const REKEYS: bool>(slab::Slab<[u8; N]>);
+impl<const N: usize, const REKEYS: bool> Values<N> for Plain<N, REKEYS> {
     type Key = usize;
     fn put(&mut self, _: usize, value: [u8; N]) -> usize {
         self.0.insert(value)
@@ -320,10 +260,10 @@ fn measure<const N: usize, S: Values<N>>(mut store: S, percent: usize) -> String
 fn measure_of<const N: usize>(who: &str, percent: usize) -> Option<String> {
     let why = "the limits are in their range";
     Some(match who {
-        "teurlaks-slab" => measure(Slabs::<N>::new().expect(why), percent),
-        "teurlaks-store" => measure(Stores::<N>::new().expect(why), percent),
-        "slab" => measure(Slab::<N, false>(slab::Slab::new()), percent),
-        "slab-compact" => measure(Slab::<N, true>(slab::Slab::new()), percent),
+        "teurlaks-slab" => measure(Slab::<N>(teurlaks::Slab::new().expect(why)), percent),
+        "teurlaks-store" => measure(Store::<N>::new().expect(why), percent),
+        "slab" => measure(Plain::<N, false>(slab::Slab::new()), percent),
+        "slab-compact" => measure(Plain::<N, true>(slab::Slab::new()), percent),
         "slotmap" => measure(SlotMap::<N>(slotmap::SlotMap::new()), percent),
         "sharded-slab" => measure(Sharded::<N>(sharded_slab::Slab::new()), percent),
         "boxes" => measure(Boxes::<N>(Vec::new()), percent),

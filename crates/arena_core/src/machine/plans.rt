@@ -17,14 +17,13 @@ use super::Core;
 use crate::reply::{Refusal, Reply, mark_refusal};
 use certificate::Certificate;
 use fold::{Step, fold_one};
-use marks::{mark_in, reopen_all};
+use marks::{has_too_many, mark_some_in, reopen_all};
 use shard::Shard;
 use span::{Log, SpanId};
 use std::alloc::AllocError;
 
 impl<L: Log> Core<L> {
     // Makes a plan of as many folds as can be of what stands now, opens it, and closes the groups that it folds onto.
-    // The plan is made before anything changes.
     pub(super) fn mark(&mut self) -> Result<Certificate, Refusal>
         ensures exact { MatchResult result
             (λ certificate. CoreStep self.old event.Mark (reply.Marked certificate) self.new)
@@ -32,7 +31,24 @@ impl<L: Log> Core<L> {
         ensures same { shown self.new ≡ shown self.old }
         ensures sound { IsSound self.new }
     {
-        let certificate = match mark_in(self.alloc, &mut self.pool, &mut self.shards) {
+        if self.plan.is_open() {
+            return Err(Refusal::PlanOpen);
+        }
+        if has_too_many(&self.pool, &self.shards) {
+            return Err(Refusal::TooMany);
+        }
+        self.mark_some()
+    }
+
+    // The same of the groups of each side with the fewest live slots. The plan is made before anything changes.
+    pub(super) fn mark_some(&mut self) -> Result<Certificate, Refusal>
+        ensures exact { MatchResult result
+            (λ certificate. CoreStep self.old event.MarkSome (reply.Marked certificate) self.new)
+            (λ refusal. CoreStep self.old event.MarkSome (reply.Refused refusal) self.new) }
+        ensures same { shown self.new ≡ shown self.old }
+        ensures sound { IsSound self.new }
+    {
+        let certificate = match mark_some_in(self.alloc, &mut self.pool, &mut self.shards) {
             Ok(certificate) => certificate,
             Err(error) => return Err(mark_refusal(error)),
         };

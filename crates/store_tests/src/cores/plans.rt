@@ -102,6 +102,7 @@ fn refused(event: Event) -> (Event, Told) {
 fn is_refused(core: &mut Core) -> bool {
     let table = [
         refused(Event::Mark),
+        refused(Event::MarkSome),
         refused(Event::Adopt { shard: 1 }),
         refused(Event::Adopt { shard: 70 }),
         refused(Event::End { shard: 1 }),

@@ -24,7 +24,7 @@ fn totals_after_retiring(alloc: Global) -> Option<Totals> {
         (Event::End { shard: 1 }, Told::ShardEnded),
         (Event::Adopt { shard: 0 }, Told::Adopted(guest)),
         (retire(0, 1), Told::Retired(1)),
-        (Event::Mark, Told::Marked(1)),
+        (Event::MarkSome, Told::Marked(1)),
         (retire(0, 1), Told::Refused(Refusal::PlanOpen)),
         (Event::Step, Told::Stepped(guest, home, Step::Folded)),
         (Event::Step, Told::NoPairLeft),
