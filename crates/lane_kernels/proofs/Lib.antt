@@ -1,3 +1,4 @@
+mod Blocks
 mod Counts
 mod Crowded
 mod Columns

@@ -1,8 +1,8 @@
 -- Rows of bits, a row a slot.
-use Rattle.std.proofs.Common.{ℕ, zero, suc, ◌+◌, ◌-◌, ◌*◌, ◌/◌, ◌%◌, ◌^◌, ◌<◌, ◌≤◌, ◌≡◌, ◌==◌, ◌&&◌, Bool, true, false, not, min, List, [], ◌∷◌, ◌++◌, ◌↔◌, length, length-append, Vec, Global, Ok, Err, IfOk, take, drop, get_or, lit<, lit≤, bit_and, ap, sym, ◌∙◌, refl, inl, inr, arith, w64, eqb-true, eq-eqb}
+use Rattle.std.proofs.Common.{ℕ, zero, suc, ◌+◌, ◌-◌, ◌*◌, ◌/◌, ◌%◌, ◌^◌, ◌<◌, ◌≤◌, ◌≡◌, ◌==◌, ◌&&◌, Bool, true, false, not, min, List, [], ◌++◌, ◌↔◌, length, length-append, Vec, Global, Ok, Err, IfOk, take, drop, get_or, lit<, lit≤, ap, sym, ◌∙◌, refl, inl, inr, arith, eqb-true, eq-eqb}
 use Rattle.std.specs.declared.result.Result.{Result}
 use Rattle.std.specs.declared.alloc.AllocError.{AllocError}
-use Rattle.std.specs.Int.{bit_at, bit_not}
+use Rattle.std.specs.Int.{bit_at}
 use Rattle.std.specs.List.{filter, list_all, list_any, range_with_len, slice_get}
 use Rattle.std.specs.Ordering.{nat_cmp}
 use Rattle.std.specs.FinSet.{contains, contains-empty, empty, empty_of_len, intersection, len, len-empty}
@@ -12,72 +12,23 @@ use Rattle.std.proofs.lemmas.Bool.{and_from, and_parts, both_ways, cases_Bool, c
 use Rattle.std.proofs.lemmas.List.{drop-append-le, get_or_default, get_or_past, length-drop, take-append-le}
 use Rattle.std.proofs.lemmas.List.Elements.{All-from_get_or}
 use Rattle.std.proofs.lemmas.List.Folds.{Any-from_list_any, list_any_at, list_any_none}
-use Rattle.std.proofs.lemmas.Nat.Bits.{bit_at-lt, bit_at_and, bit_at_not, bit_at-zero, same_from_bits_below}
+use Rattle.std.proofs.lemmas.Nat.Bits.{bit_at-lt, bit_at-zero, same_from_bits_below}
 use Rattle.std.proofs.lemmas.Option.{slice_get-get_or, slice_get_past}
 use Rattle.bitmap.specs.Slots.{AreDisjoint, IsBelow, SlotSet, ascending, has_bit, members_below}
 use Rattle.bitmap.specs.Operations.{AreDisjoint-at, AreDisjoint-by_slot}
 use Rattle.bitmap.specs.Words.{contains-slots_of_words}
 use Rattle.lane_kernels.specs.Disjoint.{are_disjoint, fits}
 use Rattle.lane_kernels.specs.Planes.{IsUnionOf, column, sets_of}
-use Rattle.lane_kernels.specs.Rows.{AreBitRows, AreSlotRows, IsFull, row_at, survives, width_of}
+use Rattle.lane_kernels.specs.Rows.{AreBitRows, AreSlotRows, IsFull, padded, row_at, survives, width_of}
 use Rattle.lane_kernels.proofs.Columns.{get_or-sets_of, length-sets_of}
 
-only_bit : (x y : ℕ) → x < 2 → y < 2 → (min x (1 - y) == 1) ≡ ((x == 1) && not (y == 1))
+pub only_bit : (x y : ℕ) → x < 2 → y < 2 → (min x (1 - y) == 1) ≡ ((x == 1) && not (y == 1))
 only_bit zero zero p q = refl
 only_bit zero (suc zero) p q = refl
 only_bit (suc zero) zero p q = refl
 only_bit (suc zero) (suc zero) p q = refl
 only_bit (suc (suc x)) y p q = absurd (omega arith)
 only_bit x (suc (suc y)) p q = absurd (omega arith)
-
-only_bits : (x y z : ℕ) → x < 2 → y < 2 → z < 2 → (min (min x (1 - y)) (1 - z) == 1) ≡ (((x == 1) && not (y == 1)) && not (z == 1))
-only_bits x y z p q r = only_bit (min x (1 - y)) z (omega arith) r ∙ ap (λ b. b && not (z == 1)) (only_bit x y p q)
-
--- the bits of one row that another lacks
-pub taken : (old other new : List ℕ) → ((k : ℕ) → get_or other k 0 < 2 ^ 64) → ((k : ℕ) → k < length old → get_or new k 0 ≡ bit_and (get_or old k 0) (bit_not w64 (get_or other k 0)))
-    → ((k : ℕ) → length old ≤ k → get_or new k 0 ≡ get_or old k 0) → (j : ℕ) → has_bit new j ≡ (has_bit old j && not (has_bit other j))
-taken old other new fit each past j = elim (cases_lt (j / 64) (length old)) [
-  | inl low ↦ rw (each (j / 64) low, bit_at_and, bit_at_not w64 (get_or other (j / 64) 0) (j % 64) (fit (j / 64)) (omega arith)) (only_bit _ _ (bit_at-lt _ (j % 64)) (bit_at-lt _ (j % 64)))
-  | inr high ↦ rw (past (j / 64) high, get_or_past old (j / 64) 0 high, bit_at-zero (j % 64)) refl
-]
-
--- the bits of one row that two others lack
-pub taken_two : (old one other new : List ℕ) → ((k : ℕ) → get_or one k 0 < 2 ^ 64) → ((k : ℕ) → get_or other k 0 < 2 ^ 64)
-    → ((k : ℕ) → k < length old → get_or new k 0 ≡ bit_and (bit_and (get_or old k 0) (bit_not w64 (get_or one k 0))) (bit_not w64 (get_or other k 0))) → ((k : ℕ) → length old ≤ k → get_or new k 0 ≡ get_or old k 0)
-    → (j : ℕ) → has_bit new j ≡ ((has_bit old j && not (has_bit one j)) && not (has_bit other j))
-taken_two old one other new fit_one fit_other each past j = elim (cases_lt (j / 64) (length old)) [
-  | inl low ↦
-      rw (each (j / 64) low, bit_at_and, bit_at_and, bit_at_not w64 (get_or one (j / 64) 0) (j % 64) (fit_one (j / 64)) (omega arith), bit_at_not w64 (get_or other (j / 64) 0) (j % 64) (fit_other (j / 64)) (omega arith))
-      (only_bits _ _ _ (bit_at-lt _ (j % 64)) (bit_at-lt _ (j % 64)) (bit_at-lt _ (j % 64)))
-  | inr high ↦ rw (past (j / 64) high, get_or_past old (j / 64) 0 high, bit_at-zero (j % 64)) refl
-]
-
--- a slot's row ends within the rows
-pub row-within : (width slot n : ℕ) → slot < 256 → n ≡ width * 256 → width * slot + width ≤ n
-row-within width slot n low is =
-    let ends : width * suc slot ≤ width * 256 = mul-le-mul_left width low in
-    let more = mul-suc width slot in
-    omega arith
-
-both_assoc : (a b c : Bool) → ((a && b) && c) ≡ (a && (b && c))
-both_assoc true b c = refl
-both_assoc false b c = refl
-
-and_true : (b : Bool) → (b && true) ≡ b
-and_true true = refl
-and_true false = refl
-
--- a slot whose row was taken off is one fewer that is still to come
-pub survives-next : (width : ℕ) (rows : List ℕ) (j slot : ℕ) (left after : List ℕ) (first old new : Bool) → left ≡ slot ∷ after → (first ≡ (old && survives width rows j left))
-    → new ≡ (old && not (has_bit (row_at width rows slot) j)) → first ≡ (new && survives width rows j after)
-survives-next width rows j slot left after first old new is was e =
-    was ∙ ap (λ l. old && survives width rows j l) is
-    ∙ sym (both_assoc old (not (has_bit (row_at width rows slot) j)) (survives width rows j after))
-    ∙ ap (λ b. b && survives width rows j after) (sym e)
-
--- no slot is left
-pub survives-done : (width : ℕ) (rows : List ℕ) (j : ℕ) (left : List ℕ) (first new : Bool) → left ≡ [] → first ≡ (new && survives width rows j left) → new ≡ first
-survives-done width rows j left first new none was = sym (was ∙ ap (λ l. new && survives width rows j l) none ∙ and_true new)
 
 -- a bit of a column, by the plane that has it
 pub column_bit : (p q r s : List ℕ) (j slot k w : ℕ) → slot / 64 ≡ k → w ≡ get_or (column p q r s j) k 0 → (bit_at w (slot % 64) == 1) ≡ has_bit (column p q r s j) slot
@@ -101,15 +52,15 @@ module _ (W : ℕ) (words row : List ℕ) (n : ℕ) (size : length words ≡ W *
 -- no row yet
 pub bit_rows-none : (p q r s words : List ℕ) → words ≡ [] → AreBitRows p q r s 0 words
 bit_rows-none p q r s words none = record {
-  size = let at : (length p + 63) / 64 * 0 ≡ 0 = omega arith in rw none (sym at);
+  size = let at : padded (width_of (length p)) * 0 ≡ 0 = omega arith in rw none (sym at);
   bits = λ slot j below low. absurd (omega arith);
 }
 
 -- one more row
-pub bit_rows-more : (p q r s : List ℕ) (n : ℕ) (words row : List ℕ) → AreBitRows p q r s n words → length row ≡ (length p + 63) / 64
+pub bit_rows-more : (p q r s : List ℕ) (n : ℕ) (words row : List ℕ) → AreBitRows p q r s n words → length row ≡ padded (width_of (length p))
     → ((j : ℕ) → j < length p → has_bit row j ≡ has_bit (column p q r s j) n) → AreBitRows p q r s (n + 1) (words ++ row)
 bit_rows-more p q r s n words row have long bits =
-    let W : ℕ = (length p + 63) / 64 in
+    let W : ℕ = padded (width_of (length p)) in
     record {
       size = let more = mul-suc W n in omega (arith, length-append words row, have.size, long, more);
       bits = λ slot j below low. elim (cases_eq slot n) [
@@ -128,9 +79,9 @@ pub AreSlotRows-from_bits : (p q r s : List ℕ) (sets : List SlotSet) (rows : L
 AreSlotRows-from_bits p q r s sets rows view have =
     let long : length sets ≡ length p = ap length (sym view) ∙ length-sets_of p q r s in
     record {
-      size = have.size ∙ ap (λ n. (n + 63) / 64 * 256) (sym long);
+      size = have.size ∙ ap (λ n. padded (width_of n) * 256) (sym long);
       bits = λ slot j d below low.
-          ap (λ n. has_bit (row_at ((n + 63) / 64) rows slot) j) long
+          ap (λ n. has_bit (row_at (padded (width_of n)) rows slot) j) long
           ∙ have.bits slot j below (omega (arith, long))
           ∙ sym (contains-slots_of_words (column p q r s j) (lit≤ tt) slot)
           ∙ ap (λ x. contains x slot) (sym (get_or-sets_of p q r s j d (omega (arith, long))) ∙ ap (λ l. get_or l j d) view);
@@ -138,7 +89,7 @@ AreSlotRows-from_bits p q r s sets rows view have =
 
 module _ (test held : ℕ → Bool) where
   -- what all members of a range hold that pass a test
-  all_at : (start n : ℕ) → list_all held (filter test (range_with_len start n)) ≡ true → (q : ℕ) → start ≤ q → q < start + n → test q ≡ true → held q ≡ true
+  pub all_at : (start n : ℕ) → list_all held (filter test (range_with_len start n)) ≡ true → (q : ℕ) → start ≤ q → q < start + n → test q ≡ true → held q ≡ true
   all_at start zero all q low high passes = absurd (omega arith)
   all_at start (suc n) all q low high passes = elim (cases_Bool (test start)) [
     | inl in' ↦
@@ -153,14 +104,14 @@ module _ (test held : ℕ → Bool) where
     ]
   ]
 
-  all_from : (start n : ℕ) → ((q : ℕ) → q < start + n → test q ≡ true → held q ≡ true) → list_all held (filter test (range_with_len start n)) ≡ true
+  pub all_from : (start n : ℕ) → ((q : ℕ) → q < start + n → test q ≡ true → held q ≡ true) → list_all held (filter test (range_with_len start n)) ≡ true
   all_from start zero each = refl
   all_from start (suc n) each = elim (cases_Bool (test start)) [
     | inl in' ↦ rw in' (and_from (held start) (list_all held (filter test (range_with_len (start + 1) n))) (each start (omega arith) in') (all_from (start + 1) n (λ q low. each q (omega arith))))
     | inr out ↦ rw out (all_from (start + 1) n (λ q low. each q (omega arith)))
   ]
 
-not_true : (b : Bool) → not b ≡ true → b ≡ false
+pub not_true : (b : Bool) → not b ≡ true → b ≡ false
 not_true true h = sym h
 not_true false h = refl
 
@@ -276,7 +227,7 @@ pub full_fits : (set all : SlotSet) (sets : List SlotSet) (row : List ℕ) → I
 full_fits set all sets row is apart full =
     fits-from_columns set sets row (λ j low. full.bits j low ∙ are_disjoint-is set (get_or sets j set) true (λ e. apart_from_each set all sets is apart j set low) (λ e. refl)) full.rest
 
-not_false : (b : Bool) → (b ≡ true → ⊥) → not b ≡ true
+pub not_false : (b : Bool) → (b ≡ true → ⊥) → not b ≡ true
 not_false true h = absurd (h refl)
 not_false false h = refl
 
@@ -292,7 +243,7 @@ module _ (set other : SlotSet) (rows : List ℕ) (width j : ℕ) (below : IsBelo
       (λ apart. all_from (contains set) held 0 256 (λ q small in_a. not_false _ (λ bit. AreDisjoint-at set other apart q in_a (sym (read q small) ∙ bit))))
 
 -- what is left of the full row without the rows of the set's slots
-pub left_fits : (set : SlotSet) (sets : List SlotSet) (rows full row : List ℕ) (width : ℕ) → IsBelow set 256 → AreSlotRows sets rows → IsFull sets full → width ≡ width_of (length sets)
+pub left_fits : (set : SlotSet) (sets : List SlotSet) (rows full row : List ℕ) (width : ℕ) → IsBelow set 256 → AreSlotRows sets rows → IsFull sets full → width ≡ padded (width_of (length sets))
     → ((j : ℕ) → has_bit row j ≡ (has_bit full j && survives width rows j (ascending set))) → (j : ℕ) → has_bit row j ≡ fits set (slice_get sets j)
 left_fits set sets rows full row width below are is_full wide bits =
     fits-from_columns set sets row

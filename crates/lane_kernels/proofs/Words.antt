@@ -1,5 +1,5 @@
 -- The lanes of a block of columns.
-use Rattle.std.proofs.Common.{◌≡◌, ℕ, ◌+◌, ◌*◌, ◌-◌, ◌^◌, ◌%◌, ◌≤◌, List, map, length, bit_and, bit_or, Bool, ◌==◌, cond, ap, sym, ◌∙◌, arith, w64, refl, lit≤, pow-suc, add-one, ◌<◌, ◌/◌, if◌then◌else◌, false}
+use Rattle.std.proofs.Common.{◌≡◌, eq-eqb, inl, inr, ℕ, ◌+◌, ◌*◌, ◌-◌, ◌^◌, ◌%◌, ◌≤◌, List, map, length, bit_and, bit_or, Bool, ◌==◌, cond, ap, sym, ◌∙◌, arith, w64, refl, lit≤, pow-suc, add-one, ◌<◌, ◌/◌, if◌then◌else◌, false}
 use Rattle.std.specs.Prelude.{replicate, slice_index}
 use Rattle.std.specs.List.{range_with_len}
 use Rattle.std.specs.Simd.Lanes.{mask_l, top, zip2, chunk}
@@ -7,7 +7,10 @@ use mir.Val.{bits, hbits}
 use Rattle.std.proofs.lemmas.Simd.{pick_l-range_with_len, zip2_of_maps, splat_is_map, bitmask_splat, map-map, mask_l-lt, bit_mask_l}
 use Rattle.std.proofs.lemmas.List.FromFn.{length-map-range_with_len, get_or-map-range_with_len}
 use Rattle.std.proofs.lemmas.List.{get_or_past}
-use Rattle.std.proofs.Math.Pow.{pow_mono}
+use Rattle.std.proofs.Math.Nat.{one-mul, zero-mul}
+use Rattle.std.proofs.Math.Pow.{pow_mono, pow_pos}
+use Rattle.std.proofs.lemmas.Bool.{cases_eq, ne_eqb}
+use Rattle.std.proofs.lemmas.Nat.Bits.{and_pow, bit_at-lt as bit-lt}
 use Rattle.lane_kernels.specs.Planes.{is_apart, word_of}
 
 -- the lanes of one plane, met with one word of the set
@@ -53,3 +56,26 @@ no_bit_at test first n k past =
 -- twice the bits of fewer than 64 columns, and one more, fit a word
 pub doubled : (test : ℕ → Bool) (first n : ℕ) → n < 64 → 2 * word_of test first n + 1 < 2 ^ 64
 doubled test first n few = let b = bound test first n in let m : 2 ^ (n + 1) ≤ 2 ^ 64 = pow_mono {i = n + 1} {j = 64} (omega arith) in let e = add-one n in omega (arith, pow-suc 2 n, ap (λ k. 2 ^ k) e)
+
+has_one : (x k : ℕ) → (bit_and x (2 ^ k) == 2 ^ k) ≡ (x / 2 ^ k % 2 == 1)
+has_one x k = elim (cases_eq (x / 2 ^ k % 2) 1) [
+  | inl one ↦ let is : bit_and x (2 ^ k) ≡ 2 ^ k = and_pow x k ∙ ap (λ n. n * 2 ^ k) one ∙ one-mul (2 ^ k) in rw (is, eq-eqb (2 ^ k) (2 ^ k) refl, one) refl
+  | inr other ↦
+      let low = bit-lt x k in
+      let none : x / 2 ^ k % 2 ≡ 0 = omega arith in
+      let is : bit_and x (2 ^ k) ≡ 0 = and_pow x k ∙ ap (λ n. n * 2 ^ k) none ∙ zero-mul (2 ^ k) in
+      let some = pow_pos k in
+      rw (is, none) (ne_eqb 0 (2 ^ k) (λ e. absurd (omega arith)))
+]
+
+-- the lanes of one plane that have a bit
+pub with_bit : (p : List ℕ) (k at m : ℕ) → m ≡ 2 ^ k → at + 64 ≤ length p
+    → mask_l (map (top (hbits w64)) (zip2 (λ x y. cond (x == y) (2 ^ bits w64 - 1) 0) (zip2 bit_and (chunk at 64 p) (replicate 64 m)) (replicate 64 m))) % 2 ^ 64 ≡ word_of (λ j. slice_index p j / 2 ^ k % 2 == 1) at 64
+with_bit p k at m is room =
+    let V = range_with_len at 64 in
+    let has = λ (j : ℕ). bit_and (slice_index p j) m in
+    let lanes = zip2_of_maps bit_and (λ j. slice_index p j) (λ _. m) V (sym (pick_l-range_with_len 0 p at 64 room)) (splat_is_map V 64 m refl) in
+    ap (λ l. mask_l (map (top (hbits w64)) (zip2 (λ (x y : ℕ). cond (x == y) (2 ^ bits w64 - 1) 0) l (replicate 64 m))) % 2 ^ 64) lanes
+    ∙ bitmask_splat w64 (λ (x y : ℕ). x == y) (map has V) 64 m refl (lit≤ tt)
+    ∙ ap mask_l (map-map (λ (x : ℕ). x == m) has V)
+    ∙ ap (λ (test : ℕ → Bool). mask_l (map test V)) (λ i j. (ap (λ n. bit_and (slice_index p j) n == n) is ∙ has_one (slice_index p j) k) i)

@@ -1,6 +1,7 @@
 -- Many sets as a row of bits for each slot. No public clause cites this module.
 use Rattle.std.specs.Prelude.{ℕ, ◌≡◌, ◌<◌, ◌≤◌, ◌*◌, ◌+◌, ◌/◌, Bool, true, false, not, List, length, take, drop, slice_index, slice_index_or}
 use Rattle.std.specs.FinSet.{contains, len}
+use Rattle.std.specs.Int.{bit_at}
 use Rattle.std.specs.List.{list_all}
 use Rattle.bitmap.specs.Slots.{SlotSet, has_bit}
 use Rattle.lane_kernels.specs.Planes.{column}
@@ -13,15 +14,19 @@ width_of n = (n + 63) / 64
 abbrev pub row_at : ℕ → List ℕ → ℕ → List ℕ
 row_at width words i = take width (drop (width * i) words)
 
--- a row for each slot: bit j of row s says whether set j has slot s
+-- so many words, filled up to blocks of sixteen
+abbrev pub padded : ℕ → ℕ
+padded words = (words + 15) / 16 * 16
+
+-- a row for each slot, in blocks of sixteen words: bit j of row s says whether set j has slot s
 pub record AreSlotRows (sets : List SlotSet) (rows : List ℕ) : Type 0 where
-  pub size : length rows ≡ width_of (length sets) * 256
-  pub bits : (s j : ℕ) (d : SlotSet) → s < 256 → j < length sets → has_bit (row_at (width_of (length sets)) rows s) j ≡ contains (slice_index_or sets j d) s
+  pub size : length rows ≡ padded (width_of (length sets)) * 256
+  pub bits : (s j : ℕ) (d : SlotSet) → s < 256 → j < length sets → has_bit (row_at (padded (width_of (length sets))) rows s) j ≡ contains (slice_index_or sets j d) s
 
 -- the rows of the first n slots: bit j of row s says whether column j has slot s
 pub record AreBitRows (p q r s : List ℕ) (n : ℕ) (rows : List ℕ) : Type 0 where
-  pub size : length rows ≡ width_of (length p) * n
-  pub bits : (slot j : ℕ) → slot < n → j < length p → has_bit (row_at (width_of (length p)) rows slot) j ≡ has_bit (column p q r s j) slot
+  pub size : length rows ≡ padded (width_of (length p)) * n
+  pub bits : (slot j : ℕ) → slot < n → j < length p → has_bit (row_at (padded (width_of (length p))) rows slot) j ≡ has_bit (column p q r s j) slot
 
 -- a row with a bit for each of the sets, and no other
 pub record IsFull (sets : List SlotSet) (row : List ℕ) : Type 0 where
@@ -37,3 +42,11 @@ pub record AreFewest (sets : List SlotSet) (fewest : List ℕ) : Type 0 where
 -- whether bit j is in no row of these slots
 abbrev pub survives : ℕ → List ℕ → ℕ → List ℕ → Bool
 survives width rows j slots = list_all (λ slot. not (has_bit (row_at width rows slot) j)) slots
+
+-- bit b of the word at place k of its row is 0 in the row of each slot of a word, where the row of bit 0 begins at 0
+abbrev pub IsClear : ℕ → List ℕ → ℕ → ℕ → ℕ → Type 0
+IsClear word rows width k b = (q : ℕ) → q < 64 → bit_at word q ≡ 1 → bit_at (slice_index rows (k + width * q)) b ≡ 0
+
+-- the same for each of the first n slots that the words have
+abbrev pub IsClearIn : List ℕ → List ℕ → ℕ → ℕ → ℕ → ℕ → Type 0
+IsClearIn words rows width k b n = (q : ℕ) → q < n → has_bit words q ≡ true → bit_at (slice_index rows (k + width * q)) b ≡ 0

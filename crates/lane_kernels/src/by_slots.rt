@@ -1,12 +1,15 @@
 // Many sets as a row of bits for each slot.
-ghost use Rattle.std.specs.Prelude.{◌≡◌, ℕ, ◌+◌, ◌*◌, ◌/◌, ◌<◌, ◌≤◌, ◌==◌, ◌∷◌, ◌&&◌, not, length, slice_index, IfOk};
+ghost use Rattle.std.specs.Prelude.{◌≡◌, ℕ, ◌+◌, ◌-◌, ◌*◌, ◌/◌, ◌^◌, ◌<◌, ◌≤◌, ◌==◌, ◌&&◌, ◌↔◌, not, length, min, slice_index, IfOk};
 ghost use Rattle.std.specs.Int.{bit_at};
-ghost use Rattle.bitmap.specs.Slots.{ascending, has_bit};
+ghost use Rattle.std.specs.Simd.Lanes.{chunk};
+ghost use Rattle.bitmap.specs.Slots.{AreWords, ascending, has_bit};
 ghost use Rattle.lane_kernels.specs.Planes.{column, word_of};
-ghost use Rattle.lane_kernels.specs.Rows.{AreBitRows, row_at, survives};
+ghost use Rattle.lane_kernels.specs.Rows.{AreBitRows, IsClear, IsClearIn, padded, survives};
 
-use bitmap::{Bits256, Slots};
+use bitmap::Bits256;
 use std::alloc::{AllocError, Global};
+use std::simd::Simd;
+use std::simd::prelude::*;
 
 // Whether the word has the bit.
 fn has(word: u64, bit: usize) -> bool
@@ -16,11 +19,11 @@ fn has(word: u64, bit: usize) -> bool
     (word >> bit) & 1 == 1
 }
 
-// The bit of each of at most 64 columns of a plane.
+// The bit of each of fewer than 64 columns of a plane, one after the other.
 #[tactic(auto, using(crate::proofs::Words::doubled))]
-fn bit_word(plane: &[u64], bit: usize, at: usize, n: usize) -> u64
+fn last_bits(plane: &[u64], bit: usize, at: usize, n: usize) -> u64
     requires bit { bit < 64 }
-    requires few { n ≤ 64 }
+    requires few { n < 64 }
     requires plane { at + n ≤ length plane.now }
     ensures { result ≡ word_of (λ k. bit_at (slice_index plane.now k) bit == 1) at n }
 {
@@ -33,92 +36,140 @@ fn bit_word(plane: &[u64], bit: usize, at: usize, n: usize) -> u64
     word
 }
 
-// A bit of each column, 64 to a word.
+// The bit of each of 64 columns of a plane.
+fn bits_at(plane: &[u64], bit: usize, at: usize) -> u64
+    requires bit { bit < 64 }
+    requires plane { at + 64 ≤ length plane.now }
+    ensures { result ≡ word_of (λ k. bit_at (slice_index plane.now k) bit == 1) at 64 }
+{
+    let one = Simd::<u64, 64>::splat(1 << bit);
+    (Simd::<u64, 64>::from_slice(&plane[at..]) & one)
+        .simd_eq(one)
+        .to_bitmask()
+}
+
+// The bit of each of the next 64 columns of a plane, or of those that are left.
+fn next_bits(plane: &[u64], bit: usize, at: usize) -> u64
+    requires bit { bit < 64 }
+    requires at { at ≤ length plane.now }
+    ensures { result ≡ word_of (λ k. bit_at (slice_index plane.now k) bit == 1) at
+        (min 64 (length plane.now - at)) }
+{
+    let left = plane.len() - at;
+    if left >= 64 {
+        bits_at(plane, bit, at)
+    } else {
+        last_bits(plane, bit, at, left)
+    }
+}
+
+// A bit of each column, 64 to a word. The row may be longer.
 fn fill_bits(plane: &[u64], bit: usize, row: &mut [u64])
     requires bit { bit < 64 }
-    requires row { length row.old ≡ (length plane.now + 63) / 64 }
+    requires row { (length plane.now + 63) / 64 ≤ length row.old }
     ensures len { length row.new ≡ length row.old }
     ensures bits { (j : ℕ) → j < length plane.now
         → has_bit row.new j ≡ (bit_at (slice_index plane.now j) bit == 1) }
 {
-    for w in 0..row.len() {
-        let at = 64 * w;
-        row[w] = bit_word(plane, bit, at, (plane.len() - at).min(64));
+    for w in 0..(plane.len() + 63) / 64 {
+        row[w] = next_bits(plane, bit, 64 * w);
     }
 }
 
-// Takes the bits of a row off another.
-fn take_off(row: &mut [u64], other: &[u64])
-    requires { length other.now ≡ length row.old }
+// How many words a row takes up among the rows of slots: blocks of sixteen words, the last one filled up.
+fn padded(words: usize) -> usize
+    requires { words < 2 ^ 60 }
+    ensures { result ≡ padded words }
+{
+    (words + 15) / 16 * 16
+}
+
+// Sixteen words of row `bit`, where those of row 0 begin at `first` and each row is `width` words further.
+fn block_at(rows: &[u64], width: usize, bit: usize, first: usize) -> Simd<u64, 16>
+    requires { first + width * bit + 16 ≤ length rows.now }
+    ensures { result ≡ chunk (first + width * bit) 16 rows.now }
+{
+    Simd::<u64, 16>::from_slice(&rows[first + width * bit..])
+}
+
+// These sixteen words, and the bits that the row of some bit of a word has in its sixteen, as `block_at` has them.
+fn add_rows(
+    block: Simd<u64, 16>,
+    word: u64,
+    rows: &[u64],
+    width: usize,
+    first: usize,
+) -> Simd<u64, 16>
+    requires block { length block ≡ 16 }
+    requires rows { first + width * 63 + 16 ≤ length rows.now }
+    ensures len { length result ≡ 16 }
+    ensures bits { (i b : ℕ) → i < 16 → b < 64 → (bit_at (slice_index result i) b ≡ 0)
+        ↔ ((bit_at (slice_index block i) b ≡ 0) × IsClear word rows.now width (first + i) b) }
+{
+    let mut block = block;
+    let mut left = word;
+    while left != 0 {
+        let bit = left.trailing_zeros() as usize;
+        block |= block_at(rows, width, bit, first);
+        left &= !(1 << bit);
+    }
+    block
+}
+
+// The bits that some row of the words' slots has in the sixteen words from `at` on.
+fn block_of(words: &[u64; 4], rows: &[u64], width: usize, at: usize) -> Simd<u64, 16>
+    requires rows { length rows.now ≡ width * 256 }
+    requires at { at + 16 ≤ width }
+    ensures len { length result ≡ 16 }
+    ensures bits { (i b : ℕ) → i < 16 → b < 64 → (bit_at (slice_index result i) b ≡ 0)
+        ↔ IsClearIn words.now rows.now width (at + i) b 256 }
+{
+    let mut block = Simd::<u64, 16>::splat(0);
+    for k in 0..4 {
+        block = add_rows(block, words[k], rows, width, width * (64 * k) + at);
+    }
+    block
+}
+
+// Takes the bits of a block off the words from `at` on, of which there may be fewer.
+fn take_off(block: &[u64; 16], at: usize, row: &mut [u64])
+    requires { at ≤ length row.old }
     ensures len { length row.new ≡ length row.old }
-    ensures bits { (j : ℕ) → has_bit row.new j
-        ≡ (has_bit row.old j && not (has_bit other.now j)) }
+    ensures block { (i b : ℕ) → i < 16 → b < 64 → at + i < length row.old
+        → (bit_at (slice_index row.new (at + i)) b == 1)
+        ≡ ((bit_at (slice_index row.old (at + i)) b == 1) && not (bit_at (slice_index block.now i) b == 1)) }
+    ensures before { (w : ℕ) → w < at → slice_index row.new w ≡ slice_index row.old w }
+    ensures after { (w : ℕ) → at + 16 ≤ w → slice_index row.new w ≡ slice_index row.old w }
 {
-    for w in 0..row.len() {
-        row[w] &= !other[w];
+    for i in 0..(row.len() - at).min(16) {
+        row[at + i] &= !block[i];
     }
 }
 
-// Takes the bits of two rows off another.
-fn take_off_two(row: &mut [u64], one: &[u64], other: &[u64])
-    requires one { length one.now ≡ length row.old }
-    requires other { length other.now ≡ length row.old }
-    ensures len { length row.new ≡ length row.old }
-    ensures bits { (j : ℕ) → has_bit row.new j
-        ≡ ((has_bit row.old j && not (has_bit one.now j)) && not (has_bit other.now j)) }
-{
-    for w in 0..row.len() {
-        row[w] = row[w] & !one[w] & !other[w];
-    }
-}
-
-// Row i of rows that stand one after another.
-fn row_of(rows: &[u64], width: usize, i: usize) -> &[u64]
-    requires { width * i + width ≤ length rows.now }
-    ensures row { result.now ≡ row_at width rows.now i }
-    ensures len { length result.now ≡ width }
-{
-    let start = width * i;
-    &rows[start..start + width]
-}
-
-// Takes off the rows of all slots that the set has.
+// Takes off the rows of all slots that the set has, a block at a time, which stays in registers while the slots go by.
 pub(crate) fn take_off_all(set: &Bits256, rows: &[u64], row: &mut [u64])
-    requires { length rows.now ≡ length row.old * 256 }
+    requires { length rows.now ≡ padded (length row.old) * 256 }
     ensures len { length row.new ≡ length row.old }
     ensures bits { (j : ℕ) → has_bit row.new j ≡ (has_bit row.old j
-        && survives (length row.old) rows.now j (ascending set.now)) }
+        && survives (padded (length row.old)) rows.now j (ascending set.now)) }
 {
-    let mut slots = set.iter();
-    while let Some(slot) = slots.next() {
-        take_off_next(slot, &mut slots, rows, row);
+    let words = set.words();
+    let width = padded(row.len());
+    let mut at = 0;
+    while at < row.len() {
+        let block = block_of(&words, rows, width, at);
+        take_off(&block.to_array(), at, row);
+        at += 16;
     }
 }
 
-// Takes off the row of a slot, and of the next one with it, so that the row is read and written once for both.
-fn take_off_next(slot: u8, slots: &mut Slots, rows: &[u64], row: &mut [u64])
-    requires { length rows.now ≡ length row.old * 256 }
-    ensures fewer { length slots.new ≤ length slots.old }
-    ensures len { length row.new ≡ length row.old }
-    ensures bits { (j : ℕ) → (has_bit row.old j
-        && survives (length row.old) rows.now j (slot ∷ slots.old))
-        ≡ (has_bit row.new j && survives (length row.old) rows.now j slots.new) }
-{
-    let one = row_of(rows, row.len(), usize::from(slot));
-    let Some(next) = slots.next() else {
-        take_off(row, one);
-        return;
-    };
-    take_off_two(row, one, row_of(rows, row.len(), usize::from(next)));
-}
-
-// The row of a slot: a bit of each column.
+// The row of a slot: a bit of each column. The row may be longer.
 fn fill_slot(p: &[u64], q: &[u64], r: &[u64], s: &[u64], slot: usize, row: &mut [u64])
     requires slot { slot < 256 }
     requires q { length q.now ≡ length p.now }
     requires r { length r.now ≡ length p.now }
     requires s { length s.now ≡ length p.now }
-    requires row { length row.old ≡ (length p.now + 63) / 64 }
+    requires row { (length p.now + 63) / 64 ≤ length row.old }
     ensures len { length row.new ≡ length row.old }
     ensures bits { (j : ℕ) → j < length p.now
         → has_bit row.new j ≡ has_bit (column p.now q.now r.now s.now j) slot }
@@ -151,7 +202,7 @@ pub(crate) fn rows_of(
     requires s { length s.now ≡ length p.now }
     ensures { IfOk result (λ rows. AreBitRows p.now q.now r.now s.now 256 rows.items) }
 {
-    let width = (p.len() + 63) / 64;
+    let width = padded((p.len() + 63) / 64);
     // Where there are more words than a number counts, there is no memory for them either.
     let mut rows = Vec::with_capacity(alloc, width.saturating_mul(256))?;
     let mut row = vec![in alloc; 0; width]?;

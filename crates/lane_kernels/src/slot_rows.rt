@@ -50,8 +50,9 @@ impl Model for SlotRows {
 }
 
 impl SlotRows {
-    /// The rows of these sets, of which so many will be asked for: 32 bytes a set; from [`LEAST_BY_SLOTS`] on, for each 64 sets 8 bytes
-    /// more for each slot; beside them 4 bytes a set while they are made. The error means that memory ran out.
+    /// The rows of these sets, of which so many will be asked for: 32 bytes a set; from [`LEAST_BY_SLOTS`] on, for each 1,024 sets,
+    /// begun ones included, 128 bytes more for each slot; beside them 4 bytes a set while they are made. The error means that memory
+    /// ran out.
     pub fn of(alloc: Global, planes: Planes, asked: usize) -> Result<SlotRows, AllocError>
         ensures { IfOk result (λ rows. rows ≡ planes) }
     {

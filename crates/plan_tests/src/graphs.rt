@@ -124,3 +124,83 @@ fn a_side_has_at_most_4096_groups(rt: HostRuntime) {
         (Some(Ok(4096)), Some(Err(BuildError::TooMany)))
     );
 }
+
+// A side of so many groups. Group k has the slots k % 13 + 16 * seed, k * k % 256 and k / 3 % 256.
+fn side(alloc: Global, shard: u32, count: u32, seed: u32) -> Option<Vec<Entry>> {
+    let mut groups = Vec::new(alloc);
+    for k in 0..count.min(1024) {
+        let slots = [
+            (k % 13 + seed % 8 * 16) as u8,
+            (k * k % 256) as u8,
+            (k / 3 % 256) as u8,
+        ];
+        groups.push(entry(shard, k, Class::C16, &slots)?).ok()?;
+    }
+    Some(groups)
+}
+
+fn side_again(alloc: Global, shard: u32, count: u32, seed: u32) -> Option<Vec<Entry>> {
+    match side(alloc, shard, count, seed) {
+        None => side(alloc, shard, count, seed),
+        groups => groups,
+    }
+}
+
+// Whether the bits of the row are those of pairwise tests.
+fn is_pairwise(snapshot: &Snapshot, row: &[u64], group: &Entry) -> bool {
+    let mut bits = 0usize;
+    for (j, owned) in snapshot.owned().iter().enumerate() {
+        let Some(word) = row.get(j / 64) else {
+            return false;
+        };
+        let bit = (*word >> (j % 64)) & 1 == 1;
+        if bit != group.is_compatible(owned) {
+            return false;
+        }
+        bits = bits.saturating_add(usize::from(bit));
+    }
+    bits == count_of(row)
+}
+
+// How many bits of the row are set.
+fn count_of(row: &[u64]) -> usize {
+    let mut bits = 0usize;
+    for word in row {
+        bits = bits.saturating_add(word.count_ones() as usize);
+    }
+    bits
+}
+
+// Whether both graphs of the snapshot have the same rows, which pairwise tests give.
+fn have_same_rows(snapshot: &Snapshot, one: &Graph, other: &Graph) -> bool {
+    for (i, group) in snapshot.abandoned().iter().enumerate() {
+        if i >= one.abandoned() || i >= other.abandoned() {
+            return false;
+        }
+        if one.row(i) != other.row(i) || !is_pairwise(snapshot, one.row(i), group) {
+            return false;
+        }
+    }
+    one.abandoned() == other.abandoned()
+}
+
+// Whether the rows of so many groups a side are those of one piece, and of pairwise tests.
+fn are_of_one_piece(alloc: Global, count: u32, pieces: usize) -> Option<bool>
+    requires { 1 ≤ pieces }
+{
+    let abandoned = side_again(alloc, 0, count, 1)?;
+    let owned = side_again(alloc, 1, count, 2)?;
+    let snapshot = Snapshot::new(abandoned, owned).ok()?;
+    let one = build_again(alloc, &snapshot, 1).ok()?;
+    let other = build_again(alloc, &snapshot, pieces).ok()?;
+    Some(have_same_rows(&snapshot, &one, &other))
+}
+
+#[test]
+fn rows_are_those_of_one_piece(rt: HostRuntime) {
+    for count in [0, 1, 63, 64, 65, 300] {
+        for pieces in [1, 2, 3, 7, 64] {
+            assert_eq!(rt; are_of_one_piece(rt.alloc(), count, pieces), Some(true));
+        }
+    }
+}

@@ -1,5 +1,5 @@
-//! Rows of three sets, worked out by hand, and of up to 130, beside plain tests, by planes and by slots. Where an allocation is
-//! refused, what was refused is asked again.
+//! Rows of three sets, worked out by hand, and of up to 130 and some 1,000, beside plain tests, by planes and by slots; counts and
+//! unions. Where an allocation is refused, what was refused is asked again.
 ghost use Rattle.std.specs.Prelude.{◌≡◌, length, IfSome};
 
 use bitmap::Bits256;
@@ -14,9 +14,9 @@ fn set_of(slots: &[u8]) -> Bits256 {
     set
 }
 
-// Set j has slot j % 7 and slot 250 - j.
-fn spread(j: u8) -> Bits256 {
-    set_of(&[j % 7, 250u8.saturating_sub(j)])
+// Set j has slot j % 7 and slot 250 - j % 251.
+fn spread(j: u32) -> Bits256 {
+    set_of(&[(j % 7) as u8, (250 - j % 251) as u8])
 }
 
 fn push_again(planes: &mut Planes, set: &Bits256) -> Option<()> {
@@ -35,7 +35,7 @@ fn three(alloc: Global) -> Option<Planes> {
     Some(planes)
 }
 
-fn many(alloc: Global, count: u8) -> Option<Planes> {
+fn many(alloc: Global, count: u32) -> Option<Planes> {
     let mut planes = Planes::new(alloc);
     for j in 0..count {
         push_again(&mut planes, &spread(j))?;
@@ -50,7 +50,7 @@ fn three_by_slots(alloc: Global) -> Option<SlotRows> {
     }
 }
 
-fn many_by_slots(alloc: Global, count: u8, asked: usize) -> Option<SlotRows> {
+fn many_by_slots(alloc: Global, count: u32, asked: usize) -> Option<SlotRows> {
     match SlotRows::of(alloc, many(alloc, count)?, asked) {
         Err(_) => SlotRows::of(alloc, many(alloc, count)?, asked).ok(),
         rows => rows.ok(),
@@ -103,11 +103,13 @@ fn three_sets_by_hand(rt: HostRuntime) {
     assert_eq!(rt;
         (
             told_of_three(alloc, &[0]),
+            told_of_three(alloc, &[5]),
             told_of_three(alloc, &[]),
             told_of_three(alloc, &[0, 1])
         ),
         (
             Some((0b010, 0b010, true)),
+            Some((0b111, 0b111, true)),
             Some((0b111, 0b111, true)),
             Some((0, 0, false))
         )
@@ -133,19 +135,61 @@ fn counts_and_the_union(rt: HostRuntime) {
     );
 }
 
+fn all_slots() -> Bits256 {
+    let mut set = Bits256::empty();
+    for slot in 0..=255 {
+        set.insert(slot);
+    }
+    set
+}
+
+fn empty_sets(alloc: Global, count: u32) -> Option<Planes> {
+    let mut planes = Planes::new(alloc);
+    for _ in 0..count {
+        push_again(&mut planes, &Bits256::empty())?;
+    }
+    Some(planes)
+}
+
+// Both words of the row of 65 empty sets for the full one, where all bits of the words were set before.
+fn of_empty_sets(alloc: Global) -> Option<[u64; 2]> {
+    let mut row = [u64::MAX; 2];
+    let planes = empty_sets(alloc, 65)?;
+    if planes.len() != 65 {
+        return None;
+    }
+    planes.disjoint_row(&all_slots(), &mut row);
+    Some(row)
+}
+
+// How many words the row of no set has, and the slots that some set has.
+fn of_no_set(alloc: Global) -> Option<(usize, Bits256)> {
+    let planes = Planes::new(alloc);
+    let row = row_by_planes(alloc, &planes, &all_slots())?;
+    Some((row.len(), planes.union_all()))
+}
+
+#[test]
+fn empty_sets_and_no_set(rt: HostRuntime) {
+    assert_eq!(rt;
+        (of_empty_sets(rt.alloc()), of_no_set(rt.alloc())),
+        (Some([u64::MAX, 1]), Some((0, Bits256::empty())))
+    );
+}
+
 // The bits of 64 sets from the first on, of as many as there are, by plain tests.
-fn plain_word(first: u32, count: u8, given: &Bits256) -> u64 {
+fn plain_word(first: u32, count: u32, given: &Bits256) -> u64 {
     let mut word = 0;
     for bit in 0..64u32 {
         let j = first.saturating_add(bit);
-        if j < u32::from(count) && spread(j as u8).is_disjoint(given) {
+        if j < count && spread(j).is_disjoint(given) {
             word |= 1 << bit;
         }
     }
     word
 }
 
-fn is_plain_row(row: &[u64], count: u8, given: &Bits256) -> bool {
+fn is_plain_row(row: &[u64], count: u32, given: &Bits256) -> bool {
     let mut first = 0u32;
     for word in row {
         if *word != plain_word(first, count, given) {
@@ -153,11 +197,11 @@ fn is_plain_row(row: &[u64], count: u8, given: &Bits256) -> bool {
         }
         first = first.saturating_add(64);
     }
-    first >= u32::from(count)
+    first >= count
 }
 
 // Whether the rows of so many sets are the plain one: by planes, by slots, and where too few are asked for to lay out slots.
-fn are_plain(alloc: Global, count: u8) -> Option<(bool, bool, bool)> {
+fn are_plain(alloc: Global, count: u32) -> Option<(bool, bool, bool)> {
     let given = set_of(&[3, 200]);
     let by_planes = row_by_planes(alloc, &many(alloc, count)?, &given)?;
     let laid_out = many_by_slots(alloc, count, LEAST_BY_SLOTS)?;
@@ -174,5 +218,53 @@ fn are_plain(alloc: Global, count: u8) -> Option<(bool, bool, bool)> {
 fn every_number_of_sets(rt: HostRuntime) {
     for count in 0..=130 {
         assert_eq!(rt; are_plain(rt.alloc(), count), Some((true, true, true)));
+    }
+}
+
+// Rows by slots go by blocks of 1,024 sets.
+#[test]
+fn numbers_about_a_block(rt: HostRuntime) {
+    for count in [1023, 1024, 1025, 1089] {
+        assert_eq!(rt; are_plain(rt.alloc(), count), Some((true, true, true)));
+    }
+}
+
+// The slots of all sets, and those that some set has, by plain calls.
+fn plain_totals(count: u32) -> (u64, Bits256) {
+    let mut sum = 0u64;
+    let mut all = Bits256::empty();
+    for j in 0..count {
+        let set = spread(j);
+        sum = sum.saturating_add(u64::from(set.count()));
+        all = all.union(&set);
+    }
+    (sum, all)
+}
+
+fn counts_again(alloc: Global, planes: &Planes) -> Option<Vec<u32>>
+    ensures { IfSome result (λ counts. length counts.items ≡ length planes.now) }
+{
+    match vec![in alloc; 9u32; planes.len()] {
+        Err(_) => vec![in alloc; 9u32; planes.len()].ok(),
+        counts => counts.ok(),
+    }
+}
+
+// The same by the kernels.
+fn totals(alloc: Global, count: u32) -> Option<(u64, Bits256)> {
+    let planes = many(alloc, count)?;
+    let mut counts = counts_again(alloc, &planes)?;
+    planes.count_all(&mut counts);
+    let mut sum = 0u64;
+    for each in &counts {
+        sum = sum.saturating_add(u64::from(*each));
+    }
+    Some((sum, planes.union_all()))
+}
+
+#[test]
+fn counts_and_unions_of_every_number_of_sets(rt: HostRuntime) {
+    for count in 0..=130 {
+        assert_eq!(rt; totals(rt.alloc(), count), Some(plain_totals(count)));
     }
 }
