@@ -75,13 +75,14 @@ fn turn_others(
     ensures more { pair_count mates.old.onto.items ≤ pair_count mates.new.onto.items }
 {
     let mut cursors = vec![in alloc; 0; mates.onto.len()]?;
+    let mut path = Vec::new(alloc);
     let mut first = 0;
     for root in 0..mates.onto.len() {
         if mates.onto[root].is_none() {
             // The places before the first one are used, and in a dense graph they are many.
             first = first_unused(used, first);
             cursors[root] = first;
-            turn_from(alloc, graph, mates, layers, used, &mut cursors, root)?;
+            turn_from(graph, mates, layers, used, &mut cursors, &mut path, root)?;
         }
     }
     Ok(())
@@ -172,14 +173,15 @@ fn is_next(layer: Option<usize>, other: Option<usize>) -> bool {
     }
 }
 
-/// Turns round a walk along the layers from a place left out, where one is left.
+/// Turns round a walk along the layers from a place left out, where one is left. What the path has is written over: it is lent so
+/// that few calls take memory.
 fn turn_from(
-    alloc: Global,
     graph: &Graph,
     mates: &mut Mates,
     layers: &[Option<usize>],
     used: &mut [bool],
     cursors: &mut [usize],
+    path: &mut Vec<Reached>,
     root: usize,
 ) -> Result<(), AllocError>
     // The pairs and the lists fit the graph.
@@ -200,7 +202,7 @@ fn turn_from(
     ensures owned { length mates.new.planned.items ≡ length graph.now.owned }
     ensures more { pair_count mates.old.onto.items ≤ pair_count mates.new.onto.items }
 {
-    let mut path = Vec::new(alloc);
+    path.clear();
     path.push(Reached {
         group: root,
         before: 0,
@@ -215,7 +217,7 @@ fn turn_from(
                 used[owned] = true;
                 match mates.planned[owned] {
                     None => {
-                        turn_round(graph, mates, &path, at, owned, used);
+                        turn_round(graph, mates, path, at, owned, used);
                         return Ok(());
                     }
                     Some(next) => path.push(Reached {
