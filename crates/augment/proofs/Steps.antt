@@ -98,27 +98,17 @@ pub record IsReaching (graph : Groups) (onto : List (Option ℕ)) (entries : Lis
   pub left : length entries + unmarked reached ≡ total
   pub marks : length reached ≡ owned
 
-below_more_partner : (graph : Groups) (reached : List Bool) (g from k : ℕ) → ((q : ℕ) → q < from → compatible_at graph g q ≡ true → is_marked reached q ≡ true) → ((q : ℕ) → from ≤ q → q < k → compatible_at graph g q ≡ false) → is_marked reached k ≡ true → (q : ℕ) → q < k + 1 → compatible_at graph g q ≡ true → is_marked reached q ≡ true
+below_more_partner : (graph : Groups) (reached : List Bool) (g from k : ℕ) → ((q : ℕ) → q < from → compatible_at graph g q ≡ true → is_marked reached q ≡ true) → ((q : ℕ) → from ≤ q → q < k → compatible_at graph g q ≡ true → is_marked reached q ≡ true) → is_marked reached k ≡ true → (q : ℕ) → q < k + 1 → compatible_at graph g q ≡ true → is_marked reached q ≡ true
 below_more_partner graph reached g from k below least here q h j =
     elim (cases_lt q from) [
       | inl l ↦ below q l j
       | inr l ↦ elim (cases_lt q k) [
-        | inl m ↦ absurd (both_ways (compatible_at graph g q) (least q l m) j)
+        | inl m ↦ least q l m j
         | inr m ↦ let qk : q ≡ k = omega arith in ap (is_marked reached) qk ∙ here
       ]
     ]
 
-pub reaching_skip : (graph : Groups) (onto : List (Option ℕ)) (entries : List Reached) (reached : List Bool) (at g from total owned k : ℕ) → IsReaching graph onto entries reached at g from total owned → ((q : ℕ) → from ≤ q → q < k → compatible_at graph g q ≡ false) → is_marked reached k ≡ true → IsReaching graph onto entries reached at g (k + 1) total owned
-reaching_skip graph onto entries reached at g from total owned k s least here = record {
-  search = s.search;
-  at_in = s.at_in;
-  group_is = s.group_is;
-  below = below_more_partner graph reached g from k s.below least here;
-  left = s.left;
-  marks = s.marks;
-}
-
-pub reaching_push : (graph : Groups) (onto planned : List (Option ℕ)) (entries : List Reached) (reached : List Bool) (at g from total owned k i : ℕ) → ArePaired onto planned → IsReaching graph onto entries reached at g from total owned → ((q : ℕ) → from ≤ q → q < k → compatible_at graph g q ≡ false) → compatible_at graph g k ≡ true → k < owned → is_marked reached k ≡ false → mate planned k ≡ Some i
+pub reaching_push : (graph : Groups) (onto planned : List (Option ℕ)) (entries : List Reached) (reached : List Bool) (at g from total owned k i : ℕ) → ArePaired onto planned → IsReaching graph onto entries reached at g from total owned → ((q : ℕ) → from ≤ q → q < k → compatible_at graph g q ≡ true → is_marked reached q ≡ true) → compatible_at graph g k ≡ true → k < owned → is_marked reached k ≡ false → mate planned k ≡ Some i
     → IsReaching graph onto (entries ++ record { group = i; before = at } ∷ []) (set reached k true) at g (k + 1) total owned
 reaching_push graph onto planned entries reached at g from total owned k i paired s least j k_in unmarked_k m =
     let e : Reached = record { group = i; before = at } in
@@ -130,13 +120,14 @@ reaching_push graph onto planned entries reached at g from total owned k i paire
       | inl o ↦ ap (is_marked (set reached k true)) o ∙ now
       | inr o ↦ get_or-set_other reached k q true false o ∙ s.below q h jq
     ] in
+    let kept_between : (q : ℕ) → from ≤ q → q < k → compatible_at graph g q ≡ true → is_marked (set reached k true) q ≡ true = λ q l h jq. get_or-set_other reached k q true false (λ e. absurd (omega arith)) ∙ least q l h jq in
     let fewer : unmarked (set reached k true) + 1 ≡ unmarked reached = unmarked-set reached k k_marks unmarked_k in
     let was : length entries + unmarked reached ≡ total = s.left in
     record {
       search = search_more graph onto planned entries reached at i k at paired s.search (omega arith) at_in k_marks (ap (λ x. compatible_at graph x k) s.group_is ∙ j) unmarked_k (paired.back i k m);
       at_in = omega arith;
       group_is = group_kept entries e at at_in ∙ s.group_is;
-      below = below_more_partner graph (set reached k true) g from k kept least now;
+      below = below_more_partner graph (set reached k true) g from k kept kept_between now;
       left = omega arith;
       marks = length-set reached k true ∙ s.marks;
     }
@@ -151,7 +142,7 @@ reaching_start graph onto entries reached at g total owned s h e l m = record {
   marks = m;
 }
 
-pub reaching_end : (graph : Groups) (onto : List (Option ℕ)) (entries : List Reached) (reached : List Bool) (at g from total owned : ℕ) → IsReaching graph onto entries reached at g from total owned → ((q : ℕ) → from ≤ q → compatible_at graph g q ≡ false) → IsSearch graph onto entries reached (at + 1)
+pub reaching_end : (graph : Groups) (onto : List (Option ℕ)) (entries : List Reached) (reached : List Bool) (at g from total owned : ℕ) → IsReaching graph onto entries reached at g from total owned → ((q : ℕ) → from ≤ q → compatible_at graph g q ≡ true → is_marked reached q ≡ true) → IsSearch graph onto entries reached (at + 1)
 reaching_end graph onto entries reached at g from total owned s none = record {
   linked = s.search.linked;
   marked = s.search.marked;
@@ -165,7 +156,7 @@ reaching_end graph onto entries reached at g from total owned s none = record {
         let jg : compatible_at graph g k ≡ true = ap (λ x. compatible_at graph x k) (sym (ap (group entries) ta ∙ s.group_is)) ∙ j in
         elim (cases_lt k from) [
           | inl f ↦ s.below k f jg
-          | inr f ↦ absurd (both_ways (compatible_at graph g k) (none k f) jg)
+          | inr f ↦ none k f jg
         ]
   ];
 }

@@ -1,7 +1,8 @@
 -- Plans by places, and what a search along alternating walks has reached. No public clause cites this module.
-use Rattle.std.specs.Prelude.{ℕ, ◌≡◌, ◌≢◌, ◌<◌, Bool, true, false, List, length, Option, Some, None, is_some, not, slice_index_or, count_by}
+use Rattle.std.specs.Prelude.{ℕ, ◌+◌, ◌/◌, ◌≡◌, ◌≢◌, ◌<◌, Bool, true, false, List, length, Option, Some, None, is_some, not, slice_index_or, count_by}
 use Rattle.augment.specs.declared.walks.Reached.{Reached}
 use Rattle.augment.specs.Mates.{mate}
+use Rattle.bitmap.specs.Slots.{has_bit}
 use Rattle.mesh_graph.specs.Groups.{Groups, compatible_at}
 
 -- each pair is compatible
@@ -30,6 +31,11 @@ pub record AreLinked (graph : Groups) (onto : List (Option ℕ)) (entries : List
 -- whether the owned place k is marked
 abbrev pub is_marked : List Bool → ℕ → Bool
 is_marked reached k = slice_index_or reached k false
+
+-- the marks of places, and a bit for each place that has none
+pub record AreOpposite (unmarked : List ℕ) (marked : List Bool) : Type 0 where
+  pub size : length unmarked ≡ (length marked + 63) / 64
+  pub bits : (k : ℕ) → k < length marked → has_bit unmarked k ≡ not (is_marked marked k)
 
 -- some entry reached the place i
 abbrev pub Stands : List Reached → ℕ → Type 0

@@ -30,6 +30,7 @@
 
 mod mates;
 mod phases;
+mod places;
 mod planning;
 mod walks;
 

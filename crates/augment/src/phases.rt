@@ -5,6 +5,7 @@ ghost use Rattle.mesh_graph.specs.Groups.{compatible_at};
 ghost use Rattle.augment.specs.Walks.{Joins, pair_count, AreLinked, is_marked, IsSearched};
 
 use crate::mates::Mates;
+use crate::places::Places;
 use crate::walks::{Reached, Walks, turn_round};
 use mesh_graph::Graph;
 use std::alloc::{AllocError, Global};
@@ -43,14 +44,14 @@ pub(crate) fn turn_phase(
     'entries: while next < walks.entries.len() {
         if let Some(free) = walks.reach_from(graph, mates, next)? {
             let layers = layers_of(alloc, graph, mates, &walks.entries)?;
-            let mut used = vec![in alloc; false; graph.owned()]?;
+            let mut used = Places::new(alloc, graph.owned())?;
             turn_round(graph, mates, &walks.entries, next, free, &mut used);
             turn_others(alloc, graph, mates, &layers, &mut used)?;
             return Ok(None);
         }
         next += 1;
     }
-    Ok(Some(walks.reached))
+    Ok(Some(walks.reached.into_marks()))
 }
 
 /// Turns round a walk from each place left out from which there is one along the layers.
@@ -59,14 +60,14 @@ fn turn_others(
     graph: &Graph,
     mates: &mut Mates,
     layers: &[Option<usize>],
-    used: &mut [bool],
+    used: &mut Places,
 ) -> Result<(), AllocError>
     // The pairs and the lists fit the graph.
     requires joins { Joins graph.now mates.old.onto.items }
     requires groups { length mates.old.onto.items ≡ length graph.now.abandoned }
     requires layers { length layers.now ≡ length mates.old.onto.items }
     requires owned { length mates.old.planned.items ≡ length graph.now.owned }
-    requires used { length used.old ≡ length graph.now.owned }
+    requires used { length used.old.marked.items ≡ length graph.now.owned }
 
     // So do the pairs afterwards, which are no fewer.
     ensures joins { Joins graph.now mates.new.onto.items }
@@ -80,7 +81,7 @@ fn turn_others(
     for root in 0..mates.onto.len() {
         if mates.onto[root].is_none() {
             // The places before the first one are used, and in a dense graph they are many.
-            first = first_unused(used, first);
+            first = first_unused(&used.marked, first);
             cursors[root] = first;
             turn_from(graph, mates, layers, used, &mut cursors, &mut path, root)?;
         }
@@ -130,7 +131,7 @@ fn next_step(
     graph: &Graph,
     mates: &Mates,
     layers: &[Option<usize>],
-    used: &[bool],
+    used: &Places,
     cursors: &mut [usize],
     group: usize,
 ) -> Option<usize>
@@ -139,25 +140,23 @@ fn next_step(
     requires groups { length mates.now.onto.items ≡ length graph.now.abandoned }
     requires layers { length layers.now ≡ length mates.now.onto.items }
     requires owned { length mates.now.planned.items ≡ length graph.now.owned }
-    requires used { length used.now ≡ length graph.now.owned }
+    requires used { length used.now.marked.items ≡ length graph.now.owned }
     requires cursors { length cursors.old ≡ length mates.now.onto.items }
 
     // A compatible place that no walk has used.
     ensures joined_to { IfSome result (λ j. compatible_at graph.now group j ≡ true) }
     ensures within { IfSome result (λ j. j < length graph.now.owned) }
-    ensures unused { IfSome result (λ j. is_marked used.now j ≡ false) }
+    ensures unused { IfSome result (λ j. is_marked used.now.marked.items j ≡ false) }
 {
     let mut from = cursors[group];
-    'partners: while let Some(owned) = graph.next_partner(group, from) {
+    'partners: while let Some(owned) = graph.next_partner_among(group, from, &used.unmarked) {
         from = owned + 1;
         cursors[group] = from;
-        if !used[owned] {
-            match mates.planned[owned] {
-                None => return Some(owned),
-                Some(next) => {
-                    if is_next(layers[group], layers[next]) {
-                        return Some(owned);
-                    }
+        match mates.planned[owned] {
+            None => return Some(owned),
+            Some(next) => {
+                if is_next(layers[group], layers[next]) {
+                    return Some(owned);
                 }
             }
         }
@@ -179,7 +178,7 @@ fn turn_from(
     graph: &Graph,
     mates: &mut Mates,
     layers: &[Option<usize>],
-    used: &mut [bool],
+    used: &mut Places,
     cursors: &mut [usize],
     path: &mut Vec<Reached>,
     root: usize,
@@ -189,7 +188,7 @@ fn turn_from(
     requires groups { length mates.old.onto.items ≡ length graph.now.abandoned }
     requires layers { length layers.now ≡ length mates.old.onto.items }
     requires owned { length mates.old.planned.items ≡ length graph.now.owned }
-    requires used { length used.old ≡ length graph.now.owned }
+    requires used { length used.old.marked.items ≡ length graph.now.owned }
     requires cursors { length cursors.old ≡ length mates.old.onto.items }
 
     // The walk begins at a group that is left out.
@@ -201,6 +200,7 @@ fn turn_from(
     ensures groups { length mates.new.onto.items ≡ length graph.now.abandoned }
     ensures owned { length mates.new.planned.items ≡ length graph.now.owned }
     ensures more { pair_count mates.old.onto.items ≤ pair_count mates.new.onto.items }
+    ensures used { length used.new.marked.items ≡ length used.old.marked.items }
 {
     path.clear();
     path.push(Reached {
@@ -214,7 +214,7 @@ fn turn_from(
                 path.pop();
             }
             Some(owned) => {
-                used[owned] = true;
+                used.mark(owned);
                 match mates.planned[owned] {
                     None => {
                         turn_round(graph, mates, path, at, owned, used);

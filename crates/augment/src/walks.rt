@@ -5,6 +5,7 @@ ghost use Rattle.mesh_graph.specs.Groups.{compatible_at};
 ghost use Rattle.augment.specs.Walks.{Joins, pair_count, group, AreLinked, IsSearch, unmarked};
 
 use crate::mates::Mates;
+use crate::places::Places;
 use mesh_graph::Graph;
 use std::alloc::{AllocError, Global};
 
@@ -24,7 +25,7 @@ pub(crate) fn turn_round(
     entries: &[Reached],
     mut last: usize,
     mut free: usize,
-    used: &mut [bool],
+    used: &mut Places,
 )
     // The entries are a walk along the pairs.
     requires joins { Joins graph.now mates.old.onto.items }
@@ -34,7 +35,7 @@ pub(crate) fn turn_round(
     requires last_in { last < length entries.now }
     requires free_in { free < length mates.old.planned.items }
     requires free { mate mates.old.planned.items free ≡ None }
-    requires used { length used.old ≡ length mates.old.planned.items }
+    requires used { length used.old.marked.items ≡ length mates.old.planned.items }
     requires end { compatible_at graph.now (group entries.now last) free ≡ true }
 
     // There is one pair more.
@@ -42,20 +43,21 @@ pub(crate) fn turn_round(
     ensures more { pair_count mates.new.onto.items ≡ pair_count mates.old.onto.items + 1 }
     ensures onto { length mates.new.onto.items ≡ length mates.old.onto.items }
     ensures planned { length mates.new.planned.items ≡ length mates.old.planned.items }
+    ensures used { length used.new.marked.items ≡ length used.old.marked.items }
 {
     'walk: while let Some(left) = mates.pair_up(entries[last].group, free) {
-        used[free] = true;
+        used.mark(free);
         free = left;
         last = entries[last].before;
     }
-    used[free] = true;
+    used.mark(free);
 }
 
 /// What a search along alternating walks has reached.
 #[derive(Drop)]
 pub(crate) struct Walks {
     pub entries: Vec<Reached>,
-    pub reached: Vec<bool>,
+    pub reached: Places,
 }
 
 impl Walks {
@@ -63,8 +65,8 @@ impl Walks {
     pub(crate) fn start(alloc: Global, graph: &Graph, mates: &Mates) -> Result<Self, AllocError>
         requires owned { length mates.now.planned.items ≡ length graph.now.owned }
         ensures search { IfOk result (λ walks. IsSearch graph.now mates.now.onto.items
-            walks.entries.items walks.reached.items 0) }
-        ensures owned { IfOk result (λ walks. length walks.reached.items ≡ length graph.now.owned) }
+            walks.entries.items walks.reached.marked.items 0) }
+        ensures owned { IfOk result (λ walks. length walks.reached.marked.items ≡ length graph.now.owned) }
     {
         let mut entries = Vec::new(alloc);
         for (group, mate) in mates.onto.iter().enumerate() {
@@ -72,7 +74,7 @@ impl Walks {
                 entries.push(Reached { group, before: 0 })?;
             }
         }
-        let reached = vec![in alloc; false; graph.owned()]?;
+        let reached = Places::new(alloc, graph.owned())?;
         Ok(Walks { entries, reached })
     }
 
@@ -86,15 +88,15 @@ impl Walks {
     ) -> Result<Option<usize>, AllocError>
         // The search has come to this entry.
         requires search { IsSearch graph.now mates.now.onto.items self.old.entries.items
-            self.old.reached.items at }
+            self.old.reached.marked.items at }
         requires at_in { at < length self.old.entries.items }
         requires groups { length mates.now.onto.items ≡ length graph.now.abandoned }
         requires owned { length mates.now.planned.items ≡ length graph.now.owned }
-        requires marks { length self.old.reached.items ≡ length graph.now.owned }
+        requires marks { length self.old.reached.marked.items ≡ length graph.now.owned }
 
         // It has gone past the entry.
         ensures searched { IfOk result (λ found. IfNone found
-            (IsSearch graph.now mates.now.onto.items self.new.entries.items self.new.reached.items
+            (IsSearch graph.now mates.now.onto.items self.new.entries.items self.new.reached.marked.items
             (at + 1))) }
 
         // Or it has come to a free place.
@@ -110,24 +112,26 @@ impl Walks {
 
         // Each entry stands for a place that is marked.
         ensures left { IfOk result (λ found. length self.new.entries.items + unmarked
-            self.new.reached.items ≡ length self.old.entries.items + unmarked
-            self.old.reached.items) }
-        ensures marks { IfOk result (λ found. length self.new.reached.items
+            self.new.reached.marked.items ≡ length self.old.entries.items + unmarked
+            self.old.reached.marked.items) }
+        ensures marks { IfOk result (λ found. length self.new.reached.marked.items
             ≡ length graph.now.owned) }
     {
         let group = self.entries[at].group;
         let mut from = 0;
-        'partners: while let Some(owned) = graph.next_partner(group, from) {
-            if !self.reached[owned] {
-                match mates.planned[owned] {
-                    None => return Ok(Some(owned)),
-                    Some(back) => {
-                        self.reached[owned] = true;
-                        self.entries.push(Reached {
-                            group: back,
-                            before: at,
-                        })?;
-                    }
+        'partners: while let Some(owned) = graph.next_partner_among(
+            group,
+            from,
+            &self.reached.unmarked,
+        ) {
+            match mates.planned[owned] {
+                None => return Ok(Some(owned)),
+                Some(back) => {
+                    self.reached.mark(owned);
+                    self.entries.push(Reached {
+                        group: back,
+                        before: at,
+                    })?;
                 }
             }
             from = owned + 1;

@@ -101,6 +101,23 @@ impl<'a> Graph<'a> {
     {
         next_bit(self.row(i), from)
     }
+
+    /// The least owned place from `from` on that is compatible with the abandoned one at `i` and whose bit is set in `among`, which
+    /// has as many words as a row.
+    pub fn next_partner_among(&self, i: usize, from: usize, among: &[u64]) -> Option<usize>
+        requires abandoned { i < length self.now.abandoned }
+        requires words { length among.now ≡ (length self.now.owned + 63) / 64 }
+        ensures partner { IfSome result (λ j. compatible_at self.now i j ≡ true) }
+        ensures among { IfSome result (λ j. has_bit among.now j ≡ true) }
+        ensures within { IfSome result (λ j. j < length self.now.owned) }
+        ensures from { IfSome result (λ j. from ≤ j) }
+        ensures least { IfSome result (λ j. (k : ℕ) → from ≤ k → k < j
+            → has_bit among.now k ≡ true → compatible_at self.now i k ≡ false) }
+        ensures none { IfNone result ((k : ℕ) → from ≤ k
+            → has_bit among.now k ≡ true → compatible_at self.now i k ≡ false) }
+    {
+        next_shared_bit(self.row(i), among, from)
+    }
 }
 
 // Row i of rows that stand one after another.
@@ -130,6 +147,35 @@ fn next_bit(words: &[u64], from: usize) -> Option<usize>
     }
     for k in start + 1..words.len() {
         let word = words[k];
+        if word != 0 {
+            return Some(64 * k + word.trailing_zeros() as usize);
+        }
+    }
+    None
+}
+
+// The least bit from `from` on that is set in both.
+fn next_shared_bit(words: &[u64], among: &[u64], from: usize) -> Option<usize>
+    requires few { length words.now ≤ 64 }
+    requires same { length among.now ≡ length words.now }
+    ensures set { IfSome result (λ j. has_bit words.now j ≡ true) }
+    ensures among { IfSome result (λ j. has_bit among.now j ≡ true) }
+    ensures from { IfSome result (λ j. from ≤ j) }
+    ensures least { IfSome result (λ j. (k : ℕ) → from ≤ k → k < j
+        → has_bit among.now k ≡ true → has_bit words.now k ≡ false) }
+    ensures none { IfNone result ((k : ℕ) → from ≤ k
+        → has_bit among.now k ≡ true → has_bit words.now k ≡ false) }
+{
+    let start = from / 64;
+    if start >= words.len() {
+        return None;
+    }
+    let left = (words[start] & among[start]) >> (from % 64);
+    if left != 0 {
+        return Some(from + left.trailing_zeros() as usize);
+    }
+    for k in start + 1..words.len() {
+        let word = words[k] & among[k];
         if word != 0 {
             return Some(64 * k + word.trailing_zeros() as usize);
         }

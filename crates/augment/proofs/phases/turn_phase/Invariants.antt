@@ -6,10 +6,10 @@ abbrev pub invariant-entries : goal.invariant-entries
 invariant-entries l = record {
   onto : l.mates.onto.items ≡ l.fn.mates.onto.items;
   planned : l.mates.planned.items ≡ l.fn.mates.planned.items;
-  search : IsSearch l.graph l.mates.onto.items l.walks.entries.items l.walks.reached.items l.next;
-  marks : length l.walks.reached.items ≡ length l.graph.owned;
+  search : IsSearch l.graph l.mates.onto.items l.walks.entries.items l.walks.reached.marked.items l.next;
+  marks : length l.walks.reached.marked.items ≡ length l.graph.owned;
   next_in : l.next ≤ length l.walks.entries.items;
 }
 
 abbrev pub decreases-entries : goal.decreases-entries
-decreases-entries l = (length l.walks.entries.items - l.next) + unmarked l.walks.reached.items
+decreases-entries l = (length l.walks.entries.items - l.next) + unmarked l.walks.reached.marked.items

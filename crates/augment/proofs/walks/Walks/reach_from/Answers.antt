@@ -1,26 +1,34 @@
-use Rattle.std.proofs.Common.{arith, ◌≡◌, ◌<◌, ◌+◌, length, true, false, Some}
+use Rattle.std.proofs.Common.{arith, ◌≡◌, ◌<◌, ◌+◌, ◌∙◌, ap, length, sym, Some}
 use Rattle.std.proofs.lemmas.List.{get_or_default}
+use Rattle.bitmap.specs.Slots.{has_bit}
 use Rattle.augment.specs.Mates.{mate}
-use Rattle.augment.specs.Walks.{unmarked, is_marked}
-use Rattle.augment.proofs.Steps.{reaching_skip, reaching_push}
+use Rattle.augment.specs.Walks.{unmarked}
+use Rattle.augment.proofs.Opposite.{marked-from_bits, unmarked-from_bit}
+use Rattle.augment.proofs.Steps.{reaching_end, reaching_push}
 use Rattle.augment.proofs.walks.Walks.reach_from.Goals as goal
-use Rattle.augment.proofs.walks.Walks.reach_from.Goals.{then-not-index+in-Some-index+in_ok-push-in-Some-index, else-not-index}
 
 pub partners-preserved : goal.partners-preserved
 partners-preserved c =
-    let within : c.in-Some.owned < length c.args.graph.now.owned = c.in-Some.ensures.within in
-    let marks : length c.partners.self.reached.items ≡ length c.args.graph.now.owned = c.partners.invariant.marks in
-    let long : length c.args.mates.now.planned.items ≡ length c.args.graph.now.owned = c.requires.owned in
-    elim c.if-not-index.branch [
-      | then-not-index+in-Some-index+in_ok-push-in-Some-index w ↦
-          let unmarked_here : is_marked c.partners.self.reached.items c.in-Some.owned ≡ false = grind (arith, get_or_default) in
-          let planned : mate c.args.mates.now.planned.items c.in-Some.owned ≡ Some w.in-Some-index.back = grind (arith, get_or_default) in
-          rw (w.self-is, w.in_ok-push-in-Some-index.ensures.items)
-          (reaching_push c.args.graph.now c.args.mates.now.onto.items c.args.mates.now.planned.items c.partners.self.entries.items c.partners.self.reached.items c.args.at c.index.result.now.group c.partners.from (length c.args.self.now.entries.items + unmarked c.args.self.now.reached.items) (length c.args.graph.now.owned) c.in-Some.owned w.in-Some-index.back
-          c.args.mates.now.paired c.partners.invariant c.in-Some.ensures.least c.in-Some.ensures.partner within unmarked_here planned)
-      | else-not-index w ↦
-          let marked_here : is_marked c.partners.self.reached.items c.in-Some.owned ≡ true = grind (arith, get_or_default) in
-          rw w.self-is
-          (reaching_skip c.args.graph.now c.args.mates.now.onto.items c.partners.self.entries.items c.partners.self.reached.items c.args.at c.index.result.now.group c.partners.from (length c.args.self.now.entries.items + unmarked c.args.self.now.reached.items) (length c.args.graph.now.owned) c.in-Some.owned
-          c.partners.invariant c.in-Some.ensures.least marked_here)
-    ]
+    let graph = c.args.graph.now in
+    let reached = c.partners.self.reached in
+    let group = c.index.result.now.group in
+    let owned = c.in-Some.owned in
+    let s = c.partners.invariant in
+    let within : owned < length graph.owned = c.in-Some.ensures.within in
+    let long : length c.args.mates.now.planned.items ≡ length graph.owned = c.requires.owned in
+    let planned : mate c.args.mates.now.planned.items owned ≡ Some c.in-Some-index.back = grind (arith, get_or_default) in
+    rw (c.in_ok-push-in-Some-index.ensures.items, c.mark.ensures)
+    (reaching_push graph c.args.mates.now.onto.items c.args.mates.now.planned.items c.partners.self.entries.items reached.marked.items c.args.at group c.partners.from (length c.args.self.now.entries.items + unmarked c.args.self.now.reached.marked.items) (length graph.owned) owned c.in-Some-index.back
+    c.args.mates.now.paired s
+    (λ q late less. marked-from_bits graph reached.unmarked.items reached.marked.items group q reached.opposite s.marks (λ on. c.in-Some.ensures.least q late less (ap (λ l. has_bit l q) c.deref.ensures.value ∙ on)))
+    c.in-Some.ensures.partner within
+    (unmarked-from_bit reached.unmarked.items reached.marked.items owned reached.opposite (omega (arith, within, s.marks)) (sym (ap (λ l. has_bit l owned) c.deref.ensures.value) ∙ c.in-Some.ensures.among))
+    planned)
+
+pub returns-clause-searched : goal.returns-clause-searched
+returns-clause-searched c =
+    let graph = c.args.graph.now in
+    let reached = c.partners.self.reached in
+    let group = c.index.result.now.group in
+    reaching_end graph c.args.mates.now.onto.items c.partners.self.entries.items reached.marked.items c.args.at group c.partners.from (length c.args.self.now.entries.items + unmarked c.args.self.now.reached.marked.items) (length graph.owned) c.partners.invariant
+    (λ q late. marked-from_bits graph reached.unmarked.items reached.marked.items group q reached.opposite c.partners.invariant.marks (λ on. c.in_default.ensures.none q late (ap (λ l. has_bit l q) c.deref.ensures.value ∙ on)))
