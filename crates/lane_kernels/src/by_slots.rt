@@ -2,7 +2,7 @@
 ghost use Rattle.std.specs.Prelude.{◌≡◌, ℕ, ◌+◌, ◌-◌, ◌*◌, ◌/◌, ◌^◌, ◌<◌, ◌≤◌, ◌==◌, ◌&&◌, ◌↔◌, not, length, min, slice_index, IfOk};
 ghost use Rattle.std.specs.Int.{bit_at};
 ghost use Rattle.std.specs.Simd.Lanes.{chunk};
-ghost use Rattle.bitmap.specs.Slots.{AreWords, ascending, has_bit};
+ghost use Rattle.bitmap.specs.Slots.{ascending, has_bit};
 ghost use Rattle.lane_kernels.specs.Planes.{column, word_of};
 ghost use Rattle.lane_kernels.specs.Rows.{AreBitRows, IsClear, IsClearIn, padded, survives};
 

@@ -1,5 +1,6 @@
 // A graph of two sides, as rows of bits.
-ghost use Rattle.std.specs.Prelude.{◌≡◌, ◌+◌, ◌*◌, ◌/◌, ◌<◌, ◌≤◌, ℕ, true, false, length, slice_get, IfNone, IfSome, Some};
+ghost use Rattle.std.specs.Prelude.{◌≡◌, ◌+◌, ◌*◌, ◌/◌, ◌<◌, ◌≤◌, ℕ, true, false, bit_and, length, slice_get, slice_index, IfNone, IfSome, Some};
+ghost use Rattle.std.specs.Bool.{OnTrue};
 ghost use Rattle.bitmap.specs.Slots.{has_bit};
 ghost use Rattle.mesh_graph.specs.Groups.{IsAscending, compatible_at, ids};
 ghost use Rattle.lane_kernels.specs.Rows.{row_at};
@@ -8,6 +9,8 @@ ghost use Rattle.mesh_graph.specs.declared.build.TheConstants.{MOST_GROUPS};
 use crate::snapshot::Snapshot;
 use span::SpanId;
 use std::marker::Model;
+use std::simd::Simd;
+use std::simd::prelude::*;
 
 /// Which abandoned group of a snapshot is compatible with which owned one, by their places in the
 /// snapshot. It is lent the snapshot, and has a row of bits for each abandoned group,
@@ -154,6 +157,38 @@ fn next_bit(words: &[u64], from: usize) -> Option<usize>
     None
 }
 
+// Whether the eight words from `at` on share no bit with those of `among` at the same places.
+fn are_apart(words: &[u64], among: &[u64], at: usize) -> bool
+    requires words { at + 8 ≤ length words.now }
+    requires among { at + 8 ≤ length among.now }
+    ensures { OnTrue result ((i : ℕ) → i < 8
+        → bit_and (slice_index words.now (at + i)) (slice_index among.now (at + i)) ≡ 0) }
+{
+    let shared = Simd::<u64, 8>::from_slice(&words[at..])
+        & Simd::<u64, 8>::from_slice(&among[at..]);
+    shared.reduce_or() == 0
+}
+
+// Where to go on from `start`, past words that share no bit with those of `among`: eight at a time, since a row has hardly a bit where
+// few groups fit.
+fn past_apart(words: &[u64], among: &[u64], start: usize) -> usize
+    requires start { start ≤ length words.now }
+    requires same { length among.now ≡ length words.now }
+    ensures from { start ≤ result }
+    ensures within { result ≤ length words.now }
+    ensures apart { (k : ℕ) → start ≤ k → k < result
+        → bit_and (slice_index words.now k) (slice_index among.now k) ≡ 0 }
+{
+    let mut at = start;
+    while words.len() - at >= 8 {
+        if !are_apart(words, among, at) {
+            return at;
+        }
+        at += 8;
+    }
+    at
+}
+
 // The least bit from `from` on that is set in both.
 fn next_shared_bit(words: &[u64], among: &[u64], from: usize) -> Option<usize>
     requires few { length words.now ≤ 64 }
@@ -174,7 +209,7 @@ fn next_shared_bit(words: &[u64], among: &[u64], from: usize) -> Option<usize>
     if left != 0 {
         return Some(from + left.trailing_zeros() as usize);
     }
-    for k in start + 1..words.len() {
+    for k in past_apart(words, among, start + 1)..words.len() {
         let word = words[k] & among[k];
         if word != 0 {
             return Some(64 * k + word.trailing_zeros() as usize);

@@ -3,7 +3,7 @@ use Rattle.std.proofs.lemmas.Bool.{cases_lt}
 use Rattle.std.specs.Int.{trailing_zeros}
 use Rattle.std.proofs.Math.Nat.{div-le_self}
 use Rattle.bitmap.specs.Slots.{has_bit}
-use Rattle.mesh_graph.proofs.Bits.{IsClear, both, both-fits, both-word, clear-first, clear-word, first-least, first-set, has_bit-past, in-among, in-words, left-least, left-set, length-both, not-in-words}
+use Rattle.mesh_graph.proofs.Bits.{IsClear, both, both-fits, both-word, clear-first, clear-run, clear-word, first-least, first-set, has_bit-past, in-among, in-words, left-least, left-set, length-both, not-in-words}
 use Rattle.mesh_graph.proofs.graph.next_shared_bit.Goals as goal
 
 -- the first of the words that are looked at
@@ -43,7 +43,9 @@ loop-k-init c =
     let a = c.args in
     let first : ℕ = get_or a.words.now (a.from / 64) 0 in
     let other : ℕ = get_or a.among.now (a.from / 64) 0 in
-    clear-first (both a.words.now a.among.now) a.from (bit_and first other) (bit_and first other / 2 ^ (a.from % 64)) (both-word a.words.now a.among.now (a.from / 64) c.requires.same) (both-fits first other (c.type_inv.words (a.from / 64)).fits) refl c.if-left-ne0.false
+    clear-run (both a.words.now a.among.now) a.from (a.from / 64 + 1) c.past_apart-k.result
+    (clear-first (both a.words.now a.among.now) a.from (bit_and first other) (bit_and first other / 2 ^ (a.from % 64)) (both-word a.words.now a.among.now (a.from / 64) c.requires.same) (both-fits first other (c.type_inv.words (a.from / 64)).fits) refl c.if-left-ne0.false)
+    (λ q late less. sym (both-word a.words.now a.among.now q c.requires.same) ∙ c.past_apart-k.ensures.apart q late less)
 
 -- a later word
 module _ (words among : List ℕ) (from k : ℕ) (same : length among ≡ length words) (fits : get_or words k 0 < 2 ^ 64) (clear : IsClear (both words among) from (64 * k)) (some : 0 < bit_and (get_or words k 0) (get_or among k 0)) where
