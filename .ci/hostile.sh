@@ -1,0 +1,172 @@
+# What `check` does to the program that was built beyond its examples: texts that are cut or turned, texts as long as they may be, streams
+# that are closed, full or short, and growths, writes and threads that are refused. It is called in the folder in which `check` runs the
+# program, and counts by its `pass` and `fail`. Nothing here is meant to be called alone.
+# shellcheck shell=bash disable=SC2034,SC2086,SC2154
+
+# Builds a library of this folder that is loaded before a program. The kit's clang has no headers, and these files ask for none.
+build_library() {
+    local rt
+    rt=$(find_rt) || return
+    "$(dirname "$("$rt" doc)")/toolchain/bin/clang" -O2 -fPIC -shared -nostdlib -fuse-ld=lld -o "$1.so" "$top/.ci/$1.c"
+}
+
+# Hands the program each beginning of each trace and certificate of examples/, and each text in which one byte is another, two files at a
+# time. Where a trace has many lines or much to do, its beginnings are enough.
+cut_texts() {
+    local file bytes
+    for file in "$examples"/*.trace "$examples"/*.cert; do
+        while [ "$(jobs -rp | wc -l)" -ge 2 ]; do wait -n; done
+        bytes=$'\n 09a'
+        case $file in */long_day.trace | *too_many_groups.trace) bytes='' ;; esac
+        case $file in
+            *.trace) TEXTS_TRACE=$file TEXTS_BYTES=$bytes LD_PRELOAD=$PWD/texts.so "$built" run --serial & ;;
+            *) TEXTS_CERTIFICATE=$file TEXTS_BYTES=$bytes LD_PRELOAD=$PWD/texts.so "$built" check /dev/stdin & ;;
+        esac
+    done >out 2>err
+    wait
+    for file in "$examples"/*.trace "$examples"/*.cert; do
+        if grep -q "^texts: $file: [1-9][0-9]* texts, 0 answered wrongly\$" out; then
+            pass
+        else
+            fail "${built##*/} is to answer each beginning of ${file##*/}, and each text that differs from it in a byte"
+        fi
+    done
+}
+
+# Counts a run that ends within a minute with status 0, and writes so many lines, of which these are the last.
+expect_end() {
+    local lines=$1 said=$2 under=(timeout 60)
+    shift 2
+    echo "$said" >said
+    run "$@"
+    if [ "$ended" = 0 ] && [ "$(wc -l <out)" = "$lines" ] && tail -n "$(wc -l <said)" out | cmp -s - said && [ ! -s err ]; then
+        pass
+    else
+        fail "${built##*/} $* is to end within a minute with status 0, and to write $lines lines, at last: $said"
+    fi
+}
+
+# Counts a run over this text with a line of 50 MB, of this byte, behind it: it ends within a minute, refused so.
+expect_refused_line() {
+    local text=$1 byte=$2 under=(timeout 60)
+    echo "$3" >said
+    shift 3
+    { printf '%b' "$text" && head -c 50000000 /dev/zero | tr '\0' "$byte" && echo; } >long
+    expect 1 $nothing said $nothing "$@" long
+}
+
+# Texts that are as long, or ask for as much, as they may.
+longest_texts() {
+    local header='mesh 1\nshards 64\npages 1024\nring 1\ngens 1\n' shard
+    local keys='end pages 65536 live 16777216 calls 16777216' none='end pages 0 live 0 calls 0'
+    expect_refused_line "${header}0 put " a 'line 6: form' run --serial
+    expect_refused_line "${header}0 put a " 9 'line 6: limit' run --serial
+    expect_refused_line '' a 'line 1: form' check
+    { printf '%b#' "$header" && tail -n 1 long; } >remark
+    expect_end 1 "$none" run --serial remark
+    { printf '%b' "${header/shards 64/shards 1}" && yes mark | head -n 200000; } >marks
+    expect_end 800001 "closed 200000 pages 0"$'\n'"$none" run --serial marks
+    head -n 20005 marks >fewer_marks
+    expect_end 80002 "closed 20000 pages 0"$'\n'"$none"$'\n''audit ok' run fewer_marks
+    { printf '%b' "$header" && for shard in {0..63}; do echo "$shard fill a$shard 262144 0"; done; } >keys
+    expect_end 1 "$keys" run --serial keys
+    expect_end 2 "$keys"$'\n''audit ok' run keys
+    rm -f long remark marks fewer_marks keys
+}
+
+# Standard streams that are closed, or whose reader goes, and files that can't be read or written.
+failing_streams() {
+    local report=$examples/one_fold.report under path
+    local paths=('' . loop no_such_folder/f "$(printf 'a%.0s' {1..300})")
+    ln -s loop loop
+    printf 'mesh 1\nshards 1\npages 1024\nring 4\ngens 9\n0 fill a 262144 0\n' >long_replies
+    under=(sh -c 'exec "$@" >&-' sh)
+    expect 5 $nothing io $nothing run --serial a.trace --certificate f
+    expect 5 $nothing io $nothing check a.cert
+    under=(sh -c 'exec "$@" <&-' sh)
+    expect 5 $nothing io $nothing run --serial --certificate f
+    expect 0 "$report" $nothing "$examples/one_fold.cert" run --serial a.trace --certificate f
+    under=()
+    mkfifo pipe
+    head -c 1 pipe >/dev/null &
+    sink=pipe expect 5 $nothing io $nothing run --serial --replies long_replies --certificate f
+    wait
+    for path in "${paths[@]}"; do
+        expect 5 $nothing io $nothing run --serial "$path"
+        expect 5 "$report" io $nothing run --serial a.trace --certificate "$path"
+    done
+    rm -f loop pipe long_replies
+}
+
+# Streams that take or give a byte at a time, and then fail: what stands before the write that fails is written, and no more.
+short_streams() {
+    local words length number under
+    cp "$examples/empty.trace" empty.trace
+    for words in --serial ''; do
+        cp "$examples/one_fold.report" report
+        "$built" run $words empty.trace >whole
+        length=$(wc -c <whole)
+        if [ -z "$words" ]; then echo 'audit ok' >>report; fi
+        under=(env REFUSE_SHORT=1 "LD_PRELOAD=$PWD/refuse.so")
+        expect 0 report $nothing "$examples/one_fold.cert" run $words a.trace --certificate f
+        for ((number = 1; number <= length; number++)); do
+            head -c $((number - 1)) whole >front
+            under=(env REFUSE_SHORT=1 "REFUSE_WRITE=$number" "LD_PRELOAD=$PWD/refuse.so")
+            expect 5 front io $nothing run $words empty.trace
+        done
+        under=(env REFUSE_SHORT=1 "REFUSE_WRITE=$((length + 1))" "LD_PRELOAD=$PWD/refuse.so")
+        expect 0 whole $nothing $nothing run $words empty.trace
+    done
+}
+
+# Counts runs in which the first growth is refused, then the second, and so on until none is left: each ends with status 3, has said so
+# and has written nothing, or goes on without what it was refused and writes all.
+expect_memory() {
+    local report=$1 certificate=$2 number=0 told=0 under
+    shift 2
+    while :; do
+        number=$((number + 1))
+        rm -f log
+        under=(env "REFUSE_GROWTH=$number" "REFUSE_LOG=$PWD/log" "LD_PRELOAD=$PWD/refuse.so")
+        run "$@"
+        if [ "$ended" = 3 ] && [ ! -s out ] && cmp -s memory err && [ ! -s f ]; then
+            told=$((told + 1))
+        elif [ "$ended" != 0 ] || [ -s err ] || ! cmp -s "$report" out || ! cmp -s "$certificate" f; then
+            fail "${built##*/} $* is to tell that growth $number was refused, or to write all of $report"
+            return
+        fi
+        if ! grep -q ', 1 refused$' log; then break; fi
+    done
+    if [ "$told" -gt 0 ]; then pass; else fail "${built##*/} $* is to be refused a growth"; fi
+}
+
+# Growths and threads that are refused.
+refused_calls() {
+    local name under=(env REFUSE_THREADS=1 "LD_PRELOAD=$PWD/refuse.so")
+    for name in one_fold cache_closes_down set_wherever_it_is; do
+        expect_threads "$examples/$name.replies" "$examples/$name.cert" --replies "$examples/$name.trace"
+    done
+    under=()
+    for name in adoption fold_twice set_wherever_it_is trimmed_pages; do
+        audited "$examples/$name.report" >report
+        expect_memory "$examples/$name.report" "$examples/$name.cert" run --serial "$examples/$name.trace" --certificate f
+        expect_memory report "$examples/$name.cert" run "$examples/$name.trace" --certificate f
+    done
+    "$built" check a.cert >report
+    expect_memory report $nothing check a.cert
+}
+
+# All of it. Nothing can be loaded before a program that was linked without a loader.
+hostile() {
+    failing_streams
+    if [ "$built" != "$program" ]; then return; fi
+    longest_texts
+    if ! build_library texts || ! build_library refuse; then
+        fail "the kit's clang is to compile what is loaded before the program"
+        return
+    fi
+    cut_texts
+    short_streams
+    refused_calls
+    deferred_frees
+}

@@ -1,0 +1,130 @@
+/* Refuses what a program asks of the system, and counts what memory it asks for. It is loaded before the program (LD_PRELOAD), and asks
+   for no header, so that the kit's own clang compiles it.
+
+   REFUSE_GROWTH=N   the N-th block that is asked for or grown, from 1 on, is refused
+   REFUSE_WRITE=N    the N-th write fails, as on a full disk
+   REFUSE_THREADS=1  no thread is started
+   REFUSE_SHORT=1    each write takes one byte, and each read gives one
+   REFUSE_EINTR=1    each read and each write is interrupted before the time that it is not
+   REFUSE_LOG=FILE   when the process ends, a line is added there: how many growths were asked for, and how many were refused
+
+   A test refuses by itself, by what no memory can meet: a request of 2^62 + N bytes, N not 0, is refused, and so is the N-th growth
+   from then on; a request of 2^62 bytes ends that, and is met exactly where a growth was refused meanwhile. Where this library isn't
+   loaded both are refused, and nothing else is. */
+
+typedef unsigned long size;
+
+void *__libc_malloc(size);
+void *__libc_calloc(size, size);
+void *__libc_realloc(void *, size);
+int *__errno_location(void);
+char *getenv(const char *);
+long syscall(long, ...);
+int open(const char *, int, ...);
+int close(int);
+int dprintf(int, const char *, ...);
+void *dlsym(void *, const char *);
+
+enum { OF_EINTR = 4, OF_EAGAIN = 11, OF_ENOMEM = 12, OF_ENOSPC = 28 };
+enum { OF_READ = 0, OF_WRITE = 1, OF_EXIT_GROUP = 231 };
+enum { APPENDED = 02001 | 0100 };
+
+static const size COMMAND = (size)1 << 62;
+
+/* How many growths there were, which of them a test has refused, and whether it was. */
+static unsigned long growths, refused, armed_at;
+static int was_refused;
+
+/* What the environment asks for. */
+static unsigned long growth_at, write_at, writes;
+static int is_short, is_interrupted, has_no_threads;
+static const char *log_name;
+
+static unsigned long number(const char *name) {
+    const char *at = getenv(name);
+    unsigned long n = 0;
+    while (at && *at >= '0' && *at <= '9') n = 10 * n + (unsigned long)(*at++ - '0');
+    return n;
+}
+
+__attribute__((constructor)) static void begin(void) {
+    growth_at = number("REFUSE_GROWTH");
+    write_at = number("REFUSE_WRITE");
+    is_short = number("REFUSE_SHORT") != 0;
+    is_interrupted = number("REFUSE_EINTR") != 0;
+    has_no_threads = number("REFUSE_THREADS") != 0;
+    log_name = getenv("REFUSE_LOG");
+    growths = refused = 0;
+}
+
+__attribute__((destructor)) static void end(void) {
+    int file = log_name ? open(log_name, APPENDED, 0644) : -1;
+    log_name = 0;
+    if (file < 0) return;
+    dprintf(file, "%lu growths, %lu refused\n", growths, refused);
+    close(file);
+}
+
+/* The kit's runtime ends by this call. */
+void _exit(int status) {
+    end();
+    syscall(OF_EXIT_GROUP, status);
+    __builtin_unreachable();
+}
+
+static int failed(int error) {
+    *__errno_location() = error;
+    return -1;
+}
+
+/* Whether one more growth is refused. */
+static int refuses(void) {
+    unsigned long n = __atomic_add_fetch(&growths, 1, __ATOMIC_SEQ_CST);
+    int is_armed = n == __atomic_load_n(&armed_at, __ATOMIC_SEQ_CST);
+    if (!is_armed && n != growth_at) return 0;
+    if (is_armed) was_refused = 1;
+    __atomic_add_fetch(&refused, 1, __ATOMIC_SEQ_CST);
+    failed(OF_ENOMEM);
+    return 1;
+}
+
+/* Takes what a test asks for, and says whether its request is met. */
+static int is_met(size bytes) {
+    int met = bytes == COMMAND && was_refused;
+    was_refused = 0;
+    __atomic_store_n(&armed_at, bytes == COMMAND ? 0 : __atomic_load_n(&growths, __ATOMIC_SEQ_CST) + (bytes - COMMAND), __ATOMIC_SEQ_CST);
+    failed(OF_ENOMEM);
+    return met;
+}
+
+void *malloc(size bytes) {
+    if (bytes >= COMMAND) return is_met(bytes) ? __libc_malloc(1) : 0;
+    return refuses() ? 0 : __libc_malloc(bytes);
+}
+
+void *calloc(size count, size bytes) { return refuses() ? 0 : __libc_calloc(count, bytes); }
+
+void *realloc(void *block, size bytes) { return refuses() ? 0 : __libc_realloc(block, bytes); }
+
+/* Whether this call is the one that is interrupted: each other of its kind. */
+static int is_turn(int *turn) { return is_interrupted && (*turn = !*turn); }
+
+long write(int file, const void *bytes, size count) {
+    static int turn;
+    if (is_turn(&turn)) return failed(OF_EINTR);
+    if (++writes == write_at) return failed(OF_ENOSPC);
+    return syscall(OF_WRITE, file, bytes, is_short && count > 1 ? 1 : count);
+}
+
+long read(int file, void *bytes, size count) {
+    static int turn;
+    if (is_turn(&turn)) return failed(OF_EINTR);
+    return syscall(OF_READ, file, bytes, is_short && count > 1 ? 1 : count);
+}
+
+int pthread_create(void *thread, const void *how, void *(*run)(void *), void *with) {
+    static int (*next)(void *, const void *, void *(*)(void *), void *);
+    if (has_no_threads) return OF_EAGAIN;
+    if (!next) next = (int (*)(void *, const void *, void *(*)(void *), void *))dlsym((void *)-1L, "pthread_create");
+    return next(thread, how, run, with);
+}
