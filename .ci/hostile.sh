@@ -157,7 +157,7 @@ refused_calls() {
 }
 
 # All of it. Nothing can be loaded before a program that was linked without a loader.
-hostile() {
+hostile_use() {
     failing_streams
     if [ "$built" != "$program" ]; then return; fi
     longest_texts
@@ -169,4 +169,61 @@ hostile() {
     short_streams
     refused_calls
     deferred_frees
+}
+
+# The names of the tests of a program of tests.
+tests_of() {
+    "$1" --list | sed -n 's/: test$//p'
+}
+
+# Runs a test with growths refused as these words say. One that doesn't end within a minute has failed.
+run_refused() {
+    local tests=$1 test=$2
+    shift 2
+    rm -f log
+    timeout 60 env "$@" "REFUSE_LOG=$PWD/log" "LD_PRELOAD=$PWD/refuse.so" "$tests" "$test" >out 2>err
+}
+
+# Counts the tests of `refusals`, each of which refuses each growth of its calls by itself: it passes, and growths were refused.
+refusing_tests() {
+    local tests=$top/crates/refusals/out/refusals_tests test
+    for test in $(tests_of "$tests"); do
+        if run_refused "$tests" "$test" && grep -q ' [1-9][0-9]* refused$' log; then
+            pass
+        else
+            fail "refusals: $test is to pass, and to have growths refused"
+        fi
+    done
+}
+
+# Counts tests that make a refused call again: they pass whichever of their first 300 growths is refused, each in a process of its own.
+repeating_tests() {
+    local crate tests test number
+    for crate in plan_tests meshrun; do
+        tests=$top/crates/$crate/out/${crate}_tests
+        for test in $(tests_of "$tests"); do
+            case $crate:$test in meshrun:tests::refused::*) ;; meshrun:*) continue ;; esac
+            for ((number = 1; number <= 300; number++)); do
+                if ! run_refused "$tests" "$test" "REFUSE_GROWTH=$number"; then
+                    fail "$crate: $test is to pass where growth $number is refused"
+                    continue 2
+                fi
+                if grep -q ', 0 refused$' log; then break; fi
+            done
+            pass
+        done
+    done
+}
+
+# The tests, as `rt ci` built them, with growths refused.
+refused_tests() {
+    local before=$passed
+    : >f
+    if build_library refuse; then
+        refusing_tests
+        repeating_tests
+    else
+        fail "the kit's clang is to compile what is loaded before the tests"
+    fi
+    echo "check: tests with growths refused: $((passed - before)) passed"
 }
