@@ -98,6 +98,25 @@ failing_streams() {
     rm -f loop pipe long_replies
 }
 
+# A file that may not be read, and one that may not be written, for whom the system asks: not root.
+forbidden_files() {
+    local under=()
+    if [ "$(id -u)" = 0 ]; then under=(setpriv --reuid=65534 --regid=65534 --clear-groups); fi
+    chmod 755 .
+    cp a.trace hidden.trace
+    echo before >kept
+    chmod 000 hidden.trace
+    chmod 444 kept
+    if ! ${under[@]+"${under[@]}"} "$built" run a.trace >out 2>err; then
+        echo "check: nobody but root may run the program, so forbidden files were not tried"
+        return
+    fi
+    expect 5 $nothing io $nothing run --serial hidden.trace
+    expect 5 "$examples/one_fold.report" io $nothing run --serial a.trace --certificate kept
+    if [ "$(cat kept)" = before ]; then pass; else fail "a file that may not be written is to stay as it was"; fi
+    rm -f hidden.trace kept
+}
+
 # Streams that take or give a byte at a time, and then fail: what stands before the write that fails is written, and no more.
 short_streams() {
     local words length number under
@@ -159,6 +178,7 @@ refused_calls() {
 # All of it. Nothing can be loaded before a program that was linked without a loader.
 hostile_use() {
     failing_streams
+    forbidden_files
     if [ "$built" != "$program" ]; then return; fi
     longest_texts
     if ! build_library texts || ! build_library refuse; then
@@ -186,7 +206,7 @@ run_refused() {
 
 # Counts the tests of `refusals`, each of which refuses each growth of its calls by itself: it passes, and growths were refused.
 refusing_tests() {
-    local tests=$top/crates/refusals/out/refusals_tests test
+    local tests=$1 test
     for test in $(tests_of "$tests"); do
         if run_refused "$tests" "$test" && grep -q ' [1-9][0-9]* refused$' log; then
             pass
@@ -196,34 +216,35 @@ refusing_tests() {
     done
 }
 
-# Counts tests that make a refused call again: they pass whichever of their first 300 growths is refused, each in a process of its own.
+# Counts the tests of a program, whose names begin so, that make a refused call again: they pass whichever of their first 300 growths is
+# refused, each in a process of its own.
 repeating_tests() {
-    local crate tests test number
-    for crate in plan_tests meshrun; do
-        tests=$top/crates/$crate/out/${crate}_tests
-        for test in $(tests_of "$tests"); do
-            case $crate:$test in meshrun:tests::refused::*) ;; meshrun:*) continue ;; esac
-            for ((number = 1; number <= 300; number++)); do
-                if ! run_refused "$tests" "$test" "REFUSE_GROWTH=$number"; then
-                    fail "$crate: $test is to pass where growth $number is refused"
-                    continue 2
-                fi
-                if grep -q ', 0 refused$' log; then break; fi
-            done
-            pass
+    local tests=$1 test number
+    for test in $(tests_of "$tests" | grep "^$2"); do
+        for ((number = 1; number <= 300; number++)); do
+            if ! run_refused "$tests" "$test" "REFUSE_GROWTH=$number"; then
+                fail "${tests##*/}: $test is to pass where growth $number is refused"
+                continue 2
+            fi
+            if grep -q ', 0 refused$' log; then break; fi
         done
+        pass
     done
 }
 
 # The tests, as `rt ci` built them, with growths refused.
 refused_tests() {
-    local before=$passed
+    local crate before=$passed
     : >f
-    if build_library refuse; then
-        refusing_tests
-        repeating_tests
-    else
+    if ! build_library refuse; then
         fail "the kit's clang is to compile what is loaded before the tests"
+        return
     fi
+    for crate in refusals plan_tests meshrun; do
+        if [ ! -x "$top/crates/$crate/out/${crate}_tests" ]; then fail "there is no program of the tests of $crate"; fi
+    done
+    refusing_tests "$top/crates/refusals/out/refusals_tests"
+    repeating_tests "$top/crates/plan_tests/out/plan_tests_tests" ''
+    repeating_tests "$top/crates/meshrun/out/meshrun_tests" tests::refused::
     echo "check: tests with growths refused: $((passed - before)) passed"
 }

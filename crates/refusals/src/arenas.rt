@@ -57,7 +57,7 @@ pub(crate) enum Call {
 }
 
 /// What a call answers.
-#[derive(Clone, Copy, PartialEq, Eq)]
+#[derive(Clone, Copy, PartialEq)]
 pub(crate) enum Told {
     Issued(Key),
     NotPut(PutError),

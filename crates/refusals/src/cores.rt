@@ -7,7 +7,7 @@ use std::alloc::{AllocError, Global};
 use std::sync::Wait;
 
 /// What a reply says; of a mark, how many pairs it plans and how many members its short set has.
-#[derive(Clone, Copy, PartialEq, Eq)]
+#[derive(Clone, Copy, PartialEq)]
 pub(crate) enum Told {
     Issued(Key),
     Found(Option<Object>),

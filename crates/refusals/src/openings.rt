@@ -14,9 +14,9 @@ pub(crate) enum New {
     Rings,
 }
 
-#[derive(Clone, Copy, PartialEq, Eq)]
+#[derive(Clone, Copy, PartialEq)]
 pub(crate) enum Told {
-    /// It was made, with so many shards, seats or rows of rings.
+    /// It was made, with so many pages, seats or rows of rings.
     Made(usize),
     OutOfMemory,
     Config,

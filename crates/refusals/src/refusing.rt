@@ -19,7 +19,7 @@ pub(crate) fn was_refused(alloc: Global) -> bool {
 }
 
 /// What a round of a call came to, in which one growth was to be refused.
-#[derive(Clone, Copy, PartialEq, Eq, Debug)]
+#[derive(Clone, Copy)]
 pub(crate) enum Round {
     /// None was left to be refused, and the call answered as it ought to.
     Done,
@@ -30,7 +30,7 @@ pub(crate) enum Round {
 }
 
 /// What was not as it ought to be where a growth was refused.
-#[derive(Clone, Copy, PartialEq, Eq, Debug)]
+#[derive(Clone, Copy, Debug)]
 pub(crate) enum Fault {
     /// The call answered another than want of memory, or wanted memory where no growth was refused.
     Answer,
@@ -43,7 +43,7 @@ pub(crate) enum Fault {
 }
 
 /// What the rounds of a call, or of several, came to.
-#[derive(Clone, Copy, PartialEq, Eq, Debug)]
+#[derive(Clone, Copy, Debug)]
 pub(crate) struct Rounds {
     /// In how many a growth was refused.
     refused: u32,
@@ -208,15 +208,18 @@ impl<S: Subject> Script<S> {
         Some(subject)
     }
 
-    /// Refuses each growth of each call, until something is not as it ought to be.
+    /// Refuses each growth of each call, until something is not as it ought to be. None where it could not begin or go on.
     pub(crate) fn rounds<R: Wait>(&self, rt: &R, alloc: Global) -> Option<Rounds> {
         let mut rounds = Rounds::none();
         let mut subject = S::fresh(rt, alloc)?;
         let mut twin = S::fresh(rt, alloc)?;
         for place in 0..self.calls.len() {
             subject = self.rounds_at(rt, alloc, subject, &mut twin, place, &mut rounds)?;
-            if !rounds.are_well() || !self.is_answered(rt, &mut twin, place, place + 1) {
-                break;
+            if !rounds.are_well() {
+                return Some(rounds);
+            }
+            if !self.is_answered(rt, &mut twin, place, place + 1) {
+                return None;
             }
         }
         Some(rounds)

@@ -24,7 +24,7 @@ pub(crate) enum Call {
 }
 
 /// What a call answers.
-#[derive(Clone, Copy, PartialEq, Eq)]
+#[derive(Clone, Copy, PartialEq)]
 pub(crate) enum Told {
     Issued(Key, usize),
     NotPut(PutError),
@@ -268,8 +268,8 @@ fn add_first_puts(calls: &mut Vec<Call>) -> Option<()> {
     add_frees(calls, 2, 0, 1)
 }
 
-// Sets in a shard, in the pool and of a guest, ends, a retirement, an adoption, folds of a group alone and of one with a guest, and
-// lists of the pool's groups. (A shard's list is collected, which asks for its room at once and, where that is refused, goes on growth
+// Sets in a shard, in the pool and of a guest, ends, a retirement, an adoption, folds of groups alone and with guests, and lists of the
+// pool's groups. (A shard's list is collected, which asks for its room at once and, where that is refused, goes on growth
 // by growth.)
 fn calls_of(alloc: Global) -> Option<Vec<Call>> {
     let mut calls = Vec::new(alloc);
@@ -286,13 +286,13 @@ fn calls_of(alloc: Global) -> Option<Vec<Call>> {
     add(&mut calls, fold_call(second, first, 2))?;
     add(&mut calls, fold_call(last, third, 2))?;
     add_sets(&mut calls, 1, 12)?;
-    add_puts(&mut calls, 2, 20)?;
-    add_frees(&mut calls, 2, 3, 15)?;
     add(&mut calls, Call::Receive { shard: 2 })?;
-    add_puts(&mut calls, 3, 2)?;
+    add(&mut calls, Call::PooledGroups)?;
+    add_puts(&mut calls, 3, 8)?;
+    add_frees(&mut calls, 3, 0, 5)?;
     add(&mut calls, fold_call(first, fourth, 3))?;
     add(&mut calls, fold_call(third, fourth, 3))?;
-    add(&mut calls, Call::PooledGroups)?;
+    add_puts(&mut calls, 3, 20)?;
     for shard in 0..SHARDS {
         add_frees(&mut calls, shard, 0, 15)?;
     }
