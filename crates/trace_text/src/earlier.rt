@@ -14,7 +14,7 @@ use super::line::{Binding, Call, Keys, Line};
 use super::name::{Name, Reference};
 use span::Class;
 use std::alloc::{AllocError, Global};
-use std::collections::{HashMap, HashSet};
+use std::collections::{BTreeMap, HashSet};
 
 /// The greatest count of a fill: as many keys as a shard has room for at once.
 const MOST_KEYS: u32 = 262_144;
@@ -33,8 +33,8 @@ fn ends_over(class: Class, count: u32, value: u128) -> bool
 /// What later lines need to know of those before them.
 #[derive(Drop)]
 pub struct Earlier {
-    /// What each name is bound to.
-    names: HashMap<Name, Binding>,
+    /// What each name is bound to. Names are kept in order: a text may have names whose hashes are all alike.
+    names: BTreeMap<Name, Binding>,
     /// The threads that have ended.
     ended: HashSet<u32>,
     /// How many marks there are.
@@ -57,7 +57,7 @@ impl Earlier {
         ensures { Knows [] result }
     {
         Earlier {
-            names: HashMap::new(alloc),
+            names: BTreeMap::new(alloc),
             ended: HashSet::new(alloc),
             section: 0,
             keys: 0,
