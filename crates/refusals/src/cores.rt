@@ -1,4 +1,4 @@
-//! Events of a core, and runs of them.
+//! Events of a core.
 use crate::refusing::{Rounds, Script, Subject};
 use arena_core::{Core, Event, Refusal, Reply};
 use fold::Step;
@@ -27,7 +27,7 @@ pub(crate) enum Told {
     Refused(Refusal),
 }
 
-fn tell(reply: &Reply) -> Told {
+pub(crate) fn tell(reply: &Reply) -> Told {
     match reply {
         Reply::Issued(key) => Told::Issued(*key),
         Reply::Found(value) => Told::Found(*value),

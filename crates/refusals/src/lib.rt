@@ -28,4 +28,6 @@ mod openings;
 #[cfg(test)]
 mod refusing;
 #[cfg(test)]
+mod runs;
+#[cfg(test)]
 mod stores;
