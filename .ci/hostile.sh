@@ -86,6 +86,13 @@ failing_streams() {
     under=(sh -c 'exec "$@" <&-' sh)
     expect 5 $nothing io $nothing run --serial --certificate f
     expect 0 "$report" $nothing "$examples/one_fold.cert" run --serial a.trace --certificate f
+    echo 'mesh 9' >bad.trace
+    for path in '&-' /dev/full; do
+        under=(sh -c "exec \"\$@\" 2>$path" sh)
+        expect 5 $nothing $nothing $nothing run --serial bad.trace --certificate f
+        expect 5 "$report" $nothing $nothing run --serial a.trace --certificate no_such_folder/f
+        expect 0 "$report" $nothing "$examples/one_fold.cert" run --serial a.trace --certificate f
+    done
     under=()
     mkfifo pipe
     head -c 1 pipe >/dev/null &
@@ -95,7 +102,7 @@ failing_streams() {
         expect 5 $nothing io $nothing run --serial "$path"
         expect 5 "$report" io $nothing run --serial a.trace --certificate "$path"
     done
-    rm -f loop pipe long_replies
+    rm -f bad.trace loop pipe long_replies
 }
 
 # A file that may not be read, and one that may not be written, for whom the system asks: not root.
