@@ -182,10 +182,51 @@ refused_calls() {
     expect_memory report $nothing check a.cert
 }
 
+# The user's time of a serial run of the trace, in milliseconds.
+milliseconds() {
+    local TIMEFORMAT=%U taken
+    taken=$({ time "$built" run --serial "$1" >/dev/null 2>&1; } 2>&1)
+    echo $((10#${taken/./}))
+}
+
+# Counts that names which stand close together in a table by std's hash, of a fixed seed, take about as long as others.
+names_alike() {
+    local alike other
+    if ! command -v "${CC:-cc}" >/dev/null; then
+        echo "check: there is no C compiler, so names with hashes that are alike were not tried"
+        return
+    fi
+    [ -x names ] || "${CC:-cc}" -O2 "$top/.ci/names.c" -o names || return
+    if [ ! -e alike.trace ]; then
+        { printf 'mesh 1\nshards 1\npages 1024\nring 1\ngens 1\n' | tee other.trace && ./names 28000 15; } >alike.trace
+        printf '0 put n%05d 0\n' {1..28000} >>other.trace
+    fi
+    alike=$(milliseconds alike.trace) other=$(milliseconds other.trace)
+    if [ "$alike" -le $((3 * other + 100)) ]; then
+        pass
+    else
+        fail "${built##*/} run is to take about as long over names whose hashes are alike as over others: $alike and $other ms"
+    fi
+}
+
+# Streams each other of whose reads and writes is interrupted by a signal: it is made again.
+interrupted_streams() {
+    local under
+    audited "$examples/one_fold.report" >report
+    echo 'line 1: header' >said
+    under=(env REFUSE_EINTR=1 "LD_PRELOAD=$PWD/refuse.so")
+    expect 0 "$examples/one_fold.report" $nothing "$examples/one_fold.cert" run --serial a.trace --certificate f
+    input=a.trace expect 0 report $nothing "$examples/one_fold.cert" run --certificate f
+    expect 1 $nothing said $nothing run a.cert
+    under=(env REFUSE_EINTR=1 REFUSE_SHORT=1 "LD_PRELOAD=$PWD/refuse.so")
+    expect 0 "$examples/one_fold.report" $nothing "$examples/one_fold.cert" run --serial a.trace --certificate f
+}
+
 # All of it. Nothing can be loaded before a program that was linked without a loader.
 hostile_use() {
     failing_streams
     forbidden_files
+    names_alike
     if [ "$built" != "$program" ]; then return; fi
     longest_texts
     if ! build_library texts || ! build_library refuse; then
@@ -194,6 +235,7 @@ hostile_use() {
     fi
     cut_texts
     short_streams
+    interrupted_streams
     refused_calls
     deferred_frees
 }
