@@ -209,6 +209,17 @@ names_alike() {
     fi
 }
 
+# Counts that empty lines take little memory: a text of five million of them ran out of it here.
+empty_lines() {
+    local under=(sh -c 'ulimit -v 300000; exec "$@"' sh)
+    { printf 'mesh 1\nshards 1\npages 1\nring 1\ngens 1\n' && head -c 5000000 /dev/zero | tr '\0' '\n'; } >feeds.trace
+    echo 'end pages 0 live 0 calls 0' >said
+    audited said >report
+    expect 0 said $nothing $nothing run --serial feeds.trace
+    expect 0 report $nothing $nothing run feeds.trace
+    rm feeds.trace
+}
+
 # Streams each other of whose reads and writes is interrupted by a signal: it is made again.
 interrupted_streams() {
     local under
@@ -227,6 +238,7 @@ hostile_use() {
     failing_streams
     forbidden_files
     names_alike
+    empty_lines
     if [ "$built" != "$program" ]; then return; fi
     longest_texts
     if ! build_library texts || ! build_library refuse; then

@@ -140,7 +140,7 @@ impl<'a, G: Gate> Caller<'a, G> {
         if trace.lines.len() <= place {
             return Err(Halt::Doubled);
         }
-        let Line::Call { call, .. } = &trace.lines[place] else {
+        let Line::Call { call, .. } = trace.lines.line_at(place) else {
             return Err(Halt::Doubled);
         };
         let Some(binds) = text.layout.first(place) else {

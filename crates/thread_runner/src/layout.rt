@@ -7,7 +7,7 @@ ghost use Rattle.thread_runner.specs.Asked.{places_of};
 ghost use Rattle.thread_runner.specs.Laid.{AddsAt, AreFirsts, AreLaid};
 
 use std::alloc::{AllocError, Global};
-use trace_runner::{Call, Line, Trace};
+use trace_runner::{Call, Line, LineList, Trace};
 
 /// What all workers read.
 #[derive(Drop)]
@@ -20,13 +20,21 @@ pub(crate) struct Text<'a> {
     ghost numbered: { AreFirsts trace.now.lines.items layout.firsts.items } by { Prim.hlevel props },
 }
 
+/// A line, and how many keys the lines above it bind.
+#[derive(Clone, Copy)]
+pub(crate) struct LineFirst {
+    /// Its place below the header.
+    place: usize,
+    first: usize,
+}
+
 /// Where each thread's lines stand in a trace, and which keys the lines bind. It is found once, before anything runs.
 #[derive(Drop)]
 pub(crate) struct Layout {
     /// Of each thread, the places of its lines below the header, and of the adoptions by its shard, ascending.
     places: Vec<Vec<usize>>,
-    /// Of each line, how many keys the lines above it bind.
-    firsts: Vec<usize>,
+    /// Of each line that is neither empty nor a remark, how many keys the lines above it bind; by place.
+    firsts: Vec<LineFirst>,
     /// Of each key, in the order in which the lines bind them, how many keys the lines of its thread bind before it.
     indices: Vec<usize>,
 }
@@ -86,44 +94,78 @@ fn enter_keys(
 // Where the lines of each of that many threads stand.
 fn places_by_thread(
     alloc: Global,
-    lines: &[Line],
+    lines: &LineList,
     threads: usize,
 ) -> Result<Vec<Vec<usize>>, AllocError>
-    ensures { IfOk result (λ places. AreLaid lines.now (map vec_items places.items)) }
+    ensures { IfOk result (λ places. AreLaid lines.now.items (map vec_items places.items)) }
 {
     let mut places = empty_lists(alloc, threads)?;
     for place in 0..lines.len() {
-        enter_place(places.as_mut_slice(), place, &lines[place])?;
+        enter_place(places.as_mut_slice(), place, lines.line_at(place))?;
     }
     Ok(places)
 }
 
 // Of each key that the lines of that many threads bind, how many the lines of its thread bind before it.
-fn indices_of(alloc: Global, lines: &[Line], threads: usize) -> Result<Vec<usize>, AllocError> {
+fn indices_of(alloc: Global, lines: &LineList, threads: usize) -> Result<Vec<usize>, AllocError> {
     let mut indices = Vec::new(alloc);
     let mut bound = Vec::with_capacity(alloc, threads)?;
     for _ in 0..threads {
         bound.push(0)?;
     }
-    for line in lines {
-        if let Line::Call { thread, call } = line {
+    for place in 0..lines.len() {
+        if let Line::Call { thread, call } = lines.line_at(place) {
             enter_keys(&mut indices, bound.as_mut_slice(), *thread, keys_by(call))?;
         }
     }
     Ok(indices)
 }
 
-// Of each line, how many keys the lines above it bind. More than a number counts find no memory.
-fn firsts_of(alloc: Global, lines: &[Line]) -> Result<Vec<usize>, AllocError>
-    ensures { IfOk result (λ firsts. AreFirsts lines.now firsts.items) }
+// Enters the number of a line's place, where the line is neither empty nor a remark.
+fn enter_first(
+    firsts: &mut Vec<LineFirst>,
+    line: &Line,
+    place: usize,
+    first: usize,
+) -> Result<(), AllocError>
+    ensures { (lines : List Line) → AreFirsts lines firsts.old.items
+        → first ≡ keys_in (take place lines) → OnOk result (AreFirsts lines firsts.new.items) }
 {
-    let mut firsts = Vec::with_capacity(alloc, lines.len())?;
+    if let Line::Silent = line {
+        return Ok(());
+    }
+    firsts.push(LineFirst { place, first })?;
+    Ok(())
+}
+
+// How many keys the lines above each line bind. More than a number counts find no memory.
+fn firsts_of(alloc: Global, lines: &LineList) -> Result<Vec<LineFirst>, AllocError>
+    ensures { IfOk result (λ firsts. AreFirsts lines.now.items firsts.items) }
+{
+    let mut firsts = Vec::new(alloc);
     let mut count = 0usize;
-    for line in lines {
-        firsts.push(count)?;
+    for place in 0..lines.len() {
+        let line = lines.line_at(place);
+        enter_first(&mut firsts, line, place, count)?;
         count = count.checked_add(keys_at(line)).ok_or(AllocError)?;
     }
     Ok(firsts)
+}
+
+// The number of that index, where it is that of the place.
+fn first_at(firsts: &[LineFirst], index: usize, place: usize) -> Option<usize>
+    ensures { (lines : List Line) → AreFirsts lines firsts.now
+        → IfSome result (λ first. first ≡ keys_in (take place lines)) }
+{
+    if index >= firsts.len() {
+        return None;
+    }
+    let one = &firsts[index];
+    if one.place == place {
+        Some(one.first)
+    } else {
+        None
+    }
 }
 
 impl Layout {
@@ -135,7 +177,7 @@ impl Layout {
             layout.firsts.items) }
     {
         let shards = trace.header.shards as usize;
-        let lines = trace.lines.as_slice();
+        let lines = &trace.lines;
         Ok(Layout {
             places: places_by_thread(alloc, lines, shards)?,
             firsts: firsts_of(alloc, lines)?,
@@ -185,7 +227,12 @@ impl Layout {
         ensures { (lines : List Line) → AreFirsts lines self.now.firsts.items
             → IfSome result (λ first. first ≡ keys_in (take place lines)) }
     {
-        self.firsts.get(place).copied()
+        // Where no line above is left out, it is that of the place.
+        if let Some(first) = first_at(self.firsts.as_slice(), place, place) {
+            return Some(first);
+        }
+        let index = self.firsts.partition_point(|one| one.place < place);
+        first_at(self.firsts.as_slice(), index, place)
     }
 
     /// How many keys the lines of its thread bind before the key at that place. Nothing is proved of it: who asks looks

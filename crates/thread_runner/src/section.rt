@@ -25,7 +25,7 @@ use std::marker::{Brand, PhantomData};
 use std::sync::Wait;
 use std::thread;
 use std::thread::Threads;
-use trace_runner::Line;
+use trace_runner::{Line, LineList};
 
 /// What all sections of a run leave.
 #[derive(Drop)]
@@ -195,10 +195,10 @@ fn work_beside<'a, R: Threads + Wait + Sync, G: Gate + Sync, J: Reading, K: Know
 }
 
 // The lines of the trace below its header.
-fn text_lines<'a>(text: &'a Text<'a>) -> &'a [Line]
-    ensures { result.now ≡ text.now.trace.now.lines.items }
+fn text_lines<'a>(text: &'a Text<'a>) -> &'a LineList
+    ensures { result.now ≡ text.now.trace.now.lines }
 {
-    text.trace.lines.as_slice()
+    &text.trace.lines
 }
 
 // How many threads the trace has.
@@ -223,13 +223,13 @@ fn is_mark(line: &Line) -> bool
 }
 
 // Where the next barrier begins: the place of the first adoption or mark from that one on, or that below the last line.
-fn barrier_of(lines: &[Line], from: usize) -> usize
-    requires { from ≤ length lines.now }
-    ensures barrier { result ≡ barrier_from lines.now from }
-    ensures within { (from ≤ result) × (result ≤ length lines.now) }
+fn barrier_of(lines: &LineList, from: usize) -> usize
+    requires { from ≤ length lines.now.items }
+    ensures barrier { result ≡ barrier_from lines.now.items from }
+    ensures within { (from ≤ result) × (result ≤ length lines.now.items) }
 {
     for place in from..lines.len() {
-        if is_barrier(&lines[place]) {
+        if is_barrier(lines.line_at(place)) {
             return place;
         }
     }
@@ -532,20 +532,21 @@ impl<'a, G: Gate + Sync, J: Reading> Crew<'a, G, J> {
         self,
         rt: &R,
         keeper: Keeper<'a, G>,
-        lines: &[Line],
+        lines: &LineList,
     ) -> Result<(Self, Keeper<'a, G>), Halt>
-        requires lines { lines.now ≡ J.lines }
+        requires lines { lines.now.items ≡ J.lines }
         requires first { self.sections ≡ 0 }
-        requires notes { HaveCome lines.now 0 (plan_pairs keeper.steward.plan) keeper.minutes }
-        ensures notes { IfOk result (λ both. AreNotesOf lines.now both.1.minutes.notes.items
+        requires notes { HaveCome lines.now.items 0 (plan_pairs keeper.steward.plan)
+            keeper.minutes }
+        ensures notes { IfOk result (λ both. AreNotesOf lines.now.items both.1.minutes.notes.items
             both.1.minutes.certificate.items) }
-        ensures sections { IfOk result (λ both. both.0.sections ≡ marks lines.now + 1) }
+        ensures sections { IfOk result (λ both. both.0.sections ≡ marks lines.now.items + 1) }
     {
         let mut crew = self;
         let mut keeper = keeper;
         let mut from = 0;
         for place in 0..lines.len() {
-            if is_mark(&lines[place]) {
+            if is_mark(lines.line_at(place)) {
                 let barrier = barrier_of(lines, from);
                 let both = crew.section::<R, Brand>(rt, keeper, from, barrier, place)?;
                 crew = both.0;

@@ -43,7 +43,7 @@ pub use report::{
 };
 pub use sink::{Memory, Out, Sink, SinkFailed, give};
 pub use trace_text::{
-    Binding, Call, Cause, Header, Keys, Line, Name, ParseError, Reference, Trace, Version,
-    counting_from, parse,
+    Binding, Call, Cause, Header, Keys, Line, LineList, Name, ParseError, Reference, Trace,
+    Version, counting_from, parse,
 };
 pub use writing::{push_answers, push_ending, push_news};

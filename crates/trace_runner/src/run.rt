@@ -26,7 +26,7 @@ use arena_core::{Core, Event, Refusal, Reply};
 use span::{Class, Counted, Key, Object};
 use std::alloc::{AllocError, Global};
 use std::collections::HashSet;
-use trace_text::{Call, Line, Reference, Trace, count_from};
+use trace_text::{Call, Line, LineList, Reference, Trace, count_from};
 
 /// A run of a trace, as far as it has come.
 #[derive(Drop)]
@@ -648,7 +648,7 @@ pub fn run_lines(
 {
     let mut run = Run::new(alloc, trace, replies, core);
     for place in 0..trace.lines.len() {
-        run.next_line(place, &trace.lines[place])?;
+        run.next_line(place, trace.lines.line_at(place))?;
     }
     run.settle()?;
     let Run {
@@ -659,7 +659,7 @@ pub fn run_lines(
         plans,
     } = run;
     let count = replies.count()?;
-    let calls = count - adoptions(trace.lines.as_slice());
+    let calls = count - adoptions(&trace.lines);
     Ok(Ran {
         core,
         report: replies.into_text(),
@@ -669,16 +669,24 @@ pub fn run_lines(
 }
 
 /// How many of the lines are adoptions.
-fn adoptions(lines: &[Line]) -> usize
-    ensures { result ≡ length (filter is_adopt lines.now) }
+fn adoptions(lines: &LineList) -> usize
+    ensures { result ≡ length (filter is_adopt lines.now.items) }
 {
     let mut count = 0;
-    for line in lines {
-        if let Line::Adopt { .. } = line {
-            count += 1;
-        }
+    for place in 0..lines.len() {
+        count += adoptions_by(lines.line_at(place));
     }
     count
+}
+
+/// One for an adoption, and none for another line.
+fn adoptions_by(line: &Line) -> usize
+    ensures { result ≡ (if is_adopt line.now then 1 else 0) }
+{
+    match line {
+        Line::Adopt { .. } => 1,
+        Line::Silent | Line::Call { .. } | Line::Mark => 0,
+    }
 }
 
 /// What the report tells of the reply to a call.

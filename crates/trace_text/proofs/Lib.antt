@@ -10,5 +10,6 @@ mod BoundAgain
 mod Classed
 pub mod Knowing
 pub mod Placing
+pub mod Keeping
 pub mod Texts
 pub mod Exclusion

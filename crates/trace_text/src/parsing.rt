@@ -15,6 +15,7 @@ use super::cause::{Cause, ParseError};
 use super::earlier::Earlier;
 use super::header::{Header, read_header};
 use super::line::Line;
+use super::line_list::LineList;
 use super::reading::read_line;
 use super::trace::Trace;
 use super::words::first_line;
@@ -45,9 +46,7 @@ fn next_line(header: &Header, earlier: &Earlier, text: &[u8]) -> Result<(Line, u
 /// What the lines below the header are read as.
 #[derive(Drop)]
 struct Body {
-    lines: Vec<Line>,
-    /// Of each line, the place of the first key that it reads.
-    places: Vec<usize>,
+    lines: LineList,
     earlier: Earlier,
 }
 
@@ -55,13 +54,12 @@ struct Body {
 fn read_body(alloc: Global, header: &Header, text: &[u8]) -> Result<Body, ParseError>
     requires { IsWithinLimits header.now }
     ensures known { IfOk result (λ body. Knows body.lines.items body.earlier) }
-    ensures placed { IfOk result (λ body. body.places.items ≡ places_from [] body.lines.items) }
+    ensures placed { IfOk result (λ body. body.lines.places ≡ places_from [] body.lines.items) }
     ensures ok { IfOk result
         (λ body. AreReadAs header.now [] (lines_of text.now) body.lines.items) }
     ensures err { IfErr result (FailsAt header.now (lines_of text.now)) }
 {
-    let mut lines = Vec::new(alloc);
-    let mut places = Vec::new(alloc);
+    let mut lines = LineList::new(alloc);
     let mut earlier = Earlier::new(alloc);
     let mut rest = text;
     while let Some((bytes, below)) = first_line(rest) {
@@ -79,15 +77,10 @@ fn read_body(alloc: Global, header: &Header, text: &[u8]) -> Result<Body, ParseE
                 cause: Cause::Bound,
             });
         }
-        lines.push(line)?;
-        places.push(place)?;
+        lines.push(line, place)?;
         rest = below;
     }
-    Ok(Body {
-        lines,
-        places,
-        earlier,
-    })
+    Ok(Body { lines, earlier })
 }
 
 /// Reads a trace, so that what is read or refused can be asked whether the text spells it.
@@ -96,11 +89,7 @@ fn trace_of(alloc: Global, text: &[u8]) -> Result<Trace, ParseError>
     ensures fault { IfErr result (IsFault text.now) }
 {
     let (header, below) = read_header(text)?;
-    let Body {
-        lines,
-        places,
-        earlier,
-    } = read_body(alloc, &header, below)?;
+    let Body { lines, earlier } = read_body(alloc, &header, below)?;
     if earlier.awaits_mark() {
         return Err(ParseError::BadTrace {
             line: lines.len() + HEADER_LINES + 1,
@@ -111,7 +100,6 @@ fn trace_of(alloc: Global, text: &[u8]) -> Result<Trace, ParseError>
         header,
         lines,
         earlier,
-        places,
     })
 }
 

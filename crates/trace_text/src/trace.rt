@@ -9,7 +9,8 @@ ghost use Rattle.trace_text.specs.declared.line.Line.{Line};
 
 use super::earlier::Earlier;
 use super::header::Header;
-use super::line::{Binding, Line};
+use super::line::Binding;
+use super::line_list::LineList;
 use super::name::Name;
 
 /// A trace: its sizes are within their ranges, and no cause holds of any of its lines or of its end.
@@ -18,17 +19,14 @@ pub struct Trace {
     /// The sizes that it is run with.
     pub header: Header,
     /// The lines below the header, so that the first is line 6 of the text.
-    pub lines: Vec<Line>,
+    pub lines: LineList,
     /// What the lines bind, so that a name is found without a walk.
     pub(super) earlier: Earlier,
-    /// Of each line, the place of the first key that it reads among all keys that the lines bind, so that a run looks up no
-    /// name.
-    pub(super) places: Vec<usize>,
     ghost within: { IsWithinLimits header },
     ghost sound: { IsSound header lines.items },
     ghost settled: { awaits_mark lines.items ≡ false },
     ghost known: { Knows lines.items earlier },
-    ghost placed: { places.items ≡ places_from [] lines.items },
+    ghost placed: { lines.places ≡ places_from [] lines.items },
 }
 
 impl Trace {
@@ -47,6 +45,6 @@ impl Trace {
         ensures { (there : Line) → slice_get self.now.lines.items line ≡ Some there
             → result ≡ place_at (take line self.now.lines.items) there }
     {
-        self.places[line]
+        self.lines.place_read(line)
     }
 }

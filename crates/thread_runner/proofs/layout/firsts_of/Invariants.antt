@@ -4,9 +4,8 @@ use Rattle.thread_runner.specs.Laid.{AreFirsts}
 use Rattle.thread_runner.proofs.layout.firsts_of.Given as goal
 
 -- the numbers of the lines so far, and how many keys they bind
-abbrev pub invariant-loop-line : goal.invariant-loop-line
-invariant-loop-line l = record {
-  firsts : AreFirsts l.lines l.firsts.items;
-  long : length l.firsts.items ≡ l.line-index;
-  count : l.count ≡ keys_in (take l.line-index l.lines);
+abbrev pub invariant-loop-place : goal.invariant-loop-place
+invariant-loop-place l = record {
+  firsts : AreFirsts l.lines.items l.firsts.items;
+  count : l.count ≡ keys_in (take l.place l.lines.items);
 }

@@ -3,5 +3,5 @@ use Rattle.trace_text.specs.Causes.{is_adopt}
 use Rattle.trace_runner.proofs.run.adoptions.Given as goal
 
 -- the adoptions so far
-abbrev pub invariant-loop-line : goal.invariant-loop-line
-invariant-loop-line l = l.count ≡ length (filter is_adopt (take l.line-index l.lines))
+abbrev pub invariant-loop-place : goal.invariant-loop-place
+invariant-loop-place l = l.count ≡ length (filter is_adopt (take l.place l.lines.items))

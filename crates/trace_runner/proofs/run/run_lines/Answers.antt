@@ -1,19 +1,15 @@
-use Rattle.std.proofs.Common.{◌≡◌, ◌∙◌, ap, arith, filter, length, Some, slice_get}
-use Rattle.std.proofs.lemmas.Option.{slice_get_read}
+use Rattle.std.proofs.Common.{◌≡◌, ◌∙◌, ap, arith, filter, length}
 use Rattle.trace_text.specs.Causes.{is_adopt}
 use Rattle.trace_runner.specs.Kept.{Kept, kept_in}
 use Rattle.trace_runner.specs.Recalls.{news_at}
 use Rattle.trace_runner.proofs.Progress.{HasCome-CanLeave, HasCome-IsRun, HasCome-calls}
 use Rattle.trace_runner.proofs.run.run_lines.Goals as goal
 
-here : (c : goal.After-index) → slice_get c.args.trace.now.lines.items c.loop-place.place ≡ Some c.index.result.now
-here c = slice_get_read c.args.trace.now.lines.items _ c.loop-place.place c.index.result.now c.args.trace.now.lines.ok.0 (omega arith) c.index.ensures
-
 pub next_line-requires-clause-here : goal.next_line-requires-clause-here
-next_line-requires-clause-here c = rw c.loop-place.invariant.trace (here c)
+next_line-requires-clause-here c = rw c.loop-place.invariant.trace c.line_at.ensures
 
 pub next_line-requires-clause-fine : goal.next_line-requires-clause-fine
-next_line-requires-clause-fine c = rw c.loop-place.invariant.trace (c.args.trace.now.sound c.loop-place.place c.index.result.now (here c))
+next_line-requires-clause-fine c = rw c.loop-place.invariant.trace (c.args.trace.now.sound c.loop-place.place c.line_at.result.now c.line_at.ensures)
 
 pub next_line-requires-clause-come : goal.next_line-requires-clause-come
 next_line-requires-clause-come c = (c.args.replies, c.args.core, rw c.loop-place.invariant.trace c.loop-place.invariant.come)
@@ -26,17 +22,17 @@ settle-requires-clause-knows c = c.loop-place.invariant.come.knows
 
 pub overflow_sub-calls : goal.overflow_sub-calls
 overflow_sub-calls c =
-    let all : c.loop-place.place ≡ length c.args.trace.now.lines.items = omega (arith, c.args.trace.now.lines.ok.0, c.len-place-end.ensures) in
+    let all : c.loop-place.place ≡ length c.args.trace.now.lines.items = omega (arith, c.len-place-end.ensures.len) in
     let count = HasCome-calls c.args.trace.now.header _ _ _ _ _ _ _ _ c.loop-place.invariant.come all in
-    let adopts : c.adoptions.result ≡ length (filter is_adopt c.args.trace.now.lines.items) = rw c.as_slice.ensures.value at c.adoptions.ensures in
+    let adopts : c.adoptions.result ≡ length (filter is_adopt c.args.trace.now.lines.items) = c.adoptions.ensures in
     let long : c.in_ok-count.count ≡ (kept_in c.loop-place.run.replies).count = c.in_ok-count.ensures.count ∙ ap (λ (kept : Kept). kept.count) c.settle.ensures.rest in
     omega (arith, count, adopts, long)
 
 pub returns : goal.returns
 returns c =
-    let all : c.loop-place.place ≡ length c.args.trace.now.lines.items = omega (arith, c.args.trace.now.lines.ok.0, c.len-place-end.ensures) in
+    let all : c.loop-place.place ≡ length c.args.trace.now.lines.items = omega (arith, c.len-place-end.ensures.len) in
     let count = HasCome-calls c.args.trace.now.header _ _ _ _ _ _ _ _ c.loop-place.invariant.come all in
-    let adopts : c.adoptions.result ≡ length (filter is_adopt c.args.trace.now.lines.items) = rw c.as_slice.ensures.value at c.adoptions.ensures in
+    let adopts : c.adoptions.result ≡ length (filter is_adopt c.args.trace.now.lines.items) = c.adoptions.ensures in
     let long : c.in_ok-count.count ≡ (kept_in c.loop-place.run.replies).count = c.in_ok-count.ensures.count ∙ ap (λ (kept : Kept). kept.count) c.settle.ensures.rest in (
       news_at (kept_in c.settle.new.self.replies) c.settle.new.self.plans,
       HasCome-IsRun c.args.trace.now.header _ _ _ _ _ _ _ _ c.loop-place.invariant.come

@@ -27,8 +27,8 @@ loop-bytes-preserved c =
     let next = (c.in-Ok.ensures.ok lines c.loop-bytes.invariant.known).0 (sym (c.in_ok-again.ensures.again lines c.loop-bytes.invariant.known) ∙ c.if-again.false) in
     let place : c.len-in-Some.result ≡ length c.loop-bytes.lines.items = grind (arith, common_steps) in
     record {
-      known = rw c.in_ok-push.ensures.items (Knows-push c.args.header.now c.loop-bytes.lines.items c.in-Ok.next.0 c.loop-bytes.earlier c.note.new.self c.loop-bytes.invariant.known next.1 (rw (← place) c.in_ok-again.ensures.names) c.in_ok-again.ensures.ended c.in_ok-again.ensures.section c.in_ok-again.ensures.keys c.in_ok-again.ensures.awaits);
-      far = rw c.in_ok-push.ensures.items (SoFar-more c.args.header.now (lines_of c.args.text.now) (lines_of c.loop-bytes.rest.now) (lines_of c.in-Some.below.now) c.loop-bytes.lines.items c.in-Some.bytes.now c.in-Ok.next.0 c.loop-bytes.invariant.far c.in-Some.ensures.some next);
-      placed = rw (c.in_ok-push.ensures.items, c.in_ok-push-2.ensures.items) (places-push c.loop-bytes.places.items c.loop-bytes.lines.items c.in-Ok.next.0 c.in-Ok.next.1 c.loop-bytes.invariant.placed (c.in-Ok.ensures.place c.loop-bytes.lines.items c.loop-bytes.invariant.known));
-      room = rw c.in_ok-push.ensures.items (grind (arith, common_steps, c.loop-bytes.invariant.room, c.in-Some.ensures.shorter));
+      known = rw c.in_ok-push.ensures.lines (Knows-push c.args.header.now c.loop-bytes.lines.items c.in-Ok.next.0 c.loop-bytes.earlier c.note.new.self c.loop-bytes.invariant.known next.1 (rw (← place) c.in_ok-again.ensures.names) c.in_ok-again.ensures.ended c.in_ok-again.ensures.section c.in_ok-again.ensures.keys c.in_ok-again.ensures.awaits);
+      far = rw c.in_ok-push.ensures.lines (SoFar-more c.args.header.now (lines_of c.args.text.now) (lines_of c.loop-bytes.rest.now) (lines_of c.in-Some.below.now) c.loop-bytes.lines.items c.in-Some.bytes.now c.in-Ok.next.0 c.loop-bytes.invariant.far c.in-Some.ensures.some next);
+      placed = rw (c.in_ok-push.ensures.lines, c.in_ok-push.ensures.places) (places-push c.loop-bytes.lines.places c.loop-bytes.lines.items c.in-Ok.next.0 c.in-Ok.next.1 c.loop-bytes.invariant.placed (c.in-Ok.ensures.place c.loop-bytes.lines.items c.loop-bytes.invariant.known));
+      room = rw c.in_ok-push.ensures.lines (grind (arith, common_steps, c.loop-bytes.invariant.room, c.in-Some.ensures.shorter));
     }

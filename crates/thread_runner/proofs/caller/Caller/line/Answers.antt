@@ -1,5 +1,5 @@
 use Rattle.std.proofs.Common.{◌≡◌, ◌∙◌, ◌+◌, OnOk, Some, arith, slice_get, subst, sym, take}
-use Rattle.std.proofs.lemmas.Option.{same_Some, slice_get_read}
+use Rattle.std.proofs.lemmas.Option.{same_Some}
 use Rattle.trace_text.proofs.Clips.{all_fine}
 use Rattle.thread_runner.specs.Asked.{asked_at}
 use Rattle.thread_runner.specs.Grown.{Tells}
@@ -9,8 +9,8 @@ use Rattle.thread_runner.proofs.caller.Caller.line.Goals as goal
 pub call-requires : goal.call-requires
 call-requires g c =
     let trace = c.args.text.now.trace.now in
-    let here : slice_get trace.lines.items c.args.place ≡ Some c.index.result.now = slice_get_read trace.lines.items _ c.args.place c.index.result.now trace.lines.ok.0 (omega (arith, trace.lines.ok.0, c.len.ensures)) c.index.ensures in
-    let within = (all_fine trace.header (take c.args.place trace.lines.items) c.index.result.now (trace.sound c.args.place c.index.result.now here)).within in
+    let here : slice_get trace.lines.items c.args.place ≡ Some c.line_at.result.now = c.line_at.ensures in
+    let within = (all_fine trace.header (take c.args.place trace.lines.items) c.line_at.result.now (trace.sound c.args.place c.line_at.result.now here)).within in
     (take c.args.place trace.lines.items, rw c.in-Call.is at within)
 
 pub returns-clause-told : goal.returns-clause-told
@@ -20,9 +20,9 @@ returns-clause-told g c line there =
     let later = c.call.new.self in
     let kept = c.args.keys.now.kept.items in
     let above = take c.args.place trace.lines.items in
-    let here : slice_get trace.lines.items c.args.place ≡ Some c.index.result.now = slice_get_read trace.lines.items _ c.args.place c.index.result.now trace.lines.ok.0 (omega (arith, trace.lines.ok.0, c.len.ensures)) c.index.ensures in
-    let same : c.index.result.now ≡ line = same_Some _ _ (sym here ∙ there) in
+    let here : slice_get trace.lines.items c.args.place ≡ Some c.line_at.result.now = c.line_at.ensures in
+    let same : c.line_at.result.now ≡ line = same_Some _ _ (sym here ∙ there) in
     let first = c.in-Some.ensures trace.lines.items c.args.text.now.numbered in
-    let reads = c.place.ensures c.index.result.now here in
+    let reads = c.place.ensures c.line_at.result.now here in
     subst (λ l. OnOk c.call.result (Tells self.seat.section self.seat.worker (c.args.place + 6) (asked_at above l) (AreKnown kept self.fresh.items) (AreKnown kept later.fresh.items) self.diary later.diary)) (sym c.in-Call.is ∙ same)
     (c.call.ensures.told above first (rw c.in-Call.is at reads))

@@ -1,6 +1,5 @@
 use Rattle.std.proofs.Common.{◌≡◌, ◌∙◌, ◌+◌, ◌<◌, ◌≤◌, ◌^◌, Some, ap, arith, length, refl, rules, slice_get, subst, sym, take, true, false}
 use Rattle.std.proofs.lemmas.List.{take_all}
-use Rattle.std.proofs.lemmas.Option.{slice_get_read}
 use Rattle.std.proofs.lemmas.Result.{IfOk-weaker}
 use Rattle.thread_runner.specs.Marked.{is_mark, is_mark_at, marks_above}
 use Rattle.thread_runner.specs.Noted.{plan_pairs}
@@ -12,11 +11,11 @@ use Rattle.thread_runner.proofs.section.Crew.sections.Goals.{then-is_mark+in_ok-
 
 pub loop-place-preserved : goal.loop-place-preserved
 loop-place-preserved g c =
-    let lines = c.args.lines.now in
+    let lines = c.args.lines.now.items in
     let place = c.loop-place.place in
-    let line = c.index-lines-place.result in
+    let line = c.line_at.result.now in
     let so_far = c.loop-place.invariant in
-    let here : slice_get lines place ≡ Some line = slice_get_read lines (length lines) place line refl (omega (arith, c.loop-place-test.true, c.loop-place.auto.place-end)) c.index-lines-place.is in
+    let here : slice_get lines place ≡ Some line = c.line_at.ensures in
     let is : is_mark_at lines place ≡ c.is_mark.result = is_mark_at-here lines place line here ∙ sym c.is_mark.ensures in
     elim c.if-is_mark.branch [
       | then-is_mark+in_ok-both w ↦
@@ -48,28 +47,28 @@ loop-place-preserved g c =
 
 pub section-requires-clause-bounds : goal.section-requires-clause-bounds
 section-requires-clause-bounds g c κs within =
-    let lines = c.args.lines.now in
+    let lines = c.args.lines.now.items in
     let place = c.loop-place.place in
-    let line = c.index-lines-place.result in
-    let here : slice_get lines place ≡ Some line = slice_get_read lines (length lines) place line refl (omega (arith, c.loop-place-test.true, c.loop-place.auto.place-end)) c.index-lines-place.is in
+    let line = c.line_at.result.now in
+    let here : slice_get lines place ≡ Some line = c.line_at.ensures in
     let mark : is_mark line ≡ true = sym c.is_mark.ensures ∙ c.if-is_mark.true in
     let before = barrier_from-mark lines c.loop-place.from place line here mark c.loop-place.invariant.within in
-    let few : place < 2 ^ 63 = search rules in
+    let few : place < 2 ^ 63 = omega (arith, c.loop-place-test.true, c.loop-place.auto.place-end, c.len-place-end.ensures.few) in
     (c.barrier_of-barrier.ensures.within.0, subst (λ b. b ≤ place) (sym c.barrier_of-barrier.ensures.barrier) before, few)
 
 pub returns-clause-notes : goal.returns-clause-notes
 returns-clause-notes g c =
-    let lines = c.args.lines.now in
+    let lines = c.args.lines.now.items in
     let so_far = c.loop-place.invariant in
-    let end : c.loop-place.place ≡ length lines = omega (arith, c.loop-place-test.false, c.loop-place.auto.place-end) in
+    let end : c.loop-place.place ≡ length lines = omega (arith, c.loop-place-test.false, c.loop-place.auto.place-end, c.len-place-end.ensures.len) in
     IfOk-weaker c.last_section.result _ _
     (λ both come. (HaveCome-other lines c.loop-place.from (length lines) both.1.minutes (ap (marks_above lines) (sym end) ∙ so_far.same) come).noted)
     (c.last_section.ensures.notes lines so_far.come c.barrier_of-barrier-2.ensures.barrier)
 
 pub returns-clause-sections : goal.returns-clause-sections
 returns-clause-sections g c =
-    let lines = c.args.lines.now in
+    let lines = c.args.lines.now.items in
     let so_far = c.loop-place.invariant in
-    let end : c.loop-place.place ≡ length lines = omega (arith, c.loop-place-test.false, c.loop-place.auto.place-end) in
+    let end : c.loop-place.place ≡ length lines = omega (arith, c.loop-place-test.false, c.loop-place.auto.place-end, c.len-place-end.ensures.len) in
     let all : marks lines ≡ c.loop-place.crew.sections = ap marks (sym (take_all (length lines) lines (omega arith))) ∙ ap (λ n. marks (take n lines)) (sym end) ∙ so_far.one c.loop-place.place so_far.within (omega arith) in
     IfOk-weaker c.last_section.result _ _ (λ both sections. sections ∙ ap (λ n. n + 1) (sym all)) c.last_section.ensures.sections

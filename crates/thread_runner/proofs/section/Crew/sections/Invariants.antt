@@ -8,9 +8,9 @@ use Rattle.thread_runner.proofs.section.Crew.sections.Given as goal
 abbrev pub invariant-loop-place : goal.invariant-loop-place
 invariant-loop-place g l = record {
   within : l.from ≤ l.place;
-  come : HaveCome l.lines l.from (plan_pairs l.keeper.steward.plan) l.keeper.minutes;
-  same : marks_above l.lines l.place ≡ marks_above l.lines l.from;
-  one : IsOneSection l.lines l.from l.place l.crew.sections;
+  come : HaveCome l.lines.items l.from (plan_pairs l.keeper.steward.plan) l.keeper.minutes;
+  same : marks_above l.lines.items l.place ≡ marks_above l.lines.items l.from;
+  one : IsOneSection l.lines.items l.from l.place l.crew.sections;
 }
 
 -- the section at hand

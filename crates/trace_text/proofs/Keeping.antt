@@ -1,0 +1,179 @@
+-- What is kept for a place.
+use Rattle.std.proofs.Common.{◌≡◌, ◌≢◌, ℕ, zero, suc, ◌+◌, ◌<◌, ◌≤◌, ◌==◌, Bool, true, false, List, [], ◌∷◌, ◌++◌, length, get_or, map, Option, Some, None, slice_get, arith, refl, sym, ap, ◌∙◌, ◌⊎◌, inl, inr}
+use Rattle.std.specs.List.{find, range_with_len}
+use Rattle.std.specs.Option.{option_map_or, option_or}
+use Rattle.std.proofs.lemmas.Bool.Decides.{nat_tests}
+use Rattle.std.proofs.lemmas.List.FromFn.{fill_by_all, get_or-map-range_with_len, length-map-range_with_len, map-range_with_len_more}
+use Rattle.std.proofs.lemmas.List.Folds.{find-append, find_at}
+use Rattle.std.proofs.lemmas.List.Sums.{position_or_len_is}
+use Rattle.std.proofs.lemmas.Option.{get_or_from_slice_get, slice_get-get_or, slice_get_past, slice_get_within}
+use Rattle.trace_text.specs.AllLines.{AreInOrder, is_at, line_kept, place_kept}
+use Rattle.trace_text.specs.declared.line.Line.{Line}
+use Rattle.trace_text.specs.declared.line.Line.TheVariants.{Silent}
+use Rattle.trace_text.specs.declared.line_list.KeptLine.{KeptLine}
+
+-- a list made of all numbers below another, at one of them
+pub slice_get-map-range : {X : Type 0} (f : ℕ → X) (n i : ℕ) → i < n → slice_get (map f (range_with_len 0 n)) i ≡ Some (f i)
+slice_get-map-range f n i less =
+    slice_get-get_or (map f (range_with_len 0 n)) i (f i) (omega (arith, length-map-range_with_len f 0 n)) ∙ ap Some (get_or-map-range_with_len f 0 n i i (f i) less (omega arith))
+
+-- what is kept for another place is not at this one
+apart : (a : KeptLine) (place : ℕ) → (a.place ≡ place → ⊥) → is_at place a ≡ false
+apart a place other = grind (arith, nat_tests)
+
+there : (a : KeptLine) (place : ℕ) → a.place ≡ place → is_at place a ≡ true
+there a place same = grind (arith, nat_tests)
+
+-- what is kept for the place is the one that is found
+pub find-kept : (kept : List KeptLine) (count index place : ℕ) (one : KeptLine) → AreInOrder kept count → slice_get kept index ≡ Some one → one.place ≡ place → find (is_at place) kept ≡ Some one
+find-kept kept count index place one order here same =
+    let within : index < length kept = slice_get_within kept index one here in
+    find_at (is_at place) kept
+    ∙ ap (slice_get kept) (position_or_len_is (is_at place) kept index one (omega arith)
+    (λ k below. apart (get_or kept k one) place (λ clash. omega (arith, clash, same, order.ascend k index (get_or kept k one) one below (slice_get-get_or kept k one (omega arith)) here)))
+    (λ _. ap (is_at place) (get_or_from_slice_get kept index one one here) ∙ there one place same))
+    ∙ here
+
+-- where nothing is kept for the place, nothing is found
+pub find-none : (kept : List KeptLine) (place : ℕ) → ((n : ℕ) (a : KeptLine) → slice_get kept n ≡ Some a → a.place ≡ place → ⊥) → find (is_at place) kept ≡ None
+find-none [] place none = refl
+find-none (a ∷ rest) place none =
+    rw (apart a place (none 0 a refl)) (find-none rest place (λ n b here. none (suc n) b here))
+
+-- of lines in order nothing is kept for a place where those above it end and the next is kept for another one
+pub find-between : (kept : List KeptLine) (count index place : ℕ) → AreInOrder kept count
+    → ((n : ℕ) (a : KeptLine) → n < index → slice_get kept n ≡ Some a → a.place < place)
+    → ((n : ℕ) (a : KeptLine) → index ≤ n → slice_get kept n ≡ Some a → place ≤ a.place)
+    → ((a : KeptLine) → slice_get kept index ≡ Some a → a.place ≡ place → ⊥) → find (is_at place) kept ≡ None
+find-between kept count index place order above below next = find-none kept place (λ n a here same. elim (cases n index) [
+  | inl less ↦ omega (arith, same, above n a less here)
+  | inr rest ↦ elim rest [
+    | inl equal ↦ next a (ap (slice_get kept) (sym equal) ∙ here) same
+    | inr more ↦
+        let within : index < length kept = omega (arith, more, slice_get_within kept n a here) in
+        let first = slice_get-get_or kept index a within in
+        omega (arith, same, below index (get_or kept index a) (omega arith) first, order.ascend index n (get_or kept index a) a more first here)
+  ]
+]) where
+  cases : (n m : ℕ) → (n < m) ⊎ ((n ≡ m) ⊎ (m < n))
+  cases zero zero = inr (inl refl)
+  cases zero (suc m) = inl (omega arith)
+  cases (suc n) zero = inr (inr (omega arith))
+  cases (suc n) (suc m) = elim (cases n m) [
+    | inl less ↦ inl (omega (arith, less))
+    | inr rest ↦ elim rest [
+      | inl equal ↦ inr (inl (ap suc equal))
+      | inr more ↦ inr (inr (omega (arith, more)))
+    ]
+  ]
+
+-- what stands in a list with one more at its end
+slice_get-push : {X : Type 0} (xs : List X) (y : X) (n : ℕ) (x : X) → slice_get (xs ++ y ∷ []) n ≡ Some x → (slice_get xs n ≡ Some x) ⊎ ((n ≡ length xs) × (x ≡ y))
+slice_get-push [] y zero x here = inr (refl, cc)
+slice_get-push [] y (suc n) x here = absurd cc
+slice_get-push (z ∷ zs) y zero x here = inl here
+slice_get-push (z ∷ zs) y (suc n) x here = elim (slice_get-push zs y n x here) [
+  | inl old ↦ inl old
+  | inr new ↦ inr (ap suc new.0, new.1)
+]
+
+-- lines in order are so among one more
+pub AreInOrder-more : (kept : List KeptLine) (count : ℕ) → AreInOrder kept count → AreInOrder kept (count + 1)
+AreInOrder-more kept count order = record {
+  ascend = order.ascend;
+  below = λ n a here. omega (arith, order.below n a here);
+}
+
+-- and so are they with one for the next place
+pub AreInOrder-push : (kept : List KeptLine) (count : ℕ) (new : KeptLine) → new.place ≡ count → AreInOrder kept count → AreInOrder (kept ++ new ∷ []) (count + 1)
+AreInOrder-push kept count new is order = record {
+  ascend = λ low high a b less first second. elim (slice_get-push kept new high b second) [
+    | inl upper ↦ elim (slice_get-push kept new low a first) [
+      | inl lower ↦ order.ascend low high a b less lower upper
+      | inr last ↦ absurd (omega (arith, less, last.0, slice_get_within kept high b upper))
+    ]
+    | inr upper ↦ elim (slice_get-push kept new low a first) [
+      | inl lower ↦ omega (arith, order.below low a lower, is, ap (λ (k : KeptLine). k.place) upper.1)
+      | inr last ↦ absurd (omega (arith, less, last.0, upper.0))
+    ]
+  ];
+  below = λ n a here. elim (slice_get-push kept new n a here) [
+    | inl old ↦ omega (arith, order.below n a old)
+    | inr last ↦ omega (arith, is, ap (λ (k : KeptLine). k.place) last.1)
+  ];
+}
+
+-- two functions that agree below a number make the same list
+map-range-same : {X : Type 0} (d : X) (f g : ℕ → X) (n : ℕ) → ((i : ℕ) → i < n → f i ≡ g i) → map f (range_with_len 0 n) ≡ map g (range_with_len 0 n)
+map-range-same d f g n same = fill_by_all g (map f (range_with_len 0 n)) n d (length-map-range_with_len f 0 n) (λ k less. get_or-map-range_with_len f 0 n k k d less (omega arith) ∙ same k less)
+
+or-none : {X : Type 0} (o : Option X) → option_or o None ≡ o
+or-none None = refl
+or-none (Some x) = refl
+
+-- what was found is found in a list with one more for another place
+find-old : (kept : List KeptLine) (new : KeptLine) (place : ℕ) → (new.place ≡ place → ⊥) → find (is_at place) (kept ++ new ∷ []) ≡ find (is_at place) kept
+find-old kept new place other = find-append (is_at place) kept (new ∷ []) ∙ ap (option_or (find (is_at place) kept)) (find-none (new ∷ []) place (alone new)) ∙ or-none (find (is_at place) kept) where
+  alone : (m : KeptLine) → (n : ℕ) (a : KeptLine) → slice_get (new ∷ []) n ≡ Some a → a.place ≡ place → ⊥
+  alone m zero a here same = let is : new ≡ a = cc in other (ap (λ (k : KeptLine). k.place) is ∙ same)
+  alone m (suc n) a here same = absurd cc
+
+-- nothing is kept for the place below the last line
+find-next : (kept : List KeptLine) (count : ℕ) → AreInOrder kept count → find (is_at count) kept ≡ None
+find-next kept count order = find-none kept count (λ n a here same. omega (arith, same, order.below n a here))
+
+find-new : (kept : List KeptLine) (count : ℕ) (new : KeptLine) → new.place ≡ count → AreInOrder kept count → find (is_at count) (kept ++ new ∷ []) ≡ Some new
+find-new kept count new is order =
+    find-append (is_at count) kept (new ∷ []) ∙ ap (λ o. option_or o (find (is_at count) (new ∷ []))) (find-next kept count order) ∙ rw (there new count is) refl
+
+-- a line more, of which something is kept
+module _ {X : Type 0} (d : X) (f : KeptLine → X) where
+  pub map-kept-push : (kept : List KeptLine) (count : ℕ) (new : KeptLine) → new.place ≡ count → AreInOrder kept count
+      → map (λ place. option_map_or f (find (is_at place) (kept ++ new ∷ [])) d) (range_with_len 0 (count + 1)) ≡ map (λ place. option_map_or f (find (is_at place) kept) d) (range_with_len 0 count) ++ f new ∷ []
+  map-kept-push kept count new is order =
+      map-range_with_len_more (λ place. option_map_or f (find (is_at place) (kept ++ new ∷ [])) d) 0 count count (omega arith)
+      ∙ ap (λ xs. xs ++ option_map_or f (find (is_at count) (kept ++ new ∷ [])) d ∷ []) (map-range-same d _ _ count (λ i less. ap (λ o. option_map_or f o d) (find-old kept new i (λ same. omega (arith, same, is, less)))))
+      ∙ ap (λ o. map (λ place. option_map_or f (find (is_at place) kept) d) (range_with_len 0 count) ++ option_map_or f o d ∷ []) (find-new kept count new is order)
+
+  -- and one of which nothing is
+  pub map-kept-more : (kept : List KeptLine) (count : ℕ) → AreInOrder kept count
+      → map (λ place. option_map_or f (find (is_at place) kept) d) (range_with_len 0 (count + 1)) ≡ map (λ place. option_map_or f (find (is_at place) kept) d) (range_with_len 0 count) ++ d ∷ []
+  map-kept-more kept count order =
+      map-range_with_len_more (λ place. option_map_or f (find (is_at place) kept) d) 0 count count (omega arith)
+      ∙ ap (λ o. map (λ place. option_map_or f (find (is_at place) kept) d) (range_with_len 0 count) ++ option_map_or f o d ∷ []) (find-next kept count order)
+
+-- what stands at a place
+pub kept_line : (kept : List KeptLine) (count place : ℕ) (one : KeptLine) → place < length (map (line_kept kept) (range_with_len 0 count)) → find (is_at place) kept ≡ Some one
+    → slice_get (map (line_kept kept) (range_with_len 0 count)) place ≡ Some one.line
+kept_line kept count place one less found =
+    slice_get-map-range (line_kept kept) count place (omega (arith, less, length-map-range_with_len (line_kept kept) 0 count)) ∙ ap (λ o. Some (option_map_or (λ (k : KeptLine). k.line) o Silent)) found
+
+pub kept_line-none : (kept : List KeptLine) (count place : ℕ) → place < length (map (line_kept kept) (range_with_len 0 count)) → find (is_at place) kept ≡ None
+    → slice_get (map (line_kept kept) (range_with_len 0 count)) place ≡ Some Silent
+kept_line-none kept count place less none =
+    slice_get-map-range (line_kept kept) count place (omega (arith, less, length-map-range_with_len (line_kept kept) 0 count)) ∙ ap (λ o. Some (option_map_or (λ (k : KeptLine). k.line) o Silent)) none
+
+pub kept_read : (kept : List KeptLine) (count place : ℕ) (one : KeptLine) → place < length (map (line_kept kept) (range_with_len 0 count)) → find (is_at place) kept ≡ Some one
+    → slice_get (map (place_kept kept) (range_with_len 0 count)) place ≡ Some one.reads
+kept_read kept count place one less found =
+    slice_get-map-range (place_kept kept) count place (omega (arith, less, length-map-range_with_len (line_kept kept) 0 count)) ∙ ap (λ o. Some (option_map_or (λ (k : KeptLine). k.reads) o 0)) found
+
+pub kept_read-none : (kept : List KeptLine) (count place : ℕ) → place < length (map (line_kept kept) (range_with_len 0 count)) → find (is_at place) kept ≡ None
+    → slice_get (map (place_kept kept) (range_with_len 0 count)) place ≡ Some 0
+kept_read-none kept count place less none =
+    slice_get-map-range (place_kept kept) count place (omega (arith, less, length-map-range_with_len (line_kept kept) 0 count)) ∙ ap (λ o. Some (option_map_or (λ (k : KeptLine). k.reads) o 0)) none
+
+-- one line more
+pub lines-push : (kept : List KeptLine) (count : ℕ) (new : KeptLine) → new.place ≡ count → AreInOrder kept count
+    → map (line_kept (kept ++ new ∷ [])) (range_with_len 0 (count + 1)) ≡ map (line_kept kept) (range_with_len 0 count) ++ new.line ∷ []
+lines-push kept count new is order = map-kept-push Silent (λ k. k.line) kept count new is order
+
+pub reads-push : (kept : List KeptLine) (count : ℕ) (new : KeptLine) → new.place ≡ count → AreInOrder kept count
+    → map (place_kept (kept ++ new ∷ [])) (range_with_len 0 (count + 1)) ≡ map (place_kept kept) (range_with_len 0 count) ++ new.reads ∷ []
+reads-push kept count new is order = map-kept-push 0 (λ k. k.reads) kept count new is order
+
+pub lines-more : (kept : List KeptLine) (count : ℕ) → AreInOrder kept count → map (line_kept kept) (range_with_len 0 (count + 1)) ≡ map (line_kept kept) (range_with_len 0 count) ++ Silent ∷ []
+lines-more kept count order = map-kept-more Silent (λ k. k.line) kept count order
+
+pub reads-more : (kept : List KeptLine) (count : ℕ) → AreInOrder kept count → map (place_kept kept) (range_with_len 0 (count + 1)) ≡ map (place_kept kept) (range_with_len 0 count) ++ 0 ∷ []
+reads-more kept count order = map-kept-more 0 (λ k. k.reads) kept count order

@@ -1,0 +1,14 @@
+use Rattle.std.proofs.Common.{◌≡◌, ◌∙◌, ◌<◌, Some, None, ap, arith, length, sym}
+use Rattle.std.specs.List.{find}
+use Rattle.trace_text.specs.AllLines.{is_at, line_kept}
+use Rattle.trace_text.specs.declared.line.Line.TheVariants.{Silent}
+use Rattle.trace_text.proofs.Keeping.{kept_line, kept_line-none}
+use Rattle.trace_text.proofs.line_list.LineList.line_at.Goals as goal
+
+pub returns-in-Some : goal.returns-in-Some
+returns-in-Some c = rw (← c.self.view_is)
+    (kept_line c.self.inside.kept.items c.self.inside.count c.args.place c.in-Some.one.now (rw (← c.self.view_is) at c.requires) (sym (rw (c.as_slice.ensures.value) at c.in-Some.ensures)))
+
+pub returns-in-None : goal.returns-in-None
+returns-in-None c = rw (← c.self.view_is)
+    (kept_line-none c.self.inside.kept.items c.self.inside.count c.args.place (rw (← c.self.view_is) at c.requires) (sym (rw (c.as_slice.ensures.value) at c.in-None.ensures)) ∙ ap Some (sym c.self.invariant.2))

@@ -1,0 +1,36 @@
+use Rattle.std.proofs.Common.{◌≡◌, refl, ◌∙◌, ◌<◌, ◌+◌, ◌^◌, arith, ap, sym}
+use Rattle.std.proofs.lemmas.List.FromFn.{length-map-range_with_len}
+use Rattle.trace_text.specs.AllLines.{line_kept}
+use Rattle.trace_text.specs.declared.line.Line.TheVariants.{Silent}
+use Rattle.trace_text.proofs.Keeping.{AreInOrder-more, AreInOrder-push, lines-more, lines-push, reads-more, reads-push}
+use Rattle.trace_text.proofs.line_list.LineList.push.Goals as goal
+
+pub invariant_of-self : goal.invariant_of-self
+invariant_of-self c =
+    let room = rw (← c.self.view_is) at c.requires.room in (
+      AreInOrder-more c.self.inside.kept.items c.self.inside.count c.self.invariant.0,
+      omega (arith, room, length-map-range_with_len (line_kept c.self.inside.kept.items) 0 c.self.inside.count),
+      c.self.invariant.2,
+    )
+
+pub returns-in-Silent-clause-lines : goal.returns-in-Silent-clause-lines
+returns-in-Silent-clause-lines c = rw (c.in-Silent.is, ← c.self.view_is) (lines-more c.self.inside.kept.items c.self.inside.count c.self.invariant.0)
+
+pub returns-in-Silent-clause-places : goal.returns-in-Silent-clause-places
+returns-in-Silent-clause-places c =
+    let silent = rw (c.in-Silent.is) at c.requires.silent in
+    rw (silent refl, ← c.self.view_is) (reads-more c.self.inside.kept.items c.self.inside.count c.self.invariant.0)
+
+pub invariant_of-self-2 : goal.invariant_of-self-2
+invariant_of-self-2 c =
+    let room = rw (← c.self.view_is) at c.requires.room in (
+      rw (c.in_ok-push.ensures.items) (AreInOrder-push c.self.inside.kept.items c.self.inside.count _ refl c.self.invariant.0),
+      omega (arith, room, length-map-range_with_len (line_kept c.self.inside.kept.items) 0 c.self.inside.count),
+      c.self.invariant.2,
+    )
+
+pub returns : goal.returns
+returns c = record {
+  lines = rw (c.in_ok-push.ensures.items, ← c.self.view_is) (lines-push c.self.inside.kept.items c.self.inside.count _ refl c.self.invariant.0);
+  places = rw (c.in_ok-push.ensures.items, ← c.self.view_is) (reads-push c.self.inside.kept.items c.self.inside.count _ refl c.self.invariant.0);
+}
