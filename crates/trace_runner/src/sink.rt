@@ -6,6 +6,7 @@ ghost use Rattle.trace_runner.specs.Sink.{AppendsFront};
 
 use thiserror::Error;
 
+mod interrupted;
 mod memory;
 mod out;
 

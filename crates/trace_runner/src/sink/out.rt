@@ -1,12 +1,9 @@
 // A sink over a writer.
-ghost use Rattle.std.specs.Prelude.{◌≡◌, ◌≢◌, IfErr};
-ghost use Rattle.std.specs.Io.{WritesAtMost};
-ghost use Rattle.std.specs.Io.KnownBytes.{WriteAppends};
-ghost use Rattle.std.specs.IoError.{error_kind};
-ghost use Rattle.std.specs.declared.io.ErrorKind.TheVariants.{Interrupted};
+ghost use Rattle.std.specs.Prelude.{◌≡◌};
 
+use super::interrupted::write_once;
 use crate::sink::{Sink, SinkFailed};
-use std::io::{self, ErrorKind, Write};
+use std::io::Write;
 
 /// A sink over a writer. It tells its bytes where the writer does, and a writer that takes none of
 /// the bytes has failed; a write that a signal interrupted is made again.
@@ -49,25 +46,4 @@ impl<W: Write> Sink for Out<W> {
     fn failures(&self) -> u64 {
         self.failures
     }
-}
-
-/// Writes a prefix of the bytes, and answers how many. A write that was interrupted has taken none of them, and is made again, as
-/// std's `write_all` does; a writer that is interrupted for ever has failed.
-fn write_once<W: Write>(writer: &mut W, bytes: &[u8]) -> io::Result<usize>
-    ensures bound { WritesAtMost result bytes.now }
-    ensures written { WriteAppends (W.contents writer.old) (W.contents writer.new) result
-        bytes.now }
-    ensures repeated { IfErr result (λ error. error_kind error ≢ Interrupted) }
-{
-    for _ in 0..u64::MAX {
-        match writer.write(bytes) {
-            Ok(count) => return Ok(count),
-            Err(error) => {
-                if error.kind() != ErrorKind::Interrupted {
-                    return Err(error);
-                }
-            }
-        }
-    }
-    Err(io::Error::from(ErrorKind::Other))
 }
