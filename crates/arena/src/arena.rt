@@ -222,11 +222,11 @@ impl<G: Gate, L: Log> Arena<G, L> {
         if pool.has_plan() {
             return MarkError::PlanOpen;
         }
+        let has_too_many = pool.pages() > MOST_GROUPS
+            || totals_of(rt, &self.shards).pages > MOST_GROUPS;
         match sight {
-            Sight::All
-                if pool.pages() > MOST_GROUPS || totals_of(rt, &self.shards).pages > MOST_GROUPS =>
-                { MarkError::TooMany }
-            _ => MarkError::OutOfMemory,
+            Sight::All if has_too_many => MarkError::TooMany,
+            Sight::All | Sight::Sparsest => MarkError::OutOfMemory,
         }
     }
 
