@@ -1,9 +1,6 @@
 -- What the lines bind, one line more.
-use Rattle.std.proofs.Common.{◌≡◌, ℕ, ◌+◌, ◌≤◌, ◌⊎◌, Bool, true, false, List, [], ◌∷◌, ◌++◌, length, Option, Some, None, is_some, arith, refl, sym, ap, ◌∙◌, inl, inr, subst}
-use Rattle.std.specs.Cmp.Lexicographic.{slice_cmp, texts_ties}
+use Rattle.std.proofs.Common.{◌≡◌, ℕ, ◌+◌, ◌≤◌, ◌⊎◌, false, List, [], ◌∷◌, ◌++◌, length, Option, Some, None, is_some, arith, refl, sym, ap, ◌∙◌, inl, inr, subst}
 use Rattle.std.specs.Option.{option_map_or, option_or}
-use Rattle.std.specs.Ordering.{eq_by_cmp, nat_cmp}
-use Rattle.std.specs.Prelude.{cond, if◌then◌else◌}
 use Rattle.std.specs.Str.{bytes_eq}
 use Rattle.std.proofs.lemmas.Bool.Decides.{nat_tests}
 use Rattle.trace_text.proofs.Lines.{chosen, same_bytes}
@@ -25,14 +22,6 @@ or_none (Some x) = refl
 or_assoc : {X : Type 0} (o p q : Option X) → option_or o (option_or p q) ≡ option_or (option_or o p) q
 or_assoc None p q = refl
 or_assoc (Some x) p q = refl
-
--- what a map that has the binding at this name, and else what it had, has at another name
-pub updated_binding : (name other : List ℕ) (b : Binding) (new old : Option Binding) → new ≡ cond (eq_by_cmp (slice_cmp nat_cmp) name other) (Some b) old
-    → new ≡ option_or (if bytes_eq name other then Some b else None) old
-updated_binding name other b new old e = e ∙ ap (λ same. cond same (Some b) old) (sym (texts_ties name other)) ∙ either (bytes_eq name other) where
-  either : (same : Bool) → cond same (Some b) old ≡ option_or (if same then Some b else None) old
-  either true = refl
-  either false = refl
 
 binding_from-push : (place section first : ℕ) (name : List ℕ) (ls : List Line) (l : Line)
     → binding_from place section first name (ls ++ l ∷ []) ≡ option_or (binding_from place section first name ls) (binding_at (place + length ls) (section + marks ls) (first + keys_in ls) name l)

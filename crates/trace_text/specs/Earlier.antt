@@ -1,10 +1,9 @@
 -- What is kept of the lines before a line. No public clause cites this module.
 use Rattle.std.specs.Prelude.{◌≡◌, ◌≤◌, ◌||◌, ℕ, Bool, List, Option, Some, nat_eq, if◌then◌else◌}
-use Rattle.std.specs.Ordering.{nat_cmp}
-use Rattle.std.specs.BTreeMap as tree
+use Rattle.std.specs.HashMap as hash
 use Rattle.std.specs.HashSet as bag
 use Rattle.std.specs.Option.{option_or}
-use Rattle.std.specs.Cmp.Lexicographic.{slice_cmp}
+use Rattle.std.specs.Cmp.Lexicographic.{pointwise}
 use Rattle.trace_text.specs.Causes.{awaits_mark, binding_at, binding_of, ends, has_ended, is_adopt, keys_in, marks, speaks}
 use Rattle.trace_text.specs.declared.line.Line.{Line}
 use Rattle.trace_text.specs.declared.line.Keys.{Keys}
@@ -15,7 +14,7 @@ use Rattle.trace_text.specs.declared.earlier.TheConstants.{MOST_KEYS}
 
 -- what the table has for the name
 abbrev pub bound_in : Earlier → List ℕ → Option Binding
-bound_in e name = tree.get (λ s t. slice_cmp nat_cmp s t) e.names name
+bound_in e name = hash.get (λ s t. pointwise nat_eq s t) e.names name
 
 -- the set has the thread
 abbrev pub ended_in : Earlier → ℕ → Bool

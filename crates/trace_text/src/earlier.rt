@@ -12,9 +12,10 @@ use super::cause::Cause;
 use super::header::Header;
 use super::line::{Binding, Call, Keys, Line};
 use super::name::{Name, Reference};
+use super::text_seed::TextSeed;
 use span::Class;
 use std::alloc::{AllocError, Global};
-use std::collections::{BTreeMap, HashSet};
+use std::collections::{HashMap, HashSet};
 
 /// The greatest count of a fill: as many keys as a shard has room for at once.
 const MOST_KEYS: u32 = 262_144;
@@ -33,8 +34,8 @@ fn ends_over(class: Class, count: u32, value: u128) -> bool
 /// What later lines need to know of those before them.
 #[derive(Drop)]
 pub struct Earlier {
-    /// What each name is bound to. Names are kept in order: a text may have names whose hashes are all alike.
-    names: BTreeMap<Name, Binding>,
+    /// What each name is bound to.
+    names: HashMap<Name, Binding, TextSeed>,
     /// The threads that have ended.
     ended: HashSet<u32>,
     /// How many marks there are.
@@ -52,12 +53,12 @@ impl Earlier {
     ghost use Rattle.std.specs.Option.{option_or};
     ghost use Rattle.std.specs.Str.{bytes_eq};
 
-    /// Before the first line.
-    pub fn new(alloc: Global) -> Earlier
+    /// Before the first line, of a text whose names are hashed by that seed.
+    pub fn new(alloc: Global, seed: TextSeed) -> Earlier
         ensures { Knows [] result }
     {
         Earlier {
-            names: BTreeMap::new(alloc),
+            names: HashMap::with_hasher(alloc, seed),
             ended: HashSet::new(alloc),
             section: 0,
             keys: 0,

@@ -62,6 +62,7 @@ mod name;
 mod numeral;
 mod parsing;
 mod reading;
+mod text_seed;
 mod trace;
 mod words;
 

@@ -1,9 +1,8 @@
 //! Names, and references to the keys that they name.
 
-ghost use Rattle.std.specs.Prelude.{◌≡◌, List, ℕ, IfSome, Some, is_some, nat_eq, refl, true};
-ghost use Rattle.std.specs.Cmp.{on_equiv, on_per, on_po, on_total, partial_equiv_from_equiv};
-ghost use Rattle.std.specs.Cmp.Lexicographic.{nat_list_cmp_total, nat_list_eq_equiv, pointwise, slice_cmp, texts_po, texts_ties};
-ghost use Rattle.std.specs.Ordering.{nat_cmp};
+ghost use Rattle.std.specs.Prelude.{◌≡◌, List, ℕ, IfSome, is_some, nat_eq, true};
+ghost use Rattle.std.specs.Cmp.{on_equiv, on_per, partial_equiv_from_equiv};
+ghost use Rattle.std.specs.Cmp.Lexicographic.{pointwise, nat_list_eq_equiv};
 ghost use Rattle.std.specs.Cmp.Rules.{hashing};
 ghost use Rattle.std.specs.Hash as fed;
 ghost use Rattle.std.proofs.Common.{rules};
@@ -12,7 +11,6 @@ ghost use Rattle.trace_text.specs.Name.{is_name, has_name_bytes};
 use super::numeral::clipped_number;
 use super::words::parts;
 use arrayvec::ArrayVec;
-use std::cmp::Ordering;
 use std::hash::{Hash, Hasher};
 use std::marker::Model;
 
@@ -87,30 +85,6 @@ impl PartialEq for Name {
 
 impl Eq for Name {
     ghost laws = { on_equiv (λ s. s) nat_list_eq_equiv };
-}
-
-impl PartialOrd for Name {
-    ghost partial_cmp = { λ s t. Some (slice_cmp nat_cmp s t) };
-
-    ghost laws = { on_po (λ s. s) texts_po };
-
-    fn partial_cmp(&self, other: &Self) -> Option<Ordering> {
-        Some(self.cmp(other))
-    }
-}
-
-impl Ord for Name {
-    ghost cmp = { λ s t. slice_cmp nat_cmp s t };
-
-    ghost total = { on_total (λ s. s) nat_list_cmp_total };
-
-    ghost matches_partial_cmp = { λ s t. refl };
-
-    ghost matches_eq = { λ s t. texts_ties s t };
-
-    fn cmp(&self, other: &Self) -> Ordering {
-        self.as_bytes().cmp(other.as_bytes())
-    }
 }
 
 impl Hash for Name {

@@ -17,6 +17,7 @@ use super::header::{Header, read_header};
 use super::line::Line;
 use super::line_list::LineList;
 use super::reading::read_line;
+use super::text_seed::TextSeed;
 use super::trace::Trace;
 use super::words::first_line;
 use std::alloc::Global;
@@ -60,7 +61,7 @@ fn read_body(alloc: Global, header: &Header, text: &[u8]) -> Result<Body, ParseE
     ensures err { IfErr result (FailsAt header.now (lines_of text.now)) }
 {
     let mut lines = LineList::new(alloc);
-    let mut earlier = Earlier::new(alloc);
+    let mut earlier = Earlier::new(alloc, TextSeed::of(text));
     let mut rest = text;
     while let Some((bytes, below)) = first_line(rest) {
         let (line, place) = match next_line(header, &earlier, bytes) {
