@@ -84,7 +84,7 @@ fn padded(words: usize) -> usize
     (words + 15) / 16 * 16
 }
 
-// Sixteen words of row `bit`, where those of row 0 begin at `first` and each row is `width` words further.
+// Sixteen words of the row of a bit. Those of the lowest bit's row begin at `first`, and each further row's are `width` words on.
 fn block_at(rows: &[u64], width: usize, bit: usize, first: usize) -> Simd<u64, 16>
     requires { first + width * bit + 16 ≤ length rows.now }
     ensures { result ≡ chunk (first + width * bit) 16 rows.now }

@@ -1,6 +1,6 @@
 //! The lines below a header.
 
-ghost use Rattle.std.specs.Prelude.{◌≡◌, ◌<◌, ◌≤◌, ◌-◌, ◌^◌, ◌++◌, ◌∷◌, [], ℕ, List, IfNone, IfSome, OnOk, Some, false, length, nat_lt, option_map, slice_get};
+ghost use Rattle.std.specs.Prelude.{◌≡◌, ◌<◌, ◌≤◌, ◌-◌, ◌^◌, ◌++◌, ◌∷◌, [], ℕ, List, IfNone, IfSome, OnErr, OnOk, Some, false, length, nat_lt, option_map, slice_get};
 ghost use Rattle.std.specs.List.{find};
 ghost use Rattle.trace_text.specs.AllLines.{AllLines, AreInOrder, is_at, lines_kept};
 ghost use Rattle.trace_text.specs.Causes.{speaks};
@@ -146,12 +146,13 @@ impl LineList {
     ///
     /// # Errors
     ///
-    /// `AllocError` where memory is refused for a line that is kept.
+    /// `AllocError` where memory is refused for a line that is kept. The list is then as it was.
     pub fn push(&mut self, line: Line, reads: usize) -> Result<(), AllocError>
         requires silent { speaks line ≡ false → reads ≡ 0 }
         requires room { length self.old.items < 2 ^ 63 - 1 }
         ensures lines { OnOk result (self.new.items ≡ self.old.items ++ line ∷ []) }
         ensures places { OnOk result (self.new.places ≡ self.old.places ++ reads ∷ []) }
+        ensures err { OnErr result (self.new ≡ self.old) }
     {
         let place = self.count;
         if let Line::Silent = line {

@@ -29,8 +29,8 @@ invariant_of-self-2 c =
       c.self.invariant.2,
     )
 
-pub returns : goal.returns
-returns c = record {
-  lines = rw (c.in_ok-push.ensures.items, ← c.self.view_is) (lines-push c.self.inside.kept.items c.self.inside.count _ refl c.self.invariant.0);
-  places = rw (c.in_ok-push.ensures.items, ← c.self.view_is) (reads-push c.self.inside.kept.items c.self.inside.count _ refl c.self.invariant.0);
-}
+pub returns-clause-lines : goal.returns-clause-lines
+returns-clause-lines c = rw (c.in_ok-push.ensures.items, ← c.self.view_is) (lines-push c.self.inside.kept.items c.self.inside.count _ refl c.self.invariant.0)
+
+pub returns-clause-places : goal.returns-clause-places
+returns-clause-places c = rw (c.in_ok-push.ensures.items, ← c.self.view_is) (reads-push c.self.inside.kept.items c.self.inside.count _ refl c.self.invariant.0)
