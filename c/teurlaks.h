@@ -189,7 +189,7 @@ struct teurlaks_trim_reply teurlaks_trim(struct teurlaks_handle *handle, uint32_
 /* Moves the pool's group of lowest head that has a page to the shard. */
 struct teurlaks_adopt_reply teurlaks_adopt(struct teurlaks_handle *handle, uint32_t shard);
 
-/* Plans as many folds as can be, and opens the plan. */
+/* Plans as many folds as can be, and opens the plan. TEURLAKS_TOO_MANY where a side has more than 4,096 groups that have a page. */
 struct teurlaks_mark_reply teurlaks_mark(struct teurlaks_handle *handle);
 
 /* Marks as teurlaks_mark does, but sees of each side the 4,096 groups with the fewest live keys, or all where there are no more, and so is

@@ -418,8 +418,8 @@ impl Core {
     }
 
     /// Marks, takes all steps and closes, and says how many pages came back. The mark is that of [`Core::mark_some`]; where it may not have
-    /// seen all groups, and folds at least a sixteenth of those that it saw of the pool, there is another. Where a step is refused, the plan is closed all the
-    /// same.
+    /// seen all groups, and folds at least a sixteenth of those that it saw of the pool, there is another. Where a step is refused, the plan
+    /// is closed all the same.
     pub fn mesh(&mut self) -> Result<usize, Refused> {
         self.mesh_with(|_, _| ())
     }
@@ -460,7 +460,10 @@ impl Core {
         let before = self.pages();
         loop {
             let Marked {
-                abandoned, owned, folds, ..
+                abandoned,
+                owned,
+                folds,
+                ..
             } = self.mark_some()?;
             let taken = self.take_steps(&mut folded);
             self.close()?;

@@ -151,7 +151,8 @@ impl<L: Log> Core<L> {
     ///
     /// A mark that is not refused plans as many folds as can be, and shows it: no plan of what stands has more pairs. A mark of some
     /// ([`Event::MarkSome`]) sees at most 4,096 groups of each side, those with the fewest live slots, and no plan of these has more pairs;
-    /// it is refused as a mark is, but never with [`Refusal::TooMany`]. Until the plan is closed, the groups that it folds onto take no put, and each step carries out its next pair.
+    /// it is refused as a mark is, but never with [`Refusal::TooMany`]. Until the plan is closed, the groups that it folds onto take no
+    /// put, and each step carries out its next pair.
     // Inlined, it makes no event and no reply that its caller takes apart at once. Both have the room of the largest object,
     // and a call passes them through memory, which costs several times the shard's own look-up.
     #[inline(always)]

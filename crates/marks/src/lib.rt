@@ -2,7 +2,7 @@
 //!
 //! A core has its shards and its pool in one value, an arena has each behind a lock of its own. What both are asked in the
 //! same words stands here, once: the numbers that they are opened with ([`Limits`]), how much they keep ([`Totals`]), the
-//! mark ([`mark_in`]), and the plan that it opens ([`CurrentPlan`]).
+//! mark ([`mark_in`]), that of more groups than a plan may have ([`mark_some_in`]), and the plan that they open ([`CurrentPlan`]).
 //!
 //! ```text
 //!   pool    ──► groups that have a page ──┐
