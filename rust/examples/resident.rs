@@ -32,10 +32,10 @@ fn measure<const BYTES: usize>(values: usize, kept: u64) -> Result<(), Refused> 
     let base = resident();
     let mut slab = Slab::new()?;
     for (number, key) in keys.iter_mut().enumerate() {
-        *key = slab.insert([number as u8; BYTES])?;
+        *key = Some(slab.insert([number as u8; BYTES])?);
     }
     let (full, pages) = (resident() - base, slab.pages());
-    for (key, percent) in keys.iter().zip(percents()) {
+    for (key, percent) in keys.iter().flatten().zip(percents()) {
         if percent >= kept {
             slab.remove(*key);
         }

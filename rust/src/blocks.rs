@@ -57,7 +57,17 @@ impl Blocks {
         Ok(())
     }
 
+    /// Sees to it that so many blocks are free. Where this is refused, those that there are by then stay.
+    pub fn reserve_all(&mut self, count: usize) -> Result<(), Refused> {
+        while self.warm.len() + self.cold.len() < count {
+            self.grow()?;
+        }
+        Ok(())
+    }
+
     #[cold]
+    // Of 65,536 pages each takes a block, and for each there is at most one more that is free, and a segment.
+    #[allow(clippy::cast_possible_truncation)]
     fn grow(&mut self) -> Result<(), Refused> {
         let (old, new) = (self.len(), self.len() + self.per);
         self.segments.try_reserve(1).map_err(|_| Refused::OutOfMemory)?;
@@ -130,7 +140,7 @@ impl Blocks {
                 system::release(
                     segment.as_ptr().add(pages.start * SYSTEM_PAGE),
                     pages.len() * SYSTEM_PAGE,
-                )
+                );
             }
         }
     }

@@ -42,6 +42,7 @@ impl Words {
     }
 
     /// The word of an object of one word.
+    #[must_use]
     pub fn word(&self) -> Option<u128> {
         match **self {
             [word] => Some(word),
@@ -50,6 +51,7 @@ impl Words {
     }
 
     /// The object's bytes, 16, 64 or 256, each word from its lowest byte on.
+    #[must_use]
     pub fn as_bytes(&self) -> &[u8] {
         // SAFETY: so many bytes are initialised, and any bytes are bytes.
         unsafe { slice::from_raw_parts(self.words.as_ptr().cast(), 16 * self.len) }
@@ -90,18 +92,21 @@ pub struct BytesKey {
 
 impl BytesKey {
     /// The name of so many bytes, 1 to 256.
+    #[allow(clippy::cast_possible_truncation)]
     pub(crate) fn new(key: Key, len: usize) -> BytesKey {
         debug_assert!((1..=MOST_BYTES).contains(&len));
         BytesKey { key, len: len as u16 }
     }
 
     /// The key of the object that holds them.
+    #[must_use]
     pub fn key(self) -> Key {
         self.key
     }
 
     /// How many there are, 1 to 256.
     #[allow(clippy::len_without_is_empty)]
+    #[must_use]
     pub fn len(self) -> usize {
         usize::from(self.len)
     }
@@ -116,6 +121,8 @@ pub struct Bytes {
 
 impl Bytes {
     /// The first bytes of the object, or `None` where it has not so many.
+    // The words go into what is made.
+    #[allow(clippy::large_types_passed_by_value)]
     pub(crate) fn of(words: Words, len: usize) -> Option<Bytes> {
         (len <= words.as_bytes().len()).then_some(Bytes { words, len })
     }

@@ -1,5 +1,5 @@
 #![doc = include_str!("../README.md")]
-#![warn(missing_docs)]
+#![warn(missing_docs, missing_debug_implementations)]
 
 mod blocks;
 mod bytes;
@@ -8,16 +8,20 @@ mod core;
 mod names;
 mod raw;
 mod refused;
-mod slab;
-mod store;
+pub mod slab;
+pub mod store;
 mod values;
+pub mod walk;
 
-pub use crate::core::{Core, Drain, Limits, Marked, Stepped};
+pub use crate::core::{Core, Limits, Marked, Stepped};
 pub use bytes::{Bytes, BytesKey, Words};
-pub use names::{Group, Key};
-pub use refused::Refused;
+pub use names::{Group, Key, ParseKeyError};
+pub use refused::{InsertError, Refused};
+#[doc(inline)]
 pub use slab::Slab;
+#[doc(inline)]
 pub use store::Store;
+pub use walk::Drain;
 
 /// The front page's lines of Rust, so that they are tests.
 #[cfg(doctest)]

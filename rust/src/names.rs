@@ -1,53 +1,171 @@
 //! Names of values and of groups.
 
-use crate::raw;
+use crate::raw::{RawKey, RawSpan};
+use std::error::Error;
 use std::fmt;
+use std::hash::{Hash, Hasher};
+use std::num::NonZeroU32;
+use std::str::FromStr;
 
 /// The name of one stored value. It is 8 bytes, and no other value of the same slab ever has it.
 ///
-/// A key is printed as `shard.serial/slot/generation`. A key of another slab finds nothing, or what has the same numbers here.
-#[derive(Clone, Copy, PartialEq, Eq, PartialOrd, Ord, Hash)]
-pub struct Key(pub(crate) raw::RawKey);
+/// A key is printed as `shard.serial/slot/generation`, as in the reports of `meshrun`, and read from such a text. Keys are ordered as the walks of
+/// a [`Core`](crate::Core) and a [`Store`](crate::Store) come to them: by shard, serial number, slot and generation. Since no generation is 0,
+/// an `Option<Key>` is 8 bytes too. A key of another slab finds nothing, or what has the same numbers here.
+///
+/// ```
+/// # use teurlaks::{Key, Slab};
+/// let mut slab = Slab::new()?;
+/// let key = slab.insert("a")?;
+/// assert_eq!(key.to_string(), "0.0/0/1");
+/// assert_eq!("0.0/0/1".parse(), Ok(key));
+/// assert_eq!((key.shard(), key.serial(), key.slot(), key.generation()), (0, 0, 0, 1));
+/// assert_eq!(std::mem::size_of::<Option<Key>>(), 8);
+/// # Ok::<(), teurlaks::Refused>(())
+/// ```
+#[derive(Clone, Copy, PartialEq, Eq)]
+#[repr(C)]
+pub struct Key {
+    shard: u8,
+    slot: u8,
+    serial: u16,
+    generation: NonZeroU32,
+}
 
 impl Key {
-    /// The key as a number, as for a place that keeps numbers.
+    /// The key as a number, as for a place that keeps numbers: the shard in its highest byte, then the slot, 16 bits of the serial number and
+    /// 32 of the generation.
     ///
     /// ```
     /// # use teurlaks::{Key, Slab};
     /// let mut slab = Slab::new()?;
     /// let key = slab.insert("a")?;
-    /// assert_eq!(slab.get(Key::from_bits(key.to_bits())), Some(&"a"));
+    /// assert_eq!(Key::from_bits(key.to_bits()), Some(key));
+    /// assert_eq!(Key::from_bits(0), None);
     /// # Ok::<(), teurlaks::Refused>(())
     /// ```
+    #[must_use]
     pub fn to_bits(self) -> u64 {
-        let raw::RawKey {
-            shard,
-            slot,
-            serial,
-            generation,
-        } = self.0;
-        u64::from(shard) << 56 | u64::from(slot) << 48 | u64::from(serial) << 32 | u64::from(generation)
+        u64::from(self.shard) << 56
+            | u64::from(self.slot) << 48
+            | u64::from(self.serial) << 32
+            | u64::from(self.generation.get())
     }
 
-    /// The key of a number. Any number may be given: where it is no live key, nothing is found.
-    pub fn from_bits(bits: u64) -> Key {
-        Key(raw::RawKey {
+    /// The key of a number, or `None` where the generation, which is its lower half, is 0: no key has that. Any number may be given: under a key that
+    /// is not live nothing is found.
+    #[must_use]
+    // Each part is cut out of the number.
+    #[allow(clippy::cast_possible_truncation)]
+    pub fn from_bits(bits: u64) -> Option<Key> {
+        Some(Key {
             shard: (bits >> 56) as u8,
             slot: (bits >> 48) as u8,
             serial: (bits >> 32) as u16,
-            generation: bits as u32,
+            generation: NonZeroU32::new(bits as u32)?,
         })
+    }
+
+    /// The shard that opened its span. Another may have adopted that, and the pool may have it.
+    #[must_use]
+    pub fn shard(self) -> u32 {
+        self.shard.into()
+    }
+
+    /// The serial number of its span among those that the shard has opened, below 1,024 for a key that was given out.
+    #[must_use]
+    pub fn serial(self) -> u32 {
+        self.serial.into()
+    }
+
+    /// Its slot on the page, below 256. No fold changes it.
+    #[must_use]
+    pub fn slot(self) -> u32 {
+        self.slot.into()
+    }
+
+    /// Which key of its slot it is, from 1 on.
+    #[must_use]
+    pub fn generation(self) -> u32 {
+        self.generation.get()
+    }
+
+    /// The key as a word, lowest byte first as it lies in memory, which is never 0.
+    #[inline]
+    pub(crate) fn to_word(self) -> u64 {
+        u64::from(self.shard)
+            | u64::from(self.slot) << 8
+            | u64::from(self.serial) << 16
+            | u64::from(self.generation.get()) << 32
+    }
+
+    /// The key of such a word, or `None` where it is no key's, as 0.
+    #[inline]
+    // Each part is cut out of the word.
+    #[allow(clippy::cast_possible_truncation)]
+    pub(crate) fn of_word(word: u64) -> Option<Key> {
+        Some(Key {
+            shard: word as u8,
+            slot: (word >> 8) as u8,
+            serial: (word >> 16) as u16,
+            generation: NonZeroU32::new((word >> 32) as u32)?,
+        })
+    }
+
+    /// The key as the library has it.
+    #[inline]
+    pub(crate) fn raw(self) -> RawKey {
+        RawKey {
+            shard: self.shard,
+            slot: self.slot,
+            serial: self.serial,
+            generation: self.generation.get(),
+        }
+    }
+
+    /// The key that the library answers, or `None` where the generation is 0: a reply that has no key has zeros.
+    #[inline]
+    pub(crate) fn of(raw: RawKey) -> Option<Key> {
+        Some(Key {
+            shard: raw.shard,
+            slot: raw.slot,
+            serial: raw.serial,
+            generation: NonZeroU32::new(raw.generation)?,
+        })
+    }
+
+    /// What orders keys.
+    fn rank(self) -> (u8, u16, u8, NonZeroU32) {
+        (self.shard, self.serial, self.slot, self.generation)
+    }
+}
+
+impl PartialOrd for Key {
+    fn partial_cmp(&self, other: &Key) -> Option<std::cmp::Ordering> {
+        Some(self.cmp(other))
+    }
+}
+
+impl Ord for Key {
+    fn cmp(&self, other: &Key) -> std::cmp::Ordering {
+        self.rank().cmp(&other.rank())
+    }
+}
+
+impl Hash for Key {
+    fn hash<H: Hasher>(&self, state: &mut H) {
+        state.write_u64(self.to_word());
     }
 }
 
 impl fmt::Display for Key {
     fn fmt(&self, f: &mut fmt::Formatter<'_>) -> fmt::Result {
-        let raw::RawKey {
+        let Key {
             shard,
             slot,
             serial,
             generation,
-        } = self.0;
+        } = self;
         write!(f, "{shard}.{serial}/{slot}/{generation}")
     }
 }
@@ -58,10 +176,79 @@ impl fmt::Debug for Key {
     }
 }
 
+impl FromStr for Key {
+    type Err = ParseKeyError;
+
+    /// Reads a key as it is printed, `shard.serial/slot/generation`: so what is read is printed as the same text.
+    ///
+    /// # Errors
+    ///
+    /// [`ParseKeyError::Form`] where the text has another form, and else [`ParseKeyError::Range`] where a number does not fit a key.
+    fn from_str(text: &str) -> Result<Key, ParseKeyError> {
+        let (shard, rest) = text.split_once('.').ok_or(ParseKeyError::Form)?;
+        let (serial, rest) = rest.split_once('/').ok_or(ParseKeyError::Form)?;
+        let (slot, generation) = rest.split_once('/').ok_or(ParseKeyError::Form)?;
+        if ![shard, serial, slot, generation].into_iter().all(is_number) {
+            return Err(ParseKeyError::Form);
+        }
+        Ok(Key {
+            shard: in_range(shard)?,
+            slot: in_range(slot)?,
+            serial: in_range(serial)?,
+            generation: in_range(generation)?,
+        })
+    }
+}
+
+/// Whether these are decimal digits with no leading zero.
+fn is_number(digits: &str) -> bool {
+    digits == "0" || !digits.starts_with('0') && !digits.is_empty() && digits.bytes().all(|byte| byte.is_ascii_digit())
+}
+
+/// The number of these digits, where its type has it.
+fn in_range<N: FromStr>(digits: &str) -> Result<N, ParseKeyError> {
+    digits.parse().map_err(|_| ParseKeyError::Range)
+}
+
+/// Why a text is no key.
+#[derive(Clone, Copy, Debug, PartialEq, Eq, Hash)]
+#[non_exhaustive]
+pub enum ParseKeyError {
+    /// It is not of the form `shard.serial/slot/generation`, in decimal digits with no sign and no leading zero.
+    Form,
+    /// A shard or a slot is above 255, a serial number above 65,535, or a generation 0 or above 4,294,967,295.
+    Range,
+}
+
+impl fmt::Display for ParseKeyError {
+    fn fmt(&self, f: &mut fmt::Formatter<'_>) -> fmt::Result {
+        f.write_str(match self {
+            ParseKeyError::Form => "a key has the form shard.serial/slot/generation, as 0.3/17/1",
+            ParseKeyError::Range => "a number is greater than a key has it, or the generation is 0",
+        })
+    }
+}
+
+impl Error for ParseKeyError {}
+
 /// The name of a group of spans on one page: the shard that opened its head, and the head's serial number there. It is printed
 /// as `shard.serial`, as in certificates.
 #[derive(Clone, Copy, PartialEq, Eq, PartialOrd, Ord, Hash)]
-pub struct Group(pub(crate) raw::RawSpan);
+pub struct Group(pub(crate) RawSpan);
+
+impl Group {
+    /// The shard that opened its head.
+    #[must_use]
+    pub fn shard(self) -> u32 {
+        self.0.shard
+    }
+
+    /// The serial number of its head among the spans that the shard has opened.
+    #[must_use]
+    pub fn serial(self) -> u32 {
+        self.0.serial
+    }
+}
 
 impl fmt::Display for Group {
     fn fmt(&self, f: &mut fmt::Formatter<'_>) -> fmt::Result {

@@ -30,48 +30,56 @@ pub struct RawWord {
 }
 
 #[repr(C)]
+#[derive(Clone, Copy)]
 pub struct PutReply {
     pub status: u32,
     pub key: RawKey,
 }
 
 #[repr(C)]
+#[derive(Clone, Copy)]
 pub struct GetReply {
     pub value: RawWord,
     pub status: u32,
 }
 
 #[repr(C)]
+#[derive(Clone, Copy)]
 pub struct WordsReply {
     pub status: u32,
     pub len: usize,
 }
 
 #[repr(C)]
+#[derive(Clone, Copy)]
 pub struct NextReply {
     pub status: u32,
     pub key: RawKey,
 }
 
 #[repr(C)]
+#[derive(Clone, Copy)]
 pub struct RetireReply {
     pub status: u32,
     pub count: usize,
 }
 
 #[repr(C)]
+#[derive(Clone, Copy)]
 pub struct TrimReply {
     pub status: u32,
     pub count: usize,
 }
 
 #[repr(C)]
+#[derive(Clone, Copy)]
 pub struct AdoptReply {
     pub status: u32,
     pub head: RawSpan,
 }
 
 #[repr(C)]
+#[derive(Clone, Copy)]
 pub struct MarkReply {
     pub status: u32,
     pub abandoned: usize,
@@ -81,6 +89,7 @@ pub struct MarkReply {
 }
 
 #[repr(C)]
+#[derive(Clone, Copy)]
 pub struct StepReply {
     pub status: u32,
     pub abandoned: RawSpan,
@@ -88,12 +97,14 @@ pub struct StepReply {
 }
 
 #[repr(C)]
+#[derive(Clone, Copy)]
 pub struct CertificateReply {
     pub status: u32,
     pub len: usize,
 }
 
 #[repr(C)]
+#[derive(Clone, Copy)]
 pub struct TotalsReply {
     pub pages: usize,
     pub live: usize,

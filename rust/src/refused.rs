@@ -65,3 +65,35 @@ impl fmt::Display for Refused {
 }
 
 impl Error for Refused {}
+
+/// A value that was not kept, and why: of [`Slab::try_insert`](crate::Slab::try_insert) and [`Slab::try_extend`](crate::Slab::try_extend). It
+/// gives the value back, as [`SendError`](std::sync::mpsc::SendError) does, and `?` makes a [`Refused`] of it.
+#[derive(Clone, Copy, PartialEq, Eq, Hash)]
+pub struct InsertError<T> {
+    /// The value, which was not kept.
+    pub value: T,
+    /// Why it was not.
+    pub refused: Refused,
+}
+
+impl<T> From<InsertError<T>> for Refused {
+    fn from(error: InsertError<T>) -> Refused {
+        error.refused
+    }
+}
+
+impl<T> fmt::Display for InsertError<T> {
+    fn fmt(&self, f: &mut fmt::Formatter<'_>) -> fmt::Result {
+        write!(f, "the value was not kept: {}", self.refused)
+    }
+}
+
+impl<T> fmt::Debug for InsertError<T> {
+    fn fmt(&self, f: &mut fmt::Formatter<'_>) -> fmt::Result {
+        f.debug_struct("InsertError")
+            .field("refused", &self.refused)
+            .finish_non_exhaustive()
+    }
+}
+
+impl<T> Error for InsertError<T> {}

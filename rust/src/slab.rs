@@ -1,15 +1,19 @@
-//! A slab that owns its values.
+//! A slab that owns its values, its iterators, and an entry of it that waits for its value.
+
+mod iterators;
+mod vacant;
+
+pub use iterators::{Drain, IntoIter, Iter, IterMut, Keys, Values, ValuesMut};
+pub use vacant::VacantEntry;
 
 use crate::compact::Compact;
-use crate::core::{Core, Limits, Stepped, MOST_SHARDS};
+use crate::core::{Core, Limits, Stepped, MOST_SHARDS, SHARDS};
 use crate::names::{Group, Key};
-use crate::refused::Refused;
-use crate::values::{Values, Walk};
+use crate::refused::{InsertError, Refused};
+use crate::values::{self, Walk, WalkMut};
 use std::fmt;
 use std::ops::{Index, IndexMut};
-
-/// How many shards a slab has where nobody says so.
-const SHARDS: u32 = 16;
+use std::sync::Mutex;
 
 /// The words of the core's object beside a value, which tell nothing: where the value is follows from its key.
 const NO_WORDS: [u128; 4] = [0; 4];
@@ -24,6 +28,9 @@ const NO_WORDS: [u128; 4] = [0; 4];
 /// A look-up compares the key with the one that stands beside the value, and does not ask the core, which is proved never to give a key out
 /// twice. Values that are copied and have up to 256 bytes stand in the core's pages themselves in a [`Store`](crate::Store).
 ///
+/// It is no `Clone`, since the copies would have other keys; and as an insert may be refused, it is no `Extend` and no `FromIterator`:
+/// [`Slab::try_extend`] and [`Slab::try_from_iter`] stand in their place.
+///
 /// ```
 /// use teurlaks::Slab;
 ///
@@ -33,19 +40,37 @@ const NO_WORDS: [u128; 4] = [0; 4];
 /// assert_eq!(slab.remove(key), Some(String::from("a")));
 /// let other = slab.insert(String::from("b"))?; // takes the slot again
 /// assert_eq!(slab.get(key), None);
-/// assert_eq!(slab.iter().collect::<Vec<_>>(), [(other, &String::from("b"))]);
+/// for (key, value) in &slab {
+///     assert_eq!((key, value.as_str()), (other, "b"));
+/// }
 /// # Ok::<(), teurlaks::Refused>(())
 /// ```
 pub struct Slab<T> {
-    // A key is live here exactly where it has a value there.
+    // A key is live here exactly where it has a value there, but for the one below.
     core: Core,
-    values: Values<T>,
+    values: values::Values<T>,
     // The shard that an insert without a shard asks first.
     first: u32,
+    // The key of a vacant entry, which has no value yet. It stays where such an entry is forgotten.
+    vacant: Option<Key>,
+    // Who asks the core through `&self` has it.
+    asking: Mutex<()>,
 }
 
+// SAFETY: through `&Slab` values are lent as `&T`, numbers are read that no such call changes, and the core, whose calls write to it, is asked
+// by `pages` and `certificate` alone, one at a time.
+unsafe impl<T: Sync> Sync for Slab<T> {}
+
 impl<T> Slab<T> {
-    /// A slab of 16 shards with no value, each for up to 262,144 values, or 65,536 of more than 128 bytes.
+    /// A slab of 16 shards with no value. It may hold 4,194,304 values at once, or 1,048,576 of 129 to 4,096 bytes; takes 75 KB at first and
+    /// pages as they come; and asks for nothing but a [`Slab::compact`] now and then, where most of what it held is gone and the memory is
+    /// wanted back.
+    ///
+    /// The shards are for the pages that a compaction uses up: see there for a slab that is filled and compacted again and again.
+    ///
+    /// # Errors
+    ///
+    /// [`Refused::OutOfMemory`] where memory was refused.
     pub fn new() -> Result<Slab<T>, Refused> {
         Slab::with_limits(Limits {
             shards: SHARDS,
@@ -53,40 +78,238 @@ impl<T> Slab<T> {
         })
     }
 
-    /// A slab of these limits. It is refused with [`Refused::Config`] exactly where a number is out of its range.
+    /// A slab of these limits.
+    ///
+    /// # Errors
+    ///
+    /// [`Refused::Config`] exactly where a number is out of its range, and [`Refused::OutOfMemory`] where memory was refused.
     pub fn with_limits(limits: Limits) -> Result<Slab<T>, Refused> {
         Ok(Slab {
             core: Core::new(limits)?,
-            values: Values::new(),
+            values: values::Values::new(),
             first: 0,
+            vacant: None,
+            asking: Mutex::new(()),
         })
     }
 
+    /// A slab that may hold so many values at once: of 16 shards, or as many more as it takes. Room is made for their pages as by
+    /// [`Slab::reserve`].
+    ///
+    /// # Errors
+    ///
+    /// [`Refused::Config`] where 64 shards are too few: for more than 16,777,216 values, or 4,194,304 of 129 to 4,096 bytes;
+    /// [`Refused::OutOfMemory`] where memory was refused.
+    ///
+    /// ```
+    /// # use teurlaks::Slab;
+    /// let mut slab = Slab::with_capacity(5_000_000)?;
+    /// assert!(slab.capacity() >= 5_000_000);
+    /// slab.insert('a')?;
+    /// # Ok::<(), teurlaks::Refused>(())
+    /// ```
+    pub fn with_capacity(capacity: usize) -> Result<Slab<T>, Refused> {
+        let limits = Limits::default();
+        let of_a_shard = limits.pages as usize * values::Values::<T>::SLOTS;
+        let shards = capacity / of_a_shard + usize::from(capacity % of_a_shard != 0);
+        let mut slab = Slab::with_limits(Limits {
+            shards: u32::try_from(shards).map_err(|_| Refused::Config)?.max(SHARDS),
+            ..limits
+        })?;
+        slab.reserve(capacity)?;
+        Ok(slab)
+    }
+
+    /// How many values it may hold at once at most: as many as there are slots on the pages that the shards which have not ended may have.
+    /// It is not what it has memory for. Fewer fit where slots have spent their generations, or shards the pages that they open in their
+    /// life.
+    #[must_use]
+    pub fn capacity(&self) -> usize {
+        self.core.running_shards() * self.core.limits().pages as usize * values::Values::<T>::SLOTS
+    }
+
+    /// Makes room beside the core for the pages of so many further values. They take memory as they are filled, and so do the core's: so an
+    /// insert may be refused memory all the same. There is no need of it: a slab grows page by page, and no value moves as it grows.
+    ///
+    /// # Errors
+    ///
+    /// [`Refused::PagesSpent`] where there would be more values than [`Slab::capacity`] tells, and [`Refused::OutOfMemory`] where address space
+    /// was refused.
+    pub fn reserve(&mut self, additional: usize) -> Result<(), Refused> {
+        let values = self.len().checked_add(additional).ok_or(Refused::PagesSpent)?;
+        if values > self.capacity() {
+            return Err(Refused::PagesSpent);
+        }
+        self.values.reserve_pages(self.core.shards() - 1, additional)
+    }
+
+    /// Gives back the pages on which no value is, and says how many went. No value moves: [`Slab::compact`] does more. It takes no memory.
+    pub fn shrink_to_fit(&mut self) -> usize {
+        self.give_up_vacant();
+        let went = self.core.trim_all();
+        self.values.cool();
+        went
+    }
+
     /// Keeps a value in the first shard that has room for it, and gives its key, which was never given out before. A value that is
-    /// refused is dropped. It is refused with [`Refused::Ended`] only where each shard has ended, and with [`Refused::PagesSpent`] only where
-    /// each that has not may have no further page.
+    /// refused is dropped, and [`Slab::try_insert`] gives it back.
+    ///
+    /// # Errors
+    ///
+    /// - [`Refused::Ended`] only where each shard has ended;
+    /// - [`Refused::PagesSpent`] only where each that has not may have no further page;
+    /// - [`Refused::OutOfMemory`] where memory was refused.
     #[inline]
     pub fn insert(&mut self, value: T) -> Result<Key, Refused> {
-        match self.insert_key(self.first) {
-            Ok(key) => {
-                self.values.put(self.first, key, value);
+        let (shard, key) = self.insert_key()?;
+        self.values.put(shard, key, value);
+        Ok(key)
+    }
+
+    /// As [`Slab::insert`], and gives a value that is refused back.
+    ///
+    /// # Errors
+    ///
+    /// As of [`Slab::insert`], with the value.
+    ///
+    /// ```
+    /// # use teurlaks::{Limits, Refused, Slab};
+    /// let mut slab = Slab::with_limits(Limits { pages: 1, ..Limits::default() })?;
+    /// slab.try_extend((0..256).map(|i| i.to_string()))?;
+    /// let refused = slab.try_insert("one more".to_string()).unwrap_err();
+    /// assert_eq!((refused.refused, refused.value.as_str()), (Refused::PagesSpent, "one more"));
+    /// # Ok::<(), Refused>(())
+    /// ```
+    #[inline]
+    pub fn try_insert(&mut self, value: T) -> Result<Key, InsertError<T>> {
+        match self.insert_key() {
+            Ok((shard, key)) => {
+                self.values.put(shard, key, value);
                 Ok(key)
             }
-            Err(Refused::PagesSpent | Refused::Ended) => self.insert_elsewhere(value),
+            Err(refused) => Err(InsertError { value, refused }),
+        }
+    }
+
+    /// Keeps the value that is made with its own key. Where that panics, nothing is kept.
+    ///
+    /// # Errors
+    ///
+    /// As of [`Slab::insert`]; no value is made then.
+    ///
+    /// ```
+    /// # use teurlaks::{Key, Slab};
+    /// struct Node {
+    ///     own: Key,
+    /// }
+    /// let mut slab = Slab::new()?;
+    /// let key = slab.insert_with_key(|own| Node { own })?;
+    /// assert_eq!(slab[key].own, key);
+    /// # Ok::<(), teurlaks::Refused>(())
+    /// ```
+    pub fn insert_with_key(&mut self, value: impl FnOnce(Key) -> T) -> Result<Key, Refused> {
+        let entry = self.vacant_entry()?;
+        let key = entry.key();
+        entry.insert(value(key));
+        Ok(key)
+    }
+
+    /// A key for a value that is still to come. Where the entry is dropped without one, nothing is kept, and the key finds nothing, now and for
+    /// ever: it has used up a generation of its slot.
+    ///
+    /// # Errors
+    ///
+    /// As of [`Slab::insert`].
+    ///
+    /// ```
+    /// # use teurlaks::Slab;
+    /// let mut slab = Slab::new()?;
+    /// let entry = slab.vacant_entry()?;
+    /// let key = entry.key();
+    /// entry.insert((key, "hello"));
+    /// assert_eq!(slab[key], (key, "hello"));
+    /// # Ok::<(), teurlaks::Refused>(())
+    /// ```
+    pub fn vacant_entry(&mut self) -> Result<VacantEntry<'_, T>, Refused> {
+        self.give_up_vacant();
+        let (shard, key) = self.insert_key()?;
+        self.vacant = Some(key);
+        Ok(VacantEntry::new(self, shard, key))
+    }
+
+    /// Frees the key of an entry that has come to nothing.
+    fn give_up_vacant(&mut self) {
+        if let Some(key) = self.vacant.take() {
+            self.core.free(key);
+        }
+    }
+
+    /// Keeps each value in turn, until one is refused. Those before it stay, and of an iterator that is lent, those after it are left.
+    /// [`Iterator::collect`] over [`Slab::insert`] gives their keys.
+    ///
+    /// # Errors
+    ///
+    /// As of [`Slab::insert`], with the first value that was refused.
+    ///
+    /// ```
+    /// # use teurlaks::Slab;
+    /// let mut slab = Slab::new()?;
+    /// slab.try_extend(["a", "b"])?;
+    /// let keys = ["c", "d"].into_iter().map(|value| slab.insert(value)).collect::<Result<Vec<_>, _>>()?;
+    /// assert_eq!((slab.len(), slab[keys[1]]), (4, "d"));
+    /// # Ok::<(), teurlaks::Refused>(())
+    /// ```
+    pub fn try_extend(&mut self, values: impl IntoIterator<Item = T>) -> Result<(), InsertError<T>> {
+        values
+            .into_iter()
+            .try_for_each(|value| self.try_insert(value).map(drop))
+    }
+
+    /// A slab of these values, as [`Slab::new`] and [`Slab::try_extend`] make it.
+    ///
+    /// # Errors
+    ///
+    /// As of [`Slab::new`] and [`Slab::insert`]; all values are dropped then.
+    pub fn try_from_iter(values: impl IntoIterator<Item = T>) -> Result<Slab<T>, Refused> {
+        let mut slab = Slab::new()?;
+        slab.try_extend(values)?;
+        Ok(slab)
+    }
+
+    /// Keeps a value in the shard. A value that is refused is dropped.
+    ///
+    /// # Errors
+    ///
+    /// - [`Refused::PagesSpent`]: no page of the shard has a usable slot, and it may have no further one, or has opened 1,024 in its life;
+    /// - [`Refused::Ended`]: the shard has ended;
+    /// - [`Refused::Config`]: there is no such shard;
+    /// - [`Refused::OutOfMemory`]: memory was refused.
+    #[inline]
+    pub fn insert_in(&mut self, shard: u32, value: T) -> Result<Key, Refused> {
+        let key = self.insert_key_in(shard)?;
+        self.values.put(shard, key, value);
+        Ok(key)
+    }
+
+    /// A key of the first shard that has one, for whose value there is room.
+    #[inline]
+    fn insert_key(&mut self) -> Result<(u32, Key), Refused> {
+        match self.insert_key_in(self.first) {
+            Ok(key) => Ok((self.first, key)),
+            Err(Refused::PagesSpent | Refused::Ended) => self.insert_key_elsewhere(),
             Err(refused) => Err(refused),
         }
     }
 
-    /// Keeps a value in another shard than the first that was to be asked.
+    /// A key of another shard than the first that was to be asked.
     #[cold]
-    fn insert_elsewhere(&mut self, value: T) -> Result<Key, Refused> {
+    fn insert_key_elsewhere(&mut self) -> Result<(u32, Key), Refused> {
         let mut why = Refused::Ended;
         for shard in (self.first..self.core.shards()).chain(0..self.first) {
-            match self.insert_key(shard) {
+            match self.insert_key_in(shard) {
                 Ok(key) => {
-                    self.values.put(shard, key, value);
                     self.first = shard;
-                    return Ok(key);
+                    return Ok((shard, key));
                 }
                 Err(Refused::Ended) => {}
                 Err(Refused::PagesSpent) => why = Refused::PagesSpent,
@@ -96,19 +319,11 @@ impl<T> Slab<T> {
         Err(why)
     }
 
-    /// Keeps a value in the shard.
-    #[inline]
-    pub fn insert_in(&mut self, shard: u32, value: T) -> Result<Key, Refused> {
-        let key = self.insert_key(shard)?;
-        self.values.put(shard, key, value);
-        Ok(key)
-    }
-
     /// A key of the shard's, for whose value there is room.
     #[inline]
-    fn insert_key(&mut self, shard: u32) -> Result<Key, Refused> {
+    fn insert_key_in(&mut self, shard: u32) -> Result<Key, Refused> {
         self.values.reserve(shard)?;
-        if Values::<T>::SLOTS == 256 {
+        if values::Values::<T>::SLOTS == 256 {
             self.core.insert(shard, NO_WORDS[0])
         } else {
             self.core.insert_words(shard, &NO_WORDS)
@@ -117,6 +332,7 @@ impl<T> Slab<T> {
 
     /// The value of the key, where it is live.
     #[inline]
+    #[must_use]
     pub fn get(&self, key: Key) -> Option<&T> {
         self.values.get(key)
     }
@@ -127,13 +343,39 @@ impl<T> Slab<T> {
         self.values.get_mut(key)
     }
 
+    /// The values of these keys, to be changed, in their order: `None` where one is not live, or two are the same.
+    ///
+    /// ```
+    /// # use teurlaks::Slab;
+    /// let mut slab = Slab::new()?;
+    /// let (a, b) = (slab.insert(1)?, slab.insert(2)?);
+    /// let [one, two] = slab.get_disjoint_mut([a, b]).unwrap();
+    /// std::mem::swap(one, two);
+    /// assert_eq!((slab[a], slab[b]), (2, 1));
+    /// assert_eq!(slab.get_disjoint_mut([a, a]), None);
+    /// # Ok::<(), teurlaks::Refused>(())
+    /// ```
+    #[doc(alias = "get2_mut")]
+    pub fn get_disjoint_mut<const N: usize>(&mut self, keys: [Key; N]) -> Option<[&mut T; N]> {
+        self.values.get_disjoint_mut(keys)
+    }
+
     /// Whether the key is live.
     #[inline]
+    #[must_use]
     pub fn contains(&self, key: Key) -> bool {
         self.values.contains(key)
     }
 
+    /// As [`Slab::contains`], under the name that maps have for it.
+    #[inline]
+    #[must_use]
+    pub fn contains_key(&self, key: Key) -> bool {
+        self.contains(key)
+    }
+
     /// Takes the value of the key out, where it is live. The key finds nothing from then on.
+    #[doc(alias = "try_remove")]
     #[inline]
     pub fn remove(&mut self, key: Key) -> Option<T> {
         let (value, shard) = self.values.take(key)?;
@@ -144,7 +386,7 @@ impl<T> Slab<T> {
 
     /// Takes out each value that the test does not keep. Where the test or the drop of a value panics, all that it has not come to stays.
     pub fn retain(&mut self, mut keeps: impl FnMut(Key, &mut T) -> bool) {
-        let mut walk = self.values.walk();
+        let mut walk = self.walk();
         while let Some((key, value)) = self.values.next_mut(&mut walk) {
             if !keeps(key, value) {
                 self.remove(key);
@@ -152,51 +394,86 @@ impl<T> Slab<T> {
         }
     }
 
-    /// Takes all values out, and keeps the core's pages. Where the drop of a value panics, those after it stay.
+    /// Takes all values out, and keeps the core's pages, which [`Slab::shrink_to_fit`] gives back. Where the drop of a value panics, those after
+    /// it stay.
     pub fn clear(&mut self) {
         self.retain(|_, _| false);
     }
 
     /// Takes all values out, and gives each with the key that it had, in no particular order. Values that are not asked for are dropped
     /// with the iterator.
-    pub fn drain(&mut self) -> impl Iterator<Item = (Key, T)> + '_ {
-        let walk = self.values.walk();
-        Drain { slab: self, walk }
+    pub fn drain(&mut self) -> Drain<'_, T> {
+        let walk = self.walk();
+        Drain::new(self, walk)
     }
 
     /// How many values there are.
+    #[must_use]
     pub fn len(&self) -> usize {
-        self.core.len()
+        self.core.len() - usize::from(self.vacant.is_some())
     }
 
     /// Whether there is no value.
+    #[must_use]
     pub fn is_empty(&self) -> bool {
-        self.core.is_empty()
+        self.len() == 0
+    }
+
+    /// The beginning of a walk over the values.
+    fn walk(&self) -> Walk {
+        values::Values::<T>::walk(self.len())
     }
 
     /// Each key with its value, in no particular order.
-    pub fn iter(&self) -> impl Iterator<Item = (Key, &T)> {
-        self.values.iter()
+    pub fn iter(&self) -> Iter<'_, T> {
+        Iter::new(&self.values, self.walk())
     }
 
     /// Each key with its value, to be changed, in no particular order.
-    pub fn iter_mut(&mut self) -> impl Iterator<Item = (Key, &mut T)> {
-        self.values.iter_mut()
+    pub fn iter_mut(&mut self) -> IterMut<'_, T> {
+        let left = self.len();
+        IterMut::new(WalkMut::new(&mut self.values, left))
     }
 
     /// Each key, in no particular order.
-    pub fn keys(&self) -> impl Iterator<Item = Key> + '_ {
-        self.iter().map(|(key, _)| key)
+    pub fn keys(&self) -> Keys<'_, T> {
+        Keys::new(self.iter())
     }
 
     /// Each value, in no particular order.
-    pub fn values(&self) -> impl Iterator<Item = &T> {
-        self.iter().map(|(_, value)| value)
+    pub fn values(&self) -> Values<'_, T> {
+        Values::new(self.iter())
+    }
+
+    /// Each value, to be changed, in no particular order.
+    pub fn values_mut(&mut self) -> ValuesMut<'_, T> {
+        ValuesMut::new(self.iter_mut())
     }
 
     crate::core::letting_go!();
 
+    /// How many pages of 4,096 bytes there are.
+    #[must_use]
+    pub fn pages(&self) -> usize {
+        let _alone = self.asking.lock();
+        self.core.pages()
+    }
+
+    /// The last mark's certificate, as [`Core::certificate`].
+    ///
+    /// # Errors
+    ///
+    /// [`Refused::OutOfMemory`] where memory was refused for the text.
+    pub fn certificate(&self) -> Result<Option<String>, Refused> {
+        let _alone = self.asking.lock();
+        self.core.certificate()
+    }
+
     /// Moves a group of the pool to a shard, as [`Core::adopt`].
+    ///
+    /// # Errors
+    ///
+    /// As of [`Core::adopt`].
     pub fn adopt(&mut self, shard: u32) -> Result<Group, Refused> {
         let group = self.core.adopt(shard)?;
         self.values.note_adopted(group, shard);
@@ -205,6 +482,10 @@ impl<T> Slab<T> {
     }
 
     /// Carries out the next fold, as [`Core::step`]. The values move with it, and their page goes back.
+    ///
+    /// # Errors
+    ///
+    /// As of [`Core::step`].
     pub fn step(&mut self) -> Result<Stepped, Refused> {
         let stepped = self.core.step()?;
         if let Stepped::Folded(abandoned, owned) = stepped {
@@ -214,12 +495,20 @@ impl<T> Slab<T> {
     }
 
     /// Closes the plan, as [`Core::close`].
+    ///
+    /// # Errors
+    ///
+    /// [`Refused::NoPlan`] alone, where no plan is open.
     pub fn close(&mut self) -> Result<(), Refused> {
         self.first = 0;
         self.core.close()
     }
 
     /// Marks, takes all steps and closes, as [`Core::mesh`]. The values move with the folds, and their pages go back.
+    ///
+    /// # Errors
+    ///
+    /// As of [`Core::mesh`].
     pub fn mesh(&mut self) -> Result<usize, Refused> {
         let values = &mut self.values;
         let meshed = self.core.mesh_with(|abandoned, owned| values.fold(abandoned, owned));
@@ -238,8 +527,10 @@ impl<T> Slab<T> {
     /// of the 1,024 pages that a shard opens in its life: after 16,384 pages a slab of 16 shards opens no other, and one that is filled and
     /// compacted again and again wants more shards.
     ///
-    /// It is refused with [`Refused::PlanOpen`] where a plan is open, and then only pages without a value have gone. With
-    /// [`Refused::OutOfMemory`] it stops where it is: every key has its value, and it may be tried again.
+    /// # Errors
+    ///
+    /// - [`Refused::PlanOpen`]: a plan is open; then only pages without a value have gone;
+    /// - [`Refused::OutOfMemory`]: memory was refused; it stops where it is, every key has its value, and it may be tried again.
     ///
     /// ```
     /// # use teurlaks::Slab;
@@ -251,6 +542,7 @@ impl<T> Slab<T> {
     /// # Ok::<(), teurlaks::Refused>(())
     /// ```
     pub fn compact(&mut self) -> Result<usize, Refused> {
+        self.give_up_vacant();
         let went = self.compact_all();
         self.values.cool();
         went
@@ -283,24 +575,14 @@ impl<T> Compact for Slab<T> {
     }
 }
 
-/// Takes the values out of a slab one by one: of [`Slab::drain`].
-struct Drain<'s, T> {
-    slab: &'s mut Slab<T>,
-    walk: Walk,
-}
-
-impl<T> Iterator for Drain<'_, T> {
-    type Item = (Key, T);
-
-    fn next(&mut self) -> Option<(Key, T)> {
-        let (key, _) = self.slab.values.next_mut(&mut self.walk)?;
-        Some((key, self.slab.remove(key)?))
-    }
-}
-
-impl<T> Drop for Drain<'_, T> {
-    fn drop(&mut self) {
-        self.for_each(drop);
+impl<T> Default for Slab<T> {
+    /// A slab as of [`Slab::new`].
+    ///
+    /// # Panics
+    ///
+    /// Where memory is refused.
+    fn default() -> Slab<T> {
+        Slab::new().expect("there is memory for a slab with no value")
     }
 }
 

@@ -1,7 +1,11 @@
-//! Plain values in the pages themselves.
+//! Plain values in the pages themselves, and the iterators over them.
 
-use crate::bytes::{words_for, MOST_BYTES, MOST_WORDS};
-use crate::core::{Core, Limits};
+mod iterators;
+
+pub use iterators::{Drain, IntoIter, Iter, Keys, Values};
+
+use crate::bytes::{words_for, Words, MOST_BYTES, MOST_WORDS};
+use crate::core::{Core, Limits, SHARDS};
 use crate::names::Key;
 use crate::refused::Refused;
 use std::fmt;
@@ -32,6 +36,8 @@ use std::mem::{size_of, MaybeUninit};
 pub struct Store<T> {
     // SAFETY: only `insert_in` puts into it and only `set` sets its objects, so that each live key's object begins with the bytes of a `T`.
     core: Core,
+    // The shard that an insert without a shard asks first.
+    first: u32,
     values: PhantomData<T>,
 }
 
@@ -41,34 +47,129 @@ impl<T: Copy> Store<T> {
         "a value of a store has 1 to 256 bytes"
     );
 
-    /// A store of one shard with no value.
+    /// How many values share a page.
+    const SLOTS: usize = 256 / words_for(size_of::<T>());
+
+    /// A store of 16 shards with no value. It holds up to 4,194,304 values at once, 1,048,576 of more than 16 bytes, or 262,144 of more than 64; and
+    /// asks for nothing but a [`Store::compact`] now and then, where most of what it held is gone and the memory is wanted back.
+    ///
+    /// # Errors
+    ///
+    /// [`Refused::OutOfMemory`] where memory was refused.
     pub fn new() -> Result<Store<T>, Refused> {
-        Store::with_limits(Limits::default())
+        Store::with_limits(Limits {
+            shards: SHARDS,
+            ..Limits::default()
+        })
     }
 
-    /// A store of these limits. It is refused with [`Refused::Config`] exactly where a number is out of its range.
+    /// A store of these limits.
+    ///
+    /// # Errors
+    ///
+    /// [`Refused::Config`] exactly where a number is out of its range, and [`Refused::OutOfMemory`] where memory was refused.
     pub fn with_limits(limits: Limits) -> Result<Store<T>, Refused> {
         let () = Self::FITS;
-        let core = Core::new(limits)?;
-        let values = PhantomData;
-        Ok(Store { core, values })
+        Ok(Store {
+            core: Core::new(limits)?,
+            first: 0,
+            values: PhantomData,
+        })
     }
 
-    /// Keeps a value in shard 0, and gives its key, which was never given out before.
+    /// A store that may hold so many values at once: of 16 shards, or as many more as it takes. Its pages come as they are filled.
+    ///
+    /// # Errors
+    ///
+    /// [`Refused::Config`] where 64 shards are too few: for more than 16,777,216 values, 4,194,304 of more than 16 bytes, or 1,048,576 of more
+    /// than 64; [`Refused::OutOfMemory`] where memory was refused.
+    pub fn with_capacity(capacity: usize) -> Result<Store<T>, Refused> {
+        let limits = Limits::default();
+        let of_a_shard = limits.pages as usize * Self::SLOTS;
+        let shards = capacity / of_a_shard + usize::from(capacity % of_a_shard != 0);
+        Store::with_limits(Limits {
+            shards: u32::try_from(shards).map_err(|_| Refused::Config)?.max(SHARDS),
+            ..limits
+        })
+    }
+
+    /// How many values it may hold at once at most: as many as there are slots on the pages that the shards which have not ended may have.
+    /// It is not what it has memory for. Fewer fit where slots have spent their generations, or shards the pages that they open in their
+    /// life.
+    #[must_use]
+    pub fn capacity(&self) -> usize {
+        self.core.running_shards() * self.core.limits().pages as usize * Self::SLOTS
+    }
+
+    /// Keeps a value in the first shard that has room for it, and gives its key, which was never given out before.
+    ///
+    /// # Errors
+    ///
+    /// - [`Refused::Ended`] only where each shard has ended;
+    /// - [`Refused::PagesSpent`] only where each that has not may have no further page;
+    /// - [`Refused::OutOfMemory`] where memory was refused.
     #[inline]
     pub fn insert(&mut self, value: T) -> Result<Key, Refused> {
-        self.insert_in(0, value)
+        match self.insert_in(self.first, value) {
+            Err(Refused::PagesSpent | Refused::Ended) => self.insert_elsewhere(value),
+            done => done,
+        }
+    }
+
+    /// Keeps a value in another shard than the first that was to be asked.
+    #[cold]
+    fn insert_elsewhere(&mut self, value: T) -> Result<Key, Refused> {
+        let mut why = Refused::Ended;
+        for shard in (self.first..self.core.shards()).chain(0..self.first) {
+            match self.insert_in(shard, value) {
+                Ok(key) => {
+                    self.first = shard;
+                    return Ok(key);
+                }
+                Err(Refused::Ended) => {}
+                Err(Refused::PagesSpent) => why = Refused::PagesSpent,
+                Err(refused) => return Err(refused),
+            }
+        }
+        Err(why)
     }
 
     /// Keeps a value in the shard.
+    ///
+    /// # Errors
+    ///
+    /// As of [`Core::insert`](crate::Core::insert).
     #[inline]
     pub fn insert_in(&mut self, shard: u32, value: T) -> Result<Key, Refused> {
         // SAFETY: so many words stand there.
         as_words(value, |first, len| unsafe { self.core.put_words(shard, first, len) })
     }
 
-    /// Sets the key to the value in place, and says whether it did: where it is live. It takes no memory, and is refused as
-    /// [`Core::set`](crate::Core::set) is.
+    /// Keeps each value in turn, until one is refused. Those before it stay, and of an iterator that is lent, those after it are left.
+    ///
+    /// # Errors
+    ///
+    /// As of [`Store::insert`].
+    pub fn try_extend(&mut self, values: impl IntoIterator<Item = T>) -> Result<(), Refused> {
+        values.into_iter().try_for_each(|value| self.insert(value).map(drop))
+    }
+
+    /// A store of these values, as [`Store::new`] and [`Store::try_extend`] make it.
+    ///
+    /// # Errors
+    ///
+    /// As of [`Store::new`] and [`Store::insert`].
+    pub fn try_from_iter(values: impl IntoIterator<Item = T>) -> Result<Store<T>, Refused> {
+        let mut store = Store::new()?;
+        store.try_extend(values)?;
+        Ok(store)
+    }
+
+    /// Sets the key to the value in place, and says whether it did: where it is live. It takes no memory.
+    ///
+    /// # Errors
+    ///
+    /// As of [`Core::set`](crate::Core::set).
     #[inline]
     pub fn set(&mut self, key: Key, value: T) -> Result<bool, Refused> {
         // SAFETY: so many words stand there.
@@ -76,6 +177,10 @@ impl<T: Copy> Store<T> {
     }
 
     /// Sets the key to the value, and gives the one that it had, where it is live; else nothing changes.
+    ///
+    /// # Errors
+    ///
+    /// As of [`Core::set`](crate::Core::set).
     #[inline]
     pub fn replace(&mut self, key: Key, value: T) -> Result<Option<T>, Refused> {
         let before = self.get(key);
@@ -84,44 +189,101 @@ impl<T: Copy> Store<T> {
 
     /// The value of the key, where it is live.
     #[inline]
+    #[must_use]
     pub fn get(&self, key: Key) -> Option<T> {
-        let words = self.core.get_words(key)?;
+        self.core.get_words(key).map(|words| Self::of_words(&words))
+    }
+
+    /// The value that stands in the words of a live key's object.
+    #[inline]
+    fn of_words(words: &Words) -> T {
         // SAFETY: the library is proved to find what was put, and only values were.
-        Some(unsafe { words.as_ptr().cast::<T>().read_unaligned() })
+        unsafe { words.as_ptr().cast::<T>().read_unaligned() }
     }
 
     /// Takes the value of the key out, where it is live. The key finds nothing from then on.
+    #[doc(alias = "try_remove")]
     pub fn remove(&mut self, key: Key) -> Option<T> {
         let value = self.get(key)?;
-        self.core.free(key);
+        self.free(key);
         Some(value)
     }
 
-    /// Each key with its value, by the ids of their spans and then by slots.
-    pub fn iter(&self) -> impl Iterator<Item = (Key, T)> + '_ {
-        self.keys().filter_map(|key| Some((key, self.get(key)?)))
+    /// Takes out each value that the test does not keep, in the order of [`Store::iter`]. Where the test panics, all that it has not come to
+    /// stays.
+    pub fn retain(&mut self, mut keeps: impl FnMut(Key, T) -> bool) {
+        let mut after = None;
+        while let Some(key) = self.core.next_live(after) {
+            if self.get(key).is_some_and(|value| !keeps(key, value)) {
+                self.free(key);
+            }
+            after = Some(key);
+        }
     }
 
-    /// Each key, in the order of [`Store::iter`].
-    pub fn keys(&self) -> impl Iterator<Item = Key> + '_ {
-        self.core.keys()
+    /// Takes all values out, and gives each with the key that it had, in the order of [`Store::iter`]. Those that are not asked for go with the
+    /// iterator.
+    pub fn drain(&mut self) -> Drain<'_, T> {
+        Drain::new(self)
+    }
+
+    /// Each key with its value, by the ids of their spans and then by slots, which is the order of keys.
+    pub fn iter(&self) -> Iter<'_, T> {
+        Iter::new(self.core.iter())
+    }
+
+    /// Each value, in the order of [`Store::iter`].
+    pub fn values(&self) -> Values<'_, T> {
+        Values::new(self.iter())
     }
 }
 
 impl<T> Store<T> {
+    /// Each key, in the order of [`Store::iter`].
+    pub fn keys(&self) -> Keys<'_, T> {
+        Keys::new(self.core.keys())
+    }
+
     /// Whether the key is live.
+    #[must_use]
     pub fn contains(&self, key: Key) -> bool {
         self.core.contains(key)
     }
 
+    /// As [`Store::contains`], under the name that maps have for it.
+    #[must_use]
+    pub fn contains_key(&self, key: Key) -> bool {
+        self.contains(key)
+    }
+
     /// How many values there are.
+    #[must_use]
     pub fn len(&self) -> usize {
         self.core.len()
     }
 
     /// Whether there is no value.
+    #[must_use]
     pub fn is_empty(&self) -> bool {
         self.core.is_empty()
+    }
+
+    /// Takes all values out, and keeps the pages, which [`Store::shrink_to_fit`] gives back.
+    pub fn clear(&mut self) {
+        self.core.drain();
+        self.first = 0;
+    }
+
+    /// Gives back the pages on which no value is, and says how many went. No value moves: [`Store::compact`] does more. It takes no memory.
+    pub fn shrink_to_fit(&mut self) -> usize {
+        self.core.trim_all()
+    }
+
+    /// Frees a live key, whose shard has room then, if it is still that which opened its span.
+    #[inline]
+    fn free(&mut self, key: Key) {
+        self.core.free(key);
+        self.first = self.first.min(key.shard());
     }
 
     crate::core::meshing!();
@@ -140,6 +302,17 @@ fn as_words<T: Copy, R>(value: T, keep: impl FnOnce(*const u128, usize) -> R) ->
         first.cast::<T>().write_unaligned(value);
     }
     keep(first, len)
+}
+
+impl<T: Copy> Default for Store<T> {
+    /// A store as of [`Store::new`].
+    ///
+    /// # Panics
+    ///
+    /// Where memory is refused.
+    fn default() -> Store<T> {
+        Store::new().expect("there is memory for a store with no value")
+    }
 }
 
 impl<T: Copy + fmt::Debug> fmt::Debug for Store<T> {

@@ -1,11 +1,14 @@
 //! Values beside the pages of a core, which move with its folds.
 
+// What is cut to fewer bits has a bound: 64 shards, 1,024 spans in each, and the blocks of no more pages.
+#![allow(clippy::cast_possible_truncation)]
+// A block lies as its keys and values must, which `BLOCK_BYTES` sees to.
+#![allow(clippy::cast_ptr_alignment)]
+
 use crate::blocks::Blocks;
 use crate::names::{Group, Key};
-use crate::raw::RawKey;
 use crate::refused::Refused;
 use std::alloc::{alloc, dealloc, Layout};
-use std::iter;
 use std::marker::PhantomData;
 use std::mem::{align_of, needs_drop, size_of};
 use std::ptr::NonNull;
@@ -18,7 +21,7 @@ const SHARDS: usize = 64;
 const MOST_BYTES: usize = 4096;
 const MOST_ALIGN: usize = 64;
 
-/// What stands for the key of a slot that has no value: no live key is all zeros.
+/// What stands for the key of a slot that has no value: no key's word is 0.
 const VACANT: u64 = 0;
 
 /// The values of live keys, each at the slot of its key in a page of values. There is such a page for each page of the core with a live key,
@@ -43,7 +46,7 @@ pub(crate) struct Values<T> {
     blocks: Blocks,
     // Memory for one value that does not stand in a page.
     room: Option<NonNull<T>>,
-    values: PhantomData<T>,
+    owned: PhantomData<T>,
 }
 
 /// A page of values.
@@ -59,12 +62,22 @@ struct Page {
 }
 
 /// Where a walk over values is: of the values with which it began.
+#[derive(Clone)]
 pub(crate) struct Walk {
     // The page whose slots come next, from this one on.
     page: Page,
     slot: usize,
     // The number of the page after it.
     next: usize,
+    // How many values are still to come.
+    left: usize,
+}
+
+impl Walk {
+    /// How many values are still to come.
+    pub fn left(&self) -> usize {
+        self.left
+    }
 }
 
 impl<T> Values<T> {
@@ -101,7 +114,7 @@ impl<T> Values<T> {
             pages: Vec::new(),
             blocks: Blocks::new(Self::BLOCK_BYTES),
             room: None,
-            values: PhantomData,
+            owned: PhantomData,
         }
     }
 
@@ -109,7 +122,7 @@ impl<T> Values<T> {
     #[inline]
     pub fn reserve(&mut self, shard: u32) -> Result<(), Refused> {
         self.blocks.reserve()?;
-        let ranks = (shard as usize + 1).min(SHARDS) * SPANS;
+        let ranks = ranks_of(shard);
         if self.pages.len() < self.blocks.len() || self.at.len() < ranks {
             self.grow(ranks)?;
         }
@@ -119,6 +132,13 @@ impl<T> Values<T> {
             self.room = Some(NonNull::new(room.cast()).ok_or(Refused::OutOfMemory)?);
         }
         Ok(())
+    }
+
+    /// Makes room for so many full pages of values, in shards up to this one. A refusal changes nothing that is seen.
+    pub fn reserve_pages(&mut self, shard: u32, values: usize) -> Result<(), Refused> {
+        self.blocks
+            .reserve_all(values / Self::SLOTS + usize::from(values % Self::SLOTS != 0))?;
+        self.grow(ranks_of(shard))
     }
 
     #[cold]
@@ -137,7 +157,7 @@ impl<T> Values<T> {
             self.open(shard, rank);
         }
         let page = &mut self.pages[self.at[rank] as usize - 1];
-        let slot = usize::from(key.0.slot);
+        let slot = slot_of(key);
         assert!(slot < Self::SLOTS && page.key(slot) == VACANT, "the slot is free");
         page.live += 1;
         if Self::APART {
@@ -147,7 +167,7 @@ impl<T> Values<T> {
         }
         // SAFETY: the slot is one of the page's and has no value, so one may be written where it stands, or to the room that is there.
         unsafe { page.value::<T>(slot).as_ptr().write(value) };
-        page.set_key(slot, word_of(key));
+        page.set_key(slot, key.to_word());
     }
 
     /// A page for the values of the span, which has none.
@@ -169,9 +189,8 @@ impl<T> Values<T> {
     fn find(&self, key: Key) -> Option<(&Page, usize)> {
         let number = self.at.get(rank_of(key))?;
         let page = self.pages.get((*number as usize).wrapping_sub(1))?;
-        let slot = usize::from(key.0.slot);
-        let word = word_of(key);
-        (slot < Self::SLOTS && word != VACANT && page.key(slot) == word).then_some((page, slot))
+        let slot = slot_of(key);
+        (slot < Self::SLOTS && page.key(slot) == key.to_word()).then_some((page, slot))
     }
 
     /// The value of the key, where there is one.
@@ -188,6 +207,20 @@ impl<T> Values<T> {
         let (page, slot) = self.find(key)?;
         // SAFETY: as in `get`, and nothing else is lent meanwhile.
         Some(unsafe { page.value::<T>(slot).as_mut() })
+    }
+
+    /// The values of the keys, to be changed, where each has one and no two are the same.
+    pub fn get_disjoint_mut<const N: usize>(&mut self, keys: [Key; N]) -> Option<[&mut T; N]> {
+        let mut found = [NonNull::dangling(); N];
+        for (place, key) in keys.iter().enumerate() {
+            if keys[..place].contains(key) {
+                return None;
+            }
+            let (page, slot) = self.find(*key)?;
+            found[place] = page.value::<T>(slot);
+        }
+        // SAFETY: as in `get_mut`, of each: a slot has one key, so these are values at as many slots.
+        Some(found.map(|mut value| unsafe { value.as_mut() }))
     }
 
     /// Whether the key has a value.
@@ -254,7 +287,7 @@ impl<T> Values<T> {
             let page = &mut self.pages[from as usize];
             self.next[usize::from(page.last)] = host as u16;
             page.last = host as u16;
-            page.shard = owned.0.shard as u8;
+            page.shard = owned.shard() as u8;
             self.at[host] = from + 1;
             return;
         }
@@ -309,12 +342,18 @@ impl<T> Values<T> {
         live.map(|page| (page.live, page.shard))
     }
 
-    /// The beginning of a walk over the values, by pages and slots.
-    pub fn walk(&self) -> Walk {
+    /// How many values there are. It asks each page.
+    fn count(&self) -> usize {
+        self.pages().map(|(live, _)| live as usize).sum()
+    }
+
+    /// The beginning of a walk over the values, of which there are so many, by pages and slots.
+    pub fn walk(left: usize) -> Walk {
         Walk {
             page: Page::NONE,
             slot: Self::SLOTS,
             next: 0,
+            left,
         }
     }
 
@@ -326,9 +365,9 @@ impl<T> Values<T> {
             while walk.slot < Self::SLOTS {
                 let slot = walk.slot;
                 walk.slot += 1;
-                let word = walk.page.key(slot);
-                if word != VACANT {
-                    return Some((key_of(word), walk.page.value(slot)));
+                if let Some(key) = Key::of_word(walk.page.key(slot)) {
+                    walk.left = walk.left.saturating_sub(1);
+                    return Some((key, walk.page.value(slot)));
                 }
             }
             let page = *self.pages.get(walk.next)?;
@@ -339,6 +378,14 @@ impl<T> Values<T> {
         }
     }
 
+    /// The key that comes next in a walk, with its value.
+    #[inline]
+    pub fn next_ref(&self, walk: &mut Walk) -> Option<(Key, &T)> {
+        let (key, value) = self.next(walk)?;
+        // SAFETY: as in `get`.
+        Some((key, unsafe { value.as_ref() }))
+    }
+
     /// The key that comes next in a walk, with its value to be changed.
     #[inline]
     pub fn next_mut(&mut self, walk: &mut Walk) -> Option<(Key, &mut T)> {
@@ -347,24 +394,12 @@ impl<T> Values<T> {
         Some((key, unsafe { value.as_mut() }))
     }
 
-    /// Each key with its value, by pages and slots.
-    pub fn iter(&self) -> impl Iterator<Item = (Key, &T)> {
-        let mut walk = self.walk();
-        iter::from_fn(move || {
-            let (key, value) = self.next(&mut walk)?;
-            // SAFETY: as in `get`.
-            Some((key, unsafe { value.as_ref() }))
-        })
-    }
-
-    /// Each key with its value, to be changed, by pages and slots.
-    pub fn iter_mut(&mut self) -> impl Iterator<Item = (Key, &mut T)> {
-        let mut walk = self.walk();
-        iter::from_fn(move || {
-            let (key, mut value) = self.next(&mut walk)?;
-            // SAFETY: as in `get_mut`, and a walk comes to each slot once.
-            Some((key, unsafe { value.as_mut() }))
-        })
+    /// The key that comes next in a walk, with its value, which is taken out.
+    #[inline]
+    pub fn next_taken(&mut self, walk: &mut Walk) -> Option<(Key, T)> {
+        let (key, _) = self.next(walk)?;
+        let (value, _) = self.take(key)?;
+        Some((key, value))
     }
 
     /// Drops each value. Where one panics, those after it are left.
@@ -372,10 +407,42 @@ impl<T> Values<T> {
         if !needs_drop::<T>() && !Self::APART {
             return;
         }
-        let mut walk = self.walk();
-        while let Some((key, _)) = self.next(&mut walk) {
-            drop(self.take(key));
+        let mut walk = Self::walk(self.count());
+        while let Some(taken) = self.next_taken(&mut walk) {
+            drop(taken);
         }
+    }
+}
+
+/// A walk over values that are lent to be changed.
+pub(crate) struct WalkMut<'v, T> {
+    values: &'v mut Values<T>,
+    walk: Walk,
+}
+
+impl<'v, T> WalkMut<'v, T> {
+    /// The walk over these values, of which there are so many.
+    pub fn new(values: &'v mut Values<T>, left: usize) -> WalkMut<'v, T> {
+        let walk = Values::<T>::walk(left);
+        WalkMut { values, walk }
+    }
+
+    /// The key that comes next, with its value.
+    #[inline]
+    pub fn next(&mut self) -> Option<(Key, &'v mut T)> {
+        let (key, mut value) = self.values.next(&mut self.walk)?;
+        // SAFETY: as in `get_mut`. Nobody else has the values as long as they are lent, and a walk comes to each slot once.
+        Some((key, unsafe { value.as_mut() }))
+    }
+
+    /// What is still to come: of these values, from here on.
+    pub fn rest(&self) -> (&Values<T>, Walk) {
+        (self.values, self.walk.clone())
+    }
+
+    /// How many values are still to come.
+    pub fn left(&self) -> usize {
+        self.walk.left
     }
 }
 
@@ -396,6 +463,10 @@ impl<T> Drop for Values<T> {
     }
 }
 
+// SAFETY: a page is an address and numbers, and who reads or writes there has the values, or a part of them, lent.
+unsafe impl Send for Page {}
+// SAFETY: as above.
+unsafe impl Sync for Page {}
 // SAFETY: the values are owned, and nobody else has the blocks.
 unsafe impl<T: Send> Send for Values<T> {}
 // SAFETY: through `&Values` only `&T` is lent.
@@ -455,33 +526,22 @@ fn rank(shard: usize, serial: usize) -> usize {
 
 #[inline]
 fn rank_of(key: Key) -> usize {
-    rank(usize::from(key.0.shard), usize::from(key.0.serial))
+    rank(key.shard() as usize, key.serial() as usize)
 }
 
 fn rank_of_group(group: Group) -> usize {
-    rank(group.0.shard as usize, group.0.serial as usize)
+    rank(group.shard() as usize, group.serial() as usize)
 }
 
-/// The key as a word, lowest byte first as it lies in memory.
+/// How many spans the shards up to this one open.
 #[inline]
-fn word_of(key: Key) -> u64 {
-    let RawKey {
-        shard,
-        slot,
-        serial,
-        generation,
-    } = key.0;
-    u64::from(shard) | u64::from(slot) << 8 | u64::from(serial) << 16 | u64::from(generation) << 32
+fn ranks_of(shard: u32) -> usize {
+    (shard as usize + 1).min(SHARDS) * SPANS
 }
 
 #[inline]
-fn key_of(word: u64) -> Key {
-    Key(RawKey {
-        shard: word as u8,
-        slot: (word >> 8) as u8,
-        serial: (word >> 16) as u16,
-        generation: (word >> 32) as u32,
-    })
+fn slot_of(key: Key) -> usize {
+    key.slot() as usize
 }
 
 /// Makes the list as long as that, if it is shorter.

@@ -47,7 +47,7 @@ type Fold = fn(&mut Slab<[u64; 30]>) -> Result<(), Refused>;
 
 /// Of so many values five of 100 stay, and then pages fold.
 fn most_of_it_leaves_the_process(values: usize, fold: Fold) -> Result<(), Refused> {
-    let mut keys = vec![Key::from_bits(1); values];
+    let mut keys = vec![Key::from_bits(1).expect("its generation is 1"); values];
     let base = kilobytes("VmRSS:");
     let mut slab = Slab::new()?;
     for (number, key) in keys.iter_mut().enumerate() {
@@ -87,7 +87,7 @@ fn trimmed_pages_leave_the_process() -> Result<(), Refused> {
         shards: SHARDS,
         ..Limits::default()
     })?;
-    let mut keys = vec![Key::from_bits(1); SHARDS as usize * PAGES * 256];
+    let mut keys = vec![Key::from_bits(1).expect("its generation is 1"); SHARDS as usize * PAGES * 256];
     for (number, key) in keys.iter_mut().enumerate() {
         *key = core.insert(number as u32 % SHARDS, number as u128)?;
     }

@@ -1,9 +1,9 @@
 //! The tests of the crate `slab` 0.4 (MIT), where the two agree.
 //!
-//! Left out, since there is nothing to stand beside them: `vacant_entry`, `vacant_key`, `compact`, `shrink_to_fit`,
-//! `from_iter`, `clone`, `with_capacity`, `reserve` and `capacity` (pages come and go by themselves), reversed and sized
-//! iterators, iteration in the order of keys, and that a key is an index that another slab may share. Where `slab` panics at a
-//! key that is not live, or gives another value, this crate answers `None`; `slab[key]` panics in both.
+//! Left out, since there is nothing to stand beside them: `key_of`, `compact` (which gives values other keys there), `from_iter`
+//! with keys of the caller's, `clone`, what is allocated when (pages come and go by themselves), reversed iterators, iteration
+//! in the order of keys, and that a key is an index that another slab may share. Where `slab` panics at a key that is not live,
+//! or gives another value, this crate answers `None`; `slab[key]` panics in both.
 
 use teurlaks::{Key, Limits, Refused, Slab};
 
@@ -53,6 +53,26 @@ fn insert_get_remove_many() -> Result<(), Refused> {
     Ok(())
 }
 
+#[test]
+fn insert_with_vacant_entry() -> Result<(), Refused> {
+    let mut slab = Slab::with_capacity(1)?;
+    let entry = slab.vacant_entry()?;
+    let key = entry.key();
+    entry.insert(123);
+    assert_eq!(slab[key], 123);
+    Ok(())
+}
+
+/// In `slab` both have one key; here no key is shown twice.
+#[test]
+fn get_vacant_entry_without_using() -> Result<(), Refused> {
+    let mut slab = Slab::<usize>::with_capacity(1)?;
+    let key = slab.vacant_entry()?.key();
+    assert_ne!(slab.vacant_entry()?.key(), key);
+    assert!(slab.is_empty());
+    Ok(())
+}
+
 /// Of `slab_get_mut` and `slab_get_mut_removed`.
 #[test]
 fn get_mut() -> Result<(), Refused> {
@@ -93,7 +113,7 @@ fn double_remove_finds_nothing() -> Result<(), Refused> {
 fn invalid_key_finds_nothing() -> Result<(), Refused> {
     let mut slab = Slab::new()?;
     slab.insert(1)?;
-    let key = Key::from_bits(0x0001_0000_0000_0001);
+    let key = Key::from_bits(0x0001_0000_0000_0001).expect("its generation is 1");
     assert_eq!(slab.get(key), None);
     assert_eq!(slab.remove(key), None);
     assert_eq!(slab.len(), 1);
@@ -129,6 +149,22 @@ fn iter_and_iter_mut() -> Result<(), Refused> {
     slab.remove(keys[1]);
     assert!(slab.values().eq(&[1, 3, 4]));
     assert!(slab.keys().eq([keys[0], keys[2], keys[3]]));
+    Ok(())
+}
+
+#[test]
+fn into_iter() -> Result<(), Refused> {
+    let mut slab = Slab::new()?;
+    let keys = (0..8).map(|i| slab.insert(i)).collect::<Result<Vec<_>, _>>()?;
+    for place in [0, 4, 5, 7] {
+        slab.remove(keys[place]);
+    }
+    let values: Vec<_> = slab
+        .into_iter()
+        .inspect(|(key, value)| assert_eq!(*key, keys[*value]))
+        .map(|(_, value)| value)
+        .collect();
+    assert_eq!(values, [1, 2, 3, 6]);
     Ok(())
 }
 

@@ -4,7 +4,7 @@ mod common;
 
 use common::Random;
 use std::cell::Cell;
-use std::collections::HashMap;
+use std::collections::{HashMap, HashSet};
 use std::rc::Rc;
 use teurlaks::{Key, Limits, Refused, Slab, Stepped};
 
@@ -70,8 +70,9 @@ impl Made for Aligned {
 struct Pair<T> {
     slab: Slab<T>,
     map: HashMap<Key, u64>,
-    // Each key that was ever given out.
+    // Each key that was ever given out, or shown.
     keys: Vec<Key>,
+    given: HashSet<Key>,
     live: Rc<Cell<i64>>,
     random: Random,
     running: Vec<u32>,
@@ -80,6 +81,13 @@ struct Pair<T> {
 }
 
 const SHARDS: u32 = 12;
+
+/// The key of a number, or of one that has a generation.
+fn made_up(bits: u64) -> Key {
+    Key::from_bits(bits)
+        .or(Key::from_bits(bits | 1))
+        .expect("its generation is not 0")
+}
 
 impl<T: Made> Pair<T> {
     fn new(seed: u64) -> Result<Pair<T>, Refused> {
@@ -91,6 +99,7 @@ impl<T: Made> Pair<T> {
             })?,
             map: HashMap::new(),
             keys: Vec::new(),
+            given: HashSet::new(),
             live: Rc::new(Cell::new(0)),
             random: Random(88172645463325252 + seed * 7919),
             running: (0..SHARDS).collect(),
@@ -102,28 +111,66 @@ impl<T: Made> Pair<T> {
     fn insert(&mut self) {
         let number = self.random.next();
         let value = T::made(number, &self.live);
-        let put = if self.random.below(2) == 0 {
-            self.slab.insert(value)
-        } else {
-            let shard = self.running[self.random.below(self.running.len())];
-            self.slab.insert_in(shard, value)
+        let put = match self.random.below(8) {
+            0..=2 => self.slab.insert(value),
+            3..=5 => {
+                let shard = self.running[self.random.below(self.running.len())];
+                self.slab.insert_in(shard, value)
+            }
+            6 => self.slab.insert_with_key(|_| value),
+            _ => self.slab.try_insert(value).map_err(|error| {
+                assert_eq!(error.value.number(), number);
+                error.refused
+            }),
         };
+        if let Some(key) = self.note(put) {
+            self.map.insert(key, number);
+        }
+    }
+
+    /// Notes a key that was given out or shown, if it was, which is never again.
+    fn note(&mut self, put: Result<Key, Refused>) -> Option<Key> {
         match put {
             Ok(key) => {
-                assert_eq!(self.map.insert(key, number), None, "{key} was given out twice");
+                assert!(self.given.insert(key), "{key} was given out twice");
                 self.keys.push(key);
+                Some(key)
             }
-            Err(refused) => assert_eq!(refused, Refused::PagesSpent),
+            Err(refused) => {
+                assert_eq!(refused, Refused::PagesSpent);
+                None
+            }
+        }
+    }
+
+    /// Takes an entry, and gives it a value, drops it or forgets it.
+    fn vacant_entry(&mut self) {
+        let way = self.random.below(3);
+        let number = self.random.next();
+        let shown = self.slab.vacant_entry().map(|entry| {
+            let key = entry.key();
+            match way {
+                0 => assert_eq!(entry.insert(T::made(number, &self.live)).number(), number),
+                1 => drop(entry),
+                _ => std::mem::forget(entry),
+            }
+            key
+        });
+        if let Some(key) = self.note(shown) {
+            assert_eq!(self.slab.contains_key(key), way == 0);
+            if way == 0 {
+                self.map.insert(key, number);
+            }
         }
     }
 
     /// A key of some time, or one that looks like it.
     fn key(&mut self) -> Key {
         let place = self.random.below(self.keys.len().max(1));
-        let key = self.keys.get(place).copied().unwrap_or(Key::from_bits(0));
+        let key = self.keys.get(place).copied().unwrap_or(made_up(1));
         match self.random.below(12) {
-            0 => Key::from_bits(key.to_bits() ^ 1 << self.random.below(64)),
-            1 => Key::from_bits(self.random.next() & self.random.next()),
+            0 => made_up(key.to_bits() ^ 1 << self.random.below(64)),
+            1 => made_up(self.random.next() & self.random.next()),
             _ => key,
         }
     }
@@ -146,6 +193,22 @@ impl<T: Made> Pair<T> {
         }
     }
 
+    /// As many values at once as there are keys, where all are live and no two are the same.
+    fn look_up_several(&mut self) {
+        let keys = [self.key(), self.key(), self.key()];
+        let distinct = keys[0] != keys[1] && keys[0] != keys[2] && keys[1] != keys[2];
+        let live = keys.iter().all(|key| self.map.contains_key(key));
+        let found = self.slab.get_disjoint_mut(keys);
+        assert_eq!(found.is_some(), distinct && live);
+        let Some(values) = found else { return };
+        for (value, key) in values.into_iter().zip(keys) {
+            assert_eq!(self.map.get(&key), Some(&value.number()));
+            let number = value.number() ^ 1;
+            value.set(number);
+            self.map.insert(key, number);
+        }
+    }
+
     fn retain(&mut self) {
         let odds = 2 + self.random.next() % 6;
         let (map, mut seen) = (&self.map, 0);
@@ -160,15 +223,19 @@ impl<T: Made> Pair<T> {
 
     fn drain(&mut self) {
         let most = self.random.below(2 * self.map.len().max(1));
-        for (key, value) in self.slab.drain().take(most) {
+        let mut drain = self.slab.drain();
+        for left in (0..self.map.len()).rev().take(most) {
+            let (key, value) = drain.next().expect("as many as were told");
             assert_eq!(self.map.remove(&key), Some(value.number()));
+            assert_eq!(drain.len(), left);
         }
+        drop(drain);
         self.map.clear();
     }
 
     /// A call of those that change no value.
     fn mesh(&mut self) -> Result<(), Refused> {
-        match self.random.below(8) {
+        match self.random.below(9) {
             0 if self.running.len() > 3 => {
                 let place = self.random.below(self.running.len());
                 match self.slab.end(self.running[place]) {
@@ -197,7 +264,12 @@ impl<T: Made> Pair<T> {
                 self.slab.close()?;
                 self.is_marked = false;
             }
-            way => self.fold_all(way == 6),
+            6 => {
+                let pages = self.slab.pages();
+                let went = self.slab.shrink_to_fit();
+                assert_eq!(self.slab.pages() + went, pages);
+            }
+            way => self.fold_all(way == 7),
         }
         Ok(())
     }
@@ -226,14 +298,21 @@ impl<T: Made> Pair<T> {
     fn check(&mut self) {
         let len = self.map.len();
         assert_eq!((self.slab.len(), self.live.get()), (len, len as i64));
-        assert_eq!(self.slab.iter().count(), len);
-        for (key, value) in self.slab.iter() {
+        assert_eq!((self.slab.iter().len(), self.slab.iter_mut().len()), (len, len));
+        assert!(self.slab.iter().count() == len && self.slab.keys().count() == len);
+        for (key, value) in &self.slab {
             assert_eq!(self.map.get(&key), Some(&value.number()));
         }
-        for (_, value) in self.slab.iter_mut() {
+        for value in self.slab.values_mut() {
             let number = value.number();
             value.set(number);
         }
+        let (mut iter, mut left) = (self.slab.iter(), len);
+        while iter.next().is_some() {
+            left -= 1;
+            assert_eq!(iter.len(), left);
+        }
+        assert!(left == 0 && iter.next().is_none());
     }
 
     fn run(mut self, calls: usize) -> Result<usize, Refused> {
@@ -243,7 +322,12 @@ impl<T: Made> Pair<T> {
             match self.random.below(16) {
                 n if n < fills => self.insert(),
                 n if n < 13 => self.remove(),
-                13 | 14 => self.look_up(),
+                13 => self.look_up(),
+                14 => match self.random.below(4) {
+                    0 => self.vacant_entry(),
+                    1 => self.look_up_several(),
+                    _ => self.look_up(),
+                },
                 _ => match self.random.below(60) {
                     0 => self.retain(),
                     1 if self.random.below(5) == 0 => self.drain(),
@@ -254,7 +338,12 @@ impl<T: Made> Pair<T> {
             }
         }
         self.check();
-        drop(self.slab);
+        let mut values = self.slab.into_iter();
+        for (key, value) in values.by_ref().take(self.map.len() / 2) {
+            assert_eq!(self.map.remove(&key), Some(value.number()));
+        }
+        assert_eq!(values.len(), self.map.len());
+        drop(values);
         assert_eq!(self.live.get(), 0);
         Ok(self.folds)
     }
@@ -290,8 +379,8 @@ fn values_of_240_bytes_as_a_map() -> Result<(), Refused> {
 
 #[test]
 fn values_in_blocks_of_their_own_as_a_map() -> Result<(), Refused> {
-    as_a_map::<Value<5000>>(20_000)?;
-    as_a_map::<Aligned>(20_000)
+    as_a_map::<Value<5000>>(30_000)?;
+    as_a_map::<Aligned>(30_000)
 }
 
 #[test]
@@ -309,17 +398,18 @@ fn values_that_take_no_bytes() -> Result<(), Refused> {
     Ok(())
 }
 
-/// A key of zeros, which no value has, finds nothing where no value was yet or where one is gone.
+/// The least of all keys finds nothing where no value was yet or where one is gone; there is none of zeros.
 #[test]
-fn a_key_of_zeros_finds_nothing() -> Result<(), Refused> {
-    let zeros = Key::from_bits(0);
+fn the_least_key_finds_nothing() -> Result<(), Refused> {
+    assert_eq!((Key::from_bits(0), Key::from_bits(u64::MAX << 32)), (None, None));
+    let least = made_up(1);
     let mut slab = Slab::new()?;
-    assert!(slab.get(zeros).is_none() && slab.remove(zeros).is_none());
+    assert!(slab.get(least).is_none() && slab.remove(least).is_none());
     let first = slab.insert("a")?;
     slab.insert("b")?;
-    slab.remove(first);
-    assert!(slab.get(zeros).is_none() && !slab.contains(zeros));
-    assert!(slab.remove(zeros).is_none() && slab.len() == 1);
+    assert_eq!((least, slab.remove(first)), (first, Some("a")));
+    assert!(slab.get(least).is_none() && !slab.contains(least));
+    assert!(slab.remove(least).is_none() && slab.len() == 1);
     Ok(())
 }
 

@@ -11,6 +11,8 @@ impl Random {
         self.0
     }
 
+    // Not each test asks for it.
+    #[allow(dead_code)]
     pub fn below(&mut self, count: usize) -> usize {
         ((self.next() >> 11) % count as u64) as usize
     }

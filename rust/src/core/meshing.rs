@@ -1,0 +1,446 @@
+//! What a core does with whole groups: ends, retirements, trims and adoptions, marks and their steps.
+
+use super::Core;
+use crate::compact::Compact;
+use crate::names::Group;
+use crate::raw;
+use crate::refused::Refused;
+
+/// How many groups a plan may have on a side.
+const MOST_GROUPS: usize = 4096;
+
+/// What a mark saw and planned.
+#[derive(Clone, Copy, Debug, PartialEq, Eq, Hash)]
+pub struct Marked {
+    /// How many groups of the pool it saw.
+    pub abandoned: usize,
+    /// How many groups of the shards it saw.
+    pub owned: usize,
+    /// How many folds are planned: no plan has more.
+    pub folds: usize,
+    /// How many groups are in the short set, which shows that.
+    pub short_set: usize,
+}
+
+/// What a step did.
+#[derive(Clone, Copy, Debug, PartialEq, Eq, Hash)]
+pub enum Stepped {
+    /// The first group is now on the page of the second, and its own page is gone.
+    Folded(Group, Group),
+    /// The first group had no live key left, and so no page to give back.
+    Emptied(Group, Group),
+    /// Each pair of the plan is done with.
+    NoPairLeft,
+}
+
+impl Core {
+    /// Ends a shard: its groups go to the pool, with their pages, and it takes no object again. Its number never comes back.
+    ///
+    /// # Errors
+    ///
+    /// - [`Refused::Ended`]: it has ended before;
+    /// - [`Refused::PlanOpen`]: one of its groups is in the open plan;
+    /// - [`Refused::Config`]: there is no such shard;
+    /// - [`Refused::OutOfMemory`]: none of these holds, and memory was refused.
+    pub fn end(&mut self, shard: u32) -> Result<(), Refused> {
+        // SAFETY: as in `insert`.
+        done(unsafe { raw::teurlaks_end(self.handle.get(), shard) })?;
+        self.ended[shard as usize] = true;
+        Ok(())
+    }
+
+    /// Moves up to `most` groups of a shard to the pool, with their pages, and says how many went: those with the fewest live keys, of
+    /// those that have one. The shard goes on, so a program of one shard folds too: the pool's pages are folded onto those that stay.
+    /// Fewer than `most` go only where no group with a live key is left. Groups with no live key stay: [`Core::trim`] gives their pages back.
+    ///
+    /// # Errors
+    ///
+    /// - [`Refused::Ended`]: the shard has ended;
+    /// - [`Refused::PlanOpen`]: one of its groups is in the open plan;
+    /// - [`Refused::Config`]: there is no such shard;
+    /// - [`Refused::OutOfMemory`]: none of these holds, and memory was refused.
+    ///
+    /// ```
+    /// # use teurlaks::{Core, Limits};
+    /// let mut core = Core::new(Limits::default())?;
+    /// let keys: Vec<_> = (0..512).map(|word| core.insert(0, word)).collect::<Result<_, _>>()?;
+    /// for (place, key) in keys.iter().enumerate() {
+    ///     if place != 0 && place != 257 {
+    ///         core.free(*key); // one word is left on each of two pages
+    ///     }
+    /// }
+    /// assert_eq!(core.retire(0, 1)?, 1);
+    /// assert_eq!(core.mesh()?, 1);
+    /// assert_eq!((core.pages(), core.get(keys[0]), core.get(keys[257])), (1, Some(0), Some(257)));
+    /// # Ok::<(), teurlaks::Refused>(())
+    /// ```
+    pub fn retire(&mut self, shard: u32, most: usize) -> Result<usize, Refused> {
+        // SAFETY: as in `insert`.
+        let raw::RetireReply { status, count } = unsafe { raw::teurlaks_retire(self.handle.get(), shard, most) };
+        done(status).map(|()| count)
+    }
+
+    /// Gives back the pages of a shard's groups in which nothing is live, and says how many went. The groups stay, and with them the
+    /// generations of their keys: a later insert takes a slot of one again, on a new page. A group of the open plan keeps its page.
+    ///
+    /// # Errors
+    ///
+    /// [`Refused::Config`] alone, where there is no such shard. It takes no memory.
+    ///
+    /// ```
+    /// # use teurlaks::{Core, Limits};
+    /// let mut core = Core::new(Limits::default())?;
+    /// let keys: Vec<_> = (0..512).map(|word| core.insert(0, word)).collect::<Result<_, _>>()?;
+    /// for key in &keys[..256] {
+    ///     core.free(*key);
+    /// }
+    /// assert_eq!((core.trim(0)?, core.pages()), (1, 1));
+    /// let again = core.insert(0, 7)?; // a slot of the first group, on a new page
+    /// assert_eq!((core.pages(), core.get(again), core.get(keys[0])), (2, Some(7), None));
+    /// # Ok::<(), teurlaks::Refused>(())
+    /// ```
+    pub fn trim(&mut self, shard: u32) -> Result<usize, Refused> {
+        // SAFETY: as in `insert`.
+        let raw::TrimReply { status, count } = unsafe { raw::teurlaks_trim(self.handle.get(), shard) };
+        done(status).map(|()| count)
+    }
+
+    /// Moves the pool's group of lowest head that has a page to a shard, and gives its name.
+    ///
+    /// # Errors
+    ///
+    /// - [`Refused::PagesSpent`]: the shard has as many groups as it may have pages;
+    /// - [`Refused::Ended`]: it has ended;
+    /// - [`Refused::PlanOpen`]: a plan is open;
+    /// - [`Refused::NothingToAdopt`]: no group of the pool has a page;
+    /// - [`Refused::Config`]: there is no such shard;
+    /// - [`Refused::OutOfMemory`]: none of these holds, and memory was refused.
+    pub fn adopt(&mut self, shard: u32) -> Result<Group, Refused> {
+        // SAFETY: as in `insert`.
+        let adopted = unsafe { raw::teurlaks_adopt(self.handle.get(), shard) };
+        done(adopted.status).map(|()| Group(adopted.head))
+    }
+
+    /// Plans as many folds as can be, and opens the plan. Until it is closed, the groups that it folds onto take no object.
+    ///
+    /// # Errors
+    ///
+    /// - [`Refused::PlanOpen`]: a plan is open;
+    /// - [`Refused::TooMany`]: a side has more than 4,096 groups that have a page;
+    /// - [`Refused::OutOfMemory`]: none of these holds, and memory was refused.
+    pub fn mark(&mut self) -> Result<Marked, Refused> {
+        // SAFETY: as in `insert`.
+        marked(unsafe { raw::teurlaks_mark(self.handle.get()) })
+    }
+
+    /// Marks as [`Core::mark`] does, but sees of each side the 4,096 groups with the fewest live keys, or all where there are no more. So
+    /// its plan and its certificate are of what it saw, and a further mark may find more.
+    ///
+    /// # Errors
+    ///
+    /// - [`Refused::PlanOpen`]: a plan is open;
+    /// - [`Refused::OutOfMemory`]: none is, and memory was refused.
+    pub fn mark_some(&mut self) -> Result<Marked, Refused> {
+        // SAFETY: as in `insert`.
+        marked(unsafe { raw::teurlaks_mark_some(self.handle.get()) })
+    }
+
+    /// Carries out the next pair of the open plan.
+    ///
+    /// # Errors
+    ///
+    /// - [`Refused::NoPlan`]: no plan is open;
+    /// - [`Refused::OutOfMemory`]: memory was refused; the pair is then still the next.
+    pub fn step(&mut self) -> Result<Stepped, Refused> {
+        // SAFETY: as in `insert`.
+        let raw::StepReply {
+            status,
+            abandoned,
+            owned,
+        } = unsafe { raw::teurlaks_step(self.handle.get()) };
+        match status {
+            raw::OK => Ok(Stepped::Folded(Group(abandoned), Group(owned))),
+            raw::EMPTIED => Ok(Stepped::Emptied(Group(abandoned), Group(owned))),
+            raw::NO_PAIR_LEFT => Ok(Stepped::NoPairLeft),
+            other => Err(Refused::of(other)),
+        }
+    }
+
+    /// Closes the open plan; pairs that are left are dropped. It takes no memory.
+    ///
+    /// # Errors
+    ///
+    /// [`Refused::NoPlan`] alone, where no plan is open.
+    pub fn close(&mut self) -> Result<(), Refused> {
+        // SAFETY: as in `insert`.
+        done(unsafe { raw::teurlaks_close(self.handle.get()) })
+    }
+
+    /// Marks, takes all steps and closes, and says how many pages came back. The mark is that of [`Core::mark_some`]; where it may not have
+    /// seen all groups, and folds at least a sixteenth of those that it saw of the pool, there is another.
+    ///
+    /// # Errors
+    ///
+    /// - [`Refused::PlanOpen`]: a plan is open;
+    /// - [`Refused::OutOfMemory`]: memory was refused to a mark or to a step; what was folded before stays so, and no plan is open.
+    pub fn mesh(&mut self) -> Result<usize, Refused> {
+        self.mesh_with(|_, _| ())
+    }
+
+    /// Gives back the pages on which no key is live, folds sparse pages onto others until that hardly gives any back, and says how many
+    /// pages went. Every key stays valid, and all groups are in shards afterwards, also those that an end or a retirement had left to the
+    /// pool.
+    ///
+    /// Half of the pages, of each shard those with the fewest live keys, go to the pool, as many as can be are folded onto the other half, and
+    /// the shards adopt the rest in turn; where that gave at least a sixteenth of the pages back, once more. A page that is folded takes no
+    /// object of its own any more, so each fold uses up one of the 1,024 pages that a shard opens in its life.
+    ///
+    /// # Errors
+    ///
+    /// - [`Refused::PlanOpen`]: a plan is open; then only pages without a live key have gone;
+    /// - [`Refused::OutOfMemory`]: memory was refused; it stops where it is, every key has its object, and it may be tried again.
+    ///
+    /// ```
+    /// # use teurlaks::{Core, Limits};
+    /// let mut core = Core::new(Limits { shards: 2, ..Limits::default() })?;
+    /// let keys: Vec<_> = (0..1024).map(|i| core.insert(i % 2, i.into())).collect::<Result<_, _>>()?;
+    /// for (i, key) in keys.iter().enumerate().filter(|(i, _)| i % 23 != 0) {
+    ///     core.free(*key);
+    /// }
+    /// assert_eq!((core.pages(), core.compact()?, core.pages()), (4, 3, 1));
+    /// assert_eq!(core.get(keys[46]), Some(46));
+    /// # Ok::<(), teurlaks::Refused>(())
+    /// ```
+    pub fn compact(&mut self) -> Result<usize, Refused> {
+        self.compact_all()
+    }
+
+    /// How many shards there are, with those that have ended.
+    pub(crate) fn shards(&self) -> u32 {
+        self.limits.shards
+    }
+
+    /// How many shards have not ended.
+    pub(crate) fn running_shards(&self) -> usize {
+        let ended = self.ended.iter().filter(|ended| **ended).count();
+        self.limits.shards as usize - ended
+    }
+
+    /// Trims each shard, and says how many pages went.
+    pub(crate) fn trim_all(&mut self) -> usize {
+        // A shard that there is may be trimmed.
+        (0..self.shards()).filter_map(|shard| self.trim(shard).ok()).sum()
+    }
+
+    /// As `mesh`, and tells of each fold when it is done.
+    pub(crate) fn mesh_with(&mut self, mut folded: impl FnMut(Group, Group)) -> Result<usize, Refused> {
+        let before = self.pages();
+        loop {
+            let Marked {
+                abandoned,
+                owned,
+                folds,
+                ..
+            } = self.mark_some()?;
+            let taken = self.take_steps(&mut folded);
+            self.close()?;
+            taken?;
+            let sees_all = abandoned.max(owned) < MOST_GROUPS;
+            if sees_all || folds * 16 < abandoned.max(1) {
+                return Ok(before - self.pages());
+            }
+        }
+    }
+
+    fn take_steps(&mut self, folded: &mut impl FnMut(Group, Group)) -> Result<(), Refused> {
+        loop {
+            match self.step()? {
+                Stepped::NoPairLeft => return Ok(()),
+                Stepped::Folded(abandoned, owned) => folded(abandoned, owned),
+                Stepped::Emptied(..) => {}
+            }
+        }
+    }
+
+    /// The text of the last mark's certificate, which shows that no plan has more folds, or `None` before the first mark. `meshrun check`
+    /// checks such a text without trusting who made it.
+    ///
+    /// # Errors
+    ///
+    /// [`Refused::OutOfMemory`] where memory was refused for the text.
+    pub fn certificate(&self) -> Result<Option<String>, Refused> {
+        let mut text = Vec::new();
+        loop {
+            // SAFETY: as in `insert`, and the text is not moved meanwhile.
+            let told = unsafe { raw::teurlaks_certificate(self.handle.get(), text.as_mut_ptr(), text.len()) };
+            match told.status {
+                raw::OK => return Ok(Some(String::from_utf8_lossy(&text).into_owned())),
+                raw::NONE => return Ok(None),
+                raw::TOO_SMALL => {
+                    text.try_reserve_exact(told.len).map_err(|_| Refused::OutOfMemory)?;
+                    text.resize(told.len, 0);
+                }
+                other => return Err(Refused::of(other)),
+            }
+        }
+    }
+}
+
+/// What the mark says, where it was not refused.
+fn marked(reply: raw::MarkReply) -> Result<Marked, Refused> {
+    let raw::MarkReply {
+        status,
+        abandoned,
+        owned,
+        folds,
+        short_set,
+    } = reply;
+    done(status).map(|()| Marked {
+        abandoned,
+        owned,
+        folds,
+        short_set,
+    })
+}
+
+fn done(status: u32) -> Result<(), Refused> {
+    match status {
+        raw::OK => Ok(()),
+        other => Err(Refused::of(other)),
+    }
+}
+
+/// The calls of a type with a core that are the core's and do not move a value: its ends, retirements and trims, and its marks.
+macro_rules! letting_go {
+    () => {
+        /// The numbers with which it was made.
+        #[must_use]
+        pub fn limits(&self) -> crate::Limits {
+            self.core.limits()
+        }
+
+        /// Whether there is such a shard and it has ended.
+        #[must_use]
+        pub fn is_ended(&self, shard: u32) -> bool {
+            self.core.is_ended(shard)
+        }
+
+        /// Ends a shard, as [`Core::end`](crate::Core::end).
+        ///
+        /// # Errors
+        ///
+        /// As of [`Core::end`](crate::Core::end).
+        pub fn end(&mut self, shard: u32) -> Result<(), crate::Refused> {
+            self.core.end(shard)
+        }
+
+        /// Moves the sparsest groups of a shard to the pool, as [`Core::retire`](crate::Core::retire), whose shard goes on.
+        ///
+        /// # Errors
+        ///
+        /// As of [`Core::retire`](crate::Core::retire).
+        pub fn retire(&mut self, shard: u32, most: usize) -> Result<usize, crate::Refused> {
+            self.core.retire(shard, most)
+        }
+
+        /// Gives back the pages of a shard on which nothing is live, as [`Core::trim`](crate::Core::trim).
+        ///
+        /// # Errors
+        ///
+        /// [`Refused::Config`](crate::Refused::Config) alone, where there is no such shard. It takes no memory.
+        pub fn trim(&mut self, shard: u32) -> Result<usize, crate::Refused> {
+            self.core.trim(shard)
+        }
+
+        /// Plans as many folds as can be, as [`Core::mark`](crate::Core::mark).
+        ///
+        /// # Errors
+        ///
+        /// As of [`Core::mark`](crate::Core::mark).
+        pub fn mark(&mut self) -> Result<crate::Marked, crate::Refused> {
+            self.core.mark()
+        }
+
+        /// Plans folds of the sparsest groups, as [`Core::mark_some`](crate::Core::mark_some).
+        ///
+        /// # Errors
+        ///
+        /// As of [`Core::mark_some`](crate::Core::mark_some).
+        pub fn mark_some(&mut self) -> Result<crate::Marked, crate::Refused> {
+            self.core.mark_some()
+        }
+    };
+}
+pub(crate) use letting_go;
+
+/// The other calls of a type whose values are all in its core, and which asks the shards for room from its first one on.
+macro_rules! meshing {
+    () => {
+        crate::core::letting_go!();
+
+        /// How many pages of 4,096 bytes there are.
+        #[must_use]
+        pub fn pages(&self) -> usize {
+            self.core.pages()
+        }
+
+        /// The last mark's certificate, as [`Core::certificate`](crate::Core::certificate).
+        ///
+        /// # Errors
+        ///
+        /// [`Refused::OutOfMemory`](crate::Refused::OutOfMemory) where memory was refused for the text.
+        pub fn certificate(&self) -> Result<Option<String>, crate::Refused> {
+            self.core.certificate()
+        }
+
+        /// Moves a group of the pool to a shard, as [`Core::adopt`](crate::Core::adopt).
+        ///
+        /// # Errors
+        ///
+        /// As of [`Core::adopt`](crate::Core::adopt).
+        pub fn adopt(&mut self, shard: u32) -> Result<crate::Group, crate::Refused> {
+            self.first = 0;
+            self.core.adopt(shard)
+        }
+
+        /// Carries out the next fold, as [`Core::step`](crate::Core::step).
+        ///
+        /// # Errors
+        ///
+        /// As of [`Core::step`](crate::Core::step).
+        pub fn step(&mut self) -> Result<crate::Stepped, crate::Refused> {
+            self.core.step()
+        }
+
+        /// Closes the plan, as [`Core::close`](crate::Core::close).
+        ///
+        /// # Errors
+        ///
+        /// [`Refused::NoPlan`](crate::Refused::NoPlan) alone, where no plan is open.
+        pub fn close(&mut self) -> Result<(), crate::Refused> {
+            self.first = 0;
+            self.core.close()
+        }
+
+        /// Marks, takes all steps and closes, as [`Core::mesh`](crate::Core::mesh).
+        ///
+        /// # Errors
+        ///
+        /// As of [`Core::mesh`](crate::Core::mesh).
+        pub fn mesh(&mut self) -> Result<usize, crate::Refused> {
+            self.first = 0;
+            self.core.mesh()
+        }
+
+        /// Folds sparse pages onto others until that hardly gives any back, as [`Core::compact`](crate::Core::compact).
+        ///
+        /// # Errors
+        ///
+        /// As of [`Core::compact`](crate::Core::compact).
+        pub fn compact(&mut self) -> Result<usize, crate::Refused> {
+            self.first = 0;
+            self.core.compact()
+        }
+    };
+}
+pub(crate) use meshing;

@@ -1,0 +1,419 @@
+//! Calls of a slab and of a store that their likes have, each once, with what refuses them.
+
+mod common;
+
+use common::Random;
+use std::collections::BTreeMap;
+use std::error::Error;
+use std::rc::Rc;
+use std::sync::RwLock;
+use std::thread;
+use teurlaks::{Core, Key, Limits, Refused, Slab, Store};
+
+const ONE_PAGE: Limits = Limits {
+    shards: 1,
+    pages: 1,
+    generations: 3,
+};
+
+#[test]
+fn loops_over_a_slab() -> Result<(), Refused> {
+    let mut slab = Slab::try_from_iter(["a".to_string(), "b".to_string()])?;
+    for (_, value) in &mut slab {
+        value.push('!');
+    }
+    let mut seen = Vec::new();
+    for (key, value) in &slab {
+        assert_eq!(slab[key], *value);
+        seen.push(value.as_str());
+    }
+    assert_eq!(seen, ["a!", "b!"]);
+    let keys: Vec<Key> = slab.keys().collect();
+    let mut values = slab.into_iter();
+    assert_eq!((values.len(), values.next()), (2, Some((keys[0], "a!".into()))));
+    assert_eq!(values.size_hint(), (1, Some(1)));
+    assert!(values.by_ref().eq([(keys[1], "b!".to_string())]));
+    assert!(values.next().is_none() && values.len() == 0);
+    Ok(())
+}
+
+#[test]
+fn iterators_tell_what_is_left() -> Result<(), Refused> {
+    let mut slab = Slab::try_from_iter(1..4)?;
+    let mut iter = slab.iter();
+    iter.next();
+    assert_eq!(format!("{iter:?}"), "{0.0/1/1: 2, 0.0/2/1: 3}");
+    assert_eq!(iter.clone().len(), 2);
+    let mut keys = slab.keys();
+    keys.next();
+    assert_eq!((format!("{keys:?}"), keys.len()), ("[0.0/1/1, 0.0/2/1]".into(), 2));
+    let mut values = slab.values();
+    values.next();
+    assert_eq!((format!("{values:?}"), values.clone().sum()), ("[2, 3]".into(), 5));
+    let mut iter = slab.iter_mut();
+    let (_, first) = iter.next().expect("there are three");
+    assert_eq!(
+        (format!("{iter:?}"), iter.len()),
+        ("{0.0/1/1: 2, 0.0/2/1: 3}".into(), 2)
+    );
+    *first = 7;
+    let mut values = slab.values_mut();
+    *values.next().expect("there are three") += 1;
+    assert_eq!((format!("{values:?}"), values.len()), ("[2, 3]".into(), 2));
+    let mut drain = slab.drain();
+    assert_eq!(drain.next().map(|(_, value)| value), Some(8));
+    assert_eq!(
+        (format!("{drain:?}"), drain.len()),
+        ("{0.0/1/1: 2, 0.0/2/1: 3}".into(), 2)
+    );
+    drop(drain);
+    slab.insert(9)?;
+    assert_eq!(format!("{:?}", slab.into_iter()), "{0.0/0/2: 9}");
+    Ok(())
+}
+
+/// All values may be lent to be changed at once.
+#[test]
+fn values_that_are_changed_beside_each_other() -> Result<(), Refused> {
+    let mut slab = Slab::try_from_iter(0..600)?;
+    let mut values: Vec<&mut i32> = slab.values_mut().collect();
+    values.reverse();
+    for (place, value) in values.iter_mut().enumerate() {
+        assert_eq!(**value + place as i32, 599);
+        **value = 1;
+    }
+    assert_eq!(slab.values().sum::<i32>(), 600);
+    let keys: Vec<Key> = slab.keys().collect();
+    let [first, last] = slab.get_disjoint_mut([keys[0], keys[599]]).expect("both are live");
+    (*first, *last) = (5, 6);
+    assert_eq!((slab[keys[0]], slab[keys[599]]), (5, 6));
+    assert_eq!(slab.get_disjoint_mut([keys[0], keys[1], keys[0]]), None);
+    slab.remove(keys[1]);
+    assert_eq!(slab.get_disjoint_mut([keys[0], keys[1]]), None);
+    assert_eq!(slab.get_disjoint_mut([]), Some([]));
+    Ok(())
+}
+
+#[test]
+fn a_value_that_is_refused_comes_back() -> Result<(), Refused> {
+    let mut slab = Slab::with_limits(ONE_PAGE)?;
+    let values = (0..300).map(Rc::new);
+    let mut values = values.collect::<Vec<_>>().into_iter();
+    let error = slab.try_extend(values.by_ref()).unwrap_err();
+    assert_eq!((*error.value, error.refused), (256, Refused::PagesSpent));
+    assert_eq!((slab.len(), values.len(), Rc::strong_count(&error.value)), (256, 43, 1));
+    assert!(error.to_string().ends_with(&Refused::PagesSpent.to_string()));
+    assert_eq!(format!("{error:?}"), "InsertError { refused: PagesSpent, .. }");
+    let error = slab.try_insert(error.value).unwrap_err();
+    assert_eq!((*error.value, Refused::from(error)), (256, Refused::PagesSpent));
+    slab.end(0)?;
+    assert_eq!(slab.try_insert(Rc::new(1)).unwrap_err().refused, Refused::Ended);
+    assert_eq!(slab.insert_with_key(|_| unreachable!()), Err(Refused::Ended));
+    assert_eq!(slab.vacant_entry().err(), Some(Refused::Ended));
+    Ok(())
+}
+
+/// The question mark makes of each refusal what a program has for its errors.
+#[test]
+fn refusals_as_errors_of_a_program() {
+    fn refused() -> Result<(), Refused> {
+        let text = String::from("a");
+        let mut slab = Slab::with_limits(ONE_PAGE)?;
+        for _ in 0..300 {
+            slab.try_insert(text.as_str())?;
+        }
+        Ok(())
+    }
+    fn boxed() -> Result<(), Box<dyn Error + Send + Sync>> {
+        let text = Rc::new("a");
+        let mut slab = Slab::with_limits(ONE_PAGE)?;
+        for _ in 0..300 {
+            slab.insert(&text)?;
+        }
+        Ok(())
+    }
+    assert_eq!(refused(), Err(Refused::PagesSpent));
+    assert!(boxed().is_err_and(|error| error.is::<Refused>()));
+}
+
+#[test]
+fn entries_that_wait_for_their_values() -> Result<(), Refused> {
+    let mut slab = Slab::with_limits(ONE_PAGE)?;
+    let entry = slab.vacant_entry()?;
+    let key = entry.key();
+    assert_eq!(format!("{entry:?}"), "VacantEntry { key: 0.0/0/1, .. }");
+    let value = entry.insert((key, 1));
+    value.1 += 1;
+    assert_eq!((slab[key], slab.len()), ((key, 2), 1));
+
+    // An entry that is dropped leaves its key to nobody, and its slot to the next generation.
+    let entry = slab.vacant_entry()?;
+    let shown = entry.key();
+    drop(entry);
+    assert!(slab.len() == 1 && !slab.contains(shown) && slab.remove(shown).is_none());
+    let next = slab.insert_with_key(|own| (own, 3))?;
+    assert_eq!((next.slot(), next.generation()), (shown.slot(), 2));
+    assert_eq!(slab[next], (next, 3));
+
+    // One that is forgotten too, as soon as there is another.
+    let forgotten = slab.vacant_entry()?;
+    let shown = forgotten.key();
+    std::mem::forget(forgotten);
+    assert!(slab.len() == 2 && slab.iter().len() == 2 && !slab.contains(shown));
+    let other = slab.vacant_entry()?;
+    assert_eq!((other.key().slot(), other.key().generation()), (shown.slot(), 2));
+    other.insert((next, 4));
+    assert_eq!((slab.len(), slab.into_iter().count()), (3, 3));
+    Ok(())
+}
+
+/// Where entries are dropped again and again, each uses up a generation, and in the end the page.
+#[test]
+fn entries_that_are_dropped_use_up_their_slots() -> Result<(), Refused> {
+    let mut slab = Slab::<u8>::with_limits(ONE_PAGE)?;
+    for _ in 0..3 * 256 {
+        drop(slab.vacant_entry()?);
+    }
+    assert_eq!(slab.vacant_entry().err(), Some(Refused::PagesSpent));
+    assert!(slab.is_empty());
+    Ok(())
+}
+
+#[test]
+fn room_for_many() -> Result<(), Refused> {
+    let small = Slab::<u64>::with_capacity(10)?;
+    assert_eq!((small.limits().shards, small.capacity()), (16, 16 * 1024 * 256));
+    let large = Slab::<[u64; 17]>::with_capacity(1_048_577)?;
+    assert_eq!((large.limits().shards, large.capacity()), (17, 17 * 1024 * 64));
+    assert_eq!(Slab::<u64>::with_capacity(16_777_216)?.limits().shards, 64);
+    for capacity in [16_777_217, usize::MAX] {
+        assert_eq!(Slab::<u64>::with_capacity(capacity).err(), Some(Refused::Config));
+    }
+    let mut slab = Slab::with_limits(Limits { shards: 2, ..ONE_PAGE })?;
+    slab.try_extend(0..256)?;
+    assert_eq!(slab.capacity(), 512);
+    slab.reserve(256)?;
+    slab.reserve(0)?;
+    assert_eq!(slab.reserve(257), Err(Refused::PagesSpent));
+    assert_eq!(slab.reserve(usize::MAX), Err(Refused::PagesSpent));
+    slab.end(0)?;
+    assert_eq!((slab.capacity(), slab.len()), (256, 256));
+    slab.try_extend(256..512)?;
+    assert!(slab.values().copied().eq(0..512));
+    Ok(())
+}
+
+#[test]
+fn shrinks_to_what_has_values() -> Result<(), Refused> {
+    let mut slab = Slab::try_from_iter(0..1024)?;
+    let first = slab.keys().next().expect("there are some");
+    slab.retain(|key, _| key == first);
+    assert_eq!((slab.pages(), slab.shrink_to_fit(), slab.pages()), (4, 3, 1));
+    slab.clear();
+    assert_eq!((slab.shrink_to_fit(), slab.pages(), slab.len()), (1, 0, 0));
+    slab.insert(1)?;
+    assert_eq!(slab.pages(), 1);
+    Ok(())
+}
+
+#[test]
+fn defaults_are_empty() {
+    let mut slab: Slab<String> = Slab::default();
+    assert!(slab.is_empty() && slab.limits().shards == 16);
+    slab.insert("a".into()).expect("there is room");
+    let taken = std::mem::take(&mut slab);
+    assert_eq!((taken.len(), slab.len()), (1, 0));
+    assert!(Store::<u64>::default().is_empty());
+}
+
+/// Filled, thinned out at random and compacted again and again, a new slab gives most of its pages back each time.
+#[test]
+fn a_new_slab_is_compacted_as_it_is() -> Result<(), Refused> {
+    let mut random = Random(9);
+    let mut slab = Slab::new()?;
+    for round in 0..20 {
+        slab.try_extend((0..20_000).map(|n| (round, n)))?;
+        // Of each round one in a hundred stays, for two more rounds.
+        slab.retain(|_, (of, _)| *of + 2 >= round && (*of != round || random.below(100) == 0));
+        let pages = slab.pages();
+        let went = slab.compact()?;
+        assert!(4 * went >= 3 * pages, "round {round}: {went} of {pages} pages");
+    }
+    assert!((450..750).contains(&slab.len()));
+    Ok(())
+}
+
+#[test]
+fn what_a_core_was_made_with() -> Result<(), Refused> {
+    let limits = Limits {
+        shards: 3,
+        pages: 5,
+        generations: 7,
+    };
+    let mut core = Core::new(limits)?;
+    let mut slab = Slab::<u8>::with_limits(limits)?;
+    let store = Store::<u8>::with_limits(limits)?;
+    assert_eq!((core.limits(), slab.limits(), store.limits()), (limits, limits, limits));
+    slab.end(2)?;
+    assert_eq!(
+        [0, 1, 2, 3].map(|shard| slab.is_ended(shard)),
+        [false, false, true, false]
+    );
+    assert!(core.end(3).is_err() && !core.is_ended(3) && !core.is_ended(u32::MAX));
+    for word in 0..300 {
+        core.insert(0, word)?;
+    }
+    assert_eq!(format!("{core:?}"), "Core { pages: 2, len: 300, .. }");
+    assert!(core.into_iter().map(|(key, _)| key).eq(core.keys()));
+    Ok(())
+}
+
+/// A slab may be read by many threads at once.
+#[test]
+fn behind_a_lock_for_readers() -> Result<(), Refused> {
+    let slab = RwLock::new(Slab::try_from_iter(0..10_000_u64)?);
+    let sum = || {
+        let slab = slab.read().expect("no thread panicked");
+        assert_eq!((slab.pages(), slab.len()), (40, 10_000));
+        assert_eq!(slab.certificate(), Ok(None));
+        slab.keys().filter_map(|key| slab.get(key)).sum::<u64>()
+    };
+    thread::scope(|scope| {
+        let readers: Vec<_> = (0..4).map(|_| scope.spawn(sum)).collect();
+        for reader in readers {
+            assert_eq!(reader.join().expect("no thread panicked"), 49_995_000);
+        }
+    });
+    Ok(())
+}
+
+/// The values of an iterator may be taken by another thread than that which has the slab.
+#[test]
+fn iterators_go_to_other_threads() -> Result<(), Refused> {
+    let mut slab = Slab::try_from_iter(0..1000_u64)?;
+    thread::scope(|scope| {
+        let values = slab.values_mut();
+        scope.spawn(|| values.for_each(|value| *value *= 2));
+    });
+    let sum = thread::scope(|scope| {
+        let values = slab.values();
+        scope.spawn(|| values.sum::<u64>()).join()
+    });
+    assert_eq!(sum.expect("no thread panicked"), 999_000);
+    let values = slab.into_iter();
+    let count = thread::spawn(|| values.count()).join();
+    assert_eq!(count.expect("no thread panicked"), 1000);
+    Ok(())
+}
+
+#[test]
+fn a_store_puts_where_there_is_room() -> Result<(), Refused> {
+    let mut store = Store::with_limits(Limits {
+        shards: 3,
+        pages: 1,
+        ..Limits::default()
+    })?;
+    assert_eq!(store.capacity(), 48);
+    let keys = (0..48_u8)
+        .map(|n| store.insert([n; 200]))
+        .collect::<Result<Vec<_>, _>>()?;
+    assert_eq!(store.insert([1; 200]), Err(Refused::PagesSpent));
+    assert_eq!(store.try_extend([[1; 200]]), Err(Refused::PagesSpent));
+    assert_eq!([0, 20, 40].map(|place| keys[place].shard()), [0, 1, 2]);
+    store.remove(keys[3]);
+    assert_eq!(store.insert([3; 200])?.shard(), 0);
+    store.end(0)?;
+    assert_eq!(
+        (store.capacity(), store.insert([1; 200])),
+        (32, Err(Refused::PagesSpent))
+    );
+    store.remove(keys[20]);
+    assert_eq!(store.insert([4; 200])?.shard(), 1);
+    for shard in 1..3 {
+        store.end(shard)?;
+    }
+    assert_eq!(store.insert([1; 200]), Err(Refused::Ended));
+    assert_eq!((store.len(), store.get(keys[47])), (48, Some([47; 200])));
+    Ok(())
+}
+
+#[test]
+fn room_in_a_store() -> Result<(), Refused> {
+    assert_eq!(Store::<u64>::with_capacity(1)?.limits().shards, 16);
+    assert_eq!(Store::<[u8; 64]>::with_capacity(1_048_577)?.limits().shards, 17);
+    assert_eq!(Store::<[u8; 65]>::with_capacity(1_048_576)?.limits().shards, 64);
+    assert_eq!(Store::<[u8; 65]>::with_capacity(1_048_577).err(), Some(Refused::Config));
+    Ok(())
+}
+
+/// A store beside a map of std: what stays, in which order, and what its iterators say.
+#[test]
+fn a_store_as_a_map() -> Result<(), Refused> {
+    let mut random = Random(3);
+    let mut store = Store::new()?;
+    let mut map = BTreeMap::new();
+    for round in 0..30 {
+        for _ in 0..random.below(3000) {
+            let value = [random.next(); 3];
+            assert_eq!(map.insert(store.insert(value)?, value), None);
+        }
+        let odds = 2 + random.next() % 5;
+        store.retain(|key, value| {
+            assert_eq!(map.get(&key), Some(&value));
+            value[0] % odds == 0
+        });
+        map.retain(|_, value| value[0] % odds == 0);
+        let pages = store.pages();
+        let went = if round % 3 == 0 {
+            store.compact()?
+        } else {
+            store.shrink_to_fit()
+        };
+        assert_eq!(store.pages() + went, pages);
+        assert_eq!((store.len(), store.iter().len()), (map.len(), map.len()));
+        assert!(store.iter().eq(map.iter().map(|(key, value)| (*key, *value))));
+        assert!(store.keys().eq(map.keys().copied()) && store.values().eq(map.values().copied()));
+        assert!(map.keys().all(|key| store.contains_key(*key)));
+        if round % 10 == 9 {
+            let half = map.len() / 2;
+            assert!(store
+                .drain()
+                .take(half)
+                .eq(std::mem::take(&mut map).into_iter().take(half)));
+            assert!(store.is_empty());
+        }
+    }
+    Ok(())
+}
+
+#[test]
+fn loops_over_a_store() -> Result<(), Refused> {
+    let mut store = Store::try_from_iter([3_u32, 4, 5])?;
+    let mut sum = 0;
+    for (key, value) in &store {
+        assert_eq!(store.get(key), Some(value));
+        sum += value;
+    }
+    assert_eq!(sum, 12);
+    let mut iter = store.iter();
+    iter.next();
+    assert_eq!(format!("{iter:?}"), "{0.0/1/1: 4, 0.0/2/1: 5}");
+    assert_eq!(format!("{:?}", store.keys()), "[0.0/0/1, 0.0/1/1, 0.0/2/1]");
+    assert_eq!(
+        (format!("{:?}", store.values()), store.values().len()),
+        ("[3, 4, 5]".into(), 3)
+    );
+    let mut drain = store.drain();
+    assert_eq!((drain.next().map(|(_, value)| value), drain.len()), (Some(3), 2));
+    assert_eq!(format!("{drain:?}"), "{0.0/1/1: 4, 0.0/2/1: 5}");
+    std::mem::forget(drain);
+    assert_eq!(store.len(), 2);
+    store.clear();
+    assert!(store.is_empty() && store.pages() == 1);
+    store.insert(6)?;
+    let mut values = store.into_iter();
+    assert_eq!((format!("{values:?}"), values.len()), ("{0.0/0/2: 6}".into(), 1));
+    assert_eq!(values.next().map(|(_, value)| value), Some(6));
+    assert!(values.next().is_none() && values.len() == 0);
+    Ok(())
+}
