@@ -66,9 +66,11 @@ pub(crate) const SHARDS: u32 = 16;
 /// assert_eq!(core.get(first), None);
 /// # Ok::<(), teurlaks::Refused>(())
 /// ```
+// The handle first, where a reference to the core is one to it: no call has to add.
+#[repr(C)]
 pub struct Core {
     // SAFETY: only this module has it, so it is what `teurlaks_new` left there until `drop`. A call through `&self` writes to it, and none
-    // runs beside another, since the type is not `Sync` and no call calls back.
+    // runs beside another, since the type is not `Sync` (a `Slab`, which is, sees to it) and no call calls back.
     handle: UnsafeCell<raw::Handle>,
     limits: Limits,
     // How many keys are live: a put makes one live, and a free takes one away, as each tells.
@@ -195,13 +197,12 @@ impl Core {
     // What a put answers, which makes a key live where it is done.
     #[inline]
     fn was_put(&mut self, put: raw::PutReply) -> Result<Key, Refused> {
-        match (put.status, Key::of(put.key)) {
-            (raw::OK, Some(key)) => {
-                self.live += 1;
-                Ok(key)
-            }
-            (other, _) => Err(Refused::of(other)),
+        if put.status != raw::OK {
+            return Err(Refused::of(put.status));
         }
+        let key = Key::of(put.key).ok_or_else(|| Refused::of(put.status))?;
+        self.live += 1;
+        Ok(key)
     }
 
     /// The word of the key, where it is live and has an object of one word.
@@ -222,6 +223,19 @@ impl Core {
             let got = unsafe { raw::teurlaks_get_words(self.handle.get(), key.raw(), first.cast(), MOST_WORDS) };
             (got.status == raw::OK).then_some(got.len)
         })
+    }
+
+    /// What is read of the words of the key's object, where it is live, as they are written for this call.
+    #[inline]
+    pub(crate) fn read_words<R>(&self, key: Key, read: impl FnOnce(*const u128) -> R) -> Option<R> {
+        let mut words = [MaybeUninit::<u128>::uninit(); MOST_WORDS];
+        let first = words.as_mut_ptr().cast();
+        // SAFETY: as in `get_words`.
+        let got = unsafe { raw::teurlaks_get_words(self.handle.get(), key.raw(), first, MOST_WORDS) };
+        if got.status != raw::OK {
+            return None;
+        }
+        Some(read(words.as_ptr().cast()))
     }
 
     /// The bytes of this name, where their key is live.
@@ -302,15 +316,26 @@ impl Core {
     pub fn free(&mut self, key: Key) -> bool {
         // SAFETY: as in `insert`.
         let was_live = unsafe { raw::teurlaks_free(self.handle.get(), key.raw()) == raw::OK };
-        self.live -= usize::from(was_live);
+        if was_live {
+            self.live -= 1;
+        }
         was_live
+    }
+
+    /// Frees a key that was found live.
+    #[inline]
+    pub(crate) fn free_live(&mut self, key: Key) {
+        // SAFETY: as in `insert`.
+        let status = unsafe { raw::teurlaks_free(self.handle.get(), key.raw()) };
+        debug_assert_eq!(status, raw::OK, "{key} was found live");
+        self.live -= 1;
     }
 
     /// Frees the key, and gives its word, where it was live and had an object of one word; else nothing changes.
     #[inline]
     pub fn remove(&mut self, key: Key) -> Option<u128> {
         let word = self.get(key)?;
-        self.free(key);
+        self.free_live(key);
         Some(word)
     }
 
@@ -336,14 +361,15 @@ impl Core {
     /// ```
     #[must_use]
     pub fn next_live(&self, after: Option<Key>) -> Option<Key> {
-        let after = after.map_or(NO_KEY, Key::raw);
+        self.next_after(after.map_or(NO_KEY, Key::raw)).and_then(Key::of)
+    }
+
+    /// The numbers of the live key that comes next after these.
+    #[inline]
+    pub(crate) fn next_after(&self, after: raw::RawKey) -> Option<raw::RawKey> {
         // SAFETY: as in `insert`.
         let next = unsafe { raw::teurlaks_next(self.handle.get(), after) };
-        if next.status == raw::OK {
-            Key::of(next.key)
-        } else {
-            None
-        }
+        (next.status == raw::OK).then_some(next.key)
     }
 
     /// Each live key, in the order of [`Core::next_live`].
@@ -405,7 +431,7 @@ impl fmt::Debug for Core {
 }
 
 // What stands for no key: a walk begins with it.
-const NO_KEY: raw::RawKey = raw::RawKey {
+pub(crate) const NO_KEY: raw::RawKey = raw::RawKey {
     shard: 0,
     slot: 0,
     serial: 0,

@@ -240,7 +240,7 @@ impl<T> Slab<T> {
     /// Frees the key of an entry that has come to nothing.
     fn give_up_vacant(&mut self) {
         if let Some(key) = self.vacant.take() {
-            self.core.free(key);
+            self.core.free_live(key);
         }
     }
 
@@ -379,7 +379,7 @@ impl<T> Slab<T> {
     #[inline]
     pub fn remove(&mut self, key: Key) -> Option<T> {
         let (value, shard) = self.values.take(key)?;
-        self.core.free(key);
+        self.core.free_live(key);
         self.first = self.first.min(shard);
         Some(value)
     }

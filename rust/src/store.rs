@@ -4,10 +4,11 @@ mod iterators;
 
 pub use iterators::{Drain, IntoIter, Iter, Keys, Values};
 
-use crate::bytes::{words_for, Words, MOST_BYTES, MOST_WORDS};
+use crate::bytes::{words_for, MOST_BYTES, MOST_WORDS};
 use crate::core::{Core, Limits, SHARDS};
 use crate::names::Key;
 use crate::refused::Refused;
+use crate::walk::Place;
 use std::fmt;
 use std::marker::PhantomData;
 use std::mem::{size_of, MaybeUninit};
@@ -36,7 +37,7 @@ use std::mem::{size_of, MaybeUninit};
 pub struct Store<T> {
     // SAFETY: only `insert_in` puts into it and only `set` sets its objects, so that each live key's object begins with the bytes of a `T`.
     core: Core,
-    // The shard that an insert without a shard asks first.
+    // The shard that an insert without a shard asks before the others: the last that had room.
     first: u32,
     values: PhantomData<T>,
 }
@@ -101,7 +102,8 @@ impl<T: Copy> Store<T> {
         self.core.running_shards() * self.core.limits().pages as usize * Self::SLOTS
     }
 
-    /// Keeps a value in the first shard that has room for it, and gives its key, which was never given out before.
+    /// Keeps a value in the shard that the last such value went to, or where that has no room, in the first that has; and gives its key, which
+    /// was never given out before.
     ///
     /// # Errors
     ///
@@ -120,7 +122,7 @@ impl<T: Copy> Store<T> {
     #[cold]
     fn insert_elsewhere(&mut self, value: T) -> Result<Key, Refused> {
         let mut why = Refused::Ended;
-        for shard in (self.first..self.core.shards()).chain(0..self.first) {
+        for shard in 0..self.core.shards() {
             match self.insert_in(shard, value) {
                 Ok(key) => {
                     self.first = shard;
@@ -191,33 +193,31 @@ impl<T: Copy> Store<T> {
     #[inline]
     #[must_use]
     pub fn get(&self, key: Key) -> Option<T> {
-        self.core.get_words(key).map(|words| Self::of_words(&words))
-    }
-
-    /// The value that stands in the words of a live key's object.
-    #[inline]
-    fn of_words(words: &Words) -> T {
         // SAFETY: the library is proved to find what was put, and only values were.
-        unsafe { words.as_ptr().cast::<T>().read_unaligned() }
+        let read = |first: *const u128| unsafe { first.cast::<T>().read_unaligned() };
+        if Self::SLOTS == 256 {
+            self.core.get(key).map(|word| read(&word))
+        } else {
+            self.core.read_words(key, read)
+        }
     }
 
     /// Takes the value of the key out, where it is live. The key finds nothing from then on.
     #[doc(alias = "try_remove")]
     pub fn remove(&mut self, key: Key) -> Option<T> {
         let value = self.get(key)?;
-        self.free(key);
+        self.core.free_live(key);
         Some(value)
     }
 
     /// Takes out each value that the test does not keep, in the order of [`Store::iter`]. Where the test panics, all that it has not come to
     /// stays.
     pub fn retain(&mut self, mut keeps: impl FnMut(Key, T) -> bool) {
-        let mut after = None;
-        while let Some(key) = self.core.next_live(after) {
+        let mut place = Place::first();
+        while let Some(key) = place.next(&self.core) {
             if self.get(key).is_some_and(|value| !keeps(key, value)) {
-                self.free(key);
+                self.core.free_live(key);
             }
-            after = Some(key);
         }
     }
 
@@ -229,7 +229,7 @@ impl<T: Copy> Store<T> {
 
     /// Each key with its value, by the ids of their spans and then by slots, which is the order of keys.
     pub fn iter(&self) -> Iter<'_, T> {
-        Iter::new(self.core.iter())
+        Iter::new(self)
     }
 
     /// Each value, in the order of [`Store::iter`].
@@ -277,13 +277,6 @@ impl<T> Store<T> {
     /// Gives back the pages on which no value is, and says how many went. No value moves: [`Store::compact`] does more. It takes no memory.
     pub fn shrink_to_fit(&mut self) -> usize {
         self.core.trim_all()
-    }
-
-    /// Frees a live key, whose shard has room then, if it is still that which opened its span.
-    #[inline]
-    fn free(&mut self, key: Key) {
-        self.core.free(key);
-        self.first = self.first.min(key.shard());
     }
 
     crate::core::meshing!();

@@ -408,8 +408,8 @@ impl<T> Values<T> {
             return;
         }
         let mut walk = Self::walk(self.count());
-        while let Some(taken) = self.next_taken(&mut walk) {
-            drop(taken);
+        while let Some((key, _)) = self.next(&mut walk) {
+            drop(self.take(key));
         }
     }
 }

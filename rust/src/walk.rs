@@ -1,17 +1,39 @@
 //! Walks over the live keys of a [`Core`], in the order of [`Core::next_live`].
 
 use crate::bytes::Words;
-use crate::core::Core;
+use crate::core::{Core, NO_KEY};
 use crate::names::Key;
+use crate::raw::RawKey;
 use std::fmt;
 use std::iter::FusedIterator;
+
+/// Where a walk over the live keys of a core is.
+#[derive(Clone)]
+pub(crate) struct Place {
+    // The key that came last, or what stands for none.
+    after: RawKey,
+}
+
+impl Place {
+    /// Before the first key.
+    pub(crate) fn first() -> Place {
+        Place { after: NO_KEY }
+    }
+
+    /// The live key that comes next. Where none does, none comes later, unless more are put.
+    #[inline]
+    pub(crate) fn next(&mut self, core: &Core) -> Option<Key> {
+        self.after = core.next_after(self.after)?;
+        Key::of(self.after)
+    }
+}
 
 /// The live keys of a core: of [`Core::keys`].
 #[derive(Clone)]
 #[must_use = "iterators are lazy and do nothing unless consumed"]
 pub struct Keys<'c> {
     core: &'c Core,
-    after: Option<Key>,
+    place: Place,
     left: usize,
 }
 
@@ -19,7 +41,7 @@ impl Keys<'_> {
     pub(crate) fn new(core: &Core) -> Keys<'_> {
         Keys {
             core,
-            after: None,
+            place: Place::first(),
             left: core.len(),
         }
     }
@@ -28,11 +50,11 @@ impl Keys<'_> {
 impl Iterator for Keys<'_> {
     type Item = Key;
 
+    #[inline]
     fn next(&mut self) -> Option<Key> {
-        // After the last key there is none, and a walk from `None` would begin anew.
-        self.left = self.left.checked_sub(1)?;
-        self.after = self.core.next_live(self.after);
-        self.after
+        let key = self.place.next(self.core)?;
+        self.left -= 1;
+        Some(key)
     }
 
     fn size_hint(&self) -> (usize, Option<usize>) {
@@ -96,17 +118,13 @@ impl<'c> IntoIterator for &'c Core {
 /// Frees the keys of a core, and gives each with the words of its object: of [`Core::drain`].
 pub struct Drain<'c> {
     core: &'c mut Core,
-    after: Option<Key>,
+    place: Place,
 }
 
 impl Drain<'_> {
     pub(crate) fn new(core: &mut Core) -> Drain<'_> {
-        Drain { core, after: None }
-    }
-
-    /// What is still to come.
-    pub(crate) fn rest(&self) -> Iter<'_> {
-        self.core.iter()
+        let place = Place::first();
+        Drain { core, place }
     }
 }
 
@@ -114,10 +132,9 @@ impl Iterator for Drain<'_> {
     type Item = (Key, Words);
 
     fn next(&mut self) -> Option<(Key, Words)> {
-        let key = self.core.next_live(self.after)?;
+        let key = self.place.next(self.core)?;
         let words = self.core.get_words(key)?;
-        self.core.free(key);
-        self.after = Some(key);
+        self.core.free_live(key);
         Some((key, words))
     }
 
@@ -137,6 +154,6 @@ impl Drop for Drain<'_> {
 
 impl fmt::Debug for Drain<'_> {
     fn fmt(&self, f: &mut fmt::Formatter<'_>) -> fmt::Result {
-        fmt::Debug::fmt(&self.rest(), f)
+        fmt::Debug::fmt(&self.core.iter(), f)
     }
 }

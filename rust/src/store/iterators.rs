@@ -2,7 +2,7 @@
 
 use super::Store;
 use crate::names::Key;
-use crate::walk;
+use crate::walk::{self, Place};
 use std::fmt;
 use std::iter::FusedIterator;
 use std::marker::PhantomData;
@@ -10,20 +10,21 @@ use std::marker::PhantomData;
 /// Each key with a copy of its value: of [`Store::iter`].
 #[must_use = "iterators are lazy and do nothing unless consumed"]
 pub struct Iter<'s, T> {
-    walk: walk::Iter<'s>,
-    values: PhantomData<&'s T>,
+    store: &'s Store<T>,
+    keys: walk::Keys<'s>,
 }
 
 impl<'s, T> Iter<'s, T> {
-    pub(super) fn new(walk: walk::Iter<'s>) -> Iter<'s, T> {
-        let values = PhantomData;
-        Iter { walk, values }
+    pub(super) fn new(store: &'s Store<T>) -> Iter<'s, T> {
+        let keys = store.core.keys();
+        Iter { store, keys }
     }
 }
 
 impl<T> Clone for Iter<'_, T> {
     fn clone(&self) -> Self {
-        Iter::new(self.walk.clone())
+        let (store, keys) = (self.store, self.keys.clone());
+        Iter { store, keys }
     }
 }
 
@@ -31,12 +32,12 @@ impl<T: Copy> Iterator for Iter<'_, T> {
     type Item = (Key, T);
 
     fn next(&mut self) -> Option<(Key, T)> {
-        let (key, words) = self.walk.next()?;
-        Some((key, Store::of_words(&words)))
+        let key = self.keys.next()?;
+        Some((key, self.store.get(key)?))
     }
 
     fn size_hint(&self) -> (usize, Option<usize>) {
-        self.walk.size_hint()
+        self.keys.size_hint()
     }
 }
 
@@ -123,15 +124,14 @@ impl<T: Copy + fmt::Debug> fmt::Debug for Values<'_, T> {
 /// Takes the values out of a store, and gives each with the key that it had: of [`Store::drain`]. Those that are not asked for go with it, and
 /// where it is forgotten, they stay.
 pub struct Drain<'s, T> {
-    walk: walk::Drain<'s>,
-    values: PhantomData<&'s mut T>,
+    store: &'s mut Store<T>,
+    place: Place,
 }
 
 impl<'s, T> Drain<'s, T> {
     pub(super) fn new(store: &'s mut Store<T>) -> Drain<'s, T> {
-        store.first = 0;
-        let (walk, values) = (store.core.drain(), PhantomData);
-        Drain { walk, values }
+        let place = Place::first();
+        Drain { store, place }
     }
 }
 
@@ -139,18 +139,24 @@ impl<T: Copy> Iterator for Drain<'_, T> {
     type Item = (Key, T);
 
     fn next(&mut self) -> Option<(Key, T)> {
-        let (key, words) = self.walk.next()?;
-        Some((key, Store::of_words(&words)))
+        let key = self.place.next(&self.store.core)?;
+        Some((key, self.store.remove(key)?))
     }
 
     fn size_hint(&self) -> (usize, Option<usize>) {
-        self.walk.size_hint()
+        (self.store.len(), Some(self.store.len()))
+    }
+}
+
+impl<T> Drop for Drain<'_, T> {
+    fn drop(&mut self) {
+        self.store.clear();
     }
 }
 
 impl<T: Copy + fmt::Debug> fmt::Debug for Drain<'_, T> {
     fn fmt(&self, f: &mut fmt::Formatter<'_>) -> fmt::Result {
-        fmt::Debug::fmt(&Iter::<T>::new(self.walk.rest()), f)
+        fmt::Debug::fmt(&self.store.iter(), f)
     }
 }
 
@@ -158,15 +164,14 @@ impl<T: Copy + fmt::Debug> fmt::Debug for Drain<'_, T> {
 #[must_use = "iterators are lazy and do nothing unless consumed"]
 pub struct IntoIter<T> {
     store: Store<T>,
-    after: Option<Key>,
+    place: Place,
 }
 
 impl<T: Copy> Iterator for IntoIter<T> {
     type Item = (Key, T);
 
     fn next(&mut self) -> Option<(Key, T)> {
-        let key = self.store.core.next_live(self.after)?;
-        self.after = Some(key);
+        let key = self.place.next(&self.store.core)?;
         Some((key, self.store.remove(key)?))
     }
 
@@ -207,7 +212,7 @@ impl<T: Copy> IntoIterator for Store<T> {
     type IntoIter = IntoIter<T>;
 
     fn into_iter(self) -> IntoIter<T> {
-        let after = None;
-        IntoIter { store: self, after }
+        let (store, place) = (self, Place::first());
+        IntoIter { store, place }
     }
 }
