@@ -35,7 +35,8 @@ use std::mem::{size_of, MaybeUninit};
 /// # Ok::<(), teurlaks::Refused>(())
 /// ```
 pub struct Store<T> {
-    // SAFETY: only `insert_in` puts into it and only `set` sets its objects, so that each live key's object begins with the bytes of a `T`.
+    // SAFETY: only `keep_in` puts into it, and what is set is a `T`, so that each live key's object begins with the bytes of one, but for a key
+    // of `insert_with_key`, which has zeros for as long as nobody may ask for it.
     core: Core,
     // The shard that an insert without a shard asks before the others: the last that had room.
     first: u32,
@@ -112,18 +113,24 @@ impl<T: Copy> Store<T> {
     /// - [`Refused::OutOfMemory`] where memory was refused.
     #[inline]
     pub fn insert(&mut self, value: T) -> Result<Key, Refused> {
-        match self.insert_in(self.first, value) {
-            Err(Refused::PagesSpent | Refused::Ended) => self.insert_elsewhere(value),
+        self.keep(value)
+    }
+
+    /// Keeps a value, or the bytes of one, where `insert` does.
+    #[inline]
+    fn keep<V: Copy>(&mut self, value: V) -> Result<Key, Refused> {
+        match self.keep_in(self.first, value) {
+            Err(Refused::PagesSpent | Refused::Ended) => self.keep_elsewhere(value),
             done => done,
         }
     }
 
-    /// Keeps a value in another shard than the first that was to be asked.
+    /// Keeps it in another shard than the first that was to be asked.
     #[cold]
-    fn insert_elsewhere(&mut self, value: T) -> Result<Key, Refused> {
+    fn keep_elsewhere<V: Copy>(&mut self, value: V) -> Result<Key, Refused> {
         let mut why = Refused::Ended;
         for shard in 0..self.core.shards() {
-            match self.insert_in(shard, value) {
+            match self.keep_in(shard, value) {
                 Ok(key) => {
                     self.first = shard;
                     return Ok(key);
@@ -136,6 +143,13 @@ impl<T: Copy> Store<T> {
         Err(why)
     }
 
+    /// Keeps it in the shard.
+    #[inline]
+    fn keep_in<V: Copy>(&mut self, shard: u32, value: V) -> Result<Key, Refused> {
+        // SAFETY: so many words stand there.
+        as_words(value, |first, len| unsafe { self.core.put_words(shard, first, len) })
+    }
+
     /// Keeps a value in the shard.
     ///
     /// # Errors
@@ -143,8 +157,38 @@ impl<T: Copy> Store<T> {
     /// As of [`Core::insert`](crate::Core::insert).
     #[inline]
     pub fn insert_in(&mut self, shard: u32, value: T) -> Result<Key, Refused> {
+        self.keep_in(shard, value)
+    }
+
+    /// Keeps the value that is made with its own key, where [`Store::insert`] would. Where that panics, nothing is kept.
+    ///
+    /// # Errors
+    ///
+    /// As of [`Store::insert`]; no value is made then.
+    ///
+    /// ```
+    /// # use teurlaks::{Key, Store};
+    /// #[derive(Clone, Copy)]
+    /// struct Node {
+    ///     next: Key,
+    /// }
+    /// let mut ring = Store::new()?;
+    /// let first = ring.insert_with_key(|own| Node { next: own })?;
+    /// assert_eq!(ring.get(first).map(|node| node.next), Some(first));
+    /// # Ok::<(), teurlaks::Refused>(())
+    /// ```
+    pub fn insert_with_key(&mut self, value: impl FnOnce(Key) -> T) -> Result<Key, Refused> {
+        let key = self.keep(MaybeUninit::<T>::zeroed())?;
+        let waiting = Waiting {
+            core: &mut self.core,
+            key,
+        };
         // SAFETY: so many words stand there.
-        as_words(value, |first, len| unsafe { self.core.put_words(shard, first, len) })
+        as_words(value(key), |first, len| unsafe {
+            waiting.core.set_all_words(key, first, len)
+        })?;
+        std::mem::forget(waiting);
+        Ok(key)
     }
 
     /// Keeps each value in turn, until one is refused. Those before it stay, and of an iterator that is lent, those after it are left.
@@ -280,6 +324,18 @@ impl<T> Store<T> {
     }
 
     crate::core::meshing!();
+}
+
+/// A key whose value is still to come. It is freed where none does.
+struct Waiting<'c> {
+    core: &'c mut Core,
+    key: Key,
+}
+
+impl Drop for Waiting<'_> {
+    fn drop(&mut self) {
+        self.core.free_live(self.key);
+    }
 }
 
 /// Lends the words of the least object that holds the value, and how many they are.

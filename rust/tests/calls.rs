@@ -338,6 +338,21 @@ fn a_store_puts_where_there_is_room() -> Result<(), Refused> {
 }
 
 #[test]
+fn values_of_a_store_that_know_their_keys() -> Result<(), Refused> {
+    let mut store = Store::with_limits(ONE_PAGE)?;
+    let keys = (0..16)
+        .map(|n| store.insert_with_key(|own| (own, [n; 50])))
+        .collect::<Result<Vec<_>, _>>()?;
+    assert!(keys
+        .iter()
+        .zip(0..)
+        .all(|(key, n)| store.get(*key) == Some((*key, [n; 50]))));
+    assert_eq!(store.insert_with_key(|_| unreachable!()), Err(Refused::PagesSpent));
+    assert_eq!((store.len(), store.iter().count()), (16, 16));
+    Ok(())
+}
+
+#[test]
 fn room_in_a_store() -> Result<(), Refused> {
     assert_eq!(Store::<u64>::with_capacity(1)?.limits().shards, 16);
     assert_eq!(Store::<[u8; 64]>::with_capacity(1_048_577)?.limits().shards, 17);

@@ -130,10 +130,22 @@ fn refused_where_there_is_none<const BYTES: usize>() -> Result<(), Refused> {
     let refused = with_bytes_left(16 << 20, || loop {
         match slab.insert([keys.len() as u8; BYTES]) {
             Ok(key) => keys.push(key),
-            Err(refused) => return (refused, slab.insert([0; BYTES]).err()),
+            Err(refused) => {
+                let given_back = slab.try_insert([7; BYTES]).unwrap_err();
+                assert!(given_back.value == [7; BYTES]);
+                return [
+                    refused,
+                    given_back.refused,
+                    slab.vacant_entry().map(drop).unwrap_err(),
+                    slab.insert_with_key(|_| unreachable!()).unwrap_err(),
+                    slab.reserve(1_000_000).unwrap_err(),
+                    Slab::<[u8; BYTES]>::with_capacity(1_000_000).unwrap_err(),
+                    Slab::try_from_iter([[0_u64; 512]; 20]).unwrap_err(),
+                ];
+            }
         }
     });
-    assert_eq!(refused, (Refused::OutOfMemory, Some(Refused::OutOfMemory)));
+    assert_eq!(refused, [Refused::OutOfMemory; 7]);
     assert!(keys.len() > 64 && slab.len() == keys.len());
     assert!(slab.iter().count() == keys.len());
     for (number, key) in keys.iter().enumerate() {

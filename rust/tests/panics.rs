@@ -112,6 +112,24 @@ fn in_the_making_of_a_value_with_its_key() -> Result<(), Refused> {
 }
 
 #[test]
+fn in_the_making_of_a_value_of_a_store() -> Result<(), Refused> {
+    let mut store = Store::try_from_iter([7_u64])?;
+    let mut shown = None;
+    assert!(panics(|| {
+        let made = store.insert_with_key(|key| {
+            shown = Some(key);
+            panic!("as it should")
+        });
+        made.map(drop).expect("there is room");
+    }));
+    let shown = shown.expect("it was shown");
+    assert!(store.len() == 1 && store.get(shown).is_none() && store.values().eq([7]));
+    let next = store.insert(8)?;
+    assert_eq!((next.slot(), next.generation()), (shown.slot(), 2));
+    Ok(())
+}
+
+#[test]
 fn in_an_iterator_whose_values_are_kept() -> Result<(), Refused> {
     /// One whose third clone panics.
     struct Cloned(Rc<Cell<usize>>);
