@@ -98,6 +98,22 @@ impl BytesKey {
         BytesKey { key, len: len as u16 }
     }
 
+    /// The name of so many bytes under the key, as where the two were kept apart: `None` where there are no such names, of no bytes or of more
+    /// than 256. Nothing is found where the key is not live or has fewer bytes.
+    ///
+    /// ```
+    /// # use teurlaks::{BytesKey, Core, Limits};
+    /// let mut core = Core::new(Limits::default())?;
+    /// let name = core.insert_bytes(0, b"page")?;
+    /// assert_eq!(BytesKey::from_parts(name.key(), name.len()), Some(name));
+    /// assert_eq!(BytesKey::from_parts(name.key(), 257), None);
+    /// # Ok::<(), teurlaks::Refused>(())
+    /// ```
+    #[must_use]
+    pub fn from_parts(key: Key, len: usize) -> Option<BytesKey> {
+        (1..=MOST_BYTES).contains(&len).then(|| BytesKey::new(key, len))
+    }
+
     /// The key of the object that holds them.
     #[must_use]
     pub fn key(self) -> Key {

@@ -276,7 +276,7 @@ impl<T> Slab<T> {
         Ok(slab)
     }
 
-    /// Keeps a value in the shard. A value that is refused is dropped.
+    /// Keeps a value in the shard. A value that is refused is dropped, and [`Slab::try_insert_in`] gives it back.
     ///
     /// # Errors
     ///
@@ -289,6 +289,22 @@ impl<T> Slab<T> {
         let key = self.insert_key_in(shard)?;
         self.values.put(shard, key, value);
         Ok(key)
+    }
+
+    /// As [`Slab::insert_in`], and gives a value that is refused back.
+    ///
+    /// # Errors
+    ///
+    /// As of [`Slab::insert_in`], with the value.
+    #[inline]
+    pub fn try_insert_in(&mut self, shard: u32, value: T) -> Result<Key, InsertError<T>> {
+        match self.insert_key_in(shard) {
+            Ok(key) => {
+                self.values.put(shard, key, value);
+                Ok(key)
+            }
+            Err(refused) => Err(InsertError { value, refused }),
+        }
     }
 
     /// A key of the first shard that has one, for whose value there is room.

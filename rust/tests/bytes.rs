@@ -127,6 +127,25 @@ fn bytes_are_set_in_place() -> Result<(), Refused> {
     Ok(())
 }
 
+/// A name may be put together of any key and number: what it finds was put under the key, with zeros up to the end of its object.
+#[test]
+fn names_put_together() -> Result<(), Refused> {
+    let mut core = Core::new(Limits::default())?;
+    let name = core.insert_bytes(0, &[7; 20])?;
+    let named = |len| BytesKey::from_parts(name.key(), len).expect("there may be so many");
+    assert_eq!(named(20), name);
+    assert_eq!(core.get_bytes(named(5)).as_deref(), Some(&[7; 5][..]));
+    assert_eq!(
+        core.get_bytes(named(64)).map(|bytes| bytes[20..].to_vec()),
+        Some(vec![0; 44])
+    );
+    assert_eq!(core.get_bytes(named(65)), None);
+    for len in [0, 257, usize::MAX] {
+        assert_eq!(BytesKey::from_parts(name.key(), len), None);
+    }
+    Ok(())
+}
+
 /// What is folded stays where its key finds it.
 #[test]
 fn a_store_gives_pages_back() -> Result<(), Refused> {

@@ -105,7 +105,12 @@ fn a_value_that_is_refused_comes_back() -> Result<(), Refused> {
     assert!(error.to_string().ends_with(&Refused::PagesSpent.to_string()));
     assert_eq!(format!("{error:?}"), "InsertError { refused: PagesSpent, .. }");
     let error = slab.try_insert(error.value).unwrap_err();
-    assert_eq!((*error.value, Refused::from(error)), (256, Refused::PagesSpent));
+    let error = slab.try_insert_in(0, error.value).unwrap_err();
+    assert_eq!((*error.value, error.refused), (256, Refused::PagesSpent));
+    let error = slab.try_insert_in(1, error.value).unwrap_err();
+    assert_eq!((*error.value, Refused::from(error)), (256, Refused::Config));
+    let gone = slab.keys().next().and_then(|key| slab.remove(key));
+    assert!(gone.is_some_and(|value| slab.try_insert_in(0, value).is_ok()));
     slab.end(0)?;
     assert_eq!(slab.try_insert(Rc::new(1)).unwrap_err().refused, Refused::Ended);
     assert_eq!(slab.insert_with_key(|_| unreachable!()), Err(Refused::Ended));
