@@ -16,7 +16,8 @@ use std::mem::{size_of, MaybeUninit};
 /// Plain values of one type, 1 to 256 bytes each, whose bytes stand in the pages: what folds give back is theirs.
 ///
 /// A value takes the least of 16, 64 and 256 bytes that holds it, and 256, 64 or 16 of them share a page. It is handed out by copy. For values
-/// that are to be borrowed, or dropped, there is [`Slab`](crate::Slab).
+/// that are to be borrowed, or dropped, there is [`Slab`](crate::Slab). As there, an insert may be refused, so [`Store::try_extend`] and
+/// [`Store::try_from_iter`] stand in the place of `Extend` and `FromIterator`.
 ///
 /// ```
 /// use teurlaks::Store;
