@@ -114,6 +114,15 @@ impl Core {
     }
 
     /// Whether there is such a shard and it has ended.
+    ///
+    /// ```
+    /// # use teurlaks::{Core, Limits};
+    /// let mut core = Core::new(Limits { shards: 2, ..Limits::default() })?;
+    /// core.end(1)?;
+    /// assert!(!core.is_ended(0) && core.is_ended(1) && !core.is_ended(2));
+    /// assert_eq!(core.limits().shards, 2);
+    /// # Ok::<(), teurlaks::Refused>(())
+    /// ```
     #[must_use]
     pub fn is_ended(&self, shard: u32) -> bool {
         self.ended.get(shard as usize) == Some(&true)

@@ -144,6 +144,14 @@ impl<T> Slab<T> {
     }
 
     /// Gives back the pages on which no value is, and says how many went. No value moves: [`Slab::compact`] does more. It takes no memory.
+    ///
+    /// ```
+    /// # use teurlaks::Slab;
+    /// let mut slab = Slab::try_from_iter(0..1000)?;
+    /// slab.clear();
+    /// assert_eq!((slab.shrink_to_fit(), slab.pages()), (4, 0));
+    /// # Ok::<(), teurlaks::Refused>(())
+    /// ```
     pub fn shrink_to_fit(&mut self) -> usize {
         self.give_up_vacant();
         let went = self.core.trim_all();
@@ -270,6 +278,13 @@ impl<T> Slab<T> {
     /// # Errors
     ///
     /// As of [`Slab::new`] and [`Slab::insert`]; all values are dropped then.
+    ///
+    /// ```
+    /// # use teurlaks::Slab;
+    /// let slab = Slab::try_from_iter("a b c".split(' '))?;
+    /// assert_eq!(slab.values().copied().collect::<String>(), "abc");
+    /// # Ok::<(), teurlaks::Refused>(())
+    /// ```
     pub fn try_from_iter(values: impl IntoIterator<Item = T>) -> Result<Slab<T>, Refused> {
         let mut slab = Slab::new()?;
         slab.try_extend(values)?;
@@ -401,6 +416,14 @@ impl<T> Slab<T> {
     }
 
     /// Takes out each value that the test does not keep. Where the test or the drop of a value panics, all that it has not come to stays.
+    ///
+    /// ```
+    /// # use teurlaks::Slab;
+    /// let mut slab = Slab::try_from_iter(0..10)?;
+    /// slab.retain(|_, value| *value % 2 == 0);
+    /// assert!(slab.values().eq(&[0, 2, 4, 6, 8]));
+    /// # Ok::<(), teurlaks::Refused>(())
+    /// ```
     pub fn retain(&mut self, mut keeps: impl FnMut(Key, &mut T) -> bool) {
         let mut walk = self.walk();
         while let Some((key, value)) = self.values.next_mut(&mut walk) {
@@ -418,6 +441,15 @@ impl<T> Slab<T> {
 
     /// Takes all values out, and gives each with the key that it had, in no particular order. Values that are not asked for are dropped
     /// with the iterator.
+    ///
+    /// ```
+    /// # use teurlaks::Slab;
+    /// let mut slab = Slab::new()?;
+    /// let key = slab.insert("a")?;
+    /// assert!(slab.drain().eq([(key, "a")]));
+    /// assert!(slab.is_empty());
+    /// # Ok::<(), teurlaks::Refused>(())
+    /// ```
     pub fn drain(&mut self) -> Drain<'_, T> {
         let walk = self.walk();
         Drain::new(self, walk)
@@ -446,6 +478,20 @@ impl<T> Slab<T> {
     }
 
     /// Each key with its value, to be changed, in no particular order.
+    ///
+    /// ```
+    /// # use teurlaks::{Key, Slab};
+    /// let mut slab = Slab::new()?;
+    /// let key = slab.insert(1)?;
+    /// for (_, value) in &mut slab {
+    ///     *value += 1;
+    /// }
+    /// for value in slab.values_mut() {
+    ///     *value *= 10;
+    /// }
+    /// assert_eq!(slab.into_iter().collect::<Vec<(Key, i32)>>(), [(key, 20)]);
+    /// # Ok::<(), teurlaks::Refused>(())
+    /// ```
     pub fn iter_mut(&mut self) -> IterMut<'_, T> {
         let left = self.len();
         IterMut::new(WalkMut::new(&mut self.values, left))

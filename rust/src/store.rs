@@ -206,6 +206,17 @@ impl<T: Copy> Store<T> {
     /// # Errors
     ///
     /// As of [`Store::new`] and [`Store::insert`].
+    ///
+    /// ```
+    /// # use teurlaks::Store;
+    /// let mut store = Store::try_from_iter(0..10)?;
+    /// store.retain(|_, value| value > 6);
+    /// for (key, value) in &store {
+    ///     assert_eq!(store.get(key), Some(value));
+    /// }
+    /// assert!(store.drain().map(|(_, value)| value).eq(7..10));
+    /// # Ok::<(), teurlaks::Refused>(())
+    /// ```
     pub fn try_from_iter(values: impl IntoIterator<Item = T>) -> Result<Store<T>, Refused> {
         let mut store = Store::new()?;
         store.try_extend(values)?;
