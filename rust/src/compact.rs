@@ -21,9 +21,7 @@ pub(crate) trait Compact {
     /// Trims, folds as long as that gives a sixteenth of the pages back, and says how many pages went. All groups are in shards then.
     fn compact_all(&mut self) -> Result<usize, Refused> {
         let before = self.core().pages();
-        for shard in 0..self.core().shards() {
-            self.core().trim(shard)?;
-        }
+        self.core().trim_all();
         // What the pool has already. An open plan is refused here, before anything else changes.
         self.mesh_all()?;
         self.adopt_all()?;

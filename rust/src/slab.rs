@@ -28,6 +28,9 @@ const NO_WORDS: [u128; 4] = [0; 4];
 /// A look-up compares the key with the one that stands beside the value, and does not ask the core, which is proved never to give a key out
 /// twice. Values that are copied and have up to 256 bytes stand in the core's pages themselves in a [`Store`](crate::Store).
 ///
+/// It is `Send` and `Sync` where its values are: many threads may look values up at once, as by an [`RwLock`](std::sync::RwLock), and one at a
+/// time changes it.
+///
 /// It is no `Clone`, since the copies would have other keys; and as an insert may be refused, it is no `Extend` and no `FromIterator`:
 /// [`Slab::try_extend`] and [`Slab::try_from_iter`] stand in their place.
 ///
