@@ -1,11 +1,15 @@
 /* Objects of 16, 64 or 256 bytes under keys: a key that was freed finds nothing for ever, a live one its own object, and sparse pages of
  * the pool are folded onto those of running shards while every key stays valid. The library is proved (crates/teurlaks_c); README.md
- * beside this file has a page of use.
+ * beside this file has a page of use, and a table of what may be called from which thread.
+ *
+ * Each call may be given a handle that has no core, since none was made or it was dropped, or NULL in its place: it answers
+ * TEURLAKS_NO_CORE, a teurlaks_drop does nothing, and a teurlaks_totals counts nothing. What is answered of a handle without a core is proved;
+ * NULL is tested for in C (teurlaks_calls.h).
  *
  * What a caller owes, since nothing can check it:
- * - Each call but teurlaks_new: the handle has a core, from a teurlaks_new that answered TEURLAKS_OK, with no teurlaks_drop since.
+ * - A handle begins as zeros. Only the library reads or writes it and what it points to, and of two copies of a handle one is never used again.
  * - One call at a time on one handle, teurlaks_get among them. A handle may go to another thread, ordered by a lock, a start or a join.
- * - Only the library reads or writes what a handle points to, and of two copies of a handle one is never used again.
+ * - A pointer that is not NULL points to as many words or bytes as the call is told.
  * - malloc, realloc and free are of one allocator, which aligns a block to each power of two up to 16 that divides its size.
  * - No call from a signal handler, or from the forked child of a process with threads.
  * - A processor of level x86-64-v2.
@@ -16,11 +20,17 @@
 #include <stddef.h>
 #include <stdint.h>
 
+#define TEURLAKS_VERSION "0.1.0"
+#define TEURLAKS_VERSION_MAJOR 0
+#define TEURLAKS_VERSION_MINOR 1
+#define TEURLAKS_VERSION_PATCH 0
+
 #ifdef __cplusplus
 extern "C" {
 #endif
 
-/* What a call answers. From TEURLAKS_OUT_OF_MEMORY to TEURLAKS_CONFIG it is refused, and nothing has changed. */
+/* What a call answers; teurlaks_strerror has it in words. From TEURLAKS_OUT_OF_MEMORY to TEURLAKS_CONFIG it is refused, and so it is where
+ * the handle is wrong (TEURLAKS_NO_CORE, TEURLAKS_HAS_CORE): nothing has changed then. */
 enum {
     TEURLAKS_OK = 0,               /* done, or found */
     TEURLAKS_NONE = 1,             /* the key is not live; there is no certificate yet */
@@ -35,7 +45,9 @@ enum {
     TEURLAKS_NO_PAIR_LEFT = 10,    /* the open plan is done with */
     TEURLAKS_NO_PLAN = 11,         /* no plan is open */
     TEURLAKS_TOO_SMALL = 12,       /* the text or the object takes more than there is room for; nothing was written */
-    TEURLAKS_RING_FULL = 13        /* a ring holds as many keys as it may; no call here answers it */
+    TEURLAKS_RING_FULL = 13,       /* a ring holds as many keys as it may; no call here answers it */
+    TEURLAKS_NO_CORE = 14,         /* the handle has no core: none was made, or it was dropped; or there is NULL in its place */
+    TEURLAKS_HAS_CORE = 15         /* teurlaks_new is given a handle that has a core */
 };
 
 /* Where a core is. Begin with `struct teurlaks_handle core = {0};`. */
@@ -128,17 +140,17 @@ struct teurlaks_certificate_reply {
     size_t len;
 };
 
-/* Pages of 4,096 bytes, and live keys. */
+/* Pages of 4,096 bytes, and live keys; 0 of both where the handle has no core. */
 struct teurlaks_totals_reply {
     size_t pages;
     size_t live;
 };
 
-/* The handle has no core: TEURLAKS_OK leaves it one. 1 to 64 shards, of up to 1 to 1,024 pages; rings of 1 to 1,024 keys (give 1, while
+/* Leaves a core to a handle that has none, where it answers TEURLAKS_OK. 1 to 64 shards, of up to 1 to 1,024 pages; rings of 1 to 1,024 keys (give 1, while
  * frees are not deferred); generations from 1 to gens, at least 1. */
 uint32_t teurlaks_new(struct teurlaks_handle *out, uint32_t shards, uint32_t page_limit, uint32_t ring_capacity, uint32_t gens);
 
-/* Gives all memory back. */
+/* Gives all memory of the core back, and leaves the handle without one. */
 void teurlaks_drop(struct teurlaks_handle *handle);
 
 /* Keeps an object of one word in the shard, under a key that was never given out before. */
@@ -148,11 +160,11 @@ struct teurlaks_put_reply teurlaks_put(struct teurlaks_handle *handle, uint32_t 
 struct teurlaks_get_reply teurlaks_get(struct teurlaks_handle *handle, struct teurlaks_key key);
 
 /* Keeps an object of 1, 4 or 16 words in the shard, as teurlaks_put does with one; another number is TEURLAKS_CONFIG. Objects of different
- * sizes stand on different pages: 256, 64 or 16 of them on a page. `words` is not NULL. */
+ * sizes stand on different pages: 256, 64 or 16 of them on a page. No words stand at NULL. */
 struct teurlaks_put_reply teurlaks_put_words(struct teurlaks_handle *handle, uint32_t shard, const struct teurlaks_word *words, size_t words_len);
 
 /* Writes the words of the key's object into the first of `words`, where words_len are room enough (16 always are); or TEURLAKS_NONE.
- * `words` is not NULL, and may point anywhere where words_len is 0. */
+ * There is no room at NULL, by which one asks how many they are. */
 struct teurlaks_words_reply teurlaks_get_words(struct teurlaks_handle *handle, struct teurlaks_key key, struct teurlaks_word *words, size_t words_len);
 
 /* Sets the key to an object of one word, where it is live and has an object of one word, else TEURLAKS_NONE. The key stays, and so does
@@ -160,7 +172,7 @@ struct teurlaks_words_reply teurlaks_get_words(struct teurlaks_handle *handle, s
 uint32_t teurlaks_set(struct teurlaks_handle *handle, struct teurlaks_key key, struct teurlaks_word value);
 
 /* Sets the key to an object of 1, 4 or 16 words, where its object has as many, as teurlaks_set does with one; another number is
- * TEURLAKS_CONFIG. `words` is not NULL. */
+ * TEURLAKS_CONFIG. No words stand at NULL. */
 uint32_t teurlaks_set_words(struct teurlaks_handle *handle, struct teurlaks_key key, const struct teurlaks_word *words, size_t words_len);
 
 /* Frees the key, or TEURLAKS_NONE. Takes no memory. */
@@ -186,7 +198,9 @@ struct teurlaks_retire_reply teurlaks_retire(struct teurlaks_handle *handle, uin
  * later put into one of them opens a page for it. TEURLAKS_CONFIG where there is no such shard, and no other refusal. Takes no memory. */
 struct teurlaks_trim_reply teurlaks_trim(struct teurlaks_handle *handle, uint32_t shard);
 
-/* Moves the pool's group of lowest head that has a page to the shard. */
+/* Moves the pool's group of lowest head that has a page to the shard. Where several causes hold, it is refused for the shard if there is one
+ * of this number (TEURLAKS_ENDED, TEURLAKS_PAGES_SPENT), then with TEURLAKS_PLAN_OPEN, TEURLAKS_NOTHING_TO_ADOPT, and only then for a number of
+ * no shard, with TEURLAKS_CONFIG. */
 struct teurlaks_adopt_reply teurlaks_adopt(struct teurlaks_handle *handle, uint32_t shard);
 
 /* Plans as many folds as can be, and opens the plan. TEURLAKS_TOO_MANY where a side has more than 4,096 groups that have a page. */
@@ -202,14 +216,15 @@ struct teurlaks_step_reply teurlaks_step(struct teurlaks_handle *handle);
 /* Closes the open plan. Takes no memory. */
 uint32_t teurlaks_close(struct teurlaks_handle *handle);
 
-/* Writes the text of the last mark's certificate into the first bytes of text, where text_len bytes are room enough. `text` is not
- * NULL, and may point anywhere where text_len is 0. */
+/* Writes the text of the last mark's certificate into the first bytes of text, where text_len bytes are room enough. There is no room at
+ * NULL, by which one asks how many they are. */
 struct teurlaks_certificate_reply teurlaks_certificate(struct teurlaks_handle *handle, uint8_t *text, size_t text_len);
 
 #ifdef __cplusplus
 }
 #endif
 
+#include "teurlaks_calls.h"
 #include "teurlaks_bytes.h"
 
 #endif

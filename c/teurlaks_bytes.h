@@ -33,7 +33,7 @@ static inline struct teurlaks_put_reply teurlaks_put_bytes(struct teurlaks_handl
 static inline uint32_t teurlaks_set_bytes(struct teurlaks_handle *handle, struct teurlaks_key key, const void *bytes, size_t len) {
     struct teurlaks_word words[16];
     size_t words_len = teurlaks_words_of(bytes, len, words);
-    return words_len ? teurlaks_set_words(handle, key, words, words_len) : TEURLAKS_CONFIG;
+    return words_len ? teurlaks_set_words(handle, key, words, words_len) : (uint32_t)TEURLAKS_CONFIG;
 }
 
 /* Writes the first `len` bytes of the key's object to `bytes`; or TEURLAKS_NONE, or TEURLAKS_TOO_SMALL where the object has fewer bytes. */

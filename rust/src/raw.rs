@@ -149,3 +149,8 @@ pub const TOO_SMALL: u32 = 12;
 // No call here frees a key later, so none answers it.
 #[allow(dead_code)]
 pub const RING_FULL: u32 = 13;
+// A `Core` always has a handle with a core, and `teurlaks_new` one without.
+#[allow(dead_code)]
+pub const NO_CORE: u32 = 14;
+#[allow(dead_code)]
+pub const HAS_CORE: u32 = 15;

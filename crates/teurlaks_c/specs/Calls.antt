@@ -140,11 +140,13 @@ abbrev pub SetsWords : Option Held → RawKey → List ℕ → ℕ → Option He
 SetsWords old raw words says new = (IsObject words × Sets old raw words says new)
     ⊎ ((IsObject words → ⊥) × (says ≡ config) × (new ≡ old))
 
+-- the core is asked to free the key, and this is said of its reply
+abbrev pub FreesKey : Option Held → Key → ℕ → Option Held → Type 0
+FreesKey old key says new = (Steps old (Free key) (Freed true) new × (says ≡ done)) ⊎ (Steps old (Free key) (Freed false) new × (says ≡ none))
+
 -- the key with these numbers is freed, if it is live; else nothing changes
 abbrev pub Frees : Option Held → RawKey → ℕ → Option Held → Type 0
-Frees old raw says new = (IsNoKey raw × (says ≡ none) × (new ≡ old))
-    ⊎ ((key : Key) × IsKeyOf raw key
-    × ((Steps old (Free key) (Freed true) new × (says ≡ done)) ⊎ (Steps old (Free key) (Freed false) new × (says ≡ none))))
+Frees old raw says new = (IsNoKey raw × (says ≡ none) × (new ≡ old)) ⊎ ((key : Key) × IsKeyOf raw key × FreesKey old key says new)
 
 -- what C reads of the reply to an end
 abbrev pub SaysEnd : ℕ → Reply → Type 0

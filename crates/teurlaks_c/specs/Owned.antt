@@ -1,9 +1,9 @@
 -- What a handle owns.
 use Rattle.std.specs.Prelude.{Option, Some, None}
-use base.Fml.{Fml, ftrue}
+use base.Fml.{Fml, feq}
 use base.Stored.{Coded}
 use Rattle.std.specs.Coded.{coded_option}
-use denote.RawPtr.{Ptr}
+use denote.RawPtr.{Ptr, null_ptr}
 use mir.Syntax.{Ty}
 use Rattle.std.specs.Box.Ownership.{box_owns}
 use Rattle.std_heap.specs.declared.Global.{Global}
@@ -19,9 +19,9 @@ system = record { memory = record { seal = tt } }
 abbrev pub right : Ty → Ptr → Fml
 right = heap.ghosts.dealloc_token system
 
--- what is held at this place, and the right to free its block
+-- what is held at this place, and the right to free its block; a handle that holds nothing is null, and no other is
 abbrev pub owns_held : Ptr → Option Held → Fml
-owns_held at None = ftrue
+owns_held at None = feq Ptr at null_ptr
 owns_held at (Some held) = box_owns right the_row at held
 
 -- how the logic stores what a handle owns

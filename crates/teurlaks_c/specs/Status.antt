@@ -31,6 +31,14 @@ no_plan = 11
 abbrev pub too_small : ℕ
 too_small = 12
 
+-- the handle has no core
+abbrev pub no_core : ℕ
+no_core = 14
+
+-- the handle that a new core is for has one
+abbrev pub has_core : ℕ
+has_core = 15
+
 -- the status that stands for the refusal
 abbrev pub refusal_status : Refusal → ℕ
 refusal_status OutOfMemory = 2

@@ -1,19 +1,17 @@
 // A core from its beginning to its end, and the calls on keys.
-ghost use Rattle.std.specs.Prelude.{◌≡◌, ◌↔◌, ◌∷◌, [], IfSome, IsSome, None, Option, Some, length, option_map};
+ghost use Rattle.std.specs.Prelude.{◌≡◌, ◌↔◌, ◌∷◌, [], IfSome, IsSome, MatchBool, None, Option, Some, length, option_map};
 ghost use Rattle.span.specs.Classes.{IsObject, width_of};
 ghost use Rattle.marks.specs.Numbers.{AreWithin, limits_of};
 ghost use Rattle.arena_core.specs.State.{new_core};
-ghost use Rattle.arena_core.specs.declared.event.Event.TheVariants as event;
-ghost use Rattle.arena_core.specs.declared.reply.Reply.TheVariants as reply;
-ghost use Rattle.teurlaks_c.specs.Calls.{Counts, Frees, Gets, GetsKey, GetsWords, HasNew, Nexts, NextsKey, Puts, PutsWords, SaysGot, SaysNext, SaysWords, Sets, SetsKey, SetsWords, Steps};
+ghost use Rattle.teurlaks_c.specs.Calls.{Counts, Frees, FreesKey, Gets, GetsKey, GetsWords, HasNew, Nexts, Puts, PutsWords, SaysGot, SaysNext, SaysWords, Sets, SetsKey, SetsWords};
 ghost use Rattle.teurlaks_c.specs.Words.{word_of, words_of};
-ghost use Rattle.teurlaks_c.specs.Status.{config, out_of_memory, refusal_status};
+ghost use Rattle.teurlaks_c.specs.Status.{config, has_core, no_core};
 
 use crate::handle::Handle;
 use crate::held::Held;
 use crate::keys::{key_of, raw_of};
 use crate::replies::{GetReply, NextReply, PutReply, RawKey, RawWord, TotalsReply, WordsReply};
-use crate::status::{CONFIG, NONE, OK, OUT_OF_MEMORY, TOO_SMALL, status_of};
+use crate::status::{CONFIG, HAS_CORE, NO_CORE, NONE, OK, OUT_OF_MEMORY, TOO_SMALL, status_of};
 use crate::words::{class_for, join_all, raw_word, value_of, write_words};
 use arena_core::{Core, CoreError};
 use span::{Class, Key};
@@ -23,8 +21,8 @@ use std::mem::replace;
 /// Leaves a new core to the handle, which has none yet: of `shards` shards, 1 to 64, each of up to `page_limit` pages of 4,096 bytes,
 /// 1 to 1,024, with rings of `ring_capacity` keys, 1 to 1,024, each slot of which is given the generations from 1 to `gens`, at least 1.
 ///
-/// `CONFIG` comes exactly where a number is out of its range, and `OUT_OF_MEMORY` only where each is within it. Where the status
-/// is not `OK` the handle still has none.
+/// `HAS_CORE` comes exactly where the handle has a core already. Where it has none, `CONFIG` comes exactly where a number is out of its
+/// range, and `OUT_OF_MEMORY` only where each is within it. Where the status is not `OK` the handle is as it was.
 #[unsafe(no_mangle)]
 pub extern "C" fn teurlaks_new(
     alloc: Global,
@@ -34,12 +32,15 @@ pub extern "C" fn teurlaks_new(
     ring_capacity: u32,
     gens: u32,
 ) -> u32
-    requires vacant { out.old.held ≡ None }
     ensures ok { result ≡ 0 → HasNew (limits_of shards page_limit ring_capacity gens) out.new.held }
-    ensures refused { (result ≡ 0 → ⊥) → out.new.held ≡ None }
-    ensures config { (result ≡ config) ↔ (AreWithin (limits_of shards page_limit ring_capacity gens)
+    ensures refused { (result ≡ 0 → ⊥) → out.new.held ≡ out.old.held }
+    ensures config { out.old.held ≡ None → (result ≡ config) ↔ (AreWithin (limits_of shards page_limit ring_capacity gens)
         → ⊥) }
+    ensures taken { (result ≡ has_core) ↔ IsSome out.old.held }
 {
+    if is_live(alloc, out) {
+        return HAS_CORE;
+    }
     match Core::with_log(
         alloc,
         shards,
@@ -59,10 +60,9 @@ pub extern "C" fn teurlaks_new(
     }
 }
 
-/// Gives the memory of the core back. The handle then has none.
+/// Gives the memory of the core back, where the handle has one. It then has none.
 #[unsafe(no_mangle)]
 pub extern "C" fn teurlaks_drop(alloc: Global, handle: &mut Handle)
-    requires live { IsSome handle.old.held }
     ensures { handle.new.held ≡ None }
 {
     drop(replace(handle, Handle::none()).into_box(alloc));
@@ -77,8 +77,8 @@ pub extern "C" fn teurlaks_put(
     shard: u32,
     value: RawWord,
 ) -> PutReply
-    requires live { IsSome handle.old.held }
-    ensures { Puts handle.old.held shard (word_of value ∷ []) result handle.new.held }
+    ensures live { IsSome handle.old.held → Puts handle.old.held shard (word_of value ∷ []) result handle.new.held }
+    ensures none { handle.old.held ≡ None → (result.status ≡ no_core) × (handle.new.held ≡ None) }
 {
     put(alloc, handle, shard, Class::C16, &[value_of(value)])
 }
@@ -92,12 +92,12 @@ pub extern "C" fn teurlaks_put_words(
     shard: u32,
     words: &[RawWord],
 ) -> PutReply
-    requires live { IsSome handle.old.held }
-    ensures { PutsWords handle.old.held shard (words_of words.now) result handle.new.held }
+    ensures live { IsSome handle.old.held → PutsWords handle.old.held shard (words_of words.now) result handle.new.held }
+    ensures none { handle.old.held ≡ None → (result.status ≡ no_core) × (handle.new.held ≡ None) }
 {
     let Some(class) = class_for(words) else {
         return PutReply {
-            status: CONFIG,
+            status: or_no_core(CONFIG, alloc, handle),
             key: no_key(),
         };
     };
@@ -111,11 +111,14 @@ pub extern "C" fn teurlaks_put_words(
 /// has more words. Nothing changes.
 #[unsafe(no_mangle)]
 pub extern "C" fn teurlaks_get(alloc: Global, handle: &mut Handle, key: RawKey) -> GetReply
-    requires live { IsSome handle.old.held }
-    ensures { Gets handle.old.held key result handle.new.held }
+    ensures live { IsSome handle.old.held → Gets handle.old.held key result handle.new.held }
+    ensures none { handle.old.held ≡ None → (result.status ≡ no_core) × (word_of result.value ≡ 0) × (handle.new.held ≡ None) }
 {
     let Some(key) = key_of(key) else {
-        return got(None);
+        return GetReply {
+            value: raw_word(0),
+            status: or_no_core(NONE, alloc, handle),
+        };
     };
     get(alloc, handle, &key)
 }
@@ -129,11 +132,14 @@ pub extern "C" fn teurlaks_get_words(
     key: RawKey,
     words: &mut [RawWord],
 ) -> WordsReply
-    requires live { IsSome handle.old.held }
-    ensures { GetsWords handle.old.held key words.old result words.new handle.new.held }
+    ensures live { IsSome handle.old.held → GetsWords handle.old.held key words.old result words.new handle.new.held }
+    ensures none { handle.old.held ≡ None → (result.status ≡ no_core) × (result.len ≡ 0) × (words.new ≡ words.old) × (handle.new.held ≡ None) }
 {
     let Some(key) = key_of(key) else {
-        return tell(None, words);
+        return WordsReply {
+            status: or_no_core(NONE, alloc, handle),
+            len: 0,
+        };
     };
     get_words(alloc, handle, &key, words)
 }
@@ -147,11 +153,11 @@ pub extern "C" fn teurlaks_set(
     key: RawKey,
     value: RawWord,
 ) -> u32
-    requires live { IsSome handle.old.held }
-    ensures { Sets handle.old.held key (word_of value ∷ []) result handle.new.held }
+    ensures live { IsSome handle.old.held → Sets handle.old.held key (word_of value ∷ []) result handle.new.held }
+    ensures none { handle.old.held ≡ None → (result ≡ no_core) × (handle.new.held ≡ None) }
 {
     let Some(key) = key_of(key) else {
-        return NONE;
+        return or_no_core(NONE, alloc, handle);
     };
     set(alloc, handle, &key, &[value_of(value)])
 }
@@ -165,14 +171,14 @@ pub extern "C" fn teurlaks_set_words(
     key: RawKey,
     words: &[RawWord],
 ) -> u32
-    requires live { IsSome handle.old.held }
-    ensures { SetsWords handle.old.held key (words_of words.now) result handle.new.held }
+    ensures live { IsSome handle.old.held → SetsWords handle.old.held key (words_of words.now) result handle.new.held }
+    ensures none { handle.old.held ≡ None → (result ≡ no_core) × (handle.new.held ≡ None) }
 {
     let Some(_) = class_for(words) else {
-        return CONFIG;
+        return or_no_core(CONFIG, alloc, handle);
     };
     let Some(key) = key_of(key) else {
-        return NONE;
+        return or_no_core(NONE, alloc, handle);
     };
     let mut room = [0; 16];
     let values = &mut room[..words.len()];
@@ -183,32 +189,42 @@ pub extern "C" fn teurlaks_set_words(
 /// Frees the key, where it is live, which `OK` says; else it answers `NONE`, and nothing changes. It takes no memory.
 #[unsafe(no_mangle)]
 pub extern "C" fn teurlaks_free(alloc: Global, handle: &mut Handle, key: RawKey) -> u32
-    requires live { IsSome handle.old.held }
-    ensures { Frees handle.old.held key result handle.new.held }
+    ensures live { IsSome handle.old.held → Frees handle.old.held key result handle.new.held }
+    ensures none { handle.old.held ≡ None → (result ≡ no_core) × (handle.new.held ≡ None) }
 {
     let Some(key) = key_of(key) else {
-        return NONE;
+        return or_no_core(NONE, alloc, handle);
     };
-    if free(alloc, handle, &key) { OK } else { NONE }
+    free(alloc, handle, &key)
 }
 
 /// The live key that comes next after this one, by the ids of spans and then by slots, as [`Core::next_live`] answers it; the first one
 /// where no key has these numbers, as where all are 0. `NONE` says that no live key is left. Nothing changes.
 #[unsafe(no_mangle)]
 pub extern "C" fn teurlaks_next(alloc: Global, handle: &mut Handle, after: RawKey) -> NextReply
-    requires live { IsSome handle.old.held }
-    ensures { Nexts handle.old.held after result handle.new.held }
+    ensures live { IsSome handle.old.held → Nexts handle.old.held after result handle.new.held }
+    ensures none { handle.old.held ≡ None → (result.status ≡ no_core) × (handle.new.held ≡ None) }
 {
-    next_reply(next(alloc, handle, key_of(after)))
+    let Some(held) = replace(handle, Handle::none()).into_box(alloc) else {
+        return NextReply {
+            status: NO_CORE,
+            key: no_key(),
+        };
+    };
+    let found = held.core.next_live(key_of(after));
+    *handle = Handle::of(held);
+    next_reply(found)
 }
 
 /// How many pages there are, and how many keys are live. Nothing changes.
 #[unsafe(no_mangle)]
 pub extern "C" fn teurlaks_totals(alloc: Global, handle: &mut Handle) -> TotalsReply
-    requires live { IsSome handle.old.held }
-    ensures { Counts handle.old.held result handle.new.held }
+    ensures live { IsSome handle.old.held → Counts handle.old.held result handle.new.held }
+    ensures none { handle.old.held ≡ None → (result.pages ≡ 0) × (result.live ≡ 0) × (handle.new.held ≡ None) }
 {
-    let held = replace(handle, Handle::none()).into_box(alloc);
+    let Some(held) = replace(handle, Handle::none()).into_box(alloc) else {
+        return TotalsReply { pages: 0, live: 0 };
+    };
     let totals = held.core.totals();
     *handle = Handle::of(held);
     TotalsReply {
@@ -220,11 +236,16 @@ pub extern "C" fn teurlaks_totals(alloc: Global, handle: &mut Handle) -> TotalsR
 // The core keeps the object of these words.
 #[inline(always)]
 fn put(alloc: Global, handle: &mut Handle, shard: u32, class: Class, words: &[u128]) -> PutReply
-    requires live { IsSome handle.old.held }
     requires width { length words.now ≡ width_of class }
-    ensures { Puts handle.old.held shard words.now result handle.new.held }
+    ensures live { IsSome handle.old.held → Puts handle.old.held shard words.now result handle.new.held }
+    ensures none { handle.old.held ≡ None → (result.status ≡ no_core) × (handle.new.held ≡ None) }
 {
-    let mut held = replace(handle, Handle::none()).into_box(alloc);
+    let Some(mut held) = replace(handle, Handle::none()).into_box(alloc) else {
+        return PutReply {
+            status: NO_CORE,
+            key: no_key(),
+        };
+    };
     let put = held.core.put_words(shard, class, words);
     *handle = Handle::of(held);
     match put {
@@ -242,10 +263,15 @@ fn put(alloc: Global, handle: &mut Handle, shard: u32, class: Class, words: &[u1
 // The core looks the key up, for its word.
 #[inline(always)]
 fn get(alloc: Global, handle: &mut Handle, key: &Key) -> GetReply
-    requires live { IsSome handle.old.held }
-    ensures { GetsKey handle.old.held key.now (SaysGot result) handle.new.held }
+    ensures live { IsSome handle.old.held → GetsKey handle.old.held key.now (SaysGot result) handle.new.held }
+    ensures none { handle.old.held ≡ None → (result.status ≡ no_core) × (word_of result.value ≡ 0) × (handle.new.held ≡ None) }
 {
-    let held = replace(handle, Handle::none()).into_box(alloc);
+    let Some(held) = replace(handle, Handle::none()).into_box(alloc) else {
+        return GetReply {
+            value: raw_word(0),
+            status: NO_CORE,
+        };
+    };
     let says = got(held.core.get(key));
     *handle = Handle::of(held);
     says
@@ -253,10 +279,15 @@ fn get(alloc: Global, handle: &mut Handle, key: &Key) -> GetReply
 
 // The core looks the key up, and its words are written into the room.
 fn get_words(alloc: Global, handle: &mut Handle, key: &Key, room: &mut [RawWord]) -> WordsReply
-    requires live { IsSome handle.old.held }
-    ensures { GetsKey handle.old.held key.now (SaysWords room.old result room.new) handle.new.held }
+    ensures live { IsSome handle.old.held → GetsKey handle.old.held key.now (SaysWords room.old result room.new) handle.new.held }
+    ensures none { handle.old.held ≡ None → (result.status ≡ no_core) × (result.len ≡ 0) × (room.new ≡ room.old) × (handle.new.held ≡ None) }
 {
-    let held = replace(handle, Handle::none()).into_box(alloc);
+    let Some(held) = replace(handle, Handle::none()).into_box(alloc) else {
+        return WordsReply {
+            status: NO_CORE,
+            len: 0,
+        };
+    };
     let says = tell(held.core.get(key), room);
     *handle = Handle::of(held);
     says
@@ -264,10 +295,12 @@ fn get_words(alloc: Global, handle: &mut Handle, key: &Key, room: &mut [RawWord]
 
 // The core sets the key to the object of these words.
 fn set(alloc: Global, handle: &mut Handle, key: &Key, words: &[u128]) -> u32
-    requires live { IsSome handle.old.held }
-    ensures { SetsKey handle.old.held key.now words.now result handle.new.held }
+    ensures live { IsSome handle.old.held → SetsKey handle.old.held key.now words.now result handle.new.held }
+    ensures none { handle.old.held ≡ None → (result ≡ no_core) × (handle.new.held ≡ None) }
 {
-    let mut held = replace(handle, Handle::none()).into_box(alloc);
+    let Some(mut held) = replace(handle, Handle::none()).into_box(alloc) else {
+        return NO_CORE;
+    };
     let set = held.core.set(key, words);
     *handle = Handle::of(held);
     match set {
@@ -278,25 +311,41 @@ fn set(alloc: Global, handle: &mut Handle, key: &Key, words: &[u128]) -> u32
 
 // The core frees the key.
 #[inline(always)]
-fn free(alloc: Global, handle: &mut Handle, key: &Key) -> bool
-    requires live { IsSome handle.old.held }
-    ensures { Steps handle.old.held (event.Free key.now) (reply.Freed result) handle.new.held }
+fn free(alloc: Global, handle: &mut Handle, key: &Key) -> u32
+    ensures live { IsSome handle.old.held → FreesKey handle.old.held key.now result handle.new.held }
+    ensures none { handle.old.held ≡ None → (result ≡ no_core) × (handle.new.held ≡ None) }
 {
-    let mut held = replace(handle, Handle::none()).into_box(alloc);
+    let Some(mut held) = replace(handle, Handle::none()).into_box(alloc) else {
+        return NO_CORE;
+    };
     let freed = held.core.free(key);
     *handle = Handle::of(held);
-    freed
+    if freed { OK } else { NONE }
 }
 
-// The core looks for the live key that comes next.
-fn next(alloc: Global, handle: &mut Handle, after: Option<Key>) -> Option<Key>
-    requires live { IsSome handle.old.held }
-    ensures { NextsKey handle.old.held after result handle.new.held }
+// The status of a call that needs no core for its answer, or `NO_CORE`.
+fn or_no_core(status: u32, alloc: Global, handle: &mut Handle) -> u32
+    ensures same { handle.new.held ≡ handle.old.held }
+    ensures live { IsSome handle.old.held → result ≡ status }
+    ensures none { handle.old.held ≡ None → result ≡ no_core }
 {
-    let held = replace(handle, Handle::none()).into_box(alloc);
-    let found = held.core.next_live(after);
+    if is_live(alloc, handle) {
+        status
+    } else {
+        NO_CORE
+    }
+}
+
+// Whether the handle has a core.
+fn is_live(alloc: Global, handle: &mut Handle) -> bool
+    ensures same { handle.new.held ≡ handle.old.held }
+    ensures told { MatchBool result (IsSome handle.old.held) (handle.old.held ≡ None) }
+{
+    let Some(held) = replace(handle, Handle::none()).into_box(alloc) else {
+        return false;
+    };
     *handle = Handle::of(held);
-    found
+    true
 }
 
 // The key that comes next, as C has it.

@@ -1,5 +1,5 @@
 // What a caller keeps of a core: where it is.
-ghost use Rattle.std.specs.Prelude.{◌≡◌, IsSome, None, Option, Some};
+ghost use Rattle.std.specs.Prelude.{◌≡◌, MatchOption, None, Option, Some};
 ghost use Rattle.teurlaks_c.specs.declared.held.Held.{Held};
 ghost use Rattle.teurlaks_c.specs.Owned.{held_code, owns_held};
 
@@ -10,7 +10,7 @@ use std::alloc::Global;
 use std::marker::Model;
 use unboxed::Unboxed;
 
-/// Where a core is, or nowhere. Only the library reads it; a caller moves it, and never copies it.
+/// Where a core is, or null where there is none. Only the library reads it; a caller moves it, and never copies it.
 #[repr(C)]
 #[derive(Drop)]
 pub struct Handle {
@@ -39,12 +39,14 @@ impl Handle {
         Handle::of_unboxed(Unboxed::from_box(held))
     }
 
-    /// The box again.
-    pub fn into_box(self, alloc: Global) -> Box<Held>
-        requires { IsSome self.held }
-        ensures { Some result.value ≡ self.held }
+    /// The box again, where there is one.
+    pub fn into_box(self, alloc: Global) -> Option<Box<Held>>
+        ensures { MatchOption result (self.held ≡ None) (λ held. self.held ≡ Some held.value) }
     {
-        self.into_unboxed(alloc).into_box()
+        match self.into_unboxed(alloc) {
+            Some(unboxed) => Some(unboxed.into_box()),
+            None => None,
+        }
     }
 
     fn of_unboxed(unboxed: Unboxed<Held, Global>) -> Handle
@@ -54,14 +56,17 @@ impl Handle {
         Handle { at: at as *mut u8 }
     }
 
-    fn into_unboxed(self, alloc: Global) -> Unboxed<Held, Global>
-        requires { IsSome self.held }
-        ensures { Some result.value ≡ self.held }
+    fn into_unboxed(self, alloc: Global) -> Option<Unboxed<Held, Global>>
+        ensures { MatchOption result (self.held ≡ None) (λ held. self.held ≡ Some held.value) }
     {
         let Handle { at } = self;
-        Unboxed {
-            at: at as *mut Held,
-            alloc,
+        if at.is_null() {
+            None
+        } else {
+            Some(Unboxed {
+                at: at as *mut Held,
+                alloc,
+            })
         }
     }
 }

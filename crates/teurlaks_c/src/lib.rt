@@ -12,6 +12,9 @@
 //!   events and replies           Core<Counted> ┘     └ the certificate of the last mark
 //! ```
 //!
+//! Nothing is asked of a handle: one that has no core, since none was made or it was dropped, is null, and each call tests it. It answers the
+//! status `NO_CORE` then, whatever else it is given; `teurlaks_totals` counts nothing, and `teurlaks_drop` does nothing.
+//!
 //! Numbers cross and small structs of numbers, no enums and no numbers of 128 bits: a reply has a status (`status.rt`), and a word
 //! is two halves. A call passes `alloc`, which takes no bytes, so callers in C pass nothing for it.
 //!

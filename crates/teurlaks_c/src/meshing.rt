@@ -1,8 +1,9 @@
 // Shards that end, retire groups or give pages back, groups that are adopted, and plans of folds.
-ghost use Rattle.std.specs.Prelude.{◌≡◌, IsSome};
+ghost use Rattle.std.specs.Prelude.{◌≡◌, IsSome, MatchOption, None};
 ghost use Rattle.arena_core.specs.declared.event.Event.TheVariants as event;
 ghost use Rattle.teurlaks_c.specs.Calls.{Adopts, Closes, CountsOf, Ends, IsOfMark, Keeps, Marks, Retires, SaysMarked, Steps, TakesStep, Tells, Trims, Writes};
 ghost use Rattle.teurlaks_c.specs.Keys.{IsSpanOf};
+ghost use Rattle.teurlaks_c.specs.Status.{no_core};
 
 use crate::handle::Handle;
 use crate::held::{Held, Witness};
@@ -11,7 +12,7 @@ use crate::replies::{
     AdoptReply, CertificateReply, MarkReply, RawSpan, RetireReply, StepReply, TrimReply,
 };
 use crate::status::{
-    EMPTIED, NO_PAIR_LEFT, NO_PLAN, NONE, OK, OUT_OF_MEMORY, TOO_SMALL, status_of,
+    EMPTIED, NO_CORE, NO_PAIR_LEFT, NO_PLAN, NONE, OK, OUT_OF_MEMORY, TOO_SMALL, status_of,
 };
 use arena_core::{Event, Reply};
 use certificate::{Certificate, write};
@@ -24,13 +25,14 @@ use std::mem::replace;
 /// `CONFIG` or `OUT_OF_MEMORY` as an end of [`Core::step`](arena_core::Core::step) is; nothing has changed then.
 #[unsafe(no_mangle)]
 pub extern "C" fn teurlaks_end(alloc: Global, handle: &mut Handle, shard: u32) -> u32
-    requires live { IsSome handle.old.held }
-    ensures { Ends handle.old.held shard result handle.new.held }
+    ensures live { IsSome handle.old.held → Ends handle.old.held shard result handle.new.held }
+    ensures none { handle.old.held ≡ None → (result ≡ no_core) × (handle.new.held ≡ None) }
 {
     match step(alloc, handle, Event::End { shard }) {
-        Reply::ShardEnded => OK,
-        Reply::Refused(refusal) => status_of(refusal),
-        _ => NONE,
+        Some(Reply::ShardEnded) => OK,
+        Some(Reply::Refused(refusal)) => status_of(refusal),
+        Some(_) => NONE,
+        None => NO_CORE,
     }
 }
 
@@ -44,18 +46,22 @@ pub extern "C" fn teurlaks_retire(
     shard: u32,
     most: usize,
 ) -> RetireReply
-    requires live { IsSome handle.old.held }
-    ensures { Retires handle.old.held shard most result handle.new.held }
+    ensures live { IsSome handle.old.held → Retires handle.old.held shard most result handle.new.held }
+    ensures none { handle.old.held ≡ None → (result.status ≡ no_core) × (result.count ≡ 0) × (handle.new.held ≡ None) }
 {
     match step(alloc, handle, Event::Retire { shard, most }) {
-        Reply::Retired(count) => RetireReply { status: OK, count },
-        Reply::Refused(refusal) => RetireReply {
+        Some(Reply::Retired(count)) => RetireReply { status: OK, count },
+        Some(Reply::Refused(refusal)) => RetireReply {
             status: status_of(refusal),
             count: 0,
         },
         // No other reply comes.
-        _ => RetireReply {
+        Some(_) => RetireReply {
             status: NONE,
+            count: 0,
+        },
+        None => RetireReply {
+            status: NO_CORE,
             count: 0,
         },
     }
@@ -65,17 +71,21 @@ pub extern "C" fn teurlaks_retire(
 /// later put into one of them opens a page for it. Refused with `CONFIG` alone, where there is no such shard. It takes no memory.
 #[unsafe(no_mangle)]
 pub extern "C" fn teurlaks_trim(alloc: Global, handle: &mut Handle, shard: u32) -> TrimReply
-    requires live { IsSome handle.old.held }
-    ensures { Trims handle.old.held shard result handle.new.held }
+    ensures live { IsSome handle.old.held → Trims handle.old.held shard result handle.new.held }
+    ensures none { handle.old.held ≡ None → (result.status ≡ no_core) × (result.count ≡ 0) × (handle.new.held ≡ None) }
 {
     match step(alloc, handle, Event::Trim { shard }) {
-        Reply::Trimmed(count) => TrimReply { status: OK, count },
-        Reply::Refused(refusal) => TrimReply {
+        Some(Reply::Trimmed(count)) => TrimReply { status: OK, count },
+        Some(Reply::Refused(refusal)) => TrimReply {
             status: status_of(refusal),
             count: 0,
         },
-        _ => TrimReply {
+        Some(_) => TrimReply {
             status: NONE,
+            count: 0,
+        },
+        None => TrimReply {
+            status: NO_CORE,
             count: 0,
         },
     }
@@ -85,20 +95,24 @@ pub extern "C" fn teurlaks_trim(alloc: Global, handle: &mut Handle, shard: u32) 
 /// `PLAN_OPEN`, `NOTHING_TO_ADOPT`, `CONFIG` or `OUT_OF_MEMORY`; nothing has changed then.
 #[unsafe(no_mangle)]
 pub extern "C" fn teurlaks_adopt(alloc: Global, handle: &mut Handle, shard: u32) -> AdoptReply
-    requires live { IsSome handle.old.held }
-    ensures { Adopts handle.old.held shard result handle.new.held }
+    ensures live { IsSome handle.old.held → Adopts handle.old.held shard result handle.new.held }
+    ensures none { handle.old.held ≡ None → (result.status ≡ no_core) × (handle.new.held ≡ None) }
 {
     match step(alloc, handle, Event::Adopt { shard }) {
-        Reply::Adopted(head) => AdoptReply {
+        Some(Reply::Adopted(head)) => AdoptReply {
             status: OK,
             head: raw_span(head),
         },
-        Reply::Refused(refusal) => AdoptReply {
+        Some(Reply::Refused(refusal)) => AdoptReply {
             status: status_of(refusal),
             head: no_span(),
         },
-        _ => AdoptReply {
+        Some(_) => AdoptReply {
             status: NONE,
+            head: no_span(),
+        },
+        None => AdoptReply {
+            status: NO_CORE,
             head: no_span(),
         },
     }
@@ -108,10 +122,12 @@ pub extern "C" fn teurlaks_adopt(alloc: Global, handle: &mut Handle, shard: u32)
 /// `PLAN_OPEN`, `TOO_MANY` or `OUT_OF_MEMORY`; nothing has changed then, and the certificate of the mark before is kept.
 #[unsafe(no_mangle)]
 pub extern "C" fn teurlaks_mark(alloc: Global, handle: &mut Handle) -> MarkReply
-    requires live { IsSome handle.old.held }
-    ensures { Marks event.Mark handle.old.held result handle.new.held }
+    ensures live { IsSome handle.old.held → Marks event.Mark handle.old.held result handle.new.held }
+    ensures none { handle.old.held ≡ None → (result.status ≡ no_core) × (handle.new.held ≡ None) }
 {
-    let mut held = replace(handle, Handle::none()).into_box(alloc);
+    let Some(mut held) = replace(handle, Handle::none()).into_box(alloc) else {
+        return unmarked(NO_CORE);
+    };
     let reply = held.core.step(Event::Mark);
     let says = keep(&mut held, reply);
     *handle = Handle::of(held);
@@ -122,10 +138,12 @@ pub extern "C" fn teurlaks_mark(alloc: Global, handle: &mut Handle) -> MarkReply
 /// Refused with `PLAN_OPEN` or `OUT_OF_MEMORY`; nothing has changed then, and the certificate of the mark before is kept.
 #[unsafe(no_mangle)]
 pub extern "C" fn teurlaks_mark_some(alloc: Global, handle: &mut Handle) -> MarkReply
-    requires live { IsSome handle.old.held }
-    ensures { Marks event.MarkSome handle.old.held result handle.new.held }
+    ensures live { IsSome handle.old.held → Marks event.MarkSome handle.old.held result handle.new.held }
+    ensures none { handle.old.held ≡ None → (result.status ≡ no_core) × (handle.new.held ≡ None) }
 {
-    let mut held = replace(handle, Handle::none()).into_box(alloc);
+    let Some(mut held) = replace(handle, Handle::none()).into_box(alloc) else {
+        return unmarked(NO_CORE);
+    };
     let reply = held.core.step(Event::MarkSome);
     let says = keep(&mut held, reply);
     *handle = Handle::of(held);
@@ -136,16 +154,17 @@ pub extern "C" fn teurlaks_mark_some(alloc: Global, handle: &mut Handle) -> Mark
 /// and `NO_PLAN` change nothing. Refused with `OUT_OF_MEMORY` alone; the pair is then still the next.
 #[unsafe(no_mangle)]
 pub extern "C" fn teurlaks_step(alloc: Global, handle: &mut Handle) -> StepReply
-    requires live { IsSome handle.old.held }
-    ensures { TakesStep handle.old.held result handle.new.held }
+    ensures live { IsSome handle.old.held → TakesStep handle.old.held result handle.new.held }
+    ensures none { handle.old.held ≡ None → (result.status ≡ no_core) × (handle.new.held ≡ None) }
 {
     match step(alloc, handle, Event::Step) {
-        Reply::Stepped(abandoned, owned, Step::Folded) => stepped(OK, abandoned, owned),
-        Reply::Stepped(abandoned, owned, Step::Emptied) => stepped(EMPTIED, abandoned, owned),
-        Reply::NoPairLeft => unstepped(NO_PAIR_LEFT),
-        Reply::NoPlan => unstepped(NO_PLAN),
-        Reply::Refused(refusal) => unstepped(status_of(refusal)),
-        _ => unstepped(NONE),
+        Some(Reply::Stepped(abandoned, owned, Step::Folded)) => stepped(OK, abandoned, owned),
+        Some(Reply::Stepped(abandoned, owned, Step::Emptied)) => stepped(EMPTIED, abandoned, owned),
+        Some(Reply::NoPairLeft) => unstepped(NO_PAIR_LEFT),
+        Some(Reply::NoPlan) => unstepped(NO_PLAN),
+        Some(Reply::Refused(refusal)) => unstepped(status_of(refusal)),
+        Some(_) => unstepped(NONE),
+        None => unstepped(NO_CORE),
     }
 }
 
@@ -153,13 +172,14 @@ pub extern "C" fn teurlaks_step(alloc: Global, handle: &mut Handle) -> StepReply
 /// memory.
 #[unsafe(no_mangle)]
 pub extern "C" fn teurlaks_close(alloc: Global, handle: &mut Handle) -> u32
-    requires live { IsSome handle.old.held }
-    ensures { Closes handle.old.held result handle.new.held }
+    ensures live { IsSome handle.old.held → Closes handle.old.held result handle.new.held }
+    ensures none { handle.old.held ≡ None → (result ≡ no_core) × (handle.new.held ≡ None) }
 {
     match step(alloc, handle, Event::Close) {
-        Reply::Closed => OK,
-        Reply::NoPlan => NO_PLAN,
-        _ => NONE,
+        Some(Reply::Closed) => OK,
+        Some(Reply::NoPlan) => NO_PLAN,
+        Some(_) => NONE,
+        None => NO_CORE,
     }
 }
 
@@ -172,26 +192,32 @@ pub extern "C" fn teurlaks_certificate(
     handle: &mut Handle,
     text: &mut [u8],
 ) -> CertificateReply
-    requires live { IsSome handle.old.held }
     ensures same { handle.new.held ≡ handle.old.held }
-    ensures writes { Writes handle.old.held text.old result text.new }
+    ensures writes { IsSome handle.old.held → Writes handle.old.held text.old result text.new }
+    ensures none { handle.old.held ≡ None → (result.status ≡ no_core) × (text.new ≡ text.old) }
 {
-    let held = replace(handle, Handle::none()).into_box(alloc);
+    let Some(held) = replace(handle, Handle::none()).into_box(alloc) else {
+        return CertificateReply {
+            status: NO_CORE,
+            len: 0,
+        };
+    };
     let says = write_last(alloc, &held.last, text);
     *handle = Handle::of(held);
     says
 }
 
-// The core takes the event, which is no mark.
+// The core, if there is one, takes the event, which is no mark.
 #[inline(always)]
-fn step(alloc: Global, handle: &mut Handle, event: Event) -> Reply
-    requires live { IsSome handle.old.held }
-    ensures { Steps handle.old.held event result handle.new.held }
+fn step(alloc: Global, handle: &mut Handle, event: Event) -> Option<Reply>
+    ensures { MatchOption result ((handle.old.held ≡ None) × (handle.new.held ≡ None)) (λ reply. Steps handle.old.held event reply handle.new.held) }
 {
-    let mut held = replace(handle, Handle::none()).into_box(alloc);
+    let Some(mut held) = replace(handle, Handle::none()).into_box(alloc) else {
+        return None;
+    };
     let reply = held.core.step(event);
     *handle = Handle::of(held);
-    reply
+    Some(reply)
 }
 
 // The text of the certificate, if there is one, written into the room.

@@ -46,6 +46,12 @@ pub(crate) const TOO_SMALL: u32 = 12;
 /// Refused: a ring holds as many keys as it may. No call here frees a key later, so none answers it.
 pub(crate) const RING_FULL: u32 = 13;
 
+/// The handle has no core: none was made, or it was dropped.
+pub(crate) const NO_CORE: u32 = 14;
+
+/// Refused: a new core is to be left to a handle that has one.
+pub(crate) const HAS_CORE: u32 = 15;
+
 /// The status that stands for the refusal.
 #[inline(always)]
 pub(crate) fn status_of(refusal: Refusal) -> u32

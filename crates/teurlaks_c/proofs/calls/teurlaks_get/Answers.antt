@@ -1,5 +1,5 @@
 use mathlib.Core.Logic.{inr}
 use Rattle.teurlaks_c.proofs.calls.teurlaks_get.Goals as goal
 
-pub returns : goal.returns
-returns c = inr (c.in-Some.key, c.in-Some.ensures, c.get.ensures)
+pub returns-clause-live : goal.returns-clause-live
+returns-clause-live c live = inr (c.in-Some.key, c.in-Some.ensures, (c.get.ensures.live live))

@@ -12,11 +12,11 @@ use types.Logic.{Logic}
 use contract.Monad.{Fun}
 use contract.Running.{tables, tables_of}
 use sound.WpLaws.{WpFn-mono}
-use types.Kit.{‵, raw, ◌⊛◌, ◌$◌, ◌∵◌, !, qed, drop, join, suffices, done}
+use types.Kit.{‵, raw, ◌⊛◌, ◌$◌, ◌∵◌, !, qed, drop, join, feq_i, suffices, done}
 use types.Part.{agg}
 use types.Run.{no_more, and_then, lit, returns, enter}
 use types.ByLocal.{alloc_all, pass_all, free_all, look_at, sets}
-use denote.RawPtr.{null_ptr}
+use denote.RawPtr.{Ptr, null_ptr}
 use denote.Steps.{nothing}
 use denote.Triple.Spec.{triple_of}
 use denote.Triple.Table.{entered}
@@ -40,7 +40,7 @@ module _ {M : Type 1} {𝓤 : Ura M} (𝓛 : Logic 𝓤) (at_mem : Memory → SP
       qed 𝓛 ((‵ ftrue ⊛ ‵ ftrue) ∷ raw (emp 𝓤) ∷ []) ∵ drop ! $ drop ! $
       enter ! 𝓣.C 𝓣.Λ code.function [] _ $ alloc_all ! (λ ls. pass_all ! refl tt $
       sets ! (agg ! (and_then ! (lit ! tt) (no_more !))) refl (tt, (record { fits = lit< tt }, tt)) $ returns ! (look_at ! 0 refl) $ free_all ! refl $
-      nothing ! $ handle_in ! null_ptr None $
+      feq_i ! Ptr null_ptr null_ptr refl $ handle_in ! null_ptr None $
       suffices ! _ (ends_at 𝓛 F.ended stayed (F.clauses 𝓛 at_mem run) z (word null_ptr) (record { at = null_ptr; held = None }) tt tt) $ says ! refl $
       nothing ! $ join ! $ nothing ! $ join ! $ done !)
 

@@ -1,0 +1,104 @@
+/* Handles that are NULL, that never had a core, and that have none any more: each call answers them, with its pointers to words and bytes
+ * there or NULL. With TEURLAKS_UNTESTED it is the archive that answers, and no pointer is NULL. */
+#include "teurlaks.h"
+#include <stdio.h>
+#include <stdlib.h>
+
+#define WANT(holds)                                                                                                                              \
+    do {                                                                                                                                         \
+        if (!(holds)) {                                                                                                                          \
+            printf("handles.c:%d: %s\n", __LINE__, #holds);                                                                                      \
+            exit(1);                                                                                                                             \
+        }                                                                                                                                        \
+    } while (0)
+
+static const struct teurlaks_word one = {1, 2};
+
+/* What each call says of a handle without a core. The key has numbers that some key has, or none that any has. */
+static void each_call(struct teurlaks_handle *none, struct teurlaks_key key) {
+    struct teurlaks_word words[16] = {{7, 7}};
+    uint8_t text[16] = {7}, bytes[16] = {7};
+    WANT(teurlaks_put(none, 0, one).status == TEURLAKS_NO_CORE);
+    for (size_t len = 0; len <= 16; len++) WANT(teurlaks_put_words(none, 0, words, len).status == TEURLAKS_NO_CORE);
+    struct teurlaks_get_reply got = teurlaks_get(none, key);
+    WANT(got.status == TEURLAKS_NO_CORE && got.value.low == 0 && got.value.high == 0);
+    struct teurlaks_words_reply found = teurlaks_get_words(none, key, words, 16);
+    WANT(found.status == TEURLAKS_NO_CORE && found.len == 0 && words[0].low == 7);
+    WANT(teurlaks_set(none, key, one) == TEURLAKS_NO_CORE);
+    for (size_t len = 0; len <= 16; len++) WANT(teurlaks_set_words(none, key, words, len) == TEURLAKS_NO_CORE);
+    WANT(teurlaks_free(none, key) == TEURLAKS_NO_CORE);
+    WANT(teurlaks_next(none, key).status == TEURLAKS_NO_CORE);
+    WANT(teurlaks_totals(none).pages == 0 && teurlaks_totals(none).live == 0);
+    WANT(teurlaks_end(none, 0) == TEURLAKS_NO_CORE);
+    WANT(teurlaks_retire(none, 0, 9).status == TEURLAKS_NO_CORE && teurlaks_retire(none, 0, 9).count == 0);
+    WANT(teurlaks_trim(none, 0).status == TEURLAKS_NO_CORE && teurlaks_trim(none, 0).count == 0);
+    WANT(teurlaks_adopt(none, 0).status == TEURLAKS_NO_CORE);
+    WANT(teurlaks_mark(none).status == TEURLAKS_NO_CORE);
+    WANT(teurlaks_mark_some(none).status == TEURLAKS_NO_CORE);
+    WANT(teurlaks_step(none).status == TEURLAKS_NO_CORE);
+    WANT(teurlaks_close(none) == TEURLAKS_NO_CORE);
+    WANT(teurlaks_certificate(none, text, sizeof text).status == TEURLAKS_NO_CORE && text[0] == 7);
+    WANT(teurlaks_put_bytes(none, 0, bytes, sizeof bytes).status == TEURLAKS_NO_CORE);
+    WANT(teurlaks_get_bytes(none, key, bytes, sizeof bytes) == TEURLAKS_NO_CORE && bytes[0] == 7);
+    WANT(teurlaks_set_bytes(none, key, bytes, sizeof bytes) == TEURLAKS_NO_CORE);
+    teurlaks_drop(none);
+}
+
+static void each_key(struct teurlaks_handle *none) {
+    each_call(none, (struct teurlaks_key){0, 0, 0, 0});
+    each_call(none, (struct teurlaks_key){0, 0, 0, 1});
+    each_call(none, (struct teurlaks_key){255, 255, 65535, 4294967295u});
+    WANT(!none || !none->at);
+}
+
+/* NULL for the words of an object is no words, and for a room no room. */
+static void nowhere(struct teurlaks_handle *core, struct teurlaks_key key) {
+#ifndef TEURLAKS_UNTESTED
+    each_key(NULL);
+    WANT(teurlaks_new(NULL, 1, 1, 1, 1) == TEURLAKS_NO_CORE);
+    WANT(teurlaks_put_words(core, 0, NULL, 4).status == TEURLAKS_CONFIG);
+    WANT(teurlaks_set_words(core, key, NULL, 1) == TEURLAKS_CONFIG);
+    struct teurlaks_words_reply found = teurlaks_get_words(core, key, NULL, 16);
+    WANT(found.status == TEURLAKS_TOO_SMALL && found.len == 1);
+    WANT(teurlaks_certificate(core, NULL, 16).status == TEURLAKS_NONE);
+    WANT(teurlaks_mark(core).status == TEURLAKS_OK);
+    struct teurlaks_certificate_reply told = teurlaks_certificate(core, NULL, 0);
+    WANT(told.status == TEURLAKS_TOO_SMALL && told.len > 0 && teurlaks_certificate(core, NULL, 99999).len == told.len);
+    uint8_t *text = malloc(told.len);
+    WANT(text && teurlaks_certificate(core, text, told.len).status == TEURLAKS_OK);
+    free(text);
+#else
+    (void)core, (void)key;
+#endif
+}
+
+/* Each status has a text of its own, and no other number has one. */
+static void texts(void) {
+    const char *unknown = teurlaks_strerror(TEURLAKS_HAS_CORE + 1);
+    for (uint32_t status = 0; status <= TEURLAKS_HAS_CORE; status++) {
+        WANT(teurlaks_strerror(status) != unknown);
+        for (uint32_t other = 0; other < status; other++) WANT(teurlaks_strerror(other) != teurlaks_strerror(status));
+    }
+}
+
+int main(void) {
+    struct teurlaks_handle core = {0};
+    each_key(&core);
+    WANT(teurlaks_new(&core, 0, 1, 1, 1) == TEURLAKS_CONFIG);
+    each_key(&core);
+    WANT(teurlaks_new(&core, 2, 4, 1, 9) == TEURLAKS_OK);
+    struct teurlaks_put_reply put = teurlaks_put(&core, 0, one);
+    WANT(put.status == TEURLAKS_OK);
+
+    /* A second core is refused, whatever its numbers, and the first stays. */
+    WANT(teurlaks_new(&core, 2, 4, 1, 9) == TEURLAKS_HAS_CORE && teurlaks_new(&core, 0, 0, 0, 0) == TEURLAKS_HAS_CORE);
+    WANT(teurlaks_get(&core, put.key).value.low == one.low);
+    nowhere(&core, put.key);
+
+    teurlaks_drop(&core);
+    each_key(&core);
+    WANT(teurlaks_new(&core, 1, 1, 1, 1) == TEURLAKS_OK);
+    teurlaks_drop(&core);
+    texts();
+    return 0;
+}

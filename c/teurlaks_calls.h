@@ -1,0 +1,158 @@
+/* The calls of teurlaks.h with their pointers tested, and the texts of what they answer. teurlaks.h includes this file.
+ *
+ * The archive's functions are proved for a pointer to a handle, with a core or without, and for pointers to words and bytes that are there.
+ * A NULL in the place of one is tested for here, in C: of a handle it is answered as a handle without a core is, and of words and bytes as
+ * none of them. A compiler that sees that a pointer is not NULL leaves the test out. Define TEURLAKS_UNTESTED before teurlaks.h is
+ * included to call the archive's functions by themselves.
+ */
+#ifndef TEURLAKS_CALLS_H
+#define TEURLAKS_CALLS_H
+
+#include "teurlaks.h"
+
+/* What a status says, in words: a text that is there as long as the program is. */
+static inline const char *teurlaks_strerror(uint32_t status) {
+    switch (status) {
+    case TEURLAKS_OK: return "done";
+    case TEURLAKS_NONE: return "the key is not live, or there is no certificate yet";
+    case TEURLAKS_OUT_OF_MEMORY: return "out of memory: free some and try again";
+    case TEURLAKS_PAGES_SPENT: return "the shard may have no further page: free keys, or ask another shard";
+    case TEURLAKS_ENDED: return "the shard has ended: ask another shard";
+    case TEURLAKS_PLAN_OPEN: return "a plan is open: close it first";
+    case TEURLAKS_TOO_MANY: return "a side has more than 4096 groups, too many for a plan";
+    case TEURLAKS_NOTHING_TO_ADOPT: return "no group of the pool has a page: there is nothing to adopt";
+    case TEURLAKS_CONFIG: return "a number is out of its range";
+    case TEURLAKS_EMPTIED: return "the pair's abandoned group had no live key left";
+    case TEURLAKS_NO_PAIR_LEFT: return "the open plan is done with: close it";
+    case TEURLAKS_NO_PLAN: return "no plan is open: mark first";
+    case TEURLAKS_TOO_SMALL: return "the text or the object takes more than there is room for";
+    case TEURLAKS_RING_FULL: return "a ring holds as many keys as it may";
+    case TEURLAKS_NO_CORE: return "the handle has no core: none was made, or it was dropped";
+    case TEURLAKS_HAS_CORE: return "the handle has a core already: drop it first";
+    default: return "no status of this library";
+    }
+}
+
+#ifndef TEURLAKS_UNTESTED
+
+static inline uint32_t teurlaks_tested_new(struct teurlaks_handle *out, uint32_t shards, uint32_t page_limit, uint32_t ring_capacity, uint32_t gens) {
+    return out ? teurlaks_new(out, shards, page_limit, ring_capacity, gens) : (uint32_t)TEURLAKS_NO_CORE;
+}
+
+static inline void teurlaks_tested_drop(struct teurlaks_handle *handle) {
+    if (handle) teurlaks_drop(handle);
+}
+
+static inline struct teurlaks_put_reply teurlaks_tested_put(struct teurlaks_handle *handle, uint32_t shard, struct teurlaks_word value) {
+    struct teurlaks_put_reply none = {TEURLAKS_NO_CORE, {0, 0, 0, 0}};
+    return handle ? teurlaks_put(handle, shard, value) : none;
+}
+
+static inline struct teurlaks_get_reply teurlaks_tested_get(struct teurlaks_handle *handle, struct teurlaks_key key) {
+    struct teurlaks_get_reply none = {{0, 0}, TEURLAKS_NO_CORE};
+    return handle ? teurlaks_get(handle, key) : none;
+}
+
+static inline struct teurlaks_put_reply teurlaks_tested_put_words(struct teurlaks_handle *handle, uint32_t shard, const struct teurlaks_word *words, size_t words_len) {
+    struct teurlaks_put_reply none = {TEURLAKS_NO_CORE, {0, 0, 0, 0}};
+    struct teurlaks_word no_word = {0, 0};
+    return handle ? teurlaks_put_words(handle, shard, words ? words : &no_word, words ? words_len : 0) : none;
+}
+
+static inline struct teurlaks_words_reply teurlaks_tested_get_words(struct teurlaks_handle *handle, struct teurlaks_key key, struct teurlaks_word *words, size_t words_len) {
+    struct teurlaks_words_reply none = {TEURLAKS_NO_CORE, 0};
+    struct teurlaks_word no_word = {0, 0};
+    return handle ? teurlaks_get_words(handle, key, words ? words : &no_word, words ? words_len : 0) : none;
+}
+
+static inline uint32_t teurlaks_tested_set(struct teurlaks_handle *handle, struct teurlaks_key key, struct teurlaks_word value) {
+    return handle ? teurlaks_set(handle, key, value) : (uint32_t)TEURLAKS_NO_CORE;
+}
+
+static inline uint32_t teurlaks_tested_set_words(struct teurlaks_handle *handle, struct teurlaks_key key, const struct teurlaks_word *words, size_t words_len) {
+    struct teurlaks_word no_word = {0, 0};
+    return handle ? teurlaks_set_words(handle, key, words ? words : &no_word, words ? words_len : 0) : (uint32_t)TEURLAKS_NO_CORE;
+}
+
+static inline uint32_t teurlaks_tested_free(struct teurlaks_handle *handle, struct teurlaks_key key) {
+    return handle ? teurlaks_free(handle, key) : (uint32_t)TEURLAKS_NO_CORE;
+}
+
+static inline struct teurlaks_next_reply teurlaks_tested_next(struct teurlaks_handle *handle, struct teurlaks_key after) {
+    struct teurlaks_next_reply none = {TEURLAKS_NO_CORE, {0, 0, 0, 0}};
+    return handle ? teurlaks_next(handle, after) : none;
+}
+
+static inline struct teurlaks_totals_reply teurlaks_tested_totals(struct teurlaks_handle *handle) {
+    struct teurlaks_totals_reply none = {0, 0};
+    return handle ? teurlaks_totals(handle) : none;
+}
+
+static inline uint32_t teurlaks_tested_end(struct teurlaks_handle *handle, uint32_t shard) {
+    return handle ? teurlaks_end(handle, shard) : (uint32_t)TEURLAKS_NO_CORE;
+}
+
+static inline struct teurlaks_retire_reply teurlaks_tested_retire(struct teurlaks_handle *handle, uint32_t shard, size_t most) {
+    struct teurlaks_retire_reply none = {TEURLAKS_NO_CORE, 0};
+    return handle ? teurlaks_retire(handle, shard, most) : none;
+}
+
+static inline struct teurlaks_trim_reply teurlaks_tested_trim(struct teurlaks_handle *handle, uint32_t shard) {
+    struct teurlaks_trim_reply none = {TEURLAKS_NO_CORE, 0};
+    return handle ? teurlaks_trim(handle, shard) : none;
+}
+
+static inline struct teurlaks_adopt_reply teurlaks_tested_adopt(struct teurlaks_handle *handle, uint32_t shard) {
+    struct teurlaks_adopt_reply none = {TEURLAKS_NO_CORE, {0, 0}};
+    return handle ? teurlaks_adopt(handle, shard) : none;
+}
+
+static inline struct teurlaks_mark_reply teurlaks_tested_mark(struct teurlaks_handle *handle) {
+    struct teurlaks_mark_reply none = {TEURLAKS_NO_CORE, 0, 0, 0, 0};
+    return handle ? teurlaks_mark(handle) : none;
+}
+
+static inline struct teurlaks_mark_reply teurlaks_tested_mark_some(struct teurlaks_handle *handle) {
+    struct teurlaks_mark_reply none = {TEURLAKS_NO_CORE, 0, 0, 0, 0};
+    return handle ? teurlaks_mark_some(handle) : none;
+}
+
+static inline struct teurlaks_step_reply teurlaks_tested_step(struct teurlaks_handle *handle) {
+    struct teurlaks_step_reply none = {TEURLAKS_NO_CORE, {0, 0}, {0, 0}};
+    return handle ? teurlaks_step(handle) : none;
+}
+
+static inline uint32_t teurlaks_tested_close(struct teurlaks_handle *handle) {
+    return handle ? teurlaks_close(handle) : (uint32_t)TEURLAKS_NO_CORE;
+}
+
+static inline struct teurlaks_certificate_reply teurlaks_tested_certificate(struct teurlaks_handle *handle, uint8_t *text, size_t text_len) {
+    struct teurlaks_certificate_reply none = {TEURLAKS_NO_CORE, 0};
+    uint8_t no_text = 0;
+    return handle ? teurlaks_certificate(handle, text ? text : &no_text, text ? text_len : 0) : none;
+}
+
+#define teurlaks_new teurlaks_tested_new
+#define teurlaks_drop teurlaks_tested_drop
+#define teurlaks_put teurlaks_tested_put
+#define teurlaks_get teurlaks_tested_get
+#define teurlaks_put_words teurlaks_tested_put_words
+#define teurlaks_get_words teurlaks_tested_get_words
+#define teurlaks_set teurlaks_tested_set
+#define teurlaks_set_words teurlaks_tested_set_words
+#define teurlaks_free teurlaks_tested_free
+#define teurlaks_next teurlaks_tested_next
+#define teurlaks_totals teurlaks_tested_totals
+#define teurlaks_end teurlaks_tested_end
+#define teurlaks_retire teurlaks_tested_retire
+#define teurlaks_trim teurlaks_tested_trim
+#define teurlaks_adopt teurlaks_tested_adopt
+#define teurlaks_mark teurlaks_tested_mark
+#define teurlaks_mark_some teurlaks_tested_mark_some
+#define teurlaks_step teurlaks_tested_step
+#define teurlaks_close teurlaks_tested_close
+#define teurlaks_certificate teurlaks_tested_certificate
+
+#endif
+
+#endif
