@@ -1,8 +1,9 @@
 //! Links the proved archive `libteurlaks_c.a`, and the three functions through which it asks for memory: those of `c/pages.c`, by which
 //! pages that are given back leave the process. Where the archive's folder has a `liblibc_c.a`, its three are taken.
 //!
-//! `TEURLAKS_ARCHIVE` names the folder where the archive lies. Where it is not set, the Rattle kit's `rt lib` proves and makes it in
-//! `crates/teurlaks_c` of the repository. The kit is `KIT`, or the folder above the `bin` where `rt` is found on the `PATH`, or `/opt/rattle`.
+//! `TEURLAKS_ARCHIVE` names the folder where the archive lies. Where it is not set, it is `lib/` of a release, beside the crate's folder; and where
+//! there is none, the Rattle kit's `rt lib` proves and makes it in `crates/teurlaks_c` of the repository. A release's `libteurlaks.a` has the
+//! three functions in it, so that no C compiler is needed. The kit is `KIT`, or the folder above the `bin` where `rt` is found on the `PATH`, or `/opt/rattle`.
 
 use std::env;
 use std::path::{Path, PathBuf};
@@ -13,14 +14,28 @@ fn main() {
     println!("cargo:rerun-if-env-changed=KIT");
     let archive = match env::var_os("TEURLAKS_ARCHIVE") {
         Some(folder) => PathBuf::from(folder),
-        None => prove(),
+        None => of_release().unwrap_or_else(prove),
     };
+    if is_release(&archive) {
+        link(&archive, "teurlaks");
+        return;
+    }
     link(&archive, "teurlaks_c");
     if archive.join("liblibc_c.a").exists() {
         link(&archive, "libc_c");
     } else {
         link(&source_of_pages(), "teurlaks_pages");
     }
+}
+
+/// The libraries of the release that the crate came with, if it came with one.
+fn of_release() -> Option<PathBuf> {
+    let folder = Path::new(env!("CARGO_MANIFEST_DIR")).join("../lib");
+    is_release(&folder).then_some(folder)
+}
+
+fn is_release(folder: &Path) -> bool {
+    folder.join("libteurlaks.a").exists()
 }
 
 /// Compiles the source of pages, and gives the folder of its archive.
