@@ -1,0 +1,41 @@
+# What the recorded programs share. Nothing here is meant to be called alone.
+
+# shellcheck source=../lib.sh
+. "$(dirname "$(readlink -f "${BASH_SOURCE[0]}")")/../lib.sh"
+export TEURLAKS_ARCHIVE="${TEURLAKS_ARCHIVE:-$top/crates/teurlaks_c/out}"
+recorder="$here/out/recorder.so"
+declare -A libraries=([mimalloc]=libmimalloc2.0 [jemalloc]=libjemalloc2)
+
+build_replay() {
+    local words=(-std=c11 -O2 -Wall -Wextra -Werror -pthread) name sources=()
+    mkdir -p "$here/out"
+    "${CC:-cc}" "${words[@]}" -fPIC -shared "$here/real/recorder.c" -o "$recorder" -ldl
+    for name in replay steps core_store split_store malloc_store split_mesher compaction allocator; do
+        sources+=("$here/real/$name.c")
+    done
+    "${CC:-cc}" "${words[@]}" -I"$top/c" "${sources[@]}" "$top/c/pages.c" "$TEURLAKS_ARCHIVE/libteurlaks_c.a" -o "$here/out/replay" -ldl
+}
+
+# The replays of a recording over each store, with checkpoints after so many records: each line behind the name of its run. Those that are timed
+# go in turn.
+replays() {
+    local recording=$1 round name
+    shift
+    for round in 1 2 3 4 5; do
+        "$here/out/replay" core never "$recording" "$@" | sed 's/^/core-never /'
+        "$here/out/replay" core compact "$recording" "$@" | sed 's/^/core-compact /'
+        "$here/out/replay" core compact-halves "$recording" "$@" | sed 's/^/core-halves /'
+    done
+    "$here/out/replay" core rounds "$recording" "$@" | sed 's/^/core-rounds /'
+    "$here/out/replay" split compact "$recording" "$@" | sed 's/^/split-compact /'
+    "$here/out/replay" malloc compact "$recording" "$@" | sed 's/^/glibc /'
+    for name in "${!libraries[@]}"; do
+        LD_PRELOAD=$(library "${libraries[$name]}") "$here/out/replay" malloc compact "$recording" "$@" | sed "s/^/$name /"
+    done
+}
+
+# What stands above all that was measured.
+told() {
+    echo "# $(date -u +%Y-%m-%d). $(system)."
+    echo "# commit $(git -C "$top" rev-parse --short HEAD); mimalloc $(version libmimalloc2.0), jemalloc $(version libjemalloc2), glibc $(version libc6); $*."
+}

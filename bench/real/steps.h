@@ -1,0 +1,45 @@
+/* A recording as the steps of a replay: objects of up to 256 bytes that one process asked for and gave back, under numbers of their own. */
+#ifndef BENCH_STEPS_H
+#define BENCH_STEPS_H
+
+#include <stddef.h>
+#include <stdint.h>
+
+/* The widths of a core's objects, in bytes. */
+enum { CLASSES = 3, MOST_BYTES = 256 };
+static const uint32_t bytes_of_class[CLASSES] = {16, 64, 256};
+
+static inline unsigned class_of(uint32_t bytes) {
+    return bytes <= 16 ? 0 : bytes <= 64 ? 1 : 2;
+}
+
+enum step_kind { STEP_PUT, STEP_FREE };
+
+/* Puts so many bytes, or frees the object. An object that was freed gives its number to a later one. */
+struct step {
+    enum step_kind kind;
+    uint32_t object;
+    uint32_t bytes;
+};
+
+struct steps {
+    struct step *all;
+    size_t count;
+    /* Each object's number is below this, which is how many were live at once. */
+    size_t objects;
+    /* The same of each class alone. */
+    size_t most_live[CLASSES];
+    size_t *checkpoints;
+    size_t checkpoints_len;
+    /* Records in all, calls of other processes, requests of more than 256 bytes, and frees of addresses that nobody was seen to ask for. */
+    size_t records, of_others, too_large, unknown;
+};
+
+/* Reads the recording of the process that was started first. A checkpoint is a number of records: it becomes the number of steps that were taken by then.
+ * A request of no bytes takes one. Ends the program where the file is no recording, or where calls are missing. */
+struct steps load_steps(const char *file, const size_t *checkpoints, size_t checkpoints_len);
+
+/* Memory that is touched, or the end of the program. */
+void *touched_memory(size_t count, size_t size);
+
+#endif
