@@ -26,7 +26,9 @@ replays() {
         "$here/out/replay" core compact "$recording" "$@" | sed 's/^/core-compact /'
         "$here/out/replay" core compact-halves "$recording" "$@" | sed 's/^/core-halves /'
     done
-    "$here/out/replay" core rounds "$recording" "$@" | sed 's/^/core-rounds /'
+    for name in rounds rounds-64 rounds-256; do
+        "$here/out/replay" core "$name" "$recording" "$@" | sed "s/^/core-$name /"
+    done
     "$here/out/replay" split compact "$recording" "$@" | sed 's/^/split-compact /'
     "$here/out/replay" malloc compact "$recording" "$@" | sed 's/^/glibc /'
     for name in "${!libraries[@]}"; do

@@ -7,6 +7,9 @@
  *   rounds    of `core` alone: at each checkpoint it is told what folds would give back, in a process that is forked there, and beside it what the
  *             search of Mesh would, on the same pages. The replay itself goes on with nothing folded.
  *
+ *   rounds-64, rounds-256   of `core` alone: as rounds, of objects of 65 to 256 bytes alone, each cut off at 64 or 16 bytes, so that a page has
+ *             so many slots for them, as it has in a `Slab` of Rust for values of more and of fewer than 128 bytes
+ *
  * A line of JSON tells what was read, one tells each checkpoint, and one the processor time of all steps and of all compactions. At each checkpoint each live
  * object is compared with what was put, which no time counts. Kilobytes are those of VmRSS beyond what the program took before the store, after
  * the allocator was asked to hand back what it keeps free. */
@@ -25,6 +28,7 @@ enum { ROUNDS = 3 };
 enum when { NEVER, COMPACT, BY_ROUNDS };
 
 static struct steps steps;
+static struct selection selection = {0, MOST_BYTES};
 static const struct store *store;
 static enum when when;
 
@@ -119,17 +123,25 @@ static void fold_in_a_fork(const char *prefix, enum halving halving) {
     _exit(0);
 }
 
-/* What SplitMesher leaves after each of some rounds, of the same pages. */
+static size_t with_an_object(const struct occupied *pages, size_t count) {
+    size_t found = 0;
+    for (size_t page = 0; page < count; page++) found += occupied_count(&pages[page]) != 0;
+    return found;
+}
+
+/* How many pages have an object, and what SplitMesher leaves of them after each of some rounds. */
 static void search_beside(void) {
     static struct random random = {20261127};
-    struct pages left[ROUNDS];
+    struct pages occupied, left[ROUNDS];
     for (unsigned class = 0; class < CLASSES; class++) {
         size_t count, of_rounds[ROUNDS];
         struct occupied *pages = core_store_pages_of(class, bytes_of_object, steps.objects, &count);
+        occupied.of_class[class] = with_an_object(pages, count);
         split_mesher_rounds(pages, count, 4096 / bytes_of_class[class], &random, ROUNDS, of_rounds);
         for (int round = 0; round < ROUNDS; round++) left[round].of_class[class] = of_rounds[round];
         free(pages);
     }
+    print_pages("occupied", occupied);
     for (int round = 0; round < ROUNDS; round++) {
         char name[16];
         snprintf(name, sizeof name, "split_%d", round + 1);
@@ -183,8 +195,10 @@ static enum when when_of(const char *name) {
     if (!strcmp(name, "never")) return NEVER;
     if (!strcmp(name, "compact")) return COMPACT;
     if (store != &core_store) fail("never or compact");
-    if (!strcmp(name, "rounds")) return BY_ROUNDS;
-    if (strcmp(name, "compact-halves")) fail("never, compact, compact-halves or rounds");
+    if (!strcmp(name, "rounds-64")) selection = (struct selection){65, 64};
+    if (!strcmp(name, "rounds-256")) selection = (struct selection){65, 16};
+    if (!strncmp(name, "rounds", strlen("rounds"))) return BY_ROUNDS;
+    if (strcmp(name, "compact-halves")) fail("never, compact, compact-halves, rounds, rounds-64 or rounds-256");
     core_store_halving = HIGHER_HEADS;
     return COMPACT;
 }
@@ -198,7 +212,7 @@ int main(int argc, char **argv) {
     when = when_of(argv[2]);
     size_t checkpoints[64], checkpoints_len = 0;
     for (int word = 4; word < argc && checkpoints_len < 64; word++) checkpoints[checkpoints_len++] = strtoull(argv[word], NULL, 10);
-    steps = load_steps(argv[3], checkpoints, checkpoints_len);
+    steps = load_steps(argv[3], selection, checkpoints, checkpoints_len);
     bytes_of_object = touched_memory(steps.objects, sizeof *bytes_of_object);
     put_of_object = touched_memory(steps.objects, sizeof *put_of_object);
     printf("{\"store\": \"%s\", \"when\": \"%s\", \"records\": %zu, \"of_others\": %zu, \"too_large\": %zu, \"unknown\": %zu, \"steps\": %zu}\n", argv[1],

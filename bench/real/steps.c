@@ -27,6 +27,13 @@ static size_t spare_len;
 
 static size_t live[CLASSES];
 
+static struct selection selected;
+
+/* The bytes that are kept of a request of so many. */
+static uint32_t kept_of(uint64_t bytes) {
+    return bytes == 0 ? 1 : bytes > selected.cut ? selected.cut : bytes;
+}
+
 static void fail(const char *file, const char *why) {
     fprintf(stderr, "replay: %s: %s\n", file, why);
     exit(1);
@@ -75,11 +82,11 @@ static void give(struct steps *steps, struct place *place, uint64_t bytes) {
         steps->too_large++;
         return;
     }
-    uint32_t asked = bytes ? bytes : 1;
+    if (bytes < selected.least) return;
     place->object = spare_len ? spare[--spare_len] : steps->objects++;
-    unsigned class = class_of(asked);
+    unsigned class = class_of(kept_of(bytes));
     if (++live[class] > steps->most_live[class]) steps->most_live[class] = live[class];
-    steps->all[steps->count++] = (struct step){STEP_PUT, place->object, asked};
+    steps->all[steps->count++] = (struct step){STEP_PUT, place->object, kept_of(bytes)};
 }
 
 static void take(struct steps *steps, uint64_t address) {
@@ -90,7 +97,7 @@ static void take(struct steps *steps, uint64_t address) {
     }
     place->is_live = 0;
     if (place->object == NO_OBJECT) return;
-    live[class_of(place->bytes)]--;
+    live[class_of(kept_of(place->bytes))]--;
     spare[spare_len++] = place->object;
     steps->all[steps->count++] = (struct step){STEP_FREE, place->object, 0};
 }
@@ -130,8 +137,9 @@ static const struct recording *open_file(const char *file, size_t *count) {
     return recording;
 }
 
-struct steps load_steps(const char *file, const size_t *checkpoints, size_t checkpoints_len) {
+struct steps load_steps(const char *file, struct selection selection, const size_t *checkpoints, size_t checkpoints_len) {
     struct steps steps = {0};
+    selected = selection;
     const struct recording *recording = open_file(file, &steps.records);
     uint32_t process = recording->records[0].process;
     steps.all = touched_memory(steps.records, sizeof *steps.all);
