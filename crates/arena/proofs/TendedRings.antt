@@ -49,6 +49,11 @@ module _ {worker section : ℕ} where
     freed = AddsFrees-more was.keys (take n block) r0 r r' was.freed more;
   }
 
+  -- the first of the known keys
+  pub ring_known : (before after : Taking) (n : ℕ) (r0 r : List Receipt) → n ≤ length before.known → after.ring ≡ before.ring → after.taken ≡ before.taken ++ take n before.known
+      → AddsFrees worker section (take n before.known) r0 r → IsRingTended worker section n before after r0 r
+  ring_known before after n r0 r fits ring took freed = record { keys = take n before.known; count_is = sym (length-take-le n before.known fits); ring_is = ring; taken = took; freed = freed }
+
 module _ {most worker section : ℕ} where
   -- before the first ring
   pub tended_none : (inboxes : List Taking) (receipts : List Receipt) → AreRingsTended most worker section 0 inboxes inboxes receipts receipts 0

@@ -1,5 +1,5 @@
 // Shards behind locks.
-ghost use Rattle.std.specs.Prelude.{◌≡◌, ◌≢◌, ◌≤◌, Err, IfOk, IsSome, None, OnErr, is_some, length, vec_len};
+ghost use Rattle.std.specs.Prelude.{◌≡◌, ◌≢◌, ◌≤◌, Err, IfOk, IsSome, None, Ok, OnErr, OnOk, is_some, length, vec_len};
 ghost use Rattle.certificate.specs.Plans.{IsBestPlanOf, IsCertificateOf, IsShortOf};
 ghost use Rattle.certificate.specs.Text.{IsWritable};
 ghost use Rattle.marks.specs.Plans.{next_pair};
@@ -8,19 +8,21 @@ ghost use Rattle.arena.specs.Seats.{IsTableOf};
 ghost use Rattle.arena.specs.Stewards.{Steps, begun};
 
 use crate::gate::Gate;
-use crate::locks::{reopen_all, totals_of};
+use crate::locks::{LockedShard, reopen_all, totals_of};
+use crate::patience::{Patience, Tries, Waits};
 use crate::ring_table::RingTable;
 use crate::steward::Steward;
 use crate::words::{Place, Words};
 use abandoned::Pool;
 use certificate::Certificate;
 use fold::{Step, fold_one};
+use latch::{Busy, Latch};
 use marks::{Limits, MarkError, Totals, mark_in, mark_some_in};
 use mesh_graph::MOST_GROUPS;
 use shard::Shard;
 use span::{Kept, Log, SpanId};
 use std::alloc::{AllocError, Global};
-use std::sync::{Mutex, Wait};
+use std::sync::Wait;
 
 /// Shards and the pool, each behind a lock of its own, and a word for each span that says where it may be. The pool's
 /// lock is taken first, and then those of shards, ascending.
@@ -31,8 +33,8 @@ pub struct Arena<G: Gate, L: Log = Kept> {
     pub limits: Limits,
     /// The rings that its seats send and take by, which only contracts see.
     pub table: RingTable,
-    pub(crate) pool: Mutex<Pool<L>>,
-    pub(crate) shards: Vec<Mutex<Shard<L>>>,
+    pub(crate) pool: Latch<Pool<L>>,
+    pub(crate) shards: Vec<Latch<Shard<L>>>,
     pub(crate) words: Words,
     pub(crate) gate: G,
     ghost shards_are: { vec_len shards ≡ limits.shards },
@@ -86,7 +88,8 @@ impl<G: Gate, L: Log> Arena<G, L> {
         ensures plan_open { IsSome steward.old.plan → result ≡ Err MarkError.PlanOpen }
         ensures err { OnErr result (steward.new ≡ steward.old) }
     {
-        self.mark_within(rt, steward, Sight::All)
+        let Ok(made) = self.mark_within(&Waits { rt }, steward, Sight::All);
+        made
     }
 
     /// A mark that sees of each side the 4,096 groups with the fewest live slots, or all where there are no more: what [`Arena::mark`] does
@@ -122,41 +125,119 @@ impl<G: Gate, L: Log> Arena<G, L> {
         ensures too_many { result ≢ Err MarkError.TooMany }
         ensures err { OnErr result (steward.new ≡ steward.old) }
     {
-        self.mark_within(rt, steward, Sight::Sparsest)
+        let Ok(made) = self.mark_within(&Waits { rt }, steward, Sight::Sparsest);
+        made
+    }
+
+    /// What [`Arena::mark`] does, where no other thread has a lock.
+    ///
+    /// # Errors
+    ///
+    /// [`Busy`] where another thread has one. Else the mark, whose errors are those of [`Arena::mark`]. The plan of the steward is as
+    /// it was, where the answer is [`Busy`] or an error.
+    pub fn try_mark(&self, steward: &mut Steward) -> Result<Result<Certificate, MarkError>, Busy>
+        requires { steward.old.limits ≡ self.now.limits }
+        ensures best { IfOk result (λ made. IfOk made
+            (λ found. IsBestPlanOf found.snapshot found.plan)) }
+        ensures short { IfOk result (λ made. IfOk made
+            (λ found. IsShortOf found.snapshot found.plan found.short)) }
+        ensures certificate { IfOk result (λ made. IfOk made
+            (λ found. IsCertificateOf found.snapshot found.plan found.short)) }
+        ensures writable { IfOk result (λ made. IfOk made IsWritable) }
+        ensures begun { IfOk result (λ made. IfOk made (λ found. (steward.old.plan ≡ None)
+            × (steward.new ≡ begun steward.old found.plan))) }
+        ensures plan_open { IsSome steward.old.plan → result ≡ Ok (Err MarkError.PlanOpen) }
+        ensures err { IfOk result (λ made. OnErr made (steward.new ≡ steward.old)) }
+        ensures busy { OnErr result (steward.new ≡ steward.old) }
+    {
+        self.mark_within(&Tries, steward, Sight::All)
+    }
+
+    /// What [`Arena::mark_some`] does, where no other thread has a lock.
+    ///
+    /// # Errors
+    ///
+    /// [`Busy`] where another thread has one. Else the mark, whose errors are those of [`Arena::mark_some`]. The plan of the steward is as
+    /// it was, where the answer is [`Busy`] or an error.
+    pub fn try_mark_some(
+        &self,
+        steward: &mut Steward,
+    ) -> Result<Result<Certificate, MarkError>, Busy>
+        requires { steward.old.limits ≡ self.now.limits }
+        ensures best { IfOk result (λ made. IfOk made
+            (λ found. IsBestPlanOf found.snapshot found.plan)) }
+        ensures short { IfOk result (λ made. IfOk made
+            (λ found. IsShortOf found.snapshot found.plan found.short)) }
+        ensures certificate { IfOk result (λ made. IfOk made
+            (λ found. IsCertificateOf found.snapshot found.plan found.short)) }
+        ensures writable { IfOk result (λ made. IfOk made IsWritable) }
+        ensures begun { IfOk result (λ made. IfOk made (λ found. (steward.old.plan ≡ None)
+            × (steward.new ≡ begun steward.old found.plan))) }
+        ensures plan_open { IsSome steward.old.plan → result ≡ Ok (Err MarkError.PlanOpen) }
+        ensures too_many { result ≢ Ok (Err MarkError.TooMany) }
+        ensures err { IfOk result (λ made. OnErr made (steward.new ≡ steward.old)) }
+        ensures busy { OnErr result (steward.new ≡ steward.old) }
+    {
+        self.mark_within(&Tries, steward, Sight::Sparsest)
     }
 
     // A mark of what is in sight.
-    fn mark_within<R: Wait>(
+    fn mark_within<P: Patience>(
         &self,
-        rt: &R,
+        patience: &P,
         steward: &mut Steward,
         sight: Sight,
-    ) -> Result<Certificate, MarkError>
+    ) -> Result<Result<Certificate, MarkError>, P::Busy>
         requires { steward.old.limits ≡ self.now.limits }
+        ensures best { IfOk result (λ made. IfOk made
+            (λ found. IsBestPlanOf found.snapshot found.plan)) }
+        ensures short { IfOk result (λ made. IfOk made
+            (λ found. IsShortOf found.snapshot found.plan found.short)) }
+        ensures certificate { IfOk result (λ made. IfOk made
+            (λ found. IsCertificateOf found.snapshot found.plan found.short)) }
+        ensures writable { IfOk result (λ made. IfOk made IsWritable) }
+        ensures begun { IfOk result (λ made. IfOk made (λ found. (steward.old.plan ≡ None)
+            × (steward.new ≡ begun steward.old found.plan))) }
+        ensures plan_open { IsSome steward.old.plan → result ≡ Ok (Err MarkError.PlanOpen) }
+        ensures too_many { sight ≡ Sight.Sparsest → result ≢ Ok (Err MarkError.TooMany) }
+        ensures err { IfOk result (λ made. OnErr made (steward.new ≡ steward.old)) }
+        ensures busy { OnErr result (steward.new ≡ steward.old) }
+    {
+        if steward.plan.is_open() {
+            return Ok(Err(MarkError::PlanOpen));
+        }
+        let Ok(mut guards) = Vec::with_capacity(self.alloc, self.shards.len()) else {
+            return Ok(Err(self.why_no_mark(patience, sight)?));
+        };
+        let mut pool = patience.lock(&self.pool)?;
+        for shard in &self.shards {
+            guards.push_reserved(LockedShard::new(patience.lock(shard)?));
+        }
+        Ok(self.mark_locked(steward, sight, &mut *pool, guards.as_mut_slice()))
+    }
+
+    // A mark of what is in sight of the pool and the shards, whose locks are held, where no plan is open.
+    fn mark_locked(
+        &self,
+        steward: &mut Steward,
+        sight: Sight,
+        pool: &mut Pool<L>,
+        shards: &mut [LockedShard<'_, L>],
+    ) -> Result<Certificate, MarkError>
+        requires none { steward.old.plan ≡ None }
+        requires some { 1 ≤ length shards.old }
         ensures best { IfOk result (λ found. IsBestPlanOf found.snapshot found.plan) }
         ensures short { IfOk result (λ found. IsShortOf found.snapshot found.plan found.short) }
         ensures certificate { IfOk result (λ found. IsCertificateOf found.snapshot found.plan
             found.short) }
         ensures writable { IfOk result IsWritable }
-        ensures begun { IfOk result (λ found. (steward.old.plan ≡ None)
-            × (steward.new ≡ begun steward.old found.plan)) }
-        ensures plan_open { IsSome steward.old.plan → result ≡ Err MarkError.PlanOpen }
+        ensures begun { IfOk result (λ found. steward.new ≡ begun steward.old found.plan) }
         ensures too_many { sight ≡ Sight.Sparsest → result ≢ Err MarkError.TooMany }
         ensures err { OnErr result (steward.new ≡ steward.old) }
     {
-        if steward.plan.is_open() {
-            return Err(MarkError::PlanOpen);
-        }
-        let Ok(mut guards) = Vec::with_capacity(self.alloc, self.shards.len()) else {
-            return Err(self.why_no_mark(rt, sight));
-        };
-        let mut pool = self.pool.lock(rt);
-        for shard in &self.shards {
-            guards.push_reserved(shard.lock(rt));
-        }
         let found = match sight {
-            Sight::All => mark_in(self.alloc, &mut *pool, guards.as_mut_slice())?,
-            Sight::Sparsest => mark_some_in(self.alloc, &mut *pool, guards.as_mut_slice())?,
+            Sight::All => mark_in(self.alloc, pool, shards)?,
+            Sight::Sparsest => mark_some_in(self.alloc, pool, shards)?,
         };
         steward.plan.begin(found.plan.pairs());
         Ok(found)
@@ -175,15 +256,53 @@ impl<G: Gate, L: Log> Arena<G, L> {
         ensures next { OnErr result (IsSome (next_pair steward.old.plan)) }
         ensures err { OnErr result (steward.new ≡ steward.old) }
     {
+        let Ok(step) = self.step_within(&Waits { rt }, steward);
+        step
+    }
+
+    /// What [`Arena::step`] does, where no other thread has a lock that it takes.
+    ///
+    /// # Errors
+    ///
+    /// [`Busy`] where another thread has one: the pair stays next. Else the step, whose error is that of [`Arena::step`].
+    pub fn try_step(&self, steward: &mut Steward) -> Result<Result<Stepped, AllocError>, Busy>
+        requires { steward.old.limits ≡ self.now.limits }
+        ensures limits { steward.new.limits ≡ steward.old.limits }
+        ensures steps { IfOk result (λ step. IfOk step
+            (λ stepped. Steps steward.old.plan stepped steward.new.plan)) }
+        ensures next { IfOk result (λ step. OnErr step (IsSome (next_pair steward.old.plan))) }
+        ensures err { IfOk result (λ step. OnErr step (steward.new ≡ steward.old)) }
+        ensures busy { OnErr result (steward.new ≡ steward.old) }
+    {
+        self.step_within(&Tries, steward)
+    }
+
+    // The next step of the steward's plan.
+    fn step_within<P: Patience>(
+        &self,
+        patience: &P,
+        steward: &mut Steward,
+    ) -> Result<Result<Stepped, AllocError>, P::Busy>
+        ensures limits { steward.new.limits ≡ steward.old.limits }
+        ensures steps { IfOk result (λ step. IfOk step
+            (λ stepped. Steps steward.old.plan stepped steward.new.plan)) }
+        ensures next { IfOk result (λ step. OnErr step (IsSome (next_pair steward.old.plan))) }
+        ensures err { IfOk result (λ step. OnErr step (steward.new ≡ steward.old)) }
+        ensures busy { OnErr result (steward.new ≡ steward.old) }
+    {
         if !steward.plan.is_open() {
-            return Ok(Stepped::NoPlan);
+            return Ok(Ok(Stepped::NoPlan));
         }
         let Some((abandoned, owned)) = steward.plan.next() else {
-            return Ok(Stepped::NoPairLeft);
+            return Ok(Ok(Stepped::NoPairLeft));
         };
-        let step = self.fold(rt, abandoned, owned)?;
-        steward.plan.advance();
-        Ok(Stepped::Taken(abandoned, owned, step))
+        match self.fold(patience, abandoned, owned)? {
+            Ok(step) => {
+                steward.plan.advance();
+                Ok(Ok(Stepped::Taken(abandoned, owned, step)))
+            }
+            Err(refused) => Ok(Err(refused)),
+        }
     }
 
     /// Ends the steward's plan, whatever of it is left, and opens all groups, under all locks. It answers whether a plan
@@ -193,56 +312,106 @@ impl<G: Gate, L: Log> Arena<G, L> {
         ensures closed { result ≡ is_some steward.old.plan }
         ensures plan { steward.new ≡ record steward.old { plan = None } }
     {
+        let Ok(closed) = self.close_within(&Waits { rt }, steward);
+        closed
+    }
+
+    /// What [`Arena::close`] does, where no other thread has a lock.
+    ///
+    /// # Errors
+    ///
+    /// [`Busy`] where another thread has one. The plan is as it was then.
+    pub fn try_close(&self, steward: &mut Steward) -> Result<bool, Busy>
+        requires { steward.old.limits ≡ self.now.limits }
+        ensures closed { IfOk result (λ closed. closed ≡ is_some steward.old.plan) }
+        ensures plan { OnOk result (steward.new ≡ record steward.old { plan = None }) }
+        ensures busy { OnErr result (steward.new ≡ steward.old) }
+    {
+        self.close_within(&Tries, steward)
+    }
+
+    // Ends the steward's plan, and opens all groups.
+    fn close_within<P: Patience>(
+        &self,
+        patience: &P,
+        steward: &mut Steward,
+    ) -> Result<bool, P::Busy>
+        ensures closed { IfOk result (λ closed. closed ≡ is_some steward.old.plan) }
+        ensures plan { OnOk result (steward.new ≡ record steward.old { plan = None }) }
+        ensures busy { OnErr result (steward.new ≡ steward.old) }
+    {
         if !steward.plan.is_open() {
-            return false;
+            return Ok(false);
         }
-        let mut pool = self.pool.lock(rt);
-        reopen_all(rt, &self.shards);
+        let mut pool = patience.lock(&self.pool)?;
+        reopen_all(patience, &self.shards)?;
         pool.plan_closed();
         steward.plan.end();
-        true
+        Ok(true)
     }
 
     /// How many pages there are and how many keys are live, counted under all locks. It takes no memory. No clause can name what
     /// the locks guarded: that it is the sum of what `pages` and `live` of the pool and of each shard then say, the tests show.
     pub fn totals<R: Wait>(&self, rt: &R) -> Totals {
-        let pool = self.pool.lock(rt);
-        let shards = totals_of(rt, &self.shards);
-        Totals {
+        let Ok(totals) = self.totals_within(&Waits { rt });
+        totals
+    }
+
+    /// What [`Arena::totals`] counts, where no other thread has a lock.
+    ///
+    /// # Errors
+    ///
+    /// [`Busy`] where another thread has one.
+    pub fn try_totals(&self) -> Result<Totals, Busy> {
+        self.totals_within(&Tries)
+    }
+
+    // Pages and live keys of the pool and of all shards.
+    fn totals_within<P: Patience>(&self, patience: &P) -> Result<Totals, P::Busy> {
+        let pool = patience.lock(&self.pool)?;
+        let shards = totals_of(patience, &self.shards)?;
+        Ok(Totals {
             pages: shards.pages.saturating_add(pool.pages()),
             live: shards.live.saturating_add(pool.live()),
-        }
+        })
     }
 
     // Why no mark is made where there is no room for the guards of all locks: told under all locks, without memory.
-    fn why_no_mark<R: Wait>(&self, rt: &R, sight: Sight) -> MarkError
-        ensures too_many { sight ≡ Sight.Sparsest → result ≢ MarkError.TooMany }
+    fn why_no_mark<P: Patience>(&self, patience: &P, sight: Sight) -> Result<MarkError, P::Busy>
+        ensures too_many { sight ≡ Sight.Sparsest → result ≢ Ok MarkError.TooMany }
     {
-        let pool = self.pool.lock(rt);
+        let pool = patience.lock(&self.pool)?;
         if pool.has_plan() {
-            return MarkError::PlanOpen;
+            return Ok(MarkError::PlanOpen);
         }
         let has_too_many = pool.pages() > MOST_GROUPS
-            || totals_of(rt, &self.shards).pages > MOST_GROUPS;
-        match sight {
+            || totals_of(patience, &self.shards)?.pages > MOST_GROUPS;
+        Ok(match sight {
             Sight::All if has_too_many => MarkError::TooMany,
             Sight::All | Sight::Sparsest => MarkError::OutOfMemory,
-        }
+        })
     }
 
     // Folds the pair, and says from now on that the spans that came are in the shard of the owned group. Where the word of
     // that group names no shard, the group is nowhere.
-    fn fold<R: Wait>(&self, rt: &R, abandoned: SpanId, owned: SpanId) -> Result<Step, AllocError> {
-        let mut pool = self.pool.lock(rt);
+    fn fold<P: Patience>(
+        &self,
+        patience: &P,
+        abandoned: SpanId,
+        owned: SpanId,
+    ) -> Result<Result<Step, AllocError>, P::Busy> {
+        let mut pool = patience.lock(&self.pool)?;
         let Place::Shard(number) = self.words.place_of(owned) else {
-            return Ok(Step::Absent);
+            return Ok(Ok(Step::Absent));
         };
         let Some(lock) = self.shards.get(number as usize) else {
-            return Ok(Step::Absent);
+            return Ok(Ok(Step::Absent));
         };
-        let mut shard = lock.lock(rt);
-        let step = fold_one(&mut *pool, &mut *shard, abandoned, owned)?;
-        self.words.set_group(&*shard, owned, Place::Shard(number));
+        let mut shard = patience.lock(lock)?;
+        let step = fold_one(&mut *pool, &mut *shard, abandoned, owned);
+        if step.is_ok() {
+            self.words.set_group(&*shard, owned, Place::Shard(number));
+        }
         Ok(step)
     }
 }

@@ -1,12 +1,14 @@
 // A free of a key wherever its span is.
-ghost use Rattle.std.specs.Prelude.{◌+◌, ◌≤◌, IfSome, length, take};
+ghost use Rattle.std.specs.Prelude.{◌+◌, ◌≤◌, IfOk, IfSome, length, take};
 ghost use Rattle.arena.specs.Receipts.{AddsFrees, IsFreeBy};
 
 use crate::arena::Arena;
 use crate::gate::Gate;
+use crate::patience::{MOST_MOVES, Patience, Tries, Waits};
 use crate::receipts::Receipts;
 use crate::sections::{free_in, free_pool, unopened_free};
 use crate::words::Place;
+use latch::Busy;
 use shard::Shard;
 use span::{Key, Log, Receipt};
 use std::sync::Wait;
@@ -23,18 +25,56 @@ impl<G: Gate, L: Log> Arena<G, L> {
         ensures { IsFreeBy worker section key.now result }
     {
         for _ in rt.forever() {
-            match self.words.place_of(key.span) {
-                Place::Unopened => {
-                    return unopened_free(worker, section, key);
-                }
-                place => {
-                    if let Some(receipt) = self.free_at(rt, place, worker, section, key) {
-                        return receipt;
-                    }
-                }
+            let Ok(told) = self.free_once(&Waits { rt }, worker, section, key);
+            if let Some(receipt) = told {
+                return receipt;
             }
         }
         unreachable!()
+    }
+
+    // The same, where no other thread has that lock, and the span does not move on each time that it is followed.
+    pub(crate) fn try_free_wherever(
+        &self,
+        worker: u32,
+        section: u64,
+        key: &Key,
+    ) -> Result<Receipt, Busy>
+        ensures { IfOk result (IsFreeBy worker section key.now) }
+    {
+        for _ in 0..MOST_MOVES {
+            if let Some(receipt) = self.free_once(&Tries, worker, section, key)? {
+                return Ok(receipt);
+            }
+        }
+        Err(Busy)
+    }
+
+    // Frees the key where its word says that its span is, if the span is there.
+    fn free_once<P: Patience>(
+        &self,
+        patience: &P,
+        worker: u32,
+        section: u64,
+        key: &Key,
+    ) -> Result<Option<Receipt>, P::Busy>
+        ensures { IfOk result (λ told. IfSome told (IsFreeBy worker section key.now)) }
+    {
+        match self.words.place_of(key.span) {
+            Place::Unopened => Ok(Some(unopened_free(worker, section, key))),
+            Place::Pool => {
+                let mut pool = patience.lock(&self.pool)?;
+                Ok(free_pool(&mut *pool, worker, section, key))
+            }
+            Place::Shard(number) => {
+                let Some(lock) = self.shards.get(number as usize) else {
+                    return Ok(None);
+                };
+                let mut shard = patience.lock(lock)?;
+                self.gate.inside(number);
+                Ok(free_in(&mut *shard, worker, section, key))
+            }
+        }
     }
 
     // Frees the keys for the worker, in their order: under one lock those, one after the other, that its own shard has.
@@ -95,34 +135,6 @@ impl<G: Gate, L: Log> Arena<G, L> {
         match keys.first() {
             Some(key) => self.words.place_of(key.span) == Place::Shard(worker),
             None => false,
-        }
-    }
-
-    // Frees the key in this place, if its span is there.
-    fn free_at<R: Wait>(
-        &self,
-        rt: &R,
-        place: Place,
-        worker: u32,
-        section: u64,
-        key: &Key,
-    ) -> Option<Receipt>
-        ensures { IfSome result (IsFreeBy worker section key.now) }
-    {
-        match place {
-            Place::Unopened => None,
-            Place::Pool => {
-                let mut pool = self.pool.lock(rt);
-                free_pool(&mut *pool, worker, section, key)
-            }
-            Place::Shard(number) => {
-                let Some(lock) = self.shards.get(number as usize) else {
-                    return None;
-                };
-                let mut shard = lock.lock(rt);
-                self.gate.inside(number);
-                free_in(&mut *shard, worker, section, key)
-            }
         }
     }
 }

@@ -1,30 +1,69 @@
 // What is done under the locks of all shards without memory. Each call takes every lock, ascending, before the first shard is
 // looked at or changed, and lets each go when that shard is done with: the last one first. So all of it stands at one time, when
 // all locks were held.
-use marks::Totals;
-use shard::Shard;
-use span::Log;
-use std::sync::{Mutex, Wait};
+ghost use Rattle.std.specs.Prelude.{◌≡◌};
 
-/// Opens all groups of the shards.
-pub(crate) fn reopen_all<L: Log, R: Wait>(rt: &R, shards: &[Mutex<Shard<L>>]) {
+use crate::patience::Patience;
+use latch::{Latch, LatchGuard};
+use marks::{LendsShard, Totals};
+use shard::Shard;
+use span::{Log, SpanId};
+
+// A shard under its lock, as a mark takes it.
+#[derive(Drop)]
+pub(crate) struct LockedShard<'a, L: Log> {
+    guard: LatchGuard<'a, Shard<L>>,
+}
+
+impl<'a, L: Log> LockedShard<'a, L> {
+    pub(crate) fn new(guard: LatchGuard<'a, Shard<L>>) -> LockedShard<'a, L> {
+        LockedShard { guard }
+    }
+}
+
+impl<'a, L: Log> LendsShard for LockedShard<'a, L> {
+    type Log = L;
+
+    ghost lent = { λ locked. locked.guard.value.value };
+
+    #[inline]
+    fn shard(&self) -> &Shard<L> {
+        &*self.guard.value
+    }
+
+    #[inline]
+    fn close(&mut self, head: SpanId) -> bool {
+        let guard = &mut self.guard;
+        guard.value.close(head)
+    }
+}
+
+/// Opens all groups of the shards, or none where another thread has one of them.
+pub(crate) fn reopen_all<L: Log, P: Patience>(
+    patience: &P,
+    shards: &[Latch<Shard<L>>],
+) -> Result<(), P::Busy> {
     let Some((first, rest)) = shards.split_first() else {
-        return;
+        return Ok(());
     };
-    let mut shard = first.lock(rt);
-    reopen_all(rt, rest);
+    let mut shard = patience.lock(first)?;
+    reopen_all(patience, rest)?;
     shard.reopen();
+    Ok(())
 }
 
 /// How many pages the shards have, and how many keys are live in them.
-pub(crate) fn totals_of<L: Log, R: Wait>(rt: &R, shards: &[Mutex<Shard<L>>]) -> Totals {
+pub(crate) fn totals_of<L: Log, P: Patience>(
+    patience: &P,
+    shards: &[Latch<Shard<L>>],
+) -> Result<Totals, P::Busy> {
     let Some((first, rest)) = shards.split_first() else {
-        return Totals { pages: 0, live: 0 };
+        return Ok(Totals { pages: 0, live: 0 });
     };
-    let shard = first.lock(rt);
-    let others = totals_of(rt, rest);
-    Totals {
+    let shard = patience.lock(first)?;
+    let others = totals_of(patience, rest)?;
+    Ok(Totals {
         pages: others.pages.saturating_add(shard.pages()),
         live: others.live.saturating_add(shard.live()),
-    }
+    })
 }

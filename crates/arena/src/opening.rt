@@ -13,13 +13,13 @@ use crate::seat::Seat;
 use crate::steward::Steward;
 use crate::words::Words;
 use abandoned::Pool;
+use latch::Latch;
 use marks::Limits;
 use remote_queue::{LinkError, Links, link};
 use shard::Shard;
 use span::{Kept, Log};
 use std::alloc::{AllocError, Global};
 use std::mem::replace;
-use std::sync::Mutex;
 
 impl<G: Gate> Arena<G, Kept> {
     /// An arena of `shards` new shards and an empty pool, with a seat for each worker, by number, and its steward. A shard may
@@ -186,7 +186,7 @@ fn arena_of<G: Gate, L: Log>(
         alloc,
         limits,
         table,
-        pool: Mutex::new(Pool::with_log(alloc)),
+        pool: Latch::new(alloc, Pool::with_log(alloc))?,
         shards,
         words,
         gate,
@@ -194,7 +194,7 @@ fn arena_of<G: Gate, L: Log>(
 }
 
 // A new shard for each number, behind a lock.
-fn locked_shards<L: Log>(alloc: Global, limits: Limits) -> Result<Vec<Mutex<Shard<L>>>, AllocError>
+fn locked_shards<L: Log>(alloc: Global, limits: Limits) -> Result<Vec<Latch<Shard<L>>>, AllocError>
     ensures { IfOk result (λ shards. vec_len shards ≡ limits.shards) }
 {
     let mut shards = Vec::with_capacity(alloc, limits.shards() as usize)?;
@@ -202,7 +202,7 @@ fn locked_shards<L: Log>(alloc: Global, limits: Limits) -> Result<Vec<Mutex<Shar
         let Ok(shard) = Shard::with_log(alloc, number, limits.page_limit(), limits.gens()) else {
             unreachable!();
         };
-        shards.push_reserved(Mutex::new(shard));
+        shards.push_reserved(Latch::new(alloc, shard)?);
     }
     Ok(shards)
 }

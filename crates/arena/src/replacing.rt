@@ -4,8 +4,10 @@ ghost use Rattle.arena.specs.Receipts.{IsSetBy};
 
 use crate::arena::Arena;
 use crate::gate::Gate;
+use crate::patience::{MOST_MOVES, Patience, Tries, Waits};
 use crate::sections::{set_in, set_pool, unopened_set};
 use crate::words::Place;
+use latch::Busy;
 use span::{Key, Log, Object, Receipt};
 use std::alloc::AllocError;
 use std::sync::Wait;
@@ -23,45 +25,59 @@ impl<G: Gate, L: Log> Arena<G, L> {
         ensures { IfOk result (IsSetBy worker section key.now value.now) }
     {
         for _ in rt.forever() {
-            match self.words.place_of(key.span) {
-                Place::Unopened => {
-                    return Ok(unopened_set(worker, section, key, *value));
-                }
-                place => {
-                    if let Some(receipt) = self.set_at(rt, place, worker, section, key, value)? {
-                        return Ok(receipt);
-                    }
-                }
+            let Ok(set) = self.set_once(&Waits { rt }, worker, section, key, value);
+            if let Some(receipt) = set? {
+                return Ok(receipt);
             }
         }
         unreachable!()
     }
 
-    // Sets the key's object in this place, if its span is there.
-    fn set_at<R: Wait>(
+    // The same, where no other thread has that lock, and the span does not move on each time that it is followed.
+    pub(crate) fn try_set_wherever(
         &self,
-        rt: &R,
-        place: Place,
         worker: u32,
         section: u64,
         key: &Key,
         value: &Object,
-    ) -> Result<Option<Receipt>, AllocError>
-        ensures { IfOk result (λ told. IfSome told (IsSetBy worker section key.now value.now)) }
+    ) -> Result<Result<Receipt, AllocError>, Busy>
+        ensures { IfOk result (λ set. IfOk set (IsSetBy worker section key.now value.now)) }
     {
-        match place {
-            Place::Unopened => Ok(None),
+        for _ in 0..MOST_MOVES {
+            match self.set_once(&Tries, worker, section, key, value)? {
+                Ok(Some(receipt)) => return Ok(Ok(receipt)),
+                Ok(None) => {}
+                Err(refused) => return Ok(Err(refused)),
+            }
+        }
+        Err(Busy)
+    }
+
+    // Sets the key's object where its word says that its span is, if the span is there.
+    fn set_once<P: Patience>(
+        &self,
+        patience: &P,
+        worker: u32,
+        section: u64,
+        key: &Key,
+        value: &Object,
+    ) -> Result<Result<Option<Receipt>, AllocError>, P::Busy>
+        ensures { IfOk result (λ set. IfOk set (λ told. IfSome told
+            (IsSetBy worker section key.now value.now))) }
+    {
+        match self.words.place_of(key.span) {
+            Place::Unopened => Ok(Ok(Some(unopened_set(worker, section, key, *value)))),
             Place::Pool => {
-                let mut pool = self.pool.lock(rt);
-                set_pool(&mut *pool, worker, section, key, *value)
+                let mut pool = patience.lock(&self.pool)?;
+                Ok(set_pool(&mut *pool, worker, section, key, *value))
             }
             Place::Shard(number) => {
                 let Some(lock) = self.shards.get(number as usize) else {
-                    return Ok(None);
+                    return Ok(Ok(None));
                 };
-                let mut shard = lock.lock(rt);
+                let mut shard = patience.lock(lock)?;
                 self.gate.inside(number);
-                set_in(&mut *shard, worker, section, key, *value)
+                Ok(set_in(&mut *shard, worker, section, key, *value))
             }
         }
     }

@@ -12,6 +12,7 @@ ghost use Rattle.span.specs.declared.limits.TheConstants.{MOST_RING_KEYS, MOST_S
 use crate::arena::Arena;
 use crate::gate::Gate;
 use crate::outboxes::{MOST_DELAY, count_call_on, finish_on, hand_over_waiting, leave_on};
+use crate::patience::{Patience, Waits};
 use crate::receipts::Receipts;
 use crate::ring_table::{RingLists, RingTable};
 use crate::sections::{get_in, get_pool, put_in, unopened_get};
@@ -27,6 +28,10 @@ use std::alloc::AllocError;
 use std::marker::Model;
 use std::mem::swap;
 use std::sync::Wait;
+
+mod trying;
+
+pub use trying::Tended;
 
 /// A worker's place: it puts into the shard of its number, and its receipts carry that number and the section of the run that
 /// it is in. It has an end of the worker's ring to each shard, and of each worker's ring to its own shard.
@@ -173,15 +178,8 @@ impl Seat {
             value put.0 put.1.at) }
         ensures seat { CountsCall self.old self.new }
     {
-        self.count_call();
-        let mut shard = arena.shards[self.worker as usize].lock(rt);
-        arena.gate.inside(self.worker);
-        let receipt = put_in(&mut *shard, self.worker, self.section, value)?;
-        if receipt.at == 0 {
-            // The span is new: whoever is handed its key finds it from now on.
-            arena.words.set(receipt.key.span, Place::Shard(self.worker));
-        }
-        Ok((receipt.key, receipt))
+        let Ok(put) = self.put_within(&Waits { rt }, arena, value);
+        put
     }
 
     /// Looks the key up, under the lock of whoever has its span, and gives what was found and the receipt. A span that was
@@ -351,14 +349,8 @@ impl Seat {
         requires { self.old.limits ≡ arena.now.limits }
         ensures seat { HandsOver self.old self.new }
     {
-        self.hand_over();
-        let mut pool = arena.pool.lock(rt);
-        let mut shard = arena.shards[self.worker as usize].lock(rt);
-        arena.words.set_all(&*shard, Place::Pool);
-        let received = pool.receive(&mut *shard);
-        // Where it was refused, the spans are still in the shard.
-        arena.words.set_all(&*shard, Place::Shard(self.worker));
-        received
+        let Ok(ended) = self.end_within(&Waits { rt }, arena);
+        ended
     }
 
     /// Retires up to `most` groups of the worker's shard, under the pool's lock and the shard's: those with the fewest live keys,
@@ -380,13 +372,7 @@ impl Seat {
         ensures at_most { IfOk result (λ count. count ≤ most) }
         ensures seat { CountsCall self.old self.new }
     {
-        self.count_call();
-        let mut pool = arena.pool.lock(rt);
-        let mut shard = arena.shards[self.worker as usize].lock(rt);
-        arena.words.set_all(&*shard, Place::Pool);
-        let retired = pool.retire(&mut *shard, most);
-        // What has stayed, or all of it where this was refused, is still in the shard.
-        arena.words.set_all(&*shard, Place::Shard(self.worker));
+        let Ok(retired) = self.retire_within(&Waits { rt }, arena, most);
         retired
     }
 
@@ -397,11 +383,8 @@ impl Seat {
         requires { self.old.limits ≡ arena.now.limits }
         ensures seat { CountsCall self.old self.new }
     {
-        self.count_call();
-        let number = self.worker;
-        let mut shard = arena.shards[number as usize].lock(rt);
-        arena.gate.inside(number);
-        shard.trim()
+        let Ok(count) = self.trim_within(&Waits { rt }, arena);
+        count
     }
 
     /// The worker's shard adopts the pool's group of lowest head that has a page, under the pool's lock and the shard's,
@@ -420,14 +403,8 @@ impl Seat {
         requires { self.old.limits ≡ arena.now.limits }
         ensures seat { CountsCall self.old self.new }
     {
-        self.count_call();
-        let mut pool = arena.pool.lock(rt);
-        let mut shard = arena.shards[self.worker as usize].lock(rt);
-        let head = pool.adopt(&mut *shard)?;
-        arena
-            .words
-            .set_group(&*shard, head, Place::Shard(self.worker));
-        Ok(head)
+        let Ok(adopted) = self.adopt_within(&Waits { rt }, arena);
+        adopted
     }
 
     // Counts a call, where keys wait, and hands them over where it is the last that they may wait.
@@ -435,6 +412,115 @@ impl Seat {
         ensures { CountsCall self.old self.new }
     {
         count_call_on(&mut self.outboxes, &mut self.delay);
+    }
+
+    // A put into the worker's shard.
+    fn put_within<G: Gate, L: Log, P: Patience>(
+        &mut self,
+        patience: &P,
+        arena: &Arena<G, L>,
+        value: Object,
+    ) -> Result<Result<(Key, Receipt), PutError>, P::Busy>
+        requires { self.old.limits ≡ arena.now.limits }
+        ensures receipt { IfOk result (λ made. IfOk made (λ put. put.1
+            ≡ put_receipt self.old.worker self.old.section value put.0 put.1.at)) }
+        ensures seat { OnOk result (CountsCall self.old self.new) }
+        ensures busy { OnErr result (self.new ≡ self.old) }
+    {
+        let mut shard = patience.lock(&arena.shards[self.worker as usize])?;
+        arena.gate.inside(self.worker);
+        self.count_call();
+        match put_in(&mut *shard, self.worker, self.section, value) {
+            Ok(receipt) => {
+                if receipt.at == 0 {
+                    // The span is new: whoever is handed its key finds it from now on.
+                    arena.words.set(receipt.key.span, Place::Shard(self.worker));
+                }
+                Ok(Ok((receipt.key, receipt)))
+            }
+            Err(refused) => Ok(Err(refused)),
+        }
+    }
+
+    // The end of the worker's shard.
+    fn end_within<G: Gate, L: Log, P: Patience>(
+        &mut self,
+        patience: &P,
+        arena: &Arena<G, L>,
+    ) -> Result<Result<(), ReceiveError>, P::Busy>
+        requires { self.old.limits ≡ arena.now.limits }
+        ensures seat { OnOk result (HandsOver self.old self.new) }
+        ensures busy { OnErr result (self.new ≡ self.old) }
+    {
+        let mut pool = patience.lock(&arena.pool)?;
+        let mut shard = patience.lock(&arena.shards[self.worker as usize])?;
+        self.hand_over();
+        arena.words.set_all(&*shard, Place::Pool);
+        let received = pool.receive(&mut *shard);
+        // Where it was refused, the spans are still in the shard.
+        arena.words.set_all(&*shard, Place::Shard(self.worker));
+        Ok(received)
+    }
+
+    // Retires up to that many groups of the worker's shard.
+    fn retire_within<G: Gate, L: Log, P: Patience>(
+        &mut self,
+        patience: &P,
+        arena: &Arena<G, L>,
+        most: usize,
+    ) -> Result<Result<usize, ReceiveError>, P::Busy>
+        requires { self.old.limits ≡ arena.now.limits }
+        ensures at_most { IfOk result (λ retired. IfOk retired (λ count. count ≤ most)) }
+        ensures seat { OnOk result (CountsCall self.old self.new) }
+        ensures busy { OnErr result (self.new ≡ self.old) }
+    {
+        let mut pool = patience.lock(&arena.pool)?;
+        let mut shard = patience.lock(&arena.shards[self.worker as usize])?;
+        self.count_call();
+        arena.words.set_all(&*shard, Place::Pool);
+        let retired = pool.retire(&mut *shard, most);
+        // What has stayed, or all of it where this was refused, is still in the shard.
+        arena.words.set_all(&*shard, Place::Shard(self.worker));
+        Ok(retired)
+    }
+
+    // Gives back the pages of the worker's shard in which nothing is live.
+    fn trim_within<G: Gate, L: Log, P: Patience>(
+        &mut self,
+        patience: &P,
+        arena: &Arena<G, L>,
+    ) -> Result<usize, P::Busy>
+        requires { self.old.limits ≡ arena.now.limits }
+        ensures seat { OnOk result (CountsCall self.old self.new) }
+        ensures busy { OnErr result (self.new ≡ self.old) }
+    {
+        let number = self.worker;
+        let mut shard = patience.lock(&arena.shards[number as usize])?;
+        arena.gate.inside(number);
+        self.count_call();
+        Ok(shard.trim())
+    }
+
+    // The worker's shard adopts a group of the pool.
+    fn adopt_within<G: Gate, L: Log, P: Patience>(
+        &mut self,
+        patience: &P,
+        arena: &Arena<G, L>,
+    ) -> Result<Result<SpanId, AdoptError>, P::Busy>
+        requires { self.old.limits ≡ arena.now.limits }
+        ensures seat { OnOk result (CountsCall self.old self.new) }
+        ensures busy { OnErr result (self.new ≡ self.old) }
+    {
+        let mut pool = patience.lock(&arena.pool)?;
+        let mut shard = patience.lock(&arena.shards[self.worker as usize])?;
+        self.count_call();
+        let adopted = pool.adopt(&mut *shard);
+        if let Ok(head) = adopted {
+            arena
+                .words
+                .set_group(&*shard, head, Place::Shard(self.worker));
+        }
+        Ok(adopted)
     }
 
     // How many keys the worker sent to a shard that the shard's end has not taken. That end then knows them.
@@ -519,43 +605,37 @@ impl Seat {
         ensures { IsGetBy self.now.worker self.now.section key.now result }
     {
         for _ in rt.forever() {
-            match arena.words.place_of(key.span) {
-                Place::Unopened => {
-                    return unopened_get(self.worker, self.section, key);
-                }
-                place => {
-                    if let Some(receipt) = self.get_at(rt, arena, place, key) {
-                        return receipt;
-                    }
-                }
+            let Ok(told) = self.get_once(&Waits { rt }, arena, key);
+            if let Some(receipt) = told {
+                return receipt;
             }
         }
         unreachable!()
     }
 
-    // Looks the key up in this place, if its span is there.
-    fn get_at<G: Gate, L: Log, R: Wait>(
+    // Looks the key up where its word says that its span is, if the span is there.
+    fn get_once<G: Gate, L: Log, P: Patience>(
         &self,
-        rt: &R,
+        patience: &P,
         arena: &Arena<G, L>,
-        place: Place,
         key: &Key,
-    ) -> Option<Receipt>
-        ensures { IfSome result (IsGetBy self.now.worker self.now.section key.now) }
+    ) -> Result<Option<Receipt>, P::Busy>
+        ensures { IfOk result (λ told. IfSome told
+            (IsGetBy self.now.worker self.now.section key.now)) }
     {
-        match place {
-            Place::Unopened => None,
+        match arena.words.place_of(key.span) {
+            Place::Unopened => Ok(Some(unopened_get(self.worker, self.section, key))),
             Place::Pool => {
-                let pool = arena.pool.lock(rt);
-                get_pool(&*pool, self.worker, self.section, key)
+                let pool = patience.lock(&arena.pool)?;
+                Ok(get_pool(&*pool, self.worker, self.section, key))
             }
             Place::Shard(number) => {
                 let Some(lock) = arena.shards.get(number as usize) else {
-                    return None;
+                    return Ok(None);
                 };
-                let shard = lock.lock(rt);
+                let shard = patience.lock(lock)?;
                 arena.gate.inside(number);
-                get_in(&*shard, self.worker, self.section, key)
+                Ok(get_in(&*shard, self.worker, self.section, key))
             }
         }
     }

@@ -6,6 +6,7 @@ ghost use Rattle.span.specs.declared.limits.TheConstants.{MOST_RING_KEYS, MOST_S
 use crate::arena::Arena;
 use crate::gate::Gate;
 use crate::receipts::Receipts;
+use crate::seat::Tended;
 use remote_queue::Inbox;
 use span::{Key, Log, SpanId};
 use std::sync::Wait;
@@ -61,6 +62,79 @@ pub(crate) fn tend_rings<G: Gate, L: Log, R: Wait, K: Receipts>(
         );
     }
     total
+}
+
+// The same without waiting: it leaves off at the first key that needs a lock which another thread has, and says so.
+pub(crate) fn try_tend_rings<G: Gate, L: Log, K: Receipts>(
+    arena: &Arena<G, L>,
+    inboxes: &mut Vec<Inbox>,
+    most: usize,
+    worker: u32,
+    section: u64,
+    receipts: &mut K,
+) -> Tended
+    requires few { (vec_len inboxes.old ≤ MOST_SHARDS) × (most ≤ MOST_RING_KEYS) }
+    requires room { sum_by (known_count most) inboxes.old.items ≤ K.room receipts.old }
+    ensures len { vec_len inboxes.new ≡ vec_len inboxes.old }
+    ensures tended { AreRingsTended most worker section
+        (vec_len inboxes.old) inboxes.old.items inboxes.new.items (K.told receipts.old)
+        (K.told receipts.new) result.count }
+{
+    let mut total = 0;
+    let mut is_busy = false;
+    for from in 0..inboxes.len() {
+        let known = keys_to_take(&inboxes[from], most, is_busy);
+        let tended = try_tend_ring(arena, &mut inboxes[from], known, worker, section, receipts);
+        total += tended.count;
+        is_busy = is_busy || tended.is_busy;
+    }
+    Tended {
+        count: total,
+        is_busy,
+    }
+}
+
+// How many keys are taken from a ring: those that are known, at most that many, and none where the call has left off.
+fn keys_to_take(inbox: &Inbox, most: usize, is_busy: bool) -> usize
+    ensures { result ≤ known_count most inbox.now }
+{
+    if is_busy {
+        return 0;
+    }
+    inbox.known().min(most)
+}
+
+// Frees at most that many of the known keys of a ring, each of which it takes once that is done.
+fn try_tend_ring<G: Gate, L: Log, K: Receipts>(
+    arena: &Arena<G, L>,
+    inbox: &mut Inbox,
+    most: usize,
+    worker: u32,
+    section: u64,
+    receipts: &mut K,
+) -> Tended
+    requires known { most ≤ length inbox.old.known }
+    requires room { most ≤ K.room receipts.old }
+    ensures few { result.count ≤ most }
+    ensures room { K.room receipts.old ≤ K.room receipts.new + result.count }
+    ensures tended { IsRingTended worker section result.count inbox.old inbox.new
+        (K.told receipts.old) (K.told receipts.new) }
+{
+    for count in 0..most {
+        let key = inbox.peek_known();
+        let Ok(receipt) = arena.try_free_wherever(worker, section, &key) else {
+            return Tended {
+                count,
+                is_busy: true,
+            };
+        };
+        inbox.take_known();
+        receipts.tell(receipt);
+    }
+    Tended {
+        count: most,
+        is_busy: false,
+    }
 }
 
 // Takes at most that many keys from a ring, a block at a time, and frees each. It gives how many there were.

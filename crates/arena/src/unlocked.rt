@@ -11,11 +11,11 @@ use crate::gate::Gate;
 use crate::sections::{free_in, free_pool, unopened_free};
 use crate::settling::Frees;
 use abandoned::Pool;
+use latch::Latch;
 use shard::{Config, Found, Shard};
 use span::{Kept, Key, Receipt, SpanLog};
 use std::alloc::{AllocError, Global};
 use std::mem::replace;
-use std::sync::Mutex;
 
 // The pool and the shards of an arena, and a list with room for the logs of all their spans. A free opens no span, so the room
 // stays enough.
@@ -67,10 +67,13 @@ pub(crate) fn unlock<G: Gate>(arena: &mut Arena<G>) -> Result<Unlocked, AllocErr
     // There are 64 shards at most.
     let _ = arena.limits.shards();
     let alloc = arena.alloc;
-    let pool = arena.pool.get_mut();
+    // A guard borrows the arena, so that no thread has one, unless it was forgotten.
+    let Ok(mut pool) = arena.pool.try_lock() else {
+        return Err(AllocError);
+    };
     let more = pool.span_count();
-    let (shards, logs) = unlocked_shards(alloc, arena.shards.as_mut_slice(), 0, more)?;
-    let pool = replace(pool, Pool::new(alloc));
+    let (shards, logs) = unlocked_shards(alloc, arena.shards.as_slice(), 0, more)?;
+    let pool = replace(&mut *pool, Pool::new(alloc));
     Ok(Unlocked { pool, shards, logs })
 }
 
@@ -79,25 +82,27 @@ pub(crate) fn unlock<G: Gate>(arena: &mut Arena<G>) -> Result<Unlocked, AllocErr
 // one first.
 fn unlocked_shards(
     alloc: Global,
-    shards: &mut [Mutex<Shard<Kept>>],
+    shards: &[Latch<Shard<Kept>>],
     more_shards: usize,
     more: usize,
 ) -> Result<(Vec<Shard<Kept>>, Vec<SpanLog>), AllocError>
-    requires few { more + ALL_IDS * length shards.old ≤ ALL_IDS * 65 }
-    requires few_shards { more_shards + length shards.old ≤ MOST_SHARDS }
+    requires few { more + ALL_IDS * length shards.now ≤ ALL_IDS * 65 }
+    requires few_shards { more_shards + length shards.now ≤ MOST_SHARDS }
     ensures shards { IfOk result (λ taken. vec_len taken.0 + more_shards ≤ vec_capacity taken.0) }
     ensures no_log { IfOk result (λ taken. vec_len taken.1 ≡ 0) }
     ensures room { IfOk result (λ taken. more + spans_of_all taken.0.items
         ≤ room_for_logs taken.1) }
 {
-    let Some((first, rest)) = shards.split_first_mut() else {
+    let Some((first, rest)) = shards.split_first() else {
         let taken = Vec::with_capacity(alloc, more_shards)?;
         return Ok((taken, Vec::with_capacity(alloc, more)?));
     };
-    let shard = first.get_mut();
+    let Ok(mut shard) = first.try_lock() else {
+        return Err(AllocError);
+    };
     let with_it = more + shard.span_count();
     let (mut taken, logs) = unlocked_shards(alloc, rest, more_shards + 1, with_it)?;
-    taken.push_reserved(replace(shard, empty_shard(alloc)));
+    taken.push_reserved(replace(&mut *shard, empty_shard(alloc)));
     Ok((taken, logs))
 }
 

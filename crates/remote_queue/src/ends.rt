@@ -218,6 +218,14 @@ impl Inbox {
         self.consumer.cached_slots()
     }
 
+    /// The next of the known keys, which stays on the ring.
+    pub fn peek_known(&self) -> Key
+        requires { 0 < length self.now.known }
+        ensures { IsPrefix (result ∷ []) self.now.known }
+    {
+        *self.consumer.peek_known()
+    }
+
     /// Takes the next of the known keys, where there is one, as after a [`finish`] that counted it.
     pub fn take_known(&mut self) -> Key
         requires { 0 < length self.old.known }

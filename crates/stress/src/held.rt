@@ -13,21 +13,21 @@ use std::thread::Threads;
 
 // What threads tell each other of whom a gate holds.
 #[derive(Drop)]
-struct Signals {
+pub(crate) struct Signals {
     // 1 from when on the gate holds who comes.
-    armed: AtomicU64,
+    pub(crate) armed: AtomicU64,
     // 1 once somebody came.
-    came: AtomicU64,
+    pub(crate) came: AtomicU64,
     // 1 once another thread began what it does meanwhile.
-    begun: AtomicU64,
+    pub(crate) begun: AtomicU64,
     // 1 once the gate may let go.
-    answered: AtomicU64,
+    pub(crate) answered: AtomicU64,
     // 1 where it let go without that.
-    missed: AtomicU64,
+    pub(crate) missed: AtomicU64,
 }
 
 impl Signals {
-    fn new() -> Signals {
+    pub(crate) fn new() -> Signals {
         Signals {
             armed: AtomicU64::new(0),
             came: AtomicU64::new(0),
@@ -40,10 +40,10 @@ impl Signals {
 
 // A gate that holds who is inside of the shard of this number, for at most that many turns since another thread began.
 #[derive(Drop)]
-struct Holding<'a> {
-    signals: &'a Signals,
-    shard: u32,
-    turns: usize,
+pub(crate) struct Holding<'a> {
+    pub(crate) signals: &'a Signals,
+    pub(crate) shard: u32,
+    pub(crate) turns: usize,
 }
 
 impl<'a> Gate for Holding<'a> {
@@ -62,10 +62,10 @@ impl<'a> Gate for Holding<'a> {
 }
 
 // How many turns a thread waits for one that nothing keeps.
-const TURNS: usize = 1_000_000;
+pub(crate) const TURNS: usize = 1_000_000;
 
 // Waits for the word to be 1, for at most that many turns, and says whether it is.
-fn is_set_in_time(word: &AtomicU64, turns: usize) -> bool {
+pub(crate) fn is_set_in_time(word: &AtomicU64, turns: usize) -> bool {
     for _ in 0..turns {
         if word.load(SeqCst) == 1 {
             return true;
@@ -77,19 +77,19 @@ fn is_set_in_time(word: &AtomicU64, turns: usize) -> bool {
 
 // The seats of an arena of three shards of at most 4 pages, and its steward.
 #[derive(Drop)]
-struct Three<'a> {
-    arena: Arena<Holding<'a>, Counted>,
-    first: Seat,
-    second: Seat,
-    third: Seat,
-    steward: Steward,
+pub(crate) struct Three<'a> {
+    pub(crate) arena: Arena<Holding<'a>, Counted>,
+    pub(crate) first: Seat,
+    pub(crate) second: Seat,
+    pub(crate) third: Seat,
+    pub(crate) steward: Steward,
     ghost first_fits: { first.limits ≡ arena.limits },
     ghost second_fits: { second.limits ≡ arena.limits },
     ghost third_fits: { third.limits ≡ arena.limits },
     ghost steward_fits: { steward.limits ≡ arena.limits },
 }
 
-fn make_three<'a>(alloc: Global, gate: Holding<'a>) -> Option<Three<'a>> {
+pub(crate) fn make_three<'a>(alloc: Global, gate: Holding<'a>) -> Option<Three<'a>> {
     let Ok((arena, mut seats, steward)) = Arena::open_with_log(alloc, 3, 4, 4, u32::MAX, gate)
     else {
         return None;
@@ -106,7 +106,11 @@ fn make_three<'a>(alloc: Global, gate: Holding<'a>) -> Option<Three<'a>> {
     })
 }
 
-fn put<R: Wait>(rt: &R, arena: &Arena<Holding<'_>, Counted>, seat: &mut Seat) -> Option<Key>
+pub(crate) fn put<R: Wait>(
+    rt: &R,
+    arena: &Arena<Holding<'_>, Counted>,
+    seat: &mut Seat,
+) -> Option<Key>
     requires { seat.old.limits ≡ arena.now.limits }
     ensures { seat.new.limits ≡ seat.old.limits }
 {
@@ -116,7 +120,12 @@ fn put<R: Wait>(rt: &R, arena: &Arena<Holding<'_>, Counted>, seat: &mut Seat) ->
     }
 }
 
-fn get<R: Wait>(rt: &R, arena: &Arena<Holding<'_>, Counted>, seat: &mut Seat, key: &Key) -> bool
+pub(crate) fn get<R: Wait>(
+    rt: &R,
+    arena: &Arena<Holding<'_>, Counted>,
+    seat: &mut Seat,
+    key: &Key,
+) -> bool
     requires { seat.old.limits ≡ arena.now.limits }
     ensures { seat.new.limits ≡ seat.old.limits }
 {

@@ -41,6 +41,8 @@ mod tends;
 #[cfg(test)]
 mod tests;
 #[cfg(test)]
+mod tries;
+#[cfg(test)]
 mod trims;
 #[cfg(test)]
 mod worker;

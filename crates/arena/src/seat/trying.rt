@@ -1,0 +1,234 @@
+// The calls of a seat that do not wait: where another thread has a lock that they need, they answer so, and change nothing.
+ghost use Rattle.std.specs.Prelude.{◌≡◌, ◌≤◌, IfOk, OnErr, OnOk};
+ghost use Rattle.arena.specs.Delays.{CountsCall, HandsOver, HasNoneWaiting};
+ghost use Rattle.arena.specs.Receipts.{IsGetBy, free_receipt, get_receipt, put_receipt, set_receipt};
+ghost use Rattle.arena.specs.Seats.{AreNoFewer, KeepsEnds, free_places, sending_side};
+ghost use Rattle.arena.specs.Tended.{AreLookedAt, IsTended};
+
+use super::{Seat, done_in, value_in};
+use crate::arena::Arena;
+use crate::gate::Gate;
+use crate::patience::{MOST_MOVES, Tries};
+use crate::receipts::Receipts;
+use crate::tending::{look_at_rings, try_tend_rings};
+use abandoned::{AdoptError, ReceiveError};
+use latch::Busy;
+use shard::PutError;
+use span::{Key, Log, Object, Receipt, SpanId};
+use std::alloc::AllocError;
+
+/// What a [`Seat::try_tend`] came to.
+#[derive(Clone, Copy, PartialEq, Eq, Debug)]
+pub struct Tended {
+    /// How many keys were taken, and freed.
+    pub count: usize,
+    /// Whether it left off, since another thread had the lock that the next key needs. That key is still on its ring.
+    pub is_busy: bool,
+}
+
+impl Seat {
+    /// What [`Seat::put`] does, where no other thread has the shard's lock.
+    ///
+    /// # Errors
+    ///
+    /// [`Busy`] where another thread has it. Else the put, whose errors are those of [`Seat::put`].
+    pub fn try_put<G: Gate, L: Log>(
+        &mut self,
+        arena: &Arena<G, L>,
+        value: Object,
+    ) -> Result<Result<(Key, Receipt), PutError>, Busy>
+        requires { self.old.limits ≡ arena.now.limits }
+        ensures receipt { IfOk result (λ made. IfOk made (λ put. put.1
+            ≡ put_receipt self.old.worker self.old.section value put.0 put.1.at)) }
+        ensures seat { OnOk result (CountsCall self.old self.new) }
+        ensures busy { OnErr result (self.new ≡ self.old) }
+    {
+        self.put_within(&Tries, arena, value)
+    }
+
+    /// What [`Seat::get`] does, where no other thread has the lock of whoever has the key's span.
+    ///
+    /// # Errors
+    ///
+    /// [`Busy`] where another thread has it, or the span moved on each of eight times that it was followed.
+    pub fn try_get<G: Gate, L: Log>(
+        &mut self,
+        arena: &Arena<G, L>,
+        key: &Key,
+    ) -> Result<(Option<Object>, Receipt), Busy>
+        requires { self.old.limits ≡ arena.now.limits }
+        ensures receipt { IfOk result (λ got. got.1 ≡ get_receipt self.old.worker self.old.section
+            key.now got.0 got.1.at) }
+        ensures seat { OnOk result (CountsCall self.old self.new) }
+        ensures busy { OnErr result (self.new ≡ self.old) }
+    {
+        let receipt = self.try_get_wherever(arena, key)?;
+        self.count_call();
+        Ok((value_in(&receipt), receipt))
+    }
+
+    /// What [`Seat::set`] does, where no other thread has the lock of whoever has the key's span.
+    ///
+    /// # Errors
+    ///
+    /// [`Busy`] where another thread has it, or the span moved on each of eight times that it was followed. Else the set, whose error
+    /// is that of [`Seat::set`].
+    pub fn try_set<G: Gate, L: Log>(
+        &mut self,
+        arena: &Arena<G, L>,
+        key: &Key,
+        value: Object,
+    ) -> Result<Result<(bool, Receipt), AllocError>, Busy>
+        requires { self.old.limits ≡ arena.now.limits }
+        ensures receipt { IfOk result (λ made. IfOk made (λ set. set.1
+            ≡ set_receipt self.old.worker self.old.section key.now value set.0 set.1.at)) }
+        ensures seat { OnOk result (CountsCall self.old self.new) }
+        ensures busy { OnErr result (self.new ≡ self.old) }
+    {
+        let set = arena.try_set_wherever(self.worker, self.section, key, &value)?;
+        self.count_call();
+        match set {
+            Ok(receipt) => Ok(Ok((done_in(&receipt), receipt))),
+            Err(refused) => Ok(Err(refused)),
+        }
+    }
+
+    /// What [`Seat::free`] does, where no other thread has the lock of whoever has the key's span.
+    ///
+    /// # Errors
+    ///
+    /// [`Busy`] where another thread has it, or the span moved on each of eight times that it was followed.
+    pub fn try_free<G: Gate, L: Log>(
+        &mut self,
+        arena: &Arena<G, L>,
+        key: &Key,
+    ) -> Result<(bool, Receipt), Busy>
+        requires { self.old.limits ≡ arena.now.limits }
+        ensures receipt { IfOk result (λ freed. freed.1 ≡ free_receipt self.old.worker
+            self.old.section key.now freed.0 freed.1.at) }
+        ensures seat { OnOk result (CountsCall self.old self.new) }
+        ensures busy { OnErr result (self.new ≡ self.old) }
+    {
+        let receipt = arena.try_free_wherever(self.worker, self.section, key)?;
+        self.count_call();
+        Ok((done_in(&receipt), receipt))
+    }
+
+    /// What [`Seat::tend`] does, as long as no other thread has a lock that the next key needs: it takes a key from its ring only
+    /// where it can free it at once.
+    ///
+    /// # Errors
+    ///
+    /// `AllocError` as that of [`Seat::tend`].
+    pub fn try_tend<G: Gate, L: Log, K: Receipts>(
+        &mut self,
+        arena: &Arena<G, L>,
+        receipts: &mut K,
+    ) -> Result<Tended, AllocError>
+        requires { self.old.limits ≡ arena.now.limits }
+        ensures tended { IfOk result (λ tended. IsTended self.old.limits.ring_capacity self.old
+            self.new (K.told receipts.old) (K.told receipts.new) tended.count) }
+        ensures none { HasNoneWaiting self.new }
+        ensures seat { KeepsEnds self.old self.new
+            × (sending_side self.new ≡ sending_side self.old) }
+        ensures places { AreNoFewer (free_places self.old.outboxes)
+            (free_places self.new.outboxes) }
+        ensures err { OnErr result (HandsOver self.old
+            (record self.new { inboxes = self.old.inboxes })
+            × AreLookedAt self.old.inboxes self.new.inboxes
+            × (K.told receipts.new ≡ K.told receipts.old)) }
+    {
+        self.hand_over();
+        let most = self.limits.ring_capacity();
+        let seen = look_at_rings(&mut self.inboxes, most);
+        receipts.make_room(seen)?;
+        Ok(try_tend_rings(
+            arena,
+            &mut self.inboxes,
+            most,
+            self.worker,
+            self.section,
+            receipts,
+        ))
+    }
+
+    /// What [`Seat::end`] does, where no other thread has the pool's lock or the shard's.
+    ///
+    /// # Errors
+    ///
+    /// [`Busy`] where another thread has one. Else the end, whose errors are those of [`Seat::end`].
+    pub fn try_end<G: Gate, L: Log>(
+        &mut self,
+        arena: &Arena<G, L>,
+    ) -> Result<Result<(), ReceiveError>, Busy>
+        requires { self.old.limits ≡ arena.now.limits }
+        ensures seat { OnOk result (HandsOver self.old self.new) }
+        ensures busy { OnErr result (self.new ≡ self.old) }
+    {
+        self.end_within(&Tries, arena)
+    }
+
+    /// What [`Seat::retire`] does, where no other thread has the pool's lock or the shard's.
+    ///
+    /// # Errors
+    ///
+    /// [`Busy`] where another thread has one. Else the retirement, whose errors are those of [`Seat::retire`].
+    pub fn try_retire<G: Gate, L: Log>(
+        &mut self,
+        arena: &Arena<G, L>,
+        most: usize,
+    ) -> Result<Result<usize, ReceiveError>, Busy>
+        requires { self.old.limits ≡ arena.now.limits }
+        ensures at_most { IfOk result (λ retired. IfOk retired (λ count. count ≤ most)) }
+        ensures seat { OnOk result (CountsCall self.old self.new) }
+        ensures busy { OnErr result (self.new ≡ self.old) }
+    {
+        self.retire_within(&Tries, arena, most)
+    }
+
+    /// What [`Seat::trim`] does, where no other thread has the shard's lock.
+    ///
+    /// # Errors
+    ///
+    /// [`Busy`] where another thread has it.
+    pub fn try_trim<G: Gate, L: Log>(&mut self, arena: &Arena<G, L>) -> Result<usize, Busy>
+        requires { self.old.limits ≡ arena.now.limits }
+        ensures seat { OnOk result (CountsCall self.old self.new) }
+        ensures busy { OnErr result (self.new ≡ self.old) }
+    {
+        self.trim_within(&Tries, arena)
+    }
+
+    /// What [`Seat::adopt`] does, where no other thread has the pool's lock or the shard's.
+    ///
+    /// # Errors
+    ///
+    /// [`Busy`] where another thread has one. Else the adoption, whose errors are those of [`Seat::adopt`].
+    pub fn try_adopt<G: Gate, L: Log>(
+        &mut self,
+        arena: &Arena<G, L>,
+    ) -> Result<Result<SpanId, AdoptError>, Busy>
+        requires { self.old.limits ≡ arena.now.limits }
+        ensures seat { OnOk result (CountsCall self.old self.new) }
+        ensures busy { OnErr result (self.new ≡ self.old) }
+    {
+        self.adopt_within(&Tries, arena)
+    }
+
+    // Looks the key up, where no other thread has the lock of whoever has its span, and the span does not move on each time that it is
+    // followed.
+    fn try_get_wherever<G: Gate, L: Log>(
+        &self,
+        arena: &Arena<G, L>,
+        key: &Key,
+    ) -> Result<Receipt, Busy>
+        ensures { IfOk result (IsGetBy self.now.worker self.now.section key.now) }
+    {
+        for _ in 0..MOST_MOVES {
+            if let Some(receipt) = self.get_once(&Tries, arena, key)? {
+                return Ok(receipt);
+            }
+        }
+        Err(Busy)
+    }
+}

@@ -1,0 +1,164 @@
+// The lock.
+ghost use Rattle.std.specs.Prelude.{◌≡◌, [], ◌∷◌, IfSome, None};
+ghost use Rattle.atomic_table.specs.Table.{rest};
+ghost use Rattle.latch.specs.Rule.{IsKept, gave, took};
+
+use crate::guard::LatchGuard;
+use atomic_table::{Play, Seat, Table, TableRule};
+use std::alloc::{AllocError, Global};
+use std::hint::spin_loop;
+use std::marker::Model;
+use std::sync::Wait;
+use std::thread::yield_now;
+use thiserror::Error;
+
+// The table has 256 bytes of words, and uses the one in the middle, so that two latches share no cache line.
+const WORDS: usize = 32;
+
+const WORD: usize = 16;
+
+// How often a call looks at a latch that another thread has, before it answers that, or lets others run.
+const LOOKS: u32 = 50;
+
+/// Another thread has the value, and had it at each of 50 looks. Nothing has changed: try again later.
+#[derive(Clone, Copy, PartialEq, Eq, Debug, Error)]
+#[error("another thread has it: try again later")]
+pub struct Busy;
+
+// The rule: while the word is 0, the value is at home.
+pub(crate) struct Keeping;
+
+impl<T> TableRule<Option<Box<T>>, (), ()> for Keeping {
+    ghost holds = { λ _. IsKept };
+
+    ghost first = { λ _. tt };
+}
+
+// The step that takes the value out.
+struct Taking;
+
+impl<T> Play<Option<Box<T>>, ()> for Taking {
+    ghost then = { took };
+}
+
+// The step that gives it back.
+struct Giving;
+
+impl<T> Play<Option<Box<T>>, ()> for Giving {
+    ghost then = { gave };
+}
+
+/// A value that threads take turns at, in a box of its own. In a clause it is the name of its table.
+#[derive(Drop)]
+pub struct Latch<T: Drop> {
+    table: Table<Option<Box<T>>, (), (), Keeping, Global>,
+    ghost words: { table.shared.table_id.words ≡ 32 },
+    ghost slots: { table.shared.table_id.slots ≡ 1 },
+}
+
+impl<T: Drop> Model for Latch<T> {
+    ghost use Rattle.atomic_table.specs.Seated.{TableId, table_id_coded};
+
+    ghost Value = { TableId };
+
+    ghost coded = { table_id_coded };
+
+    ghost view = { λ latch. latch.table.shared.table_id };
+}
+
+// The right to give the value back. It has no bytes. In a clause it is the name of its latch's table.
+#[derive(Drop)]
+pub(crate) struct Turn<T> {
+    seat: Seat<Option<Box<T>>, ()>,
+    ghost empty: { seat.me.1 ≡ (0, None) ∷ [] },
+}
+
+impl<T> Model for Turn<T> {
+    ghost use Rattle.atomic_table.specs.Seated.{TableId, table_id_coded};
+
+    ghost Value = { TableId };
+
+    ghost coded = { table_id_coded };
+
+    ghost view = { λ turn. turn.seat.table_id };
+}
+
+impl<T: Drop> Latch<T> {
+    /// A latch that has the value.
+    ///
+    /// # Errors
+    ///
+    /// `AllocError` where memory for the box, or for the 256 bytes of words beside it, was refused.
+    pub fn new(alloc: Global, value: T) -> Result<Latch<T>, AllocError> {
+        let Ok(boxed) = Box::new(alloc, value) else {
+            return Err(AllocError);
+        };
+        let mut slots = Vec::with_capacity(alloc, 1)?;
+        slots.push_reserved(Some(boxed));
+        let words = [0u64; WORDS];
+        match Table::new(alloc, &words, slots, &()) {
+            Ok((table, _)) => Ok(Latch { table }),
+            Err(_) => Err(AllocError),
+        }
+    }
+
+    /// The guard, which lends the value until it is dropped. It takes no memory, and looks 50 times at most.
+    ///
+    /// # Errors
+    ///
+    /// [`Busy`] where another thread has the value at each look.
+    #[inline]
+    pub fn try_lock(&self) -> Result<LatchGuard<'_, T>, Busy> {
+        for _ in 0..LOOKS {
+            if let Some((value, turn)) = self.take() {
+                return Ok(LatchGuard::new(self, turn, value));
+            }
+            spin_loop();
+        }
+        Err(Busy)
+    }
+
+    /// The guard, once no other thread has the value: between two tries it lets other threads run. It takes no memory. That its turn
+    /// comes is not promised.
+    pub fn lock<R: Wait>(&self, rt: &R) -> LatchGuard<'_, T> {
+        for _ in rt.forever() {
+            if let Ok(guard) = self.try_lock() {
+                return guard;
+            }
+            yield_now();
+        }
+        unreachable!()
+    }
+
+    // The value, and the turn at it, where no thread has it now.
+    #[inline]
+    fn take(&self) -> Option<(Box<T>, Turn<T>)>
+        ensures { IfSome result (λ taken. taken.1 ≡ self.now) }
+    {
+        let shared = &self.table.shared;
+        if shared.peek(WORD) != 0 {
+            return None;
+        }
+        let (found, mut seat) = shared.swap_new_seat::<Taking>(WORD, 1);
+        if found != 0 {
+            return None;
+        }
+        let Some(value) = shared.exchange(&mut seat, 0, None) else {
+            unreachable!()
+        };
+        Some((value, Turn { seat }))
+    }
+
+    // Gives the value back: from now on any thread may take it.
+    #[inline]
+    pub(crate) fn give(&self, turn: Turn<T>, value: Box<T>)
+        requires { turn ≡ self.now }
+    {
+        let Turn { mut seat } = turn;
+        let shared = &self.table.shared;
+        let None = shared.exchange(&mut seat, 0, Some(value)) else {
+            unreachable!()
+        };
+        shared.store::<Giving>(&mut seat, WORD, 0);
+    }
+}

@@ -1,0 +1,27 @@
+//! A lock whose holder wakes nobody, for libraries that may not wait.
+//!
+//! A [`Latch`] lends what it keeps to one thread at a time. [`Latch::try_lock`] answers after a bounded number of looks, with the
+//! guard or with [`Busy`], so that whoever calls it returns; [`Latch::lock`] looks again, and lets other threads run meanwhile,
+//! until it has the guard. Nobody sleeps on a latch and nobody is woken, so a static library may have one, where the kit refuses
+//! `Mutex`, whose unlock wakes a sleeper.
+//!
+//! ```text
+//!   word 0: the value is at home  ── try_lock: swap in 1, take the value out ──▶  word 1: a guard has it
+//!                                 ◀── the guard is dropped: put it back, store 0 ──
+//! ```
+//!
+//! # Examples
+//!
+//! ```text
+//! let latch = Latch::new(alloc, shard)?;
+//! let mut guard = latch.try_lock()?;   // Busy, where another thread has it
+//! guard.put(object)?;                  // the shard's own call
+//! drop(guard);                         // from now on another thread may have it
+//! ```
+#![tactic(auto)]
+
+mod guard;
+mod latch;
+
+pub use guard::LatchGuard;
+pub use latch::{Busy, Latch};

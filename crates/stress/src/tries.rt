@@ -1,0 +1,237 @@
+// That a call which does not wait does what the one does that waits, and answers that it is busy while another thread has a lock
+// that it needs.
+ghost use Rattle.std.specs.Prelude.{◌≡◌};
+
+use crate::held::{Holding, Signals, TURNS, Three, get, is_set_in_time, make_three, put};
+use arena::{Arena, Busy, Dropped, Gate, Seat, Stepped, Steward, Tended, Totals};
+use fold::Step;
+use span::{Counted, Key, Object};
+use std::alloc::Global;
+use std::sync::Wait;
+use std::sync::atomic::Ordering::SeqCst;
+use std::test::Fail;
+use std::thread;
+use std::thread::Threads;
+
+fn try_put<G: Gate>(arena: &Arena<G, Counted>, seat: &mut Seat) -> Option<Key>
+    requires { seat.old.limits ≡ arena.now.limits }
+    ensures { seat.new.limits ≡ seat.old.limits }
+{
+    match seat.try_put(arena, Object::c16(7)) {
+        Ok(Ok((key, _))) => Some(key),
+        _ => None,
+    }
+}
+
+fn try_get<G: Gate>(
+    arena: &Arena<G, Counted>,
+    seat: &mut Seat,
+    key: &Key,
+) -> Result<Option<Object>, Busy>
+    requires { seat.old.limits ≡ arena.now.limits }
+    ensures { seat.new.limits ≡ seat.old.limits }
+{
+    match seat.try_get(arena, key) {
+        Ok((found, _)) => Ok(found),
+        Err(busy) => Err(busy),
+    }
+}
+
+fn try_tend<G: Gate>(arena: &Arena<G, Counted>, seat: &mut Seat) -> Option<Tended>
+    requires { seat.old.limits ≡ arena.now.limits }
+    ensures { seat.new.limits ≡ seat.old.limits }
+{
+    seat.try_tend(arena, &mut Dropped::new()).ok()
+}
+
+// Leaves the key to the thread of its shard, in full sight of it.
+fn leave(seat: &mut Seat, key: Key) -> bool
+    ensures { seat.new.limits ≡ seat.old.limits }
+{
+    let sent = seat.has_shard_of(&key) && seat.free_later(key).is_ok();
+    seat.hand_over();
+    sent
+}
+
+// What a key's look-ups find before and after it is set, once it was left to its shard's thread, and how many were tended; and
+// whether it was set, and another freed.
+type Answers = ([Option<Object>; 3], Tended, [bool; 2]);
+
+fn answers(
+    arena: &Arena<Holding<'_>, Counted>,
+    first: &mut Seat,
+    second: &mut Seat,
+) -> Option<Answers>
+    requires first { first.old.limits ≡ arena.now.limits }
+    requires second { second.old.limits ≡ arena.now.limits }
+    ensures first { first.new.limits ≡ first.old.limits }
+    ensures second { second.new.limits ≡ second.old.limits }
+{
+    let key = try_put(arena, first)?;
+    let other = try_put(arena, first)?;
+    let before = try_get(arena, second, &key).ok()?;
+    let set = matches!(
+        second.try_set(arena, &key, Object::c16(8)),
+        Ok(Ok((true, _)))
+    );
+    let after = try_get(arena, first, &key).ok()?;
+    if !leave(second, key) {
+        return None;
+    }
+    let tended = try_tend(arena, first)?;
+    let gone = try_get(arena, second, &key).ok()?;
+    let freed = matches!(second.try_free(arena, &other), Ok((true, _)));
+    Some(([before, after, gone], tended, [set, freed]))
+}
+
+// How many pages and keys there are once the first shard's group was folded onto the second's, and what the calls on the way
+// answered: how many groups went, whether there was a plan of one fold, a fold, and a close.
+type Folded = (Totals, usize, [bool; 3]);
+
+fn folds(
+    arena: &Arena<Holding<'_>, Counted>,
+    first: &mut Seat,
+    second: &mut Seat,
+    steward: &mut Steward,
+) -> Option<Folded>
+    requires first { first.old.limits ≡ arena.now.limits }
+    requires second { second.old.limits ≡ arena.now.limits }
+    requires steward { steward.old.limits ≡ arena.now.limits }
+    ensures first { first.new.limits ≡ first.old.limits }
+{
+    // At another slot than the key that the second shard has.
+    let low = try_put(arena, first)?;
+    try_put(arena, first)?;
+    if !matches!(first.try_free(arena, &low), Ok((true, _))) {
+        return None;
+    }
+    try_put(arena, second)?;
+    let Ok(Ok(retired)) = first.try_retire(arena, 4) else {
+        return None;
+    };
+    let Ok(Ok(found)) = arena.try_mark(steward) else {
+        return None;
+    };
+    let is_one = found.plan.pairs().len() == 1;
+    let is_folded = matches!(
+        arena.try_step(steward),
+        Ok(Ok(Stepped::Taken(_, _, Step::Folded)))
+    );
+    let is_closed = arena.try_close(steward) == Ok(true);
+    let totals = arena.try_totals().ok()?;
+    Some((totals, retired, [is_one, is_folded, is_closed]))
+}
+
+// Both, and how many pages the first shard then gave back, and whether it ended, and adopts no more.
+fn all_answers(alloc: Global) -> Option<(Answers, Folded, usize, bool, bool)> {
+    let signals = Signals::new();
+    let gate = Holding {
+        signals: &signals,
+        shard: 0,
+        turns: TURNS,
+    };
+    let Three {
+        arena,
+        mut first,
+        mut second,
+        mut steward,
+        ..
+    } = make_three(alloc, gate)?;
+    let answers = answers(&arena, &mut first, &mut second)?;
+    let folded = folds(&arena, &mut first, &mut second, &mut steward)?;
+    let trimmed = first.try_trim(&arena).ok()?;
+    let is_ended = first.try_end(&arena) == Ok(Ok(()));
+    let adopts = matches!(first.try_adopt(&arena), Ok(Ok(_)));
+    Some((answers, folded, trimmed, is_ended, adopts))
+}
+
+#[test]
+fn answer_as_calls_that_wait(rt: HostRuntime) -> Result<(), Fail> {
+    let seven = Some(Object::c16(7));
+    let eight = Some(Object::c16(8));
+    let tended = Tended {
+        count: 1,
+        is_busy: false,
+    };
+    let answers = ([seven, eight, None], tended, [true; 2]);
+    let folded = (Totals { pages: 1, live: 2 }, 1, [true; 3]);
+    let all = all_answers(rt.alloc());
+    assert_eq!(rt; all, Some((answers, folded, 0, true, false)));
+    Ok(())
+}
+
+// What calls answer while another thread is inside of the first shard: a look-up of a key there, a mark and totals are busy, as is
+// tending the key that was left to that shard; a put into another shard is not.
+fn try_beside(
+    arena: &Arena<Holding<'_>, Counted>,
+    signals: &Signals,
+    first: &mut Seat,
+    third: &mut Seat,
+    steward: &mut Steward,
+    key: &Key,
+) -> [bool; 5]
+    requires first { first.old.limits ≡ arena.now.limits }
+    requires third { third.old.limits ≡ arena.now.limits }
+    requires steward { steward.old.limits ≡ arena.now.limits }
+{
+    let came = is_set_in_time(&signals.came, TURNS);
+    signals.begun.store(1, SeqCst);
+    let busy = [
+        came && try_get(arena, third, key) == Err(Busy),
+        matches!(arena.try_mark(steward), Err(Busy)),
+        matches!(arena.try_totals(), Err(Busy)),
+        try_tend(arena, first)
+            == Some(Tended {
+                count: 0,
+                is_busy: true,
+            }),
+        try_put(arena, third).is_some(),
+    ];
+    signals.answered.store(1, SeqCst);
+    busy
+}
+
+// That, and what the first seat tends once nobody is inside.
+fn busy<R: Threads + Wait + Sync>(rt: &R, alloc: Global) -> Option<([bool; 5], Tended)> {
+    let signals = Signals::new();
+    let gate = Holding {
+        signals: &signals,
+        shard: 0,
+        turns: TURNS,
+    };
+    let Three {
+        arena,
+        mut first,
+        mut second,
+        mut third,
+        mut steward,
+    } = make_three(alloc, gate)?;
+    let key = put(rt, &arena, &mut first)?;
+    let left = put(rt, &arena, &mut first)?;
+    if !leave(&mut second, left) {
+        return None;
+    }
+    signals.armed.store(1, SeqCst);
+    let (found, answers) = thread::join(
+        rt,
+        || get(rt, &arena, &mut second, &key),
+        || { try_beside(&arena, &signals, &mut first, &mut third, &mut steward, &key) },
+    );
+    signals.armed.store(0, SeqCst);
+    let tended = try_tend(&arena, &mut first)?;
+    if !found {
+        return None;
+    }
+    Some((answers, tended))
+}
+
+#[test]
+fn are_busy_while_a_thread_is_inside(rt: HostRuntime) -> Result<(), Fail> {
+    let tended = Tended {
+        count: 1,
+        is_busy: false,
+    };
+    let seen = busy(&rt, rt.alloc());
+    assert_eq!(rt; seen, Some(([true; 5], tended)));
+    Ok(())
+}
