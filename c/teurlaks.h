@@ -45,9 +45,10 @@ enum {
     TEURLAKS_NO_PAIR_LEFT = 10,    /* the open plan is done with */
     TEURLAKS_NO_PLAN = 11,         /* no plan is open */
     TEURLAKS_TOO_SMALL = 12,       /* the text or the object takes more than there is room for; nothing was written */
-    TEURLAKS_RING_FULL = 13,       /* a ring holds as many keys as it may; no call here answers it */
-    TEURLAKS_NO_CORE = 14,         /* the handle has no core: none was made, or it was dropped; or there is NULL in its place */
-    TEURLAKS_HAS_CORE = 15         /* teurlaks_new is given a handle that has a core */
+    TEURLAKS_RING_FULL = 13,       /* a ring holds as many keys as it may: teurlaks_seat_free_later alone answers it */
+    TEURLAKS_NO_CORE = 14,         /* the handle has not what the call is for: none was made, or it was dropped; or there is NULL in its place */
+    TEURLAKS_HAS_CORE = 15,        /* a handle that is to be given a core, a seat or a steward has one */
+    TEURLAKS_BUSY = 16             /* another thread has a lock that the call needs: nothing has changed, try again */
 };
 
 /* Where a core is. Begin with `struct teurlaks_handle core = {0};`. */
@@ -219,6 +220,87 @@ uint32_t teurlaks_close(struct teurlaks_handle *handle);
 /* Writes the text of the last mark's certificate into the first bytes of text, where text_len bytes are room enough. There is no room at
  * NULL, by which one asks how many they are. */
 struct teurlaks_certificate_reply teurlaks_certificate(struct teurlaks_handle *handle, uint8_t *text, size_t text_len);
+
+/* Threads. An arena has a shard for each of its seats. A thread that has a seat puts into that seat's shard, and looks up, sets and frees keys
+ * of all shards, beside all others; the steward plans folds and carries them out meanwhile. A handle to a seat or to the steward is of one
+ * thread at a time, as any handle is, and may go to another. No call waits: where another thread has a lock that it needs, it looks some
+ * times, and answers TEURLAKS_BUSY with nothing changed. So `while ((status = teurlaks_seat_free(&seat, key)) == TEURLAKS_BUSY) sched_yield();`
+ * waits. Keys are as those of a core, and each is found by every seat of its arena; memory goes with the last handle of the arena. */
+
+/* Where a seat or a steward is. Begin with `struct teurlaks_share_handle seat = {0};`. */
+struct teurlaks_share_handle {
+    uint8_t *at;
+};
+
+/* How many keys were taken and freed, also where the status is TEURLAKS_BUSY. */
+struct teurlaks_tend_reply {
+    uint32_t status;
+    size_t count;
+};
+
+/* Pages of 4,096 bytes, and live keys, where the status is TEURLAKS_OK; else 0 of both. */
+struct teurlaks_arena_totals_reply {
+    uint32_t status;
+    size_t pages;
+    size_t live;
+};
+
+/* Leaves the steward of a new arena to a handle that has nothing, where it answers TEURLAKS_OK; the numbers are those of teurlaks_new. */
+uint32_t teurlaks_arena_open(struct teurlaks_share_handle *out, uint32_t shards, uint32_t page_limit, uint32_t ring_capacity, uint32_t gens);
+
+/* Leaves a seat that no handle has had to `out`, which has nothing: TEURLAKS_NONE where the steward has no further one. */
+uint32_t teurlaks_steward_seat(struct teurlaks_share_handle *handle, struct teurlaks_share_handle *out);
+
+/* Gives a seat or a steward back. The seat's shard takes no further put then, unless it was ended before; its objects stay. All memory
+ * of the arena goes back with its last handle. */
+void teurlaks_share_drop(struct teurlaks_share_handle *handle);
+
+/* As teurlaks_put_words, into the seat's shard. */
+struct teurlaks_put_reply teurlaks_seat_put_words(struct teurlaks_share_handle *handle, const struct teurlaks_word *words, size_t words_len);
+
+/* As teurlaks_get_words, of a key of any shard. */
+struct teurlaks_words_reply teurlaks_seat_get_words(struct teurlaks_share_handle *handle, struct teurlaks_key key, struct teurlaks_word *words, size_t words_len);
+
+/* As teurlaks_set_words, of a key of any shard. */
+uint32_t teurlaks_seat_set_words(struct teurlaks_share_handle *handle, struct teurlaks_key key, const struct teurlaks_word *words, size_t words_len);
+
+/* As teurlaks_free, of a key of any shard. */
+uint32_t teurlaks_seat_free(struct teurlaks_share_handle *handle, struct teurlaks_key key);
+
+/* Leaves the key to the seat of the shard that opened its span, which frees it when it tends its rings. It takes no lock. Keys go in blocks: one
+ * waits for its block to be full for fewer than 64 further calls. TEURLAKS_RING_FULL where the ring took none: the key is then still the
+ * caller's. TEURLAKS_NONE where the arena has no such shard. */
+uint32_t teurlaks_seat_free_later(struct teurlaks_share_handle *handle, struct teurlaks_key key);
+
+/* Hands over the keys that were left to others and wait for their block to be full. */
+uint32_t teurlaks_seat_hand_over(struct teurlaks_share_handle *handle);
+
+/* Takes the keys that others have left to the seat's shard, and frees each. */
+struct teurlaks_tend_reply teurlaks_seat_tend(struct teurlaks_share_handle *handle);
+
+/* As teurlaks_end, of the seat's shard. */
+uint32_t teurlaks_seat_end(struct teurlaks_share_handle *handle);
+
+/* As teurlaks_retire, of the seat's shard. */
+struct teurlaks_retire_reply teurlaks_seat_retire(struct teurlaks_share_handle *handle, size_t most);
+
+/* As teurlaks_trim, of the seat's shard. */
+struct teurlaks_trim_reply teurlaks_seat_trim(struct teurlaks_share_handle *handle);
+
+/* As teurlaks_adopt, for the seat's shard. */
+struct teurlaks_adopt_reply teurlaks_seat_adopt(struct teurlaks_share_handle *handle);
+
+/* As teurlaks_mark_some, of all shards at one time. */
+struct teurlaks_mark_reply teurlaks_steward_mark_some(struct teurlaks_share_handle *handle);
+
+/* As teurlaks_step: the pair stays next where the status is TEURLAKS_BUSY. */
+struct teurlaks_step_reply teurlaks_steward_step(struct teurlaks_share_handle *handle);
+
+/* As teurlaks_close. */
+uint32_t teurlaks_steward_close(struct teurlaks_share_handle *handle);
+
+/* How much the arena keeps, at one time. */
+struct teurlaks_arena_totals_reply teurlaks_steward_totals(struct teurlaks_share_handle *handle);
 
 #ifdef __cplusplus
 }

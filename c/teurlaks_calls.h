@@ -27,8 +27,9 @@ static inline const char *teurlaks_strerror(uint32_t status) {
     case TEURLAKS_NO_PLAN: return "no plan is open: mark first";
     case TEURLAKS_TOO_SMALL: return "the text or the object takes more than there is room for";
     case TEURLAKS_RING_FULL: return "a ring holds as many keys as it may";
-    case TEURLAKS_NO_CORE: return "the handle has no core: none was made, or it was dropped";
-    case TEURLAKS_HAS_CORE: return "the handle has a core already: drop it first";
+    case TEURLAKS_NO_CORE: return "the handle has not what the call is for: none was made, or it was dropped";
+    case TEURLAKS_HAS_CORE: return "the handle has something already: drop it first";
+    case TEURLAKS_BUSY: return "another thread has a lock that the call needs: try again";
     default: return "no status of this library";
     }
 }
@@ -132,6 +133,90 @@ static inline struct teurlaks_certificate_reply teurlaks_tested_certificate(stru
     return handle ? teurlaks_certificate(handle, text ? text : &no_text, text ? text_len : 0) : none;
 }
 
+static inline uint32_t teurlaks_tested_arena_open(struct teurlaks_share_handle *out, uint32_t shards, uint32_t page_limit, uint32_t ring_capacity, uint32_t gens) {
+    return out ? teurlaks_arena_open(out, shards, page_limit, ring_capacity, gens) : (uint32_t)TEURLAKS_NO_CORE;
+}
+
+static inline uint32_t teurlaks_tested_steward_seat(struct teurlaks_share_handle *handle, struct teurlaks_share_handle *out) {
+    return handle && out ? teurlaks_steward_seat(handle, out) : (uint32_t)TEURLAKS_NO_CORE;
+}
+
+static inline void teurlaks_tested_share_drop(struct teurlaks_share_handle *handle) {
+    if (handle) teurlaks_share_drop(handle);
+}
+
+static inline struct teurlaks_put_reply teurlaks_tested_seat_put_words(struct teurlaks_share_handle *handle, const struct teurlaks_word *words, size_t words_len) {
+    struct teurlaks_put_reply none = {TEURLAKS_NO_CORE, {0, 0, 0, 0}};
+    struct teurlaks_word no_word = {0, 0};
+    return handle ? teurlaks_seat_put_words(handle, words ? words : &no_word, words ? words_len : 0) : none;
+}
+
+static inline struct teurlaks_words_reply teurlaks_tested_seat_get_words(struct teurlaks_share_handle *handle, struct teurlaks_key key, struct teurlaks_word *words, size_t words_len) {
+    struct teurlaks_words_reply none = {TEURLAKS_NO_CORE, 0};
+    struct teurlaks_word no_word = {0, 0};
+    return handle ? teurlaks_seat_get_words(handle, key, words ? words : &no_word, words ? words_len : 0) : none;
+}
+
+static inline uint32_t teurlaks_tested_seat_set_words(struct teurlaks_share_handle *handle, struct teurlaks_key key, const struct teurlaks_word *words, size_t words_len) {
+    struct teurlaks_word no_word = {0, 0};
+    return handle ? teurlaks_seat_set_words(handle, key, words ? words : &no_word, words ? words_len : 0) : (uint32_t)TEURLAKS_NO_CORE;
+}
+
+static inline uint32_t teurlaks_tested_seat_free(struct teurlaks_share_handle *handle, struct teurlaks_key key) {
+    return handle ? teurlaks_seat_free(handle, key) : (uint32_t)TEURLAKS_NO_CORE;
+}
+
+static inline uint32_t teurlaks_tested_seat_free_later(struct teurlaks_share_handle *handle, struct teurlaks_key key) {
+    return handle ? teurlaks_seat_free_later(handle, key) : (uint32_t)TEURLAKS_NO_CORE;
+}
+
+static inline uint32_t teurlaks_tested_seat_hand_over(struct teurlaks_share_handle *handle) {
+    return handle ? teurlaks_seat_hand_over(handle) : (uint32_t)TEURLAKS_NO_CORE;
+}
+
+static inline struct teurlaks_tend_reply teurlaks_tested_seat_tend(struct teurlaks_share_handle *handle) {
+    struct teurlaks_tend_reply none = {TEURLAKS_NO_CORE, 0};
+    return handle ? teurlaks_seat_tend(handle) : none;
+}
+
+static inline uint32_t teurlaks_tested_seat_end(struct teurlaks_share_handle *handle) {
+    return handle ? teurlaks_seat_end(handle) : (uint32_t)TEURLAKS_NO_CORE;
+}
+
+static inline struct teurlaks_retire_reply teurlaks_tested_seat_retire(struct teurlaks_share_handle *handle, size_t most) {
+    struct teurlaks_retire_reply none = {TEURLAKS_NO_CORE, 0};
+    return handle ? teurlaks_seat_retire(handle, most) : none;
+}
+
+static inline struct teurlaks_trim_reply teurlaks_tested_seat_trim(struct teurlaks_share_handle *handle) {
+    struct teurlaks_trim_reply none = {TEURLAKS_NO_CORE, 0};
+    return handle ? teurlaks_seat_trim(handle) : none;
+}
+
+static inline struct teurlaks_adopt_reply teurlaks_tested_seat_adopt(struct teurlaks_share_handle *handle) {
+    struct teurlaks_adopt_reply none = {TEURLAKS_NO_CORE, {0, 0}};
+    return handle ? teurlaks_seat_adopt(handle) : none;
+}
+
+static inline struct teurlaks_mark_reply teurlaks_tested_steward_mark_some(struct teurlaks_share_handle *handle) {
+    struct teurlaks_mark_reply none = {TEURLAKS_NO_CORE, 0, 0, 0, 0};
+    return handle ? teurlaks_steward_mark_some(handle) : none;
+}
+
+static inline struct teurlaks_step_reply teurlaks_tested_steward_step(struct teurlaks_share_handle *handle) {
+    struct teurlaks_step_reply none = {TEURLAKS_NO_CORE, {0, 0}, {0, 0}};
+    return handle ? teurlaks_steward_step(handle) : none;
+}
+
+static inline uint32_t teurlaks_tested_steward_close(struct teurlaks_share_handle *handle) {
+    return handle ? teurlaks_steward_close(handle) : (uint32_t)TEURLAKS_NO_CORE;
+}
+
+static inline struct teurlaks_arena_totals_reply teurlaks_tested_steward_totals(struct teurlaks_share_handle *handle) {
+    struct teurlaks_arena_totals_reply none = {TEURLAKS_NO_CORE, 0, 0};
+    return handle ? teurlaks_steward_totals(handle) : none;
+}
+
 #define teurlaks_new teurlaks_tested_new
 #define teurlaks_drop teurlaks_tested_drop
 #define teurlaks_put teurlaks_tested_put
@@ -152,6 +237,24 @@ static inline struct teurlaks_certificate_reply teurlaks_tested_certificate(stru
 #define teurlaks_step teurlaks_tested_step
 #define teurlaks_close teurlaks_tested_close
 #define teurlaks_certificate teurlaks_tested_certificate
+#define teurlaks_arena_open teurlaks_tested_arena_open
+#define teurlaks_steward_seat teurlaks_tested_steward_seat
+#define teurlaks_share_drop teurlaks_tested_share_drop
+#define teurlaks_seat_put_words teurlaks_tested_seat_put_words
+#define teurlaks_seat_get_words teurlaks_tested_seat_get_words
+#define teurlaks_seat_set_words teurlaks_tested_seat_set_words
+#define teurlaks_seat_free teurlaks_tested_seat_free
+#define teurlaks_seat_free_later teurlaks_tested_seat_free_later
+#define teurlaks_seat_hand_over teurlaks_tested_seat_hand_over
+#define teurlaks_seat_tend teurlaks_tested_seat_tend
+#define teurlaks_seat_end teurlaks_tested_seat_end
+#define teurlaks_seat_retire teurlaks_tested_seat_retire
+#define teurlaks_seat_trim teurlaks_tested_seat_trim
+#define teurlaks_seat_adopt teurlaks_tested_seat_adopt
+#define teurlaks_steward_mark_some teurlaks_tested_steward_mark_some
+#define teurlaks_steward_step teurlaks_tested_steward_step
+#define teurlaks_steward_close teurlaks_tested_steward_close
+#define teurlaks_steward_totals teurlaks_tested_steward_totals
 
 #endif
 

@@ -110,6 +110,27 @@ pub struct TotalsReply {
     pub live: usize,
 }
 
+/// Where a seat or a steward of an arena is.
+#[repr(C)]
+pub struct ShareHandle {
+    pub at: *mut u8,
+}
+
+#[repr(C)]
+#[derive(Clone, Copy)]
+pub struct TendReply {
+    pub status: u32,
+    pub count: usize,
+}
+
+#[repr(C)]
+#[derive(Clone, Copy)]
+pub struct ArenaTotalsReply {
+    pub status: u32,
+    pub pages: usize,
+    pub live: usize,
+}
+
 extern "C" {
     pub fn teurlaks_new(out: *mut Handle, shards: u32, page_limit: u32, ring_capacity: u32, gens: u32) -> u32;
     pub fn teurlaks_drop(handle: *mut Handle);
@@ -131,6 +152,24 @@ extern "C" {
     pub fn teurlaks_step(handle: *mut Handle) -> StepReply;
     pub fn teurlaks_close(handle: *mut Handle) -> u32;
     pub fn teurlaks_certificate(handle: *mut Handle, text: *mut u8, text_len: usize) -> CertificateReply;
+    pub fn teurlaks_arena_open(out: *mut ShareHandle, shards: u32, page_limit: u32, ring_capacity: u32, gens: u32) -> u32;
+    pub fn teurlaks_steward_seat(handle: *mut ShareHandle, out: *mut ShareHandle) -> u32;
+    pub fn teurlaks_share_drop(handle: *mut ShareHandle);
+    pub fn teurlaks_seat_put_words(handle: *mut ShareHandle, words: *const RawWord, words_len: usize) -> PutReply;
+    pub fn teurlaks_seat_get_words(handle: *mut ShareHandle, key: RawKey, words: *mut RawWord, words_len: usize) -> WordsReply;
+    pub fn teurlaks_seat_set_words(handle: *mut ShareHandle, key: RawKey, words: *const RawWord, words_len: usize) -> u32;
+    pub fn teurlaks_seat_free(handle: *mut ShareHandle, key: RawKey) -> u32;
+    pub fn teurlaks_seat_free_later(handle: *mut ShareHandle, key: RawKey) -> u32;
+    pub fn teurlaks_seat_hand_over(handle: *mut ShareHandle) -> u32;
+    pub fn teurlaks_seat_tend(handle: *mut ShareHandle) -> TendReply;
+    pub fn teurlaks_seat_end(handle: *mut ShareHandle) -> u32;
+    pub fn teurlaks_seat_retire(handle: *mut ShareHandle, most: usize) -> RetireReply;
+    pub fn teurlaks_seat_trim(handle: *mut ShareHandle) -> TrimReply;
+    pub fn teurlaks_seat_adopt(handle: *mut ShareHandle) -> AdoptReply;
+    pub fn teurlaks_steward_mark_some(handle: *mut ShareHandle) -> MarkReply;
+    pub fn teurlaks_steward_step(handle: *mut ShareHandle) -> StepReply;
+    pub fn teurlaks_steward_close(handle: *mut ShareHandle) -> u32;
+    pub fn teurlaks_steward_totals(handle: *mut ShareHandle) -> ArenaTotalsReply;
 }
 
 pub const OK: u32 = 0;
@@ -146,11 +185,10 @@ pub const EMPTIED: u32 = 9;
 pub const NO_PAIR_LEFT: u32 = 10;
 pub const NO_PLAN: u32 = 11;
 pub const TOO_SMALL: u32 = 12;
-// No call here frees a key later, so none answers it.
-#[allow(dead_code)]
 pub const RING_FULL: u32 = 13;
-// A `Core` always has a handle with a core, and `teurlaks_new` one without.
+// A handle of this crate always has what its calls are for, and what is made goes to one without.
 #[allow(dead_code)]
 pub const NO_CORE: u32 = 14;
 #[allow(dead_code)]
 pub const HAS_CORE: u32 = 15;
+pub const BUSY: u32 = 16;

@@ -205,15 +205,17 @@ fn of_c(text: &str) -> Declarations {
 
 fn exported() -> Declarations {
     let mut declarations = Declarations::default();
-    for file in ["handle", "replies", "status", "calls", "meshing"] {
+    for file in [
+        "handle", "share_handle", "replies", "status", "calls", "meshing", "seats", "stewards",
+    ] {
         of_rust(
             &read(&format!("crates/teurlaks_c/src/{file}.rt")),
             true,
             &mut declarations,
         );
     }
-    assert_eq!(declarations.functions.len(), 20);
-    assert_eq!(declarations.structs.len(), 15);
+    assert_eq!(declarations.functions.len(), 38);
+    assert_eq!(declarations.structs.len(), 18);
     declarations
 }
 

@@ -2,6 +2,16 @@
 use Rattle.std.specs.Prelude.{ℕ}
 use Rattle.arena_core.specs.declared.reply.Refusal.{Refusal}
 use Rattle.arena_core.specs.declared.reply.Refusal.TheVariants.{OutOfMemory, PagesSpent, Ended, PlanOpen, TooMany, NothingToAdopt, RingFull, Config}
+use Rattle.shard.specs.declared.error.PutError.{PutError}
+use Rattle.shard.specs.declared.error.PutError.TheVariants as put_error
+use Rattle.abandoned.specs.declared.error.ReceiveError.{ReceiveError}
+use Rattle.abandoned.specs.declared.error.ReceiveError.TheVariants as receive_error
+use Rattle.abandoned.specs.declared.error.AdoptError.{AdoptError}
+use Rattle.abandoned.specs.declared.error.AdoptError.TheVariants as adopt_error
+use Rattle.marks.specs.declared.error.MarkError.{MarkError}
+use Rattle.marks.specs.declared.error.MarkError.TheVariants as mark_error
+use Rattle.fold.specs.declared.step.Step.{Step as Outcome}
+use Rattle.fold.specs.declared.step.Step.TheVariants as outcome
 
 -- done, or found
 abbrev pub done : ℕ
@@ -49,3 +59,46 @@ refusal_status TooMany = 6
 refusal_status NothingToAdopt = 7
 refusal_status RingFull = 13
 refusal_status Config = 8
+
+-- another thread has a lock that the call needs, and nothing has changed
+abbrev pub busy : ℕ
+busy = 16
+
+abbrev pub ring_full : ℕ
+ring_full = 13
+
+-- the status that stands for a refused put
+abbrev pub put_status : PutError → ℕ
+put_status put_error.OutOfMemory = 2
+put_status put_error.PagesSpent = 3
+put_status put_error.Ended = 4
+
+-- for a refused end or retirement; two shards never have one span, so that nothing is ever doubled
+abbrev pub receive_status : ReceiveError → ℕ
+receive_status receive_error.OutOfMemory = 2
+receive_status receive_error.Ended = 4
+receive_status receive_error.PlanOpen = 5
+receive_status receive_error.Doubled = 1
+
+-- for a refused adoption
+abbrev pub adopt_status : AdoptError → ℕ
+adopt_status adopt_error.OutOfMemory = 2
+adopt_status adopt_error.PagesSpent = 3
+adopt_status adopt_error.Ended = 4
+adopt_status adopt_error.PlanOpen = 5
+adopt_status adopt_error.NothingToAdopt = 7
+adopt_status adopt_error.Doubled = 1
+
+-- for a refused mark
+abbrev pub mark_status : MarkError → ℕ
+mark_status mark_error.OutOfMemory = 2
+mark_status mark_error.PlanOpen = 5
+mark_status mark_error.TooMany = 6
+mark_status mark_error.Doubled = 1
+
+-- for what came of a planned pair; the pair's groups are where they were planned, so that neither is absent or clashes
+abbrev pub status_of_outcome : Outcome → ℕ
+status_of_outcome outcome.Folded = 0
+status_of_outcome outcome.Emptied = 9
+status_of_outcome outcome.Absent = 1
+status_of_outcome outcome.Clash = 1

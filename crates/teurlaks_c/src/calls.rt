@@ -382,7 +382,7 @@ fn got(found: Option<&[u128]>) -> GetReply
 }
 
 // What was found, as C has it, with its words in the room where there is enough.
-fn tell(found: Option<&[u128]>, room: &mut [RawWord]) -> WordsReply
+pub(crate) fn tell(found: Option<&[u128]>, room: &mut [RawWord]) -> WordsReply
     ensures { SaysWords room.old result room.new (option_map (λ words. words.now) found.entry) }
 {
     let Some(words) = found else {
@@ -403,7 +403,7 @@ fn tell(found: Option<&[u128]>, room: &mut [RawWord]) -> WordsReply
 }
 
 // What stands for a key where there is none: generation 0 is never given out.
-fn no_key() -> RawKey {
+pub(crate) fn no_key() -> RawKey {
     RawKey {
         shard: 0,
         slot: 0,

@@ -3,7 +3,7 @@ ghost use Rattle.std.specs.Prelude.{◌≡◌, MatchOption, None, Option, Some};
 ghost use Rattle.teurlaks_c.specs.declared.held.Held.{Held};
 ghost use Rattle.teurlaks_c.specs.Owned.{held_code, owns_held};
 
-mod unboxed;
+pub(crate) mod unboxed;
 
 use crate::held::Held;
 use std::alloc::Global;

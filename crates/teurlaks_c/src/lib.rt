@@ -40,7 +40,13 @@ mod held;
 mod keys;
 mod meshing;
 mod replies;
+mod seat_calls;
+mod seats;
+mod share;
+mod share_handle;
 mod status;
+mod steward_calls;
+mod stewards;
 mod words;
 
 pub use calls::{
@@ -50,4 +56,13 @@ pub use calls::{
 pub use meshing::{
     teurlaks_adopt, teurlaks_certificate, teurlaks_close, teurlaks_end, teurlaks_mark,
     teurlaks_retire, teurlaks_step, teurlaks_trim,
+};
+pub use seats::{
+    teurlaks_seat_adopt, teurlaks_seat_end, teurlaks_seat_free, teurlaks_seat_free_later,
+    teurlaks_seat_get_words, teurlaks_seat_hand_over, teurlaks_seat_put_words,
+    teurlaks_seat_retire, teurlaks_seat_set_words, teurlaks_seat_tend, teurlaks_seat_trim,
+};
+pub use stewards::{
+    teurlaks_arena_open, teurlaks_share_drop, teurlaks_steward_close, teurlaks_steward_mark_some,
+    teurlaks_steward_seat, teurlaks_steward_step, teurlaks_steward_totals,
 };

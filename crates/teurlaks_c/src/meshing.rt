@@ -266,7 +266,7 @@ fn keep(held: &mut Held, reply: Reply) -> MarkReply
 }
 
 // What the certificate counts.
-fn marked(certificate: &Certificate) -> MarkReply
+pub(crate) fn marked(certificate: &Certificate) -> MarkReply
     ensures { CountsOf result certificate.now }
 {
     MarkReply {
@@ -278,7 +278,7 @@ fn marked(certificate: &Certificate) -> MarkReply
     }
 }
 
-fn unmarked(status: u32) -> MarkReply
+pub(crate) fn unmarked(status: u32) -> MarkReply
     ensures { result.status ≡ status }
 {
     MarkReply {
@@ -302,7 +302,7 @@ fn stepped(status: u32, abandoned: SpanId, owned: SpanId) -> StepReply
     }
 }
 
-fn unstepped(status: u32) -> StepReply
+pub(crate) fn unstepped(status: u32) -> StepReply
     ensures { result.status ≡ status }
 {
     StepReply {
@@ -313,7 +313,7 @@ fn unstepped(status: u32) -> StepReply
 }
 
 // What stands for a span where there is none, as the status says.
-fn no_span() -> RawSpan {
+pub(crate) fn no_span() -> RawSpan {
     RawSpan {
         shard: 0,
         serial: 0,

@@ -119,3 +119,21 @@ pub struct TotalsReply {
     pub pages: usize,
     pub live: usize,
 }
+
+/// What totals of an arena answer: how many pages of 4,096 bytes there are, and how many keys are live, where the status is `OK`.
+#[repr(C)]
+#[derive(Clone, Copy)]
+pub struct ArenaTotalsReply {
+    pub status: u32,
+    pub pages: usize,
+    pub live: usize,
+}
+
+/// What tending its rings answers: how many keys the seat took, and freed, where the status is `OK`, or before it met a lock that another
+/// thread has, where the status is `BUSY`.
+#[repr(C)]
+#[derive(Clone, Copy)]
+pub struct TendReply {
+    pub status: u32,
+    pub count: usize,
+}

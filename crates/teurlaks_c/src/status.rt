@@ -52,6 +52,9 @@ pub(crate) const NO_CORE: u32 = 14;
 /// Refused: a new core is to be left to a handle that has one.
 pub(crate) const HAS_CORE: u32 = 15;
 
+/// Another thread has a lock that the call needs. Nothing has changed: try again later.
+pub(crate) const BUSY: u32 = 16;
+
 /// The status that stands for the refusal.
 #[inline(always)]
 pub(crate) fn status_of(refusal: Refusal) -> u32

@@ -4,7 +4,7 @@ ghost use Rattle.span.specs.Classes.{IsObject, width_of};
 ghost use Rattle.teurlaks_c.specs.Words.{word_of, words_of};
 
 use crate::replies::RawWord;
-use span::Class;
+use span::{Class, Object};
 
 /// The word of these halves.
 #[inline(always)]
@@ -65,4 +65,18 @@ fn split_all(room: &mut [RawWord], values: &[u128])
     for place in 0..room.len() {
         room[place] = raw_word(values[place]);
     }
+}
+
+/// The object of these words, or `None` where they are not 1, 4 or 16.
+pub(crate) fn object_of(words: &[RawWord]) -> Option<Object>
+    ensures { MatchOption result (IsObject (words_of words.now) → ⊥)
+        (λ object. IsObject (words_of words.now) × (object ≡ words_of words.now)) }
+{
+    let Some(_) = class_for(words) else {
+        return None;
+    };
+    let mut room = [0; 16];
+    let values = &mut room[..words.len()];
+    join_all(values, words);
+    Some(Object::from_words(values))
 }

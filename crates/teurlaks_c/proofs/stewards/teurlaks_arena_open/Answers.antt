@@ -1,0 +1,12 @@
+use Rattle.std.proofs.Common.{ap, refl, ◌∙◌}
+use Rattle.std.specs.Prelude.{Some}
+use Rattle.teurlaks_c.specs.declared.share.Share.TheVariants.{Steward}
+use Rattle.teurlaks_c.proofs.stewards.teurlaks_arena_open.Goals as goal
+
+pub returns-in-Ok-new-clause-ok : goal.returns-in-Ok-new-clause-ok
+returns-in-Ok-new-clause-ok c done = record {
+  steward = c.in-Ok.steward;
+  is = c.of.ensures ∙ ap Some c.in-Ok-new.ensures.ok;
+  state = c.in-Ok.ensures.new.0;
+  last = c.in-Ok.ensures.new.1;
+}

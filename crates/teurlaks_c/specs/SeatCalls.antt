@@ -1,0 +1,194 @@
+-- What the calls on the seats of an arena do.
+use Rattle.std.specs.Prelude.{◌≡◌, ◌⊎◌, ◌≤◌, ◌<◌, ◌++◌, ℕ, Bool, true, false, List, Option, Some, None, Result, Ok, Err, IfOk, OnErr, OnOk, MatchOption, MatchResult, [], ◌∷◌, drop, if◌then◌else◌, length, slice_index_or, slice_set}
+use Rattle.std.specs.declared.alloc.AllocError.{AllocError}
+use Rattle.span.specs.Classes.{IsObject}
+use Rattle.span.specs.Log.{Value}
+use Rattle.span.specs.declared.id.SpanId.{SpanId}
+use Rattle.span.specs.declared.key.Key.{Key}
+use Rattle.span.specs.declared.receipt.Receipt.{Receipt}
+use Rattle.shard.specs.declared.error.PutError.{PutError}
+use Rattle.abandoned.specs.declared.error.ReceiveError.{ReceiveError}
+use Rattle.abandoned.specs.declared.error.AdoptError.{AdoptError}
+use Rattle.latch.specs.declared.latch.Busy.{Busy}
+use Rattle.arena.specs.Delays.{CountsCall, HandsOver as HandsOverKeys}
+use Rattle.arena.specs.Receipts.{get_receipt, put_receipt, set_receipt, free_receipt}
+use Rattle.arena.specs.Seats.{KeepsEnds, SeatState, sent_lists}
+use Rattle.arena.specs.Tended.{IsTended}
+use Rattle.arena.specs.declared.seat.trying.Tended.{Tended}
+use Rattle.teurlaks_c.specs.declared.replies.PutReply.{PutReply}
+use Rattle.teurlaks_c.specs.declared.replies.WordsReply.{WordsReply}
+use Rattle.teurlaks_c.specs.declared.replies.RetireReply.{RetireReply}
+use Rattle.teurlaks_c.specs.declared.replies.TrimReply.{TrimReply}
+use Rattle.teurlaks_c.specs.declared.replies.AdoptReply.{AdoptReply}
+use Rattle.teurlaks_c.specs.declared.replies.TendReply.{TendReply}
+use Rattle.teurlaks_c.specs.declared.replies.RawKey.{RawKey}
+use Rattle.teurlaks_c.specs.declared.replies.RawWord.{RawWord}
+use Rattle.teurlaks_c.specs.declared.share.Share.{Share}
+use Rattle.teurlaks_c.specs.declared.share.Share.TheVariants.{Seat, Steward}
+use Rattle.teurlaks_c.specs.declared.share.SharedSeat.{SharedSeat}
+use Rattle.teurlaks_c.specs.Calls.{SaysWords}
+use Rattle.teurlaks_c.specs.Keys.{IsKeyOf, IsNoKey, IsSpanOf}
+use Rattle.teurlaks_c.specs.Status.{busy, config, done, no_core, none, out_of_memory, ring_full, adopt_status, put_status, receive_status}
+use Rattle.teurlaks_c.specs.Words.{words_of}
+
+-- the handle has no seat
+abbrev pub HasNoSeat : Option Share → Type 0
+HasNoSeat (Some (Seat seat)) = ⊥
+HasNoSeat held = Unit {0}
+
+-- the seat of the handle does this and answers that, at the same arena
+pub record AtSeat {Answer : Type 0} (does : SeatState → Answer → SeatState → Type 0) (old : Option Share) (answer : Answer) (new : Option Share) : Type 0 where
+  pub before : SharedSeat
+  pub after : SharedSeat
+  pub before_is : old ≡ Some (Seat before)
+  pub after_is : new ≡ Some (Seat after)
+  pub arena_is : after.arena ≡ before.arena
+  pub did : does before.seat answer after.seat
+
+-- the handle's seat is asked, where it has one
+abbrev pub Asks : {Answer : Type 0} → (SeatState → Answer → SeatState → Type 0) → Option Share → Option Answer → Option Share → Type 0
+Asks does old answer new = MatchOption answer (HasNoSeat old × (new ≡ old)) (λ answer. AtSeat does old answer new)
+
+-- a call that needs a lock which another thread has changes nothing; else it is one call of the seat more
+abbrev pub IsOneCall : {Answer : Type 0} → SeatState → Result Answer Busy → SeatState → Type 0
+IsOneCall before answer after = OnOk answer (CountsCall before after) × OnErr answer (after ≡ before)
+
+-- the object is put, with the receipt of just that put; or the put is refused
+abbrev pub Puts : Value → SeatState → Result (Result (Key × Receipt) PutError) Busy → SeatState → Type 0
+Puts value before answer after =
+    IfOk answer (λ made. IfOk made (λ put. put.1 ≡ put_receipt before.worker before.section value put.0 put.1.at)) × IsOneCall before answer after
+
+-- the key is looked up, with the receipt of just that look-up
+abbrev pub Gets : Key → SeatState → Result (Option Value × Receipt) Busy → SeatState → Type 0
+Gets key before answer after = IfOk answer (λ got. got.1 ≡ get_receipt before.worker before.section key got.0 got.1.at) × IsOneCall before answer after
+
+-- the key is set to the object, or is not, with the receipt of just that set; or the set is refused
+abbrev pub Sets : Key → Value → SeatState → Result (Result (Bool × Receipt) AllocError) Busy → SeatState → Type 0
+Sets key value before answer after =
+    IfOk answer (λ made. IfOk made (λ set. set.1 ≡ set_receipt before.worker before.section key value set.0 set.1.at)) × IsOneCall before answer after
+
+-- the key is freed, or is not live, with the receipt of just that free
+abbrev pub Frees : Key → SeatState → Result (Bool × Receipt) Busy → SeatState → Type 0
+Frees key before answer after = IfOk answer (λ freed. freed.1 ≡ free_receipt before.worker before.section key freed.0 freed.1.at) × IsOneCall before answer after
+
+-- the call is one of the seat, and its answer that of the shard and the pool under their locks
+abbrev pub IsCall : {Answer : Type 0} → SeatState → Result Answer Busy → SeatState → Type 0
+IsCall before answer after = IsOneCall before answer after
+
+-- at most that many groups go
+abbrev pub Retires : ℕ → SeatState → Result (Result ℕ ReceiveError) Busy → SeatState → Type 0
+Retires most before answer after = IfOk answer (λ retired. IfOk retired (λ count. count ≤ most)) × IsOneCall before answer after
+
+-- the shard ends, and what the seat has left to others is handed over
+abbrev pub Ends : SeatState → Result (Result (Unit {0}) ReceiveError) Busy → SeatState → Type 0
+Ends before answer after = OnOk answer (HandsOverKeys before after) × OnErr answer (after ≡ before)
+
+-- the key is left to the thread of the shard that opened its span, or the ring is full; or the arena has no such shard
+abbrev pub FreesLater : Key → SeatState → Option (Result (Unit {0}) Key) → SeatState → Type 0
+FreesLater key before answer after = MatchOption answer
+    ((key.span.shard < before.limits.shards → ⊥) × (after ≡ before))
+    (λ sent. (key.span.shard < before.limits.shards) × KeepsEnds before after × MatchResult sent
+    (λ left. sent_lists after ≡ slice_set (sent_lists before) key.span.shard (slice_index_or (sent_lists before) key.span.shard [] ++ key ∷ []))
+    (λ back. (back ≡ key) × (sent_lists after ≡ sent_lists before)))
+
+-- keys were taken from the seat's rings, in order, and each was freed
+abbrev pub Tends : SeatState → Result Tended AllocError → SeatState → Type 0
+Tends before answer after =
+    IfOk answer (λ tended. (told : List Receipt) × IsTended before.limits.ring_capacity before after [] told tended.count) × KeepsEnds before after
+
+-- what C reads of a put
+abbrev pub SaysPut : PutReply → Option (Result (Result (Key × Receipt) PutError) Busy) → Type 0
+SaysPut says None = says.status ≡ no_core
+SaysPut says (Some (Err b)) = says.status ≡ busy
+SaysPut says (Some (Ok (Ok put))) = (says.status ≡ done) × IsKeyOf says.key put.0
+SaysPut says (Some (Ok (Err error))) = says.status ≡ put_status error
+
+-- words that are no object are refused, and nothing changes; others are put by the seat
+abbrev pub PutsWords : Option Share → List ℕ → PutReply → Option Share → Type 0
+PutsWords old words says new =
+    (IsObject words × ((answer : _) × Asks (Puts words) old answer new × SaysPut says answer)) ⊎ ((IsObject words → ⊥) × (says.status ≡ config) × (new ≡ old))
+
+-- what C reads of a look-up, and what it leaves in the room
+abbrev pub SaysGot : List RawWord → WordsReply → List RawWord → Option (Result (Option Value × Receipt) Busy) → Type 0
+SaysGot room says room_new None = (says.status ≡ no_core) × (says.len ≡ 0) × (room_new ≡ room)
+SaysGot room says room_new (Some (Err b)) = (says.status ≡ busy) × (says.len ≡ 0) × (room_new ≡ room)
+SaysGot room says room_new (Some (Ok got)) = SaysWords room says room_new got.0
+
+-- the words of the key with these numbers, if it is live
+abbrev pub GetsWords : Option Share → RawKey → List RawWord → WordsReply → List RawWord → Option Share → Type 0
+GetsWords old raw room says room_new new = (IsNoKey raw × (says.status ≡ none) × (says.len ≡ 0) × (room_new ≡ room) × (new ≡ old))
+    ⊎ ((key : Key) × IsKeyOf raw key × ((answer : _) × Asks (Gets key) old answer new × SaysGot room says room_new answer))
+
+-- what C reads of a free
+abbrev pub SaysFreed : ℕ → Option (Result (Bool × Receipt) Busy) → Type 0
+SaysFreed says None = says ≡ no_core
+SaysFreed says (Some (Err b)) = says ≡ busy
+SaysFreed says (Some (Ok (true, receipt))) = says ≡ done
+SaysFreed says (Some (Ok (false, receipt))) = says ≡ none
+
+-- the key with these numbers is freed, if it is live
+abbrev pub FreesKey : Option Share → RawKey → ℕ → Option Share → Type 0
+FreesKey old raw says new = (IsNoKey raw × (says ≡ none) × (new ≡ old)) ⊎ ((key : Key) × IsKeyOf raw key × ((answer : _) × Asks (Frees key) old answer new × SaysFreed says answer))
+
+-- what C reads of a set
+abbrev pub SaysSet : ℕ → Option (Result (Result (Bool × Receipt) AllocError) Busy) → Type 0
+SaysSet says None = says ≡ no_core
+SaysSet says (Some (Err b)) = says ≡ busy
+SaysSet says (Some (Ok (Err error))) = says ≡ out_of_memory
+SaysSet says (Some (Ok (Ok (true, receipt)))) = says ≡ done
+SaysSet says (Some (Ok (Ok (false, receipt)))) = says ≡ none
+
+-- words that are no object are refused, and nothing changes; to others the key with these numbers is set, if it is live and its object has as many words
+abbrev pub SetsWords : Option Share → RawKey → List ℕ → ℕ → Option Share → Type 0
+SetsWords old raw words says new = ((IsObject words → ⊥) × (says ≡ config) × (new ≡ old))
+    ⊎ ((IsNoKey raw × (says ≡ none) × (new ≡ old))
+    ⊎ (IsObject words × ((key : Key) × IsKeyOf raw key × ((answer : _) × Asks (Sets key words) old answer new × SaysSet says answer))))
+
+-- what C reads of a retirement
+abbrev pub SaysRetired : RetireReply → Option (Result (Result ℕ ReceiveError) Busy) → Type 0
+SaysRetired says None = (says.status ≡ no_core) × (says.count ≡ 0)
+SaysRetired says (Some (Err b)) = (says.status ≡ busy) × (says.count ≡ 0)
+SaysRetired says (Some (Ok (Ok count))) = (says.status ≡ done) × (says.count ≡ count)
+SaysRetired says (Some (Ok (Err error))) = (says.status ≡ receive_status error) × (says.count ≡ 0)
+
+-- what C reads of an end
+abbrev pub SaysEnded : ℕ → Option (Result (Result (Unit {0}) ReceiveError) Busy) → Type 0
+SaysEnded says None = says ≡ no_core
+SaysEnded says (Some (Err b)) = says ≡ busy
+SaysEnded says (Some (Ok (Ok ended))) = says ≡ done
+SaysEnded says (Some (Ok (Err error))) = says ≡ receive_status error
+
+-- what C reads of a trim
+abbrev pub SaysTrimmed : TrimReply → Option (Result ℕ Busy) → Type 0
+SaysTrimmed says None = (says.status ≡ no_core) × (says.count ≡ 0)
+SaysTrimmed says (Some (Err b)) = (says.status ≡ busy) × (says.count ≡ 0)
+SaysTrimmed says (Some (Ok count)) = (says.status ≡ done) × (says.count ≡ count)
+
+-- what C reads of an adoption
+abbrev pub SaysAdopted : AdoptReply → Option (Result (Result SpanId AdoptError) Busy) → Type 0
+SaysAdopted says None = says.status ≡ no_core
+SaysAdopted says (Some (Err b)) = says.status ≡ busy
+SaysAdopted says (Some (Ok (Ok head))) = (says.status ≡ done) × IsSpanOf says.head head
+SaysAdopted says (Some (Ok (Err error))) = says.status ≡ adopt_status error
+
+-- what C reads of a deferred free
+abbrev pub SaysLeft : ℕ → Option (Option (Result (Unit {0}) Key)) → Type 0
+SaysLeft says None = says ≡ no_core
+SaysLeft says (Some None) = says ≡ none
+SaysLeft says (Some (Some (Ok left))) = says ≡ done
+SaysLeft says (Some (Some (Err back))) = says ≡ ring_full
+
+-- the key with these numbers is left to its shard's thread, if there is one
+abbrev pub LeavesKey : Option Share → RawKey → ℕ → Option Share → Type 0
+LeavesKey old raw says new = (IsNoKey raw × (says ≡ none) × (new ≡ old)) ⊎ ((key : Key) × IsKeyOf raw key × ((answer : _) × Asks (FreesLater key) old answer new × SaysLeft says answer))
+
+-- what C reads of a hand-over
+abbrev pub SaysHandedOver : ℕ → Option (Unit {0}) → Type 0
+SaysHandedOver says None = says ≡ no_core
+SaysHandedOver says (Some handed) = says ≡ done
+
+-- what C reads of a tending
+abbrev pub SaysTended : TendReply → Option (Result Tended AllocError) → Type 0
+SaysTended says None = (says.status ≡ no_core) × (says.count ≡ 0)
+SaysTended says (Some (Err error)) = (says.status ≡ out_of_memory) × (says.count ≡ 0)
+SaysTended says (Some (Ok tended)) = (says.status ≡ (if tended.is_busy then busy else done)) × (says.count ≡ tended.count)

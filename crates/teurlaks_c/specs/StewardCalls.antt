@@ -1,0 +1,106 @@
+-- What the calls on the steward of an arena do.
+use Rattle.std.specs.Prelude.{◌≡◌, ◌≢◌, ◌≤◌, ℕ, Bool, true, false, Option, Some, None, Result, Ok, Err, IfOk, IsSome, OnErr, OnOk, MatchOption, is_some, length}
+use Rattle.std.specs.declared.alloc.AllocError.{AllocError}
+use Rattle.certificate.specs.declared.certificate.Certificate.{Certificate}
+use Rattle.certificate.specs.Plans.{IsBestPlanOf, IsShortOf}
+use Rattle.latch.specs.declared.latch.Busy.{Busy}
+use Rattle.marks.specs.declared.error.MarkError.{MarkError}
+use Rattle.marks.specs.declared.totals.Totals.{Totals}
+use Rattle.marks.specs.Numbers.{Limits}
+use Rattle.arena.specs.Stewards.{Steps, begun}
+use Rattle.arena.specs.declared.arena.Stepped.{Stepped}
+use Rattle.arena.specs.declared.arena.Stepped.TheVariants.{NoPairLeft, NoPlan, Taken}
+use Rattle.teurlaks_c.specs.declared.replies.MarkReply.{MarkReply}
+use Rattle.teurlaks_c.specs.declared.replies.StepReply.{StepReply}
+use Rattle.teurlaks_c.specs.declared.replies.ArenaTotalsReply.{ArenaTotalsReply}
+use Rattle.teurlaks_c.specs.declared.share.Share.{Share}
+use Rattle.teurlaks_c.specs.declared.share.Share.TheVariants.{Seat, Steward}
+use Rattle.teurlaks_c.specs.declared.share.SharedSteward.{SharedSteward}
+use Rattle.teurlaks_c.specs.Calls.{CountsOf, kept}
+use Rattle.teurlaks_c.specs.Keys.{IsSpanOf}
+use Rattle.teurlaks_c.specs.Status.{busy, done, no_core, no_pair_left, no_plan, none, out_of_memory, mark_status, status_of_outcome}
+
+-- the handle has no steward
+abbrev pub HasNoSteward : Option Share → Type 0
+HasNoSteward (Some (Steward steward)) = ⊥
+HasNoSteward held = Unit {0}
+
+-- a steward of a new arena of these numbers, with no plan and no certificate
+pub record HasNewArena (limits : Limits) (new : Option Share) : Type 0 where
+  pub steward : SharedSteward
+  pub is : new ≡ Some (Steward steward)
+  pub state : steward.steward ≡ record { limits = limits; plan = None }
+  pub last : steward.last ≡ None
+
+-- the steward of the handle does this and answers that, at the same arena and with the same seats to give out
+pub record AtSteward {Answer : Type 0} (does : SharedSteward → Answer → SharedSteward → Type 0) (old : Option Share) (answer : Answer) (new : Option Share) : Type 0 where
+  pub before : SharedSteward
+  pub after : SharedSteward
+  pub before_is : old ≡ Some (Steward before)
+  pub after_is : new ≡ Some (Steward after)
+  pub did : does before answer after
+
+-- the handle's steward is asked, where it has one
+abbrev pub Asks : {Answer : Type 0} → (SharedSteward → Answer → SharedSteward → Type 0) → Option Share → Option Answer → Option Share → Type 0
+Asks does old answer new = MatchOption answer (HasNoSteward old × (new ≡ old)) (λ answer. AtSteward does old answer new)
+
+-- a largest plan of what was seen is opened and its certificate kept
+pub record MarksPlan (before : SharedSteward) (says : MarkReply) (after : SharedSteward) : Type 0 where
+  pub found : Certificate
+  pub best : IsBestPlanOf found.snapshot found.plan
+  pub short : IsShortOf found.snapshot found.plan found.short
+  pub counts : CountsOf says found
+  pub keeps : kept after.last ≡ Some found
+  pub none : before.steward.plan ≡ None
+  pub begins : after.steward ≡ begun before.steward found.plan
+
+-- a plan is opened, or the mark is refused or meets another thread's lock, and then plan and certificate are as they were
+abbrev pub Marks : SharedSteward → Result (Result MarkReply MarkError) Busy → SharedSteward → Type 0
+Marks before answer after =
+    IfOk answer (λ made. IfOk made (λ says. MarksPlan before says after) × OnErr made ((after.steward ≡ before.steward) × (after.last ≡ before.last)))
+    × OnErr answer ((after.steward ≡ before.steward) × (after.last ≡ before.last))
+
+-- the next pair is carried out, or there is none, or memory is refused, or another thread has a lock
+abbrev pub TakesStep : SharedSteward → Result (Result Stepped AllocError) Busy → SharedSteward → Type 0
+TakesStep before answer after =
+    IfOk answer (λ step. IfOk step (λ stepped. Steps before.steward.plan stepped after.steward.plan) × OnErr step (after.steward ≡ before.steward))
+    × OnErr answer (after.steward ≡ before.steward) × (after.last ≡ before.last)
+
+-- the plan is closed, or there is none, or another thread has a lock
+abbrev pub Closes : SharedSteward → Result Bool Busy → SharedSteward → Type 0
+Closes before answer after =
+    IfOk answer (λ closed. closed ≡ is_some before.steward.plan) × OnOk answer (after.steward ≡ record before.steward { plan = None })
+    × OnErr answer (after.steward ≡ before.steward) × (after.last ≡ before.last)
+
+-- nothing of the steward changes
+abbrev pub Keeps : {Answer : Type 0} → SharedSteward → Answer → SharedSteward → Type 0
+Keeps before answer after = (after.steward ≡ before.steward) × (after.last ≡ before.last)
+
+-- what C reads of a mark
+abbrev pub SaysMarked : MarkReply → Option (Result (Result MarkReply MarkError) Busy) → Type 0
+SaysMarked says None = says.status ≡ no_core
+SaysMarked says (Some (Err b)) = says.status ≡ busy
+SaysMarked says (Some (Ok (Ok made))) = says ≡ made
+SaysMarked says (Some (Ok (Err error))) = says.status ≡ mark_status error
+
+-- what C reads of a step
+abbrev pub SaysStepped : StepReply → Option (Result (Result Stepped AllocError) Busy) → Type 0
+SaysStepped says None = says.status ≡ no_core
+SaysStepped says (Some (Err b)) = says.status ≡ busy
+SaysStepped says (Some (Ok (Err error))) = says.status ≡ out_of_memory
+SaysStepped says (Some (Ok (Ok (Taken abandoned owned outcome)))) = (says.status ≡ status_of_outcome outcome) × IsSpanOf says.abandoned abandoned × IsSpanOf says.owned owned
+SaysStepped says (Some (Ok (Ok NoPairLeft))) = says.status ≡ no_pair_left
+SaysStepped says (Some (Ok (Ok NoPlan))) = says.status ≡ no_plan
+
+-- what C reads of a close
+abbrev pub SaysClosed : ℕ → Option (Result Bool Busy) → Type 0
+SaysClosed says None = says ≡ no_core
+SaysClosed says (Some (Err b)) = says ≡ busy
+SaysClosed says (Some (Ok true)) = says ≡ done
+SaysClosed says (Some (Ok false)) = says ≡ no_plan
+
+-- what C reads of totals
+abbrev pub SaysTotals : ArenaTotalsReply → Option (Result Totals Busy) → Type 0
+SaysTotals says None = (says.status ≡ no_core) × (says.pages ≡ 0) × (says.live ≡ 0)
+SaysTotals says (Some (Err b)) = (says.status ≡ busy) × (says.pages ≡ 0) × (says.live ≡ 0)
+SaysTotals says (Some (Ok totals)) = (says.status ≡ done) × (says.pages ≡ totals.pages) × (says.live ≡ totals.live)

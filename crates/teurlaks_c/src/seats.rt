@@ -1,0 +1,384 @@
+// The calls of a seat, for the thread that has its handle.
+ghost use Rattle.std.specs.Prelude.{◌≡◌};
+ghost use Rattle.arena.specs.Delays.{HandsOver};
+ghost use Rattle.teurlaks_c.specs.SeatCalls.{Asks, Ends, FreesKey, GetsWords, IsOneCall, LeavesKey, PutsWords, Retires, SaysAdopted, SaysEnded, SaysFreed, SaysGot, SaysHandedOver, SaysLeft, SaysPut, SaysRetired, SaysSet, SaysTended, SaysTrimmed, SetsWords, Tends};
+ghost use Rattle.teurlaks_c.specs.Status.{adopt_status, put_status, receive_status};
+ghost use Rattle.teurlaks_c.specs.Words.{words_of};
+
+use crate::calls::{no_key, tell};
+use crate::keys::{key_of, raw_of, raw_span};
+use crate::meshing::no_span;
+use crate::replies::{
+    AdoptReply, PutReply, RawKey, RawWord, RetireReply, TendReply, TrimReply, WordsReply,
+};
+use crate::seat_calls::{
+    Adopt, End, Free, FreeLater, Get, HandOver, Put, Retire, Set, Tend, Trim, at_seat,
+};
+use crate::share_handle::ShareHandle;
+use crate::status::{
+    BUSY, CONFIG, ENDED, NO_CORE, NONE, NOTHING_TO_ADOPT, OK, OUT_OF_MEMORY, PAGES_SPENT,
+    PLAN_OPEN, RING_FULL,
+};
+use crate::words::object_of;
+use abandoned::{AdoptError, ReceiveError};
+use arena::{Busy, Tended};
+use shard::PutError;
+use span::{Key, Object, Receipt, SpanId};
+use std::alloc::{AllocError, Global};
+
+/// Keeps an object of 1, 4 or 16 words in the seat's shard, and answers its key. Refused with `BUSY`, `PAGES_SPENT`, `ENDED` or
+/// `OUT_OF_MEMORY`; where the words are of another number, with `CONFIG`. Nothing has changed then.
+#[unsafe(no_mangle)]
+pub extern "C" fn teurlaks_seat_put_words(
+    alloc: Global,
+    handle: &mut ShareHandle,
+    words: &[RawWord],
+) -> PutReply
+    ensures { PutsWords handle.old.share (words_of words.now) result handle.new.share }
+{
+    let Some(value) = object_of(words) else {
+        return PutReply {
+            status: CONFIG,
+            key: no_key(),
+        };
+    };
+    put_reply(at_seat(alloc, handle, &Put { value }))
+}
+
+/// Writes the words of the key's object, where it is live, into `words`, from its first on, and answers how many they are. `BUSY` where
+/// another thread has the lock of the span, `NONE` where the key is not live, and `TOO_SMALL` where there is no room for that many:
+/// nothing was written then.
+#[unsafe(no_mangle)]
+pub extern "C" fn teurlaks_seat_get_words(
+    alloc: Global,
+    handle: &mut ShareHandle,
+    key: RawKey,
+    words: &mut [RawWord],
+) -> WordsReply
+    ensures { GetsWords handle.old.share key words.old result words.new handle.new.share }
+{
+    let Some(key) = key_of(key) else {
+        return WordsReply {
+            status: NONE,
+            len: 0,
+        };
+    };
+    got_reply(at_seat(alloc, handle, &Get { key }), words)
+}
+
+/// Sets the key to the object of 1, 4 or 16 words, where it is live and its object has as many, which `OK` says; else it answers `NONE`.
+/// Refused with `BUSY`, or with `CONFIG` where the words are of another number; nothing has changed then.
+#[unsafe(no_mangle)]
+pub extern "C" fn teurlaks_seat_set_words(
+    alloc: Global,
+    handle: &mut ShareHandle,
+    key: RawKey,
+    words: &[RawWord],
+) -> u32
+    ensures { SetsWords handle.old.share key (words_of words.now) result handle.new.share }
+{
+    let Some(value) = object_of(words) else {
+        return CONFIG;
+    };
+    let Some(key) = key_of(key) else {
+        return NONE;
+    };
+    set_reply(at_seat(alloc, handle, &Set { key, value }))
+}
+
+/// Frees the key, where it is live, which `OK` says; else it answers `NONE`, or `BUSY`, and nothing changes. It takes no memory.
+#[unsafe(no_mangle)]
+pub extern "C" fn teurlaks_seat_free(alloc: Global, handle: &mut ShareHandle, key: RawKey) -> u32
+    ensures { FreesKey handle.old.share key result handle.new.share }
+{
+    let Some(key) = key_of(key) else {
+        return NONE;
+    };
+    freed_reply(at_seat(alloc, handle, &Free { key }))
+}
+
+/// Ends the seat's shard: its groups go to the pool, with their pages, and it takes no put again. Refused with `BUSY`, `ENDED`,
+/// `PLAN_OPEN` or `OUT_OF_MEMORY`; nothing has changed then.
+#[unsafe(no_mangle)]
+pub extern "C" fn teurlaks_seat_end(alloc: Global, handle: &mut ShareHandle) -> u32
+    ensures { (answer : _) × Asks Ends handle.old.share answer handle.new.share × SaysEnded result answer }
+{
+    ended_reply(at_seat(alloc, handle, &End))
+}
+
+/// Moves up to `most` groups of the seat's shard to the pool, and lets the shard go on: those with the fewest live keys, of those that
+/// have one. Refused with `BUSY`, `ENDED`, `PLAN_OPEN` or `OUT_OF_MEMORY`; nothing has changed then.
+#[unsafe(no_mangle)]
+pub extern "C" fn teurlaks_seat_retire(
+    alloc: Global,
+    handle: &mut ShareHandle,
+    most: usize,
+) -> RetireReply
+    ensures { (answer : _) × Asks (Retires most) handle.old.share answer handle.new.share
+        × SaysRetired result answer }
+{
+    retired_reply(at_seat(alloc, handle, &Retire { most }))
+}
+
+/// Gives back the page of each open group of the seat's shard in which no slot is live; the count is how many went. Refused with
+/// `BUSY`. It takes no memory.
+#[unsafe(no_mangle)]
+pub extern "C" fn teurlaks_seat_trim(alloc: Global, handle: &mut ShareHandle) -> TrimReply
+    ensures { (answer : _) × Asks IsOneCall handle.old.share answer handle.new.share
+        × SaysTrimmed result answer }
+{
+    trimmed_reply(at_seat(alloc, handle, &Trim))
+}
+
+/// Moves the pool's group of lowest head that has a page to the seat's shard, and answers its head. Refused with `BUSY`, `PAGES_SPENT`,
+/// `ENDED`, `PLAN_OPEN`, `NOTHING_TO_ADOPT` or `OUT_OF_MEMORY`; nothing has changed then.
+#[unsafe(no_mangle)]
+pub extern "C" fn teurlaks_seat_adopt(alloc: Global, handle: &mut ShareHandle) -> AdoptReply
+    ensures { (answer : _) × Asks IsOneCall handle.old.share answer handle.new.share
+        × SaysAdopted result answer }
+{
+    adopted_reply(at_seat(alloc, handle, &Adopt))
+}
+
+/// Leaves the key to the thread of the shard that opened its span, which frees it when it tends its rings. Keys go in blocks: until its
+/// block is full the key waits at the seat, for fewer than 64 further calls. `NONE` where the arena has no such shard, and `RING_FULL`
+/// where the ring took none, with all that wait handed over. It takes no lock and no memory.
+#[unsafe(no_mangle)]
+pub extern "C" fn teurlaks_seat_free_later(
+    alloc: Global,
+    handle: &mut ShareHandle,
+    key: RawKey,
+) -> u32
+    ensures { LeavesKey handle.old.share key result handle.new.share }
+{
+    let Some(key) = key_of(key) else {
+        return NONE;
+    };
+    left_reply(at_seat(alloc, handle, &FreeLater { key }))
+}
+
+/// Hands over the keys that were left to other threads and wait for their block to be full. It takes no lock and no memory.
+#[unsafe(no_mangle)]
+pub extern "C" fn teurlaks_seat_hand_over(alloc: Global, handle: &mut ShareHandle) -> u32
+    ensures { (answer : _) × Asks (λ before _ after. HandsOver before after) handle.old.share
+        answer handle.new.share × SaysHandedOver result answer }
+{
+    match at_seat(alloc, handle, &HandOver) {
+        Some(()) => OK,
+        None => NO_CORE,
+    }
+}
+
+/// Takes the keys that other threads have left to the seat's shard, as many as are seen, and frees each; the count is how many. `BUSY`
+/// where it left off, since another thread had the lock that the next key needs: that key is still on its ring.
+#[unsafe(no_mangle)]
+pub extern "C" fn teurlaks_seat_tend(alloc: Global, handle: &mut ShareHandle) -> TendReply
+    ensures { (answer : _) × Asks Tends handle.old.share answer handle.new.share
+        × SaysTended result answer }
+{
+    tended_reply(at_seat(alloc, handle, &Tend))
+}
+
+// What C reads of a deferred free.
+fn left_reply(answer: Option<Option<Result<(), Key>>>) -> u32
+    ensures { SaysLeft result answer }
+{
+    match answer {
+        Some(Some(Ok(()))) => OK,
+        Some(Some(Err(_))) => RING_FULL,
+        Some(None) => NONE,
+        None => NO_CORE,
+    }
+}
+
+// What C reads of a tending.
+fn tended_reply(answer: Option<Result<Tended, AllocError>>) -> TendReply
+    ensures { SaysTended result answer }
+{
+    match answer {
+        Some(Ok(Tended { count, is_busy })) => TendReply {
+            status: if is_busy { BUSY } else { OK },
+            count,
+        },
+        Some(Err(AllocError)) => TendReply {
+            status: OUT_OF_MEMORY,
+            count: 0,
+        },
+        None => TendReply {
+            status: NO_CORE,
+            count: 0,
+        },
+    }
+}
+
+// What C reads of a put.
+#[inline(always)]
+fn put_reply(answer: Option<Result<Result<(Key, Receipt), PutError>, Busy>>) -> PutReply
+    ensures { SaysPut result answer }
+{
+    let status = match answer {
+        Some(Ok(Ok((key, _)))) => {
+            return PutReply {
+                status: OK,
+                key: raw_of(key),
+            };
+        }
+        Some(Ok(Err(error))) => put_status_of(error),
+        Some(Err(Busy)) => BUSY,
+        None => NO_CORE,
+    };
+    PutReply {
+        status,
+        key: no_key(),
+    }
+}
+
+// What C reads of a look-up, whose words are written into the room where there is enough.
+fn got_reply(
+    answer: Option<Result<(Option<Object>, Receipt), Busy>>,
+    room: &mut [RawWord],
+) -> WordsReply
+    ensures { SaysGot room.old result room.new answer }
+{
+    let status = match answer {
+        Some(Ok((Some(value), _))) => return tell(Some(value.words()), room),
+        Some(Ok((None, _))) => NONE,
+        Some(Err(Busy)) => BUSY,
+        None => NO_CORE,
+    };
+    WordsReply { status, len: 0 }
+}
+
+// What C reads of a set.
+fn set_reply(answer: Option<Result<Result<(bool, Receipt), AllocError>, Busy>>) -> u32
+    ensures { SaysSet result answer }
+{
+    match answer {
+        Some(Ok(Ok((true, _)))) => OK,
+        Some(Ok(Ok((false, _)))) => NONE,
+        Some(Ok(Err(AllocError))) => OUT_OF_MEMORY,
+        Some(Err(Busy)) => BUSY,
+        None => NO_CORE,
+    }
+}
+
+// What C reads of a free.
+#[inline(always)]
+fn freed_reply(answer: Option<Result<(bool, Receipt), Busy>>) -> u32
+    ensures { SaysFreed result answer }
+{
+    match answer {
+        Some(Ok((true, _))) => OK,
+        Some(Ok((false, _))) => NONE,
+        Some(Err(Busy)) => BUSY,
+        None => NO_CORE,
+    }
+}
+
+// What C reads of an end.
+fn ended_reply(answer: Option<Result<Result<(), ReceiveError>, Busy>>) -> u32
+    ensures { SaysEnded result answer }
+{
+    match answer {
+        Some(Ok(Ok(()))) => OK,
+        Some(Ok(Err(error))) => receive_status_of(error),
+        Some(Err(Busy)) => BUSY,
+        None => NO_CORE,
+    }
+}
+
+// What C reads of a retirement.
+fn retired_reply(answer: Option<Result<Result<usize, ReceiveError>, Busy>>) -> RetireReply
+    ensures { SaysRetired result answer }
+{
+    match answer {
+        Some(Ok(Ok(count))) => RetireReply { status: OK, count },
+        Some(Ok(Err(error))) => RetireReply {
+            status: receive_status_of(error),
+            count: 0,
+        },
+        Some(Err(Busy)) => RetireReply {
+            status: BUSY,
+            count: 0,
+        },
+        None => RetireReply {
+            status: NO_CORE,
+            count: 0,
+        },
+    }
+}
+
+// What C reads of a trim.
+fn trimmed_reply(answer: Option<Result<usize, Busy>>) -> TrimReply
+    ensures { SaysTrimmed result answer }
+{
+    match answer {
+        Some(Ok(count)) => TrimReply { status: OK, count },
+        Some(Err(Busy)) => TrimReply {
+            status: BUSY,
+            count: 0,
+        },
+        None => TrimReply {
+            status: NO_CORE,
+            count: 0,
+        },
+    }
+}
+
+// What C reads of an adoption.
+fn adopted_reply(answer: Option<Result<Result<SpanId, AdoptError>, Busy>>) -> AdoptReply
+    ensures { SaysAdopted result answer }
+{
+    let status = match answer {
+        Some(Ok(Ok(head))) => {
+            return AdoptReply {
+                status: OK,
+                head: raw_span(head),
+            };
+        }
+        Some(Ok(Err(error))) => adopt_status_of(error),
+        Some(Err(Busy)) => BUSY,
+        None => NO_CORE,
+    };
+    AdoptReply {
+        status,
+        head: no_span(),
+    }
+}
+
+// The status that stands for a refused put.
+fn put_status_of(error: PutError) -> u32
+    ensures { result ≡ put_status error }
+{
+    match error {
+        PutError::OutOfMemory => OUT_OF_MEMORY,
+        PutError::PagesSpent => PAGES_SPENT,
+        PutError::Ended => ENDED,
+    }
+}
+
+// The status that stands for a refused end or retirement.
+fn receive_status_of(error: ReceiveError) -> u32
+    ensures { result ≡ receive_status error }
+{
+    match error {
+        ReceiveError::OutOfMemory => OUT_OF_MEMORY,
+        ReceiveError::Ended => ENDED,
+        ReceiveError::PlanOpen => PLAN_OPEN,
+        ReceiveError::Doubled => NONE,
+    }
+}
+
+// The status that stands for a refused adoption.
+fn adopt_status_of(error: AdoptError) -> u32
+    ensures { result ≡ adopt_status error }
+{
+    match error {
+        AdoptError::OutOfMemory => OUT_OF_MEMORY,
+        AdoptError::PagesSpent => PAGES_SPENT,
+        AdoptError::Ended => ENDED,
+        AdoptError::PlanOpen => PLAN_OPEN,
+        AdoptError::NothingToAdopt => NOTHING_TO_ADOPT,
+        AdoptError::Doubled => NONE,
+    }
+}

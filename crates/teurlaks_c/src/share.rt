@@ -1,0 +1,45 @@
+// What the handle of a thread has of an arena.
+ghost use Rattle.std.specs.Arc.{arc_value};
+ghost use Rattle.std.specs.Prelude.{◌≡◌};
+
+use crate::held::Witness;
+use arena::{Arena, NoGate, Seat, Steward};
+use span::Counted;
+use std::alloc::Global;
+use std::sync::Arc;
+
+/// The arena of a service: its logs are only counted, and nothing is told of who is inside of a shard.
+pub type Shards = Arena<NoGate, Counted>;
+
+/// A worker's seat, with a share of its arena, which goes with the last of its shares.
+#[derive(Drop)]
+pub struct SharedSeat {
+    /// The arena.
+    pub arena: Arc<Shards, Global>,
+    /// The seat.
+    pub seat: Seat,
+    pub ghost fits: { seat.limits ≡ (arc_value arena).limits },
+}
+
+/// The steward of an arena, with a share of it, and what its last mark answered.
+#[derive(Drop)]
+pub struct SharedSteward {
+    /// The arena.
+    pub arena: Arc<Shards, Global>,
+    /// The keeper of the open plan.
+    pub steward: Steward,
+    /// The certificate of the last mark that was not refused.
+    pub last: Option<Witness>,
+    /// The seats that no thread has.
+    pub seats: Vec<Seat>,
+    pub ghost fits: { steward.limits ≡ (arc_value arena).limits },
+}
+
+/// What a handle has: a seat or a steward.
+#[derive(Drop)]
+pub enum Share {
+    /// A worker's seat.
+    Seat(SharedSeat),
+    /// The steward.
+    Steward(SharedSteward),
+}

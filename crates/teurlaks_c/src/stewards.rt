@@ -1,0 +1,323 @@
+// An arena from its beginning to its end, and the calls of its steward.
+ghost use Rattle.std.specs.Prelude.{◌≡◌, ◌↔◌, ◌≢◌, Err, IfErr, IfOk, IsErrOf, IsSome, MatchBool, None, ◌<◌, vec_capacity, vec_len};
+ghost use Rattle.arena.specs.declared.error.OpenError.TheVariants as open_error;
+ghost use Rattle.marks.specs.Numbers.{AreWithin, limits_of};
+ghost use Rattle.teurlaks_c.specs.Status.{config, has_core, mark_status, status_of_outcome};
+ghost use Rattle.teurlaks_c.specs.StewardCalls.{Asks, Closes, HasNewArena, Keeps, Marks, SaysClosed, SaysMarked, SaysStepped, SaysTotals, TakesStep};
+
+use crate::keys::raw_span;
+use crate::meshing::{unmarked, unstepped};
+use crate::replies::{ArenaTotalsReply, MarkReply, StepReply};
+use crate::share::{Share, SharedSeat, SharedSteward};
+use crate::share_handle::ShareHandle;
+use crate::status::{
+    BUSY, CONFIG, EMPTIED, HAS_CORE, NO_CORE, NO_PAIR_LEFT, NO_PLAN, NONE, OK, OUT_OF_MEMORY,
+    PLAN_OPEN, TOO_MANY,
+};
+use crate::steward_calls::{Close, CountAll, MarkSome, Step, at_steward};
+use arena::{Arena, Busy, NoGate, OpenError, Seat, Stepped, Totals};
+use fold::Step as Outcome;
+use marks::MarkError;
+use std::alloc::{AllocError, AllocFailed, Global};
+use std::mem::replace;
+use std::sync::Arc;
+
+/// Leaves the steward of a new arena to the handle, which has nothing yet: of `shards` shards, 1 to 64, each of up to `page_limit` pages of
+/// 4,096 bytes, 1 to 1,024, with rings of `ring_capacity` keys, 1 to 1,024, each slot of which is given the generations from 1 to `gens`,
+/// at least 1. The steward has a seat for each shard, to be given to threads.
+///
+/// `HAS_CORE` comes exactly where the handle has a seat or a steward already. Where it has none, `CONFIG` comes exactly where a number is
+/// out of its range, and `OUT_OF_MEMORY` only where each is within it. Where the status is not `OK` the handle is as it was.
+#[unsafe(no_mangle)]
+pub extern "C" fn teurlaks_arena_open(
+    alloc: Global,
+    out: &mut ShareHandle,
+    shards: u32,
+    page_limit: u32,
+    ring_capacity: u32,
+    gens: u32,
+) -> u32
+    ensures ok { result ≡ 0
+        → HasNewArena (limits_of shards page_limit ring_capacity gens) out.new.share }
+    ensures refused { (result ≡ 0 → ⊥) → out.new.share ≡ out.old.share }
+    ensures config { out.old.share ≡ None → (result ≡ config)
+        ↔ (AreWithin (limits_of shards page_limit ring_capacity gens) → ⊥) }
+    ensures taken { (result ≡ has_core) ↔ IsSome out.old.share }
+{
+    if has_share(alloc, out) {
+        return HAS_CORE;
+    }
+    match opened(
+        alloc,
+        shards,
+        page_limit as usize,
+        ring_capacity as usize,
+        gens,
+    ) {
+        Ok(steward) => match Box::new(alloc, Share::Steward(steward)) {
+            Ok(share) => {
+                *out = ShareHandle::of(share);
+                OK
+            }
+            Err(_) => OUT_OF_MEMORY,
+        },
+        Err(OpenError::Config) => CONFIG,
+        Err(OpenError::OutOfMemory) => OUT_OF_MEMORY,
+    }
+}
+
+// The steward of a new arena, with all its seats.
+fn opened(
+    alloc: Global,
+    shards: u32,
+    page_limit: usize,
+    ring_capacity: usize,
+    gens: u32,
+) -> Result<SharedSteward, OpenError>
+    ensures config { IsErrOf result open_error.Config
+        ↔ (AreWithin (limits_of shards page_limit ring_capacity gens) → ⊥) }
+    ensures new { IfOk result (λ shared. (shared.steward ≡ record {
+      limits = limits_of shards page_limit ring_capacity gens;
+      plan = None;
+    }) × (shared.last ≡ None)) }
+{
+    let (arena, seats, steward) = Arena::open_with_log(
+        alloc,
+        shards,
+        page_limit,
+        ring_capacity,
+        gens,
+        NoGate,
+    )?;
+    let Ok(arena) = Arc::new(alloc, arena) else {
+        return Err(OpenError::OutOfMemory);
+    };
+    Ok(SharedSteward {
+        arena,
+        steward,
+        last: None,
+        seats,
+    })
+}
+
+/// Gives the share back: the memory of the arena goes with the last of its shares. A seat does not come back:
+/// its shard takes no further put, and its objects stay.
+#[unsafe(no_mangle)]
+pub extern "C" fn teurlaks_share_drop(alloc: Global, handle: &mut ShareHandle)
+    ensures { handle.new.share ≡ None }
+{
+    drop(replace(handle, ShareHandle::none()).into_box(alloc));
+}
+
+/// Leaves a seat that no thread has to `out`, which has nothing yet. `NONE` where every seat is with a thread, `HAS_CORE` where `out` has
+/// a seat or a steward already, `NO_CORE` where the handle has no steward, and `OUT_OF_MEMORY`; nothing has changed then.
+#[unsafe(no_mangle)]
+pub extern "C" fn teurlaks_steward_seat(
+    alloc: Global,
+    handle: &mut ShareHandle,
+    out: &mut ShareHandle,
+) -> u32
+    ensures taken { IsSome out.old.share → (result ≡ has_core) × (handle.new.share ≡ handle.old.share) }
+    ensures refused { (result ≡ 0 → ⊥) → out.new.share ≡ out.old.share }
+{
+    if has_share(alloc, out) {
+        return HAS_CORE;
+    }
+    let Some(mut share) = replace(handle, ShareHandle::none()).into_box(alloc) else {
+        return NO_CORE;
+    };
+    let seat = match &mut *share {
+        Share::Seat(_) => Err(NO_CORE),
+        Share::Steward(steward) => seat_of(alloc, steward),
+    };
+    *handle = ShareHandle::of(share);
+    match seat {
+        Ok(seat) => {
+            *out = ShareHandle::of(seat);
+            OK
+        }
+        Err(status) => status,
+    }
+}
+
+// A seat that no thread has, in a box of its own, or the status that says why there is none.
+fn seat_of(alloc: Global, steward: &mut SharedSteward) -> Result<Box<Share>, u32>
+    ensures refused { IfErr result (λ status. status ≡ 0 → ⊥) }
+    ensures same { (steward.new.steward ≡ steward.old.steward)
+        × (steward.new.last ≡ steward.old.last) }
+{
+    let Ok(arena) = Arc::try_clone(&steward.arena) else {
+        return Err(OUT_OF_MEMORY);
+    };
+    let Some(seat) = steward.seats.pop() else {
+        return Err(NONE);
+    };
+    // Each seat is of its arena.
+    if !seat.fits(&*arena) {
+        return Err(NONE);
+    }
+    match Box::new(alloc, Share::Seat(SharedSeat { arena, seat })) {
+        Ok(share) => Ok(share),
+        Err(failed) => {
+            take_back(&mut steward.seats, failed);
+            Err(OUT_OF_MEMORY)
+        }
+    }
+}
+
+// The seat that has no box is one that no thread has again.
+fn take_back(seats: &mut Vec<Seat>, failed: AllocFailed<Share>)
+    requires { vec_len seats.old < vec_capacity seats.old }
+{
+    let AllocFailed { value } = failed;
+    match value {
+        Share::Seat(shared) => {
+            let SharedSeat { arena, seat } = shared;
+            drop(arena);
+            seats.push_reserved(seat);
+        }
+        Share::Steward(steward) => drop(steward),
+    }
+}
+
+/// Plans as many folds of the pool's groups onto those of the shards as can be, of the 4,096 of each side with the fewest live keys, opens
+/// the plan, and keeps its certificate. Refused with `BUSY`, `PLAN_OPEN` or `OUT_OF_MEMORY`; nothing has changed then, and the
+/// certificate of the mark before is kept.
+#[unsafe(no_mangle)]
+pub extern "C" fn teurlaks_steward_mark_some(alloc: Global, handle: &mut ShareHandle) -> MarkReply
+    ensures { (answer : _) × Asks Marks handle.old.share answer handle.new.share
+        × SaysMarked result answer }
+{
+    marked_reply(at_steward(alloc, handle, &MarkSome))
+}
+
+/// Carries out the next pair of the open plan: `OK`, or `EMPTIED` where the pair's abandoned group had no live key left. `NO_PAIR_LEFT`
+/// and `NO_PLAN` change nothing. Refused with `BUSY` or `OUT_OF_MEMORY`; the pair is then still the next.
+#[unsafe(no_mangle)]
+pub extern "C" fn teurlaks_steward_step(alloc: Global, handle: &mut ShareHandle) -> StepReply
+    ensures { (answer : _) × Asks TakesStep handle.old.share answer handle.new.share
+        × SaysStepped result answer }
+{
+    stepped_reply(at_steward(alloc, handle, &Step))
+}
+
+/// Closes the open plan, whose pairs that are left are dropped: all groups take puts again. `NO_PLAN` and `BUSY` change nothing. It takes
+/// no memory.
+#[unsafe(no_mangle)]
+pub extern "C" fn teurlaks_steward_close(alloc: Global, handle: &mut ShareHandle) -> u32
+    ensures { (answer : _) × Asks Closes handle.old.share answer handle.new.share
+        × SaysClosed result answer }
+{
+    closed_reply(at_steward(alloc, handle, &Close))
+}
+
+/// How many pages the arena has, and how many keys are live in it, at one time. Refused with `BUSY`. Nothing changes.
+#[unsafe(no_mangle)]
+pub extern "C" fn teurlaks_steward_totals(
+    alloc: Global,
+    handle: &mut ShareHandle,
+) -> ArenaTotalsReply
+    ensures { (answer : _) × Asks Keeps handle.old.share answer handle.new.share
+        × SaysTotals result answer }
+{
+    totals_reply(at_steward(alloc, handle, &CountAll))
+}
+
+// What C reads of a mark.
+fn marked_reply(answer: Option<Result<Result<MarkReply, MarkError>, Busy>>) -> MarkReply
+    ensures { SaysMarked result answer }
+{
+    match answer {
+        Some(Ok(Ok(made))) => made,
+        Some(Ok(Err(error))) => unmarked(mark_status_of(error)),
+        Some(Err(Busy)) => unmarked(BUSY),
+        None => unmarked(NO_CORE),
+    }
+}
+
+// The status that stands for a refused mark.
+fn mark_status_of(error: MarkError) -> u32
+    ensures { result ≡ mark_status error }
+{
+    match error {
+        MarkError::OutOfMemory => OUT_OF_MEMORY,
+        MarkError::PlanOpen => PLAN_OPEN,
+        MarkError::TooMany => TOO_MANY,
+        MarkError::Doubled => NONE,
+    }
+}
+
+// What C reads of a step.
+fn stepped_reply(answer: Option<Result<Result<Stepped, AllocError>, Busy>>) -> StepReply
+    ensures { SaysStepped result answer }
+{
+    match answer {
+        Some(Ok(Ok(Stepped::Taken(abandoned, owned, outcome)))) => StepReply {
+            status: outcome_status(outcome),
+            abandoned: raw_span(abandoned),
+            owned: raw_span(owned),
+        },
+        Some(Ok(Ok(Stepped::NoPairLeft))) => unstepped(NO_PAIR_LEFT),
+        Some(Ok(Ok(Stepped::NoPlan))) => unstepped(NO_PLAN),
+        Some(Ok(Err(AllocError))) => unstepped(OUT_OF_MEMORY),
+        Some(Err(Busy)) => unstepped(BUSY),
+        None => unstepped(NO_CORE),
+    }
+}
+
+// The status that stands for what came of a pair.
+fn outcome_status(outcome: Outcome) -> u32
+    ensures { result ≡ status_of_outcome outcome }
+{
+    match outcome {
+        Outcome::Folded => OK,
+        Outcome::Emptied => EMPTIED,
+        Outcome::Absent | Outcome::Clash => NONE,
+    }
+}
+
+// What C reads of a close.
+fn closed_reply(answer: Option<Result<bool, Busy>>) -> u32
+    ensures { SaysClosed result answer }
+{
+    match answer {
+        Some(Ok(true)) => OK,
+        Some(Ok(false)) => NO_PLAN,
+        Some(Err(Busy)) => BUSY,
+        None => NO_CORE,
+    }
+}
+
+// What C reads of totals.
+fn totals_reply(answer: Option<Result<Totals, Busy>>) -> ArenaTotalsReply
+    ensures { SaysTotals result answer }
+{
+    let status = match answer {
+        Some(Ok(Totals { pages, live })) => {
+            return ArenaTotalsReply {
+                status: OK,
+                pages,
+                live,
+            };
+        }
+        Some(Err(Busy)) => BUSY,
+        None => NO_CORE,
+    };
+    ArenaTotalsReply {
+        status,
+        pages: 0,
+        live: 0,
+    }
+}
+
+// Whether the handle has a seat or a steward.
+pub(crate) fn has_share(alloc: Global, handle: &mut ShareHandle) -> bool
+    ensures same { handle.new.share ≡ handle.old.share }
+    ensures told { MatchBool result (IsSome handle.old.share) (handle.old.share ≡ None) }
+{
+    let Some(share) = replace(handle, ShareHandle::none()).into_box(alloc) else {
+        return false;
+    };
+    *handle = ShareHandle::of(share);
+    true
+}
