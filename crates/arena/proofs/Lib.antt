@@ -1,3 +1,4 @@
+pub mod Crossing
 mod CountedRings
 pub mod Ended
 mod Frees

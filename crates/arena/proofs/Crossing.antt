@@ -1,0 +1,34 @@
+-- An arena may go to another thread with what is behind its locks.
+use denote.RattleType.{RattleType}
+use denote.Param.Send.{IsSend, AllSend, recorded_send, struct_send, sendable}
+use denote.Struct.Declared.{fields, shape}
+use Rattle.std.proofs.Crossing.{crosses}
+use Rattle.std.proofs.alloc.Global.TheSendSync as heap
+use Rattle.std.proofs.vec.Vec.TheSendSync as vec
+use Rattle.std.below.std_heap.proofs.GlobalAllocator.TheSendSync as heap_memory
+use Rattle.std.specs.contracts.alloc.Global
+use Rattle.std.specs.contracts.impls.GlobalAllocator.TheImpl
+use Rattle.span.specs.declared.log.Log.{Ghosts}
+use Rattle.shard.proofs.shard.Shard.TheSendSync as shard
+use Rattle.shard.specs.contracts.shard.Shard
+use Rattle.abandoned.proofs.pool.Pool.TheSendSync as pool
+use Rattle.abandoned.specs.contracts.pool.Pool
+use Rattle.marks.proofs.limits.Limits.TheSendSync as limits
+use Rattle.latch.proofs.latch.Latch.TheSendSync as latch
+use Rattle.latch.specs.contracts.latch.Latch
+use Rattle.arena.proofs.ring_table.RingTable.TheSendSync as table
+use Rattle.arena.specs.contracts.words.Words
+use Rattle.arena.specs.contracts.arena.Arena
+
+-- the words are atomic, and own nothing
+words_send : IsSend (Words.the_field).row
+words_send =
+    let all : AllSend (fields Words.the_type) = (search (sendable, crosses) depth 40, tt) in
+    struct_send (shape Words.the_type) all
+
+pub Arena-send : (G L : RattleType) (g : Ghosts L.Denot) → IsSend G → IsSend L → IsSend (Arena.the_row G L g)
+Arena-send G L g gate log =
+    let locked : IsSend (Latch.the_row (Shard.the_row L g)) = latch.the_send (Shard.the_row L g) (shard.the_send L g log) in
+    let locks = vec.the_send (Latch.the_row (Shard.the_row L g)) Global.the_row TheImpl.ghosts locked heap.the_send heap_memory.the_frees in
+    let all : AllSend (fields (Arena.the_type G L g)) = (heap.the_field_send, (limits.the_send, (table.the_send, (latch.the_send (Pool.the_row L g) (pool.the_send L g log), (locks, (words_send, (gate, tt))))))) in
+    recorded_send (Arena.the_field G L g).row _ _ (Arena.the_type G L g).to_one (struct_send (shape (Arena.the_type G L g)) all)
