@@ -77,14 +77,19 @@ longest_texts() {
 # Standard streams that are closed, or whose reader goes, and files that can't be read or written.
 failing_streams() {
     local report=$examples/one_fold.report under path
-    local paths=('' . loop no_such_folder/f "$(printf 'a%.0s' {1..300})")
+    local long
+    long=$(printf 'a%.0s' {1..300})
+    local -A paths=(['.']='Is a directory (os error 21)' [loop]='Too many levels of symbolic links (os error 40)'
+        [no_such_folder/f]=$absent ["$long"]='File name too long (os error 36)')
     ln -s loop loop
     printf 'mesh 1\nshards 1\npages 1024\nring 4\ngens 9\n0 fill a 262144 0\n' >long_replies
     under=(sh -c 'exec "$@" >&-' sh)
-    expect 5 $nothing io $nothing run --serial a.trace --certificate f
-    expect 5 $nothing io $nothing check a.cert
+    expect 5 $nothing unwritten $nothing run --serial a.trace --certificate f
+    expect 5 $nothing unwritten $nothing check a.cert
     under=(sh -c 'exec "$@" <&-' sh)
-    expect 5 $nothing io $nothing run --serial --certificate f
+    expect_io $nothing 'standard input' 'Bad file descriptor (os error 9)' run --serial --certificate f
+    expect_io $nothing 'standard input' 'Bad file descriptor (os error 9)' run --serial - --certificate f
+    expect_io $nothing 'standard input' 'Bad file descriptor (os error 9)' check -
     expect 0 "$report" $nothing "$examples/one_fold.cert" run --serial a.trace --certificate f
     echo 'mesh 9' >bad.trace
     for path in '&-' /dev/full; do
@@ -96,12 +101,14 @@ failing_streams() {
     under=()
     mkfifo pipe
     head -c 1 pipe >/dev/null &
-    sink=pipe expect 5 $nothing io $nothing run --serial --replies long_replies --certificate f
+    sink=pipe expect 5 $nothing unwritten $nothing run --serial --replies long_replies --certificate f
     wait
-    for path in "${paths[@]}"; do
-        expect 5 $nothing io $nothing run --serial "$path"
-        expect 5 "$report" io $nothing run --serial a.trace --certificate "$path"
+    for path in "${!paths[@]}"; do
+        expect_io $nothing "$path" "${paths[$path]}" run --serial "$path"
+        expect_io "$report" "$path" "${paths[$path]}" run --serial a.trace --certificate "$path"
     done
+    expect_io $nothing '' "$absent" run --serial ''
+    expect_io "$report" '' "$absent" run --serial a.trace --certificate ''
     rm -f bad.trace loop pipe long_replies
 }
 
@@ -118,8 +125,8 @@ forbidden_files() {
         echo "check: nobody but root may run the program, so forbidden files were not tried"
         return
     fi
-    expect 5 $nothing io $nothing run --serial hidden.trace
-    expect 5 "$examples/one_fold.report" io $nothing run --serial a.trace --certificate kept
+    expect_io $nothing hidden.trace 'Permission denied (os error 13)' run --serial hidden.trace
+    expect_io "$examples/one_fold.report" kept 'Permission denied (os error 13)' run --serial a.trace --certificate kept
     if [ "$(cat kept)" = before ]; then pass; else fail "a file that may not be written is to stay as it was"; fi
     rm -f hidden.trace kept
 }
@@ -138,7 +145,7 @@ short_streams() {
         for ((number = 1; number <= length; number++)); do
             head -c $((number - 1)) whole >front
             under=(env REFUSE_SHORT=1 "REFUSE_WRITE=$number" "LD_PRELOAD=$PWD/refuse.so")
-            expect 5 front io $nothing run $words empty.trace
+            expect 5 front unwritten $nothing run $words empty.trace
         done
         under=(env REFUSE_SHORT=1 "REFUSE_WRITE=$((length + 1))" "LD_PRELOAD=$PWD/refuse.so")
         expect 0 whole $nothing $nothing run $words empty.trace

@@ -3,11 +3,13 @@ use Rattle.std.proofs.Common.{◌≡◌, ◌&&◌, ◌||◌, not, ℕ, List, [],
 use Rattle.std.specs.Prelude.{fold, slice_index}
 use Rattle.std.specs.List.{find}
 use Rattle.std.specs.Option.{option_map_or}
+use Rattle.std.specs.Str.{bytes_eq}
+use Rattle.std.proofs.lemmas.Slice.Eq.{bytes_eq-Decides}
 use Rattle.clap.specs.Kinds.{check_kinds}
 use Rattle.clap.specs.Faults.{check_fault, defaults_fault, entered_fault, level_fault, settle_fault, walk_fault}
 use Rattle.clap.specs.Words.{App, BuildsTo, HasMatchesOf, IsParsed, Row, Text, app_of, found_of, has_subcommand, subcommand_of, subcommand_rows_of, subcommand_name_of}
 use Rattle.clap.specs.Walk.{Rule, answers_to, finished, first_of, nothing_held, rows_after, settled, stop_after, walk, walk_from, with_default, without}
-use Rattle.clap.specs.Simple.{Shape, argument_words, built, built_leaf, filled, help_rule, inherited, is_simple, label_of, names_of, rows_at, with_index}
+use Rattle.clap.specs.Simple.{Shape, argument_words, built, built_leaf, filled, help_rule, help_shape, inherited, is_simple, label_of, names_of, rows_at, with_index}
 use Rattle.clap.specs.Takes.{is_given}
 use Rattle.clap.specs.declared.parser.matches.ValueSource.TheVariants.{CommandLine}
 use Rattle.clap.specs.declared.parser.matches.ArgMatches.{ArgMatches}
@@ -15,6 +17,7 @@ use Rattle.clap.specs.declared.parser.matches.ArgMatches.TheViews.{out-ArgMatche
 use Rattle.clap.specs.declared.builder.command.Command.{Command}
 use Rattle.clap.specs.declared.builder.command.Command.TheViews.{out-Command as fields_of}
 use Rattle.command_line.specs.Job.{IsApp, NamesJob, bare_program, check_app, kinds_of, needed, program_app, run_app}
+use Rattle.command_line.proofs.Stopped.{IsNotHelp, walk_stops}
 use Rattle.command_line.proofs.Given.{AreFilling, Filled, Filled-given, Filled-settled, Filled-walk, Filled-with_values, Filled-without, IsFilling, split}
 
 -- the parts of an option's pair
@@ -59,6 +62,9 @@ built_run = built_leaf (inherited bare_program.top run_app.top)
 abbrev built_check : Shape
 built_check = built_leaf (inherited bare_program.top check_app.top)
 
+abbrev built_help : Shape
+built_help = built_leaf help_shape
+
 check_rules : (p : Rule → Bool) → AreFilling (codes "FILE") (find p built_check.rules)
 check_rules p = go (p file_rule) (p help_flag)
   where
@@ -90,27 +96,36 @@ file_given words e =
     is_given_of true e = refl
     is_given_of false e = cc
 
--- the words enter `run`, or `check` with its file, where they enter a command and have no fault
-enters : (stop : Option (Text × List Text))
-    → option_map_or (λ p. option_map_or (λ s. level_fault s [] nothing_held p.1 false []) (find (λ s. answers_to p.0 (label_of s)) (built_run ∷ built_check ∷ [])) []) stop [] ≡ []
-    → is_some (option_and_then (λ p. option_map (λ s. rows_at s p.1) (find (λ s. answers_to p.0 (label_of s)) (built_run ∷ built_check ∷ []))) stop) ≡ true
-    → NamesJob (option_and_then (λ p. option_map (λ s. rows_at s p.1) (find (λ s. answers_to p.0 (label_of s)) (built_run ∷ built_check ∷ []))) stop)
-enters None fault e = absurd (true≢false (sym e))
-enters (Some p) fault e = go (answers_to p.0 (label_of built_run)) (answers_to p.0 (label_of built_check)) fault e
+-- a name that `help` answers to is `help`
+answers : (name : Text) → bytes_eq name (codes "help") ≡ false → answers_to name (label_of built_help) ≡ true → ⊥
+answers name other e = go (bytes_eq (codes "help") name) refl e
   where
-    go : (a b : Bool) → option_map_or (λ s. level_fault s [] nothing_held p.1 false []) (cond a (Some built_run) (cond b (Some built_check) None)) [] ≡ []
-        → is_some (option_map (λ s. rows_at s p.1) (cond a (Some built_run) (cond b (Some built_check) None))) ≡ true
-        → NamesJob (option_map (λ s. rows_at s p.1) (cond a (Some built_run) (cond b (Some built_check) None)))
-    go true b fault e = (rows_after built_run.rules [] p.1, inl refl)
-    go false true fault e = (rows_after built_check.rules [] p.1, inr (refl, file_given p.1 fault))
-    go false false fault e = absurd (true≢false (sym e))
+    go : (b : Bool) → bytes_eq (codes "help") name ≡ b → (b || false) ≡ true → ⊥
+    go true same e = absurd (true≢false (sym (subst (λ (t : Text). bytes_eq t (codes "help") ≡ true) ((bytes_eq-Decides (codes "help") name).0 same) refl) ∙ other))
+    go false same e = absurd (true≢false (sym e))
+
+-- the words enter `run`, or `check` with its file, where they enter a command that is not `help` and have no fault
+enters : (stop : Option (Text × List Text)) → IsNotHelp stop
+    → option_map_or (λ p. option_map_or (λ s. level_fault s [] nothing_held p.1 false []) (find (λ s. answers_to p.0 (label_of s)) (built_run ∷ built_check ∷ built_help ∷ [])) []) stop [] ≡ []
+    → is_some (option_and_then (λ p. option_map (λ s. rows_at s p.1) (find (λ s. answers_to p.0 (label_of s)) (built_run ∷ built_check ∷ built_help ∷ []))) stop) ≡ true
+    → NamesJob (option_and_then (λ p. option_map (λ s. rows_at s p.1) (find (λ s. answers_to p.0 (label_of s)) (built_run ∷ built_check ∷ built_help ∷ []))) stop)
+enters None other fault e = absurd (true≢false (sym e))
+enters (Some p) other fault e = go (answers_to p.0 (label_of built_run)) (answers_to p.0 (label_of built_check)) (answers_to p.0 (label_of built_help)) (answers p.0 other) fault e
+  where
+    go : (a b c : Bool) → (c ≡ true → ⊥) → option_map_or (λ s. level_fault s [] nothing_held p.1 false []) (cond a (Some built_run) (cond b (Some built_check) (cond c (Some built_help) None))) [] ≡ []
+        → is_some (option_map (λ s. rows_at s p.1) (cond a (Some built_run) (cond b (Some built_check) (cond c (Some built_help) None)))) ≡ true
+        → NamesJob (option_map (λ s. rows_at s p.1) (cond a (Some built_run) (cond b (Some built_check) (cond c (Some built_help) None))))
+    go true b c never fault e = (rows_after built_run.rules [] p.1, inl refl)
+    go false true c never fault e = (rows_after built_check.rules [] p.1, inr (refl, file_given p.1 fault))
+    go false false true never fault e = absurd (never refl)
+    go false false false never fault e = absurd (true≢false (sym e))
 
 -- words that enter a command and have no fault name a job
 pub names_job : (words : List Text) → kinds_of words ≡ [] → is_some (subcommand_of program_app words) ≡ true → NamesJob (subcommand_of program_app words)
 names_job words fault e =
     let stop = stop_after (built program_app).top.rules (names_of (built program_app)) (argument_words program_app words) in
     let walked = split (walk_fault (built program_app).top (names_of (built program_app)) (walk_from nothing_held) (argument_words program_app words)) _ fault in
-    enters stop (split (entered_fault (built program_app) stop) _ walked.1).0 e
+    enters stop (walk_stops (built program_app).top refl (names_of (built program_app)) (walk_from nothing_held) (argument_words program_app words) walked.0 tt) (split (entered_fault (built program_app) stop) _ walked.1).0 e
 
 -- a parse by the program's command names a job, and enters what the words say
 pub entered : (program built : Command) (words : List Text) (m : ArgMatches) → IsApp program_app program → BuildsTo program built → ((fields_of built).has_globals ≡ false → IsParsed built (found_of m) (has_subcommand m)) → HasMatchesOf (app_of program) words m

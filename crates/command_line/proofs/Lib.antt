@@ -1,3 +1,4 @@
 mod Given
 mod Entered
 mod Refused
+mod Stopped

@@ -38,11 +38,11 @@ run_app = with_rule (with_rule (with_rule (with_rule (new_app (codes "run")) (po
 abbrev pub check_app : App
 check_app = with_rule (new_app (codes "check")) (needed (codes "FILE"))
 
--- a command is required, `help` is none, and the words have no name of the program before them
+-- a command is required, there is a version, and the words have no name of the program before them
 abbrev pub bare_program : App
-bare_program = let a = new_app (codes "meshrun") in record a { top = record a.top { no_binary_name = true; disable_help_subcommand = true; subcommand_required = true } }
+bare_program = let a = new_app (codes "meshrun") in record a { top = record a.top { no_binary_name = true; has_version = true; subcommand_required = true } }
 
--- the program's commands are `run` and `check`
+-- the program's commands are `run` and `check`, beside the parser's own `help`
 abbrev pub program_app : App
 program_app = with_subcommand (with_subcommand bare_program run_app.top) check_app.top
 

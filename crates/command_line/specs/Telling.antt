@@ -1,5 +1,5 @@
 -- What the program says of a fault, and its status.
-use Rattle.std.specs.Prelude.{◌≡◌, ℕ, Bool, true, false, List, ◌++◌, Option, codes, if◌then◌else◌, ⊤}
+use Rattle.std.specs.Prelude.{◌≡◌, ℕ, Bool, true, false, List, ◌++◌, Option, codes, if◌then◌else◌, string_bytes, ⊤}
 use Rattle.std.specs.Fmt.{decimal}
 use Rattle.std.specs.Io.KnownBytes.{Appends}
 use Rattle.std.specs.IoError.{error_kind}
@@ -57,9 +57,11 @@ abbrev pub is_want_of_memory : io_kind.ErrorKind → Bool
 is_want_of_memory io_kinds.OutOfMemory = true
 is_want_of_memory _ = false
 
--- the program's fault where a file or standard input could not be read
-abbrev pub fault_of_io : Error → Fault
-fault_of_io error = if is_want_of_memory (error_kind error) then fault.OutOfMemory else fault.Io
+-- the program's fault where what has this name could not be read: what the system said of it, or, where it says so or there is none for the name, that memory ran out
+abbrev pub IsUnread : List ℕ → Error → Fault → Type 0
+IsUnread name error (fault.Io file said) = (is_want_of_memory (error_kind error) ≡ false) × (string_bytes file ≡ name) × (said ≡ error)
+IsUnread name error fault.OutOfMemory = ⊤
+IsUnread name error _ = ⊥
 
 -- help or the version was asked for
 abbrev pub is_request : ErrorKind → Bool
@@ -67,7 +69,7 @@ is_request kind.DisplayHelp = true
 is_request kind.DisplayVersion = true
 is_request _ = false
 
--- the fault is that help was asked for, which is none
+-- the fault is that help or the version was asked for, which is none
 abbrev pub asks_for_help : Fault → Bool
 asks_for_help (fault.Words error) = is_request (kind_of error)
 asks_for_help _ = false
@@ -81,7 +83,7 @@ status_of fault.OutOfMemory = 3
 status_of fault.Doubled = 4
 status_of (fault.Audit c) = 4
 status_of fault.SinkFailed = 5
-status_of fault.Io = 5
+status_of (fault.Io file error) = 5
 
 -- the status with which the program ends where a fault was not told
 abbrev pub status_where_untold : TellError → ℕ
@@ -96,7 +98,11 @@ line_message line word = codes "line " ++ decimal line ++ codes ": " ++ word ++ 
 abbrev pub audit_message : AuditCause → List ℕ
 audit_message c = codes "audit: " ++ audit_causes.word_of c ++ codes "\n"
 
--- the text is what is said of the fault; what is said of words is the parser's own
+-- `io: FILE: SAID`
+abbrev pub file_message : List ℕ → List ℕ → List ℕ
+file_message name said = codes "io: " ++ name ++ codes ": " ++ said ++ codes "\n"
+
+-- the text is what is said of the fault; of a file the system has its own words; what is said of words is the parser's own
 abbrev pub IsMessage : Fault → List ℕ → Type 0
 IsMessage (fault.BadTrace line c) text = text ≡ line_message line (word_of c)
 IsMessage (fault.BadCertificate line c) text = text ≡ line_message line (certificate_causes.word_of c)
@@ -104,8 +110,8 @@ IsMessage (fault.Words error) text = ⊤
 IsMessage fault.OutOfMemory text = text ≡ codes "memory\n"
 IsMessage fault.Doubled text = text ≡ codes "doubled\n"
 IsMessage (fault.Audit c) text = text ≡ audit_message c
-IsMessage fault.SinkFailed text = text ≡ codes "io\n"
-IsMessage fault.Io text = text ≡ codes "io\n"
+IsMessage fault.SinkFailed text = text ≡ codes "io: standard output\n"
+IsMessage (fault.Io file error) text = (said : List ℕ) × (text ≡ file_message (string_bytes file) said)
 
 -- what is said of the fault went in whole
 abbrev pub TakesMessage : Fault → Option (List ℕ) → Option (List ℕ) → Type 0

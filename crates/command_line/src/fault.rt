@@ -2,12 +2,11 @@
 
 ghost use Rattle.std.specs.Prelude.{◌≡◌};
 ghost use Rattle.command_line.specs.declared.fault.Fault.TheVariants as fault;
-ghost use Rattle.command_line.specs.Telling.{fault_of_check, fault_of_io, fault_of_job, fault_of_replay, fault_of_threads};
+ghost use Rattle.command_line.specs.Telling.{IsUnread, fault_of_check, fault_of_job, fault_of_replay, fault_of_threads};
 
 use crate::job::JobError;
-use crate::store::StoreFailed;
 use audit::AuditCause;
-use std::alloc::{AllocError, AllocFailed};
+use std::alloc::{AllocError, AllocFailed, Global};
 use std::io;
 use thiserror::Error;
 use thread_runner::ThreadsError;
@@ -41,18 +40,36 @@ pub enum Fault {
     /// The sink did not take the whole report, or the whole verdict.
     #[error("the report could not be written whole: look for a full disk or a closed pipe")]
     SinkFailed,
-    /// The words of the command line name no job, or they ask for help.
+    /// The words of the command line name no job, or they ask for help or for the version.
     #[error(transparent)]
     Words(clap::Error),
-    /// The words or the file could not be read, or the file for the certificate could not be written.
-    #[error("a file could not be read or written: look whether it is there, and whether you may")]
-    Io,
+    /// The file, standard input or the command line could not be read, or the file for the certificate could not be written. `error` is what the
+    /// system said.
+    #[error("{file} could not be read or written: {error}")]
+    Io {
+        file: String,
+        error: io::Error,
+    },
 }
 
 impl Fault {
     ghost use Rattle.command_line.specs.Telling.{asks_for_help, status_of};
 
-    /// Whether nothing is wrong: help was asked for.
+    /// What it comes to that what has this name could not be read: `OutOfMemory` where the system says that, or where there is no memory for
+    /// the name, and else `Io`.
+    pub fn unread(alloc: Global, file: &str, error: io::Error) -> Fault
+        ensures { IsUnread file.now error result }
+    {
+        match error.kind() {
+            io::ErrorKind::OutOfMemory => Fault::OutOfMemory,
+            _ => match file.to_string(alloc) {
+                Ok(file) => Fault::Io { file, error },
+                Err(_) => Fault::OutOfMemory,
+            },
+        }
+    }
+
+    /// Whether nothing is wrong: help or the version was asked for.
     pub fn asks_for_help(&self) -> bool
         ensures { result ≡ asks_for_help self.now }
     {
@@ -62,7 +79,7 @@ impl Fault {
         }
     }
 
-    /// The status with which the program ends: 0 where help was asked for, 1 where the text is no
+    /// The status with which the program ends: 0 where help or the version was asked for, 1 where the text is no
     /// trace or no certificate, 2 where the words name no job, 3 where memory ran out, 4 where a run by
     /// threads was not as it ought to be, and 5 where a read or a write failed.
     pub fn status(&self) -> u8
@@ -75,7 +92,7 @@ impl Fault {
             Fault::Words(_) => 0,
             Fault::OutOfMemory => 3,
             Fault::Doubled | Fault::Audit(_) => 4,
-            Fault::SinkFailed | Fault::Io => 5,
+            Fault::SinkFailed | Fault::Io { .. } => 5,
         }
     }
 }
@@ -129,14 +146,6 @@ impl From<JobError> for Fault {
     }
 }
 
-impl From<StoreFailed> for Fault {
-    ghost from_gives = { λ _ stop. stop ≡ fault.Io };
-
-    fn from(_error: StoreFailed) -> Fault {
-        Fault::Io
-    }
-}
-
 impl From<AllocError> for Fault {
     ghost from_gives = { λ _ stop. stop ≡ fault.OutOfMemory };
 
@@ -150,16 +159,5 @@ impl<T: Drop> From<AllocFailed<T>> for Fault {
 
     fn from(_error: AllocFailed<T>) -> Fault {
         Fault::OutOfMemory
-    }
-}
-
-impl From<io::Error> for Fault {
-    ghost from_gives = { λ error stop. stop ≡ fault_of_io error };
-
-    fn from(error: io::Error) -> Fault {
-        match error.kind() {
-            io::ErrorKind::OutOfMemory => Fault::OutOfMemory,
-            _ => Fault::Io,
-        }
     }
 }

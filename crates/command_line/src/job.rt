@@ -13,14 +13,14 @@ use thiserror::Error;
 
 mod help;
 
-use help::{CHECK_HELP, PROGRAM_HELP, RUN_HELP};
+use help::{CHECK_HELP, PROGRAM_HELP, RUN_HELP, VERSION};
 
 /// What the program is asked to do.
 #[derive(Clone, Copy, Debug, PartialEq, Eq)]
 pub enum Job<'a> {
     /// `run [TRACE] [--serial] [--replies] [--certificate FILE]`: replay a trace and write its report.
     Run {
-        /// The file of the trace. Where there is none, it is read from standard input.
+        /// The file of the trace. Where there is none, or it is `-`, the trace is read from standard input.
         trace: Option<&'a str>,
         /// The calls are carried out one after another, in the order of their lines.
         serial: bool,
@@ -31,7 +31,7 @@ pub enum Job<'a> {
     },
     /// `check FILE`: check a certificate and write the verdict.
     Check {
-        /// The file of the certificate.
+        /// The file of the certificate, or `-` for standard input.
         file: &'a str,
     },
 }
@@ -42,7 +42,7 @@ pub enum JobError {
     /// Memory ran out.
     #[error("memory ran out")]
     OutOfMemory,
-    /// The words are not those of a job, or they ask for help. The text says which, and how the
+    /// The words are not those of a job, or they ask for help or for the version. The text says which, and how the
     /// program is called.
     #[error(transparent)]
     Words(clap::Error),
@@ -95,7 +95,7 @@ fn trace_arg<'a>(alloc: Global) -> Arg<'a>
     ensures { IsArg (positional (codes "TRACE")) result }
 {
     Arg::new(alloc, "TRACE").help(
-        "The file of the trace; left out, the trace is read from standard input",
+        "The file of the trace; left out or -, the trace is read from standard input",
     )
 }
 
@@ -135,7 +135,7 @@ fn check_command<'a>(alloc: Global) -> Result<Command<'a>, AllocError>
 {
     let file = Arg::new(alloc, "FILE")
         .required(true)
-        .help("The file of the certificate");
+        .help("The file of the certificate, or - for standard input");
     let about = "Checks a certificate, and writes accepted, with its counts, or rejected";
     let check = bare_command(alloc, "check", about, CHECK_HELP).arg(file)?;
     Ok(check)
@@ -149,7 +149,7 @@ fn bare_program<'a>(alloc: Global) -> Result<Command<'a>, AllocError>
     let program = bare_command(alloc, "meshrun", about, PROGRAM_HELP)
         .bin_name("meshrun")?
         .no_binary_name(true)
-        .disable_help_subcommand(true)
+        .version(VERSION)
         .subcommand_required(true);
     Ok(program)
 }
@@ -194,8 +194,8 @@ impl<'a> Job<'a> {
     /// Reads the words after the program's own name.
     ///
     /// `Words` comes where they are neither `run [TRACE] [--serial] [--replies] [--certificate FILE]`
-    /// nor `check FILE`, or where they ask for help by `--help` or `-h`; and `OutOfMemory` where memory
-    /// ran out.
+    /// nor `check FILE`, or where they ask for help by `--help`, `-h` or `help`, or for the version by `--version` or `-V`; and `OutOfMemory` where
+    /// memory ran out.
     pub fn from_words(alloc: Global, words: &'a [&'a str]) -> Result<Job<'a>, JobError>
         ensures named { IfOk result (IsJobOf (texts words.entry.now)) }
         ensures accepted { OnOk result (kinds_of (texts words.entry.now) ≡ []) }

@@ -4,14 +4,14 @@ ghost use Rattle.std.specs.Prelude.{◌≡◌, ◌<◌, ◌+◌, ◌-◌, ◌^�
 ghost use Rattle.command_line.specs.Store.{IsSaved, IsUnsaved, KeepsOthers, Tells};
 ghost use Rattle.command_line.specs.Job.{bytes_of};
 
-use std::fs;
 use std::rt::Files;
+use std::{fs, io};
 use thiserror::Error;
 
-/// The file could not be written.
-#[derive(Clone, Copy, Debug, PartialEq, Eq, Error)]
-#[error("the file could not be written: look for a full disk, and whether its folder is there and may be written to")]
-pub struct StoreFailed;
+/// The file could not be written, of which the system said this.
+#[derive(Clone, Copy, Debug, Error)]
+#[error("the file could not be written: {0}")]
+pub struct StoreFailed(pub io::Error);
 
 /// Keeps whole files, and counts how often a write failed.
 ///
@@ -57,9 +57,9 @@ impl<'a, R: Files> Store for Disk<'a, R> {
     fn write(&mut self, path: &str, bytes: &[u8]) -> Result<(), StoreFailed> {
         match fs::write(self.files, path, bytes) {
             Ok(()) => Ok(()),
-            Err(_) => {
+            Err(error) => {
                 self.failures += 1;
-                Err(StoreFailed)
+                Err(StoreFailed(error))
             }
         }
     }

@@ -2,7 +2,7 @@
 
 ghost use Rattle.std.specs.Prelude.{◌≡◌, ◌<◌, ◌+◌, ◌-◌, ◌^◌, true, false, MatchBool, IfOk, OnOk, IsErrOf};
 ghost use Rattle.command_line.specs.declared.telling.TellError.TheVariants as tell_error;
-ghost use Rattle.command_line.specs.Telling.{IsMessage, TakesFront, TakesMessage, asks_for_help, audit_message, line_message, status_of, status_where_untold};
+ghost use Rattle.command_line.specs.Telling.{IsMessage, TakesFront, TakesMessage, asks_for_help, audit_message, file_message, line_message, status_of, status_where_untold};
 
 use crate::fault::Fault;
 use audit::AuditCause;
@@ -71,6 +71,17 @@ fn audit_message(alloc: Global, cause: AuditCause) -> Result<Vec<u8>, AllocError
     Ok(text)
 }
 
+fn file_message(alloc: Global, file: &str, said: &str) -> Result<Vec<u8>, AllocError>
+    ensures { IfOk result (λ text. text.items ≡ file_message file.now said.now) }
+{
+    let mut text = Vec::from_slice(alloc, b"io: ")?;
+    text.extend_from_slice(file.as_bytes())?;
+    text.extend_from_slice(b": ")?;
+    text.extend_from_slice(said.as_bytes())?;
+    text.extend_from_slice(b"\n")?;
+    Ok(text)
+}
+
 fn message(alloc: Global, fault: &Fault) -> Result<Vec<u8>, AllocError>
     ensures { IfOk result (λ text. IsMessage fault.now text.items) }
 {
@@ -81,13 +92,14 @@ fn message(alloc: Global, fault: &Fault) -> Result<Vec<u8>, AllocError>
         Fault::OutOfMemory => Vec::from_slice(alloc, b"memory\n"),
         Fault::Doubled => Vec::from_slice(alloc, b"doubled\n"),
         Fault::Audit(cause) => audit_message(alloc, *cause),
-        Fault::SinkFailed | Fault::Io => Vec::from_slice(alloc, b"io\n"),
+        Fault::SinkFailed => Vec::from_slice(alloc, b"io: standard output\n"),
+        Fault::Io { file, error } => file_message(alloc, file, error.to_string(alloc)?.as_str()),
     }
 }
 
 /// Tells the fault, and answers the status with which the program ends.
 ///
-/// Help that was asked for goes to `out`, and all else to `err`; the other sink stays as it is.
+/// Help and the version that were asked for go to `out`, and all else to `err`; the other sink stays as it is.
 /// After `OutOfMemory` both sinks are as they were, and after `SinkFailed` the one that was written
 /// to has taken a prefix of the message.
 pub fn tell<O: Sink, E: Sink>(

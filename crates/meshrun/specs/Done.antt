@@ -61,14 +61,20 @@ abbrev pub HaltsCheck : (failures_old failures_new : ℕ) → (old new : Option 
 HaltsCheck failures_old failures_new old new fault.SinkFailed = (failures_new ≡ failures_old + 1) × ((text : List ℕ) × WritesVerdictFront text old new)
 HaltsCheck failures_old failures_new old new (fault.BadCertificate line cause) = ((text : List ℕ) × (certificate_in text ≡ Err (read_error.BadCertificate line cause))) × (failures_new ≡ failures_old) × (new ≡ old)
 HaltsCheck failures_old failures_new old new fault.OutOfMemory = (failures_new ≡ failures_old) × (new ≡ old)
-HaltsCheck failures_old failures_new old new fault.Io = (failures_new ≡ failures_old) × (new ≡ old)
+HaltsCheck failures_old failures_new old new (fault.Io file error) = (failures_new ≡ failures_old) × (new ≡ old)
 HaltsCheck failures_old failures_new old new _ = ⊥
+
+-- what keeps a file, standard input or the command line from being read: what the system said of it, or memory ran out
+abbrev pub IsOfFile : Fault → Type 0
+IsOfFile (fault.Io file error) = ⊤
+IsOfFile fault.OutOfMemory = ⊤
+IsOfFile _ = ⊥
 
 -- what keeps words from naming a job: they name none, memory ran out, or they could not be read
 abbrev pub IsOfWords : Fault → Type 0
 IsOfWords (fault.Words error) = ⊤
 IsOfWords fault.OutOfMemory = ⊤
-IsOfWords fault.Io = ⊤
+IsOfWords (fault.Io file error) = ⊤
 IsOfWords _ = ⊥
 
 module _ {D : Type 0} (held : D → List ℕ → Option (List ℕ)) (failures : D → ℕ) where
@@ -86,7 +92,7 @@ module _ {D : Type 0} (held : D → List ℕ → Option (List ℕ)) (failures : 
   -- or, by threads alone, where a shard or the pool was not as the run had left it or the audit failed
   abbrev pub HaltsRun : (serial replies : Bool) → (certificate : Option Text) → (failures_old failures_new : ℕ) → (old new : Option (List ℕ)) → (before after : D) → Fault → Type 0
   HaltsRun serial replies certificate failures_old failures_new old new before after fault.SinkFailed = (failures_new ≡ failures_old + 1) × ((text : List ℕ) × WritesRunFront serial text replies old new) × (after ≡ before)
-  HaltsRun serial replies certificate failures_old failures_new old new before after fault.Io =
+  HaltsRun serial replies certificate failures_old failures_new old new before after (fault.Io file error) =
       IsUntouched failures_old failures_new old new before after ⊎ IsReplayedUnsaved serial replies certificate failures_old failures_new old new before after
   HaltsRun serial replies certificate failures_old failures_new old new before after (fault.BadTrace line cause) = ((text : List ℕ) × IsFaultAt text line cause) × IsUntouched failures_old failures_new old new before after
   HaltsRun serial replies certificate failures_old failures_new old new before after fault.OutOfMemory = IsUntouched failures_old failures_new old new before after

@@ -1,8 +1,8 @@
 //! Replays traces, and checks certificates of plans, for files.
 //!
 //! `meshrun run [TRACE] [--serial] [--replies] [--certificate FILE]` replays the trace of a file, or of its standard input
-//! where none is named, and `meshrun check FILE` checks a certificate. It ends with status 0 where the report was written,
-//! the certificate is accepted, or help was asked for; 1 where the text is no trace or no certificate, or the certificate
+//! where none is named or it is `-`, and `meshrun check FILE` checks a certificate. It ends with status 0 where the report was written,
+//! the certificate is accepted, or help or the version was asked for; 1 where the text is no trace or no certificate, or the certificate
 //! is rejected; 2 where the words name no job, 3 where memory ran out, 4 where receipts and logs of a run by threads don't
 //! agree, and 5 where a read or a write failed.
 //!
@@ -11,11 +11,11 @@
 #![tactic(auto)]
 
 ghost use Rattle.std.specs.Prelude.{◌≡◌, ◌<◌, ◌≤◌, ◌+◌, ◌-◌, ◌^◌, ℕ, List, IfErr, IfOk, OnOk};
-ghost use Rattle.meshrun.specs.Done.{DoesJob, Halts, HaltsCheck, HaltsReplay, HaltsRun, IsDone, IsHalted, IsReplayed, WritesRun, status_of_verdict};
+ghost use Rattle.meshrun.specs.Done.{DoesJob, Halts, HaltsCheck, HaltsReplay, HaltsRun, IsDone, IsHalted, IsOfFile, IsReplayed, WritesRun, status_of_verdict};
 ghost use Rattle.command_line.specs.Job.{bytes_of};
 ghost use Rattle.trace_runner.specs.Verdict.{WritesVerdict};
 
-use command_line::{Disk, Fault, Job, Store, save, tell};
+use command_line::{Disk, Fault, Job, Store, StoreFailed, save, tell};
 use std::env::{self, Env};
 use std::fs;
 use std::io::{self, Input, Read};
@@ -27,23 +27,41 @@ use thread_runner::replay_threads;
 use trace_runner::{Out, Sink, check_text, replay_serial};
 
 /// The words after the program's own name.
-fn words_after_name(rt: &(impl Env + AllocGlobal)) -> io::Result<Vec<String>> {
+fn words_after_name(rt: &(impl Env + AllocGlobal)) -> Result<Vec<String>, Fault>
+    ensures { IfErr result IsOfFile }
+{
     let mut words = Vec::new(rt.alloc());
-    for word in env::args(rt)?.skip(1) {
+    let all = match env::args(rt) {
+        Ok(all) => all,
+        Err(error) => return Err(Fault::unread(rt.alloc(), "the command line", error)),
+    };
+    for word in all.skip(1) {
         words.push(word)?;
     }
     Ok(words)
 }
 
-/// The bytes of the file, or of standard input where no file is named.
-fn trace_text(rt: &(impl Files + Input + AllocGlobal), path: Option<&str>) -> io::Result<Vec<u8>> {
-    match path {
-        Some(path) => fs::read(rt, path),
-        None => {
-            let mut text = Vec::new(rt.alloc());
-            rt.reader().read_to_end(&mut text)?;
-            Ok(text)
-        }
+/// The bytes of standard input.
+fn standard_input(rt: &(impl Input + AllocGlobal)) -> io::Result<Vec<u8>> {
+    let mut text = Vec::new(rt.alloc());
+    rt.reader().read_to_end(&mut text)?;
+    Ok(text)
+}
+
+/// The bytes of the file, or of standard input where no file is named or it is `-`.
+fn source_text(
+    rt: &(impl Files + Input + AllocGlobal),
+    path: Option<&str>,
+) -> Result<Vec<u8>, Fault>
+    ensures { IfErr result IsOfFile }
+{
+    let (name, text) = match path {
+        None | Some("-") => ("standard input", standard_input(rt)),
+        Some(path) => (path, fs::read(rt, path)),
+    };
+    match text {
+        Ok(text) => Ok(text),
+        Err(error) => Err(Fault::unread(rt.alloc(), name, error)),
     }
 }
 
@@ -73,7 +91,7 @@ fn replay<R: Threads + Wait + Sync + AllocGlobal, S: Sink>(
     Ok(())
 }
 
-/// Replays the trace of the file, or of standard input where no file is named, writes its report to `out`, and then the
+/// Replays the trace of the file, or of standard input, writes its report to `out`, and then the
 /// certificate of the last mark that planned, if there was one, to the file that is named for it.
 fn run_trace<R: Threads + Wait + Sync + Files + Input + AllocGlobal, S: Sink, D: Store>(
     rt: &R,
@@ -101,15 +119,19 @@ fn run_trace<R: Threads + Wait + Sync + Files + Input + AllocGlobal, S: Sink, D:
         (bytes_of certificate.entry) (S.failures out.old) (S.failures out.new) (S.taken out.old)
         (S.taken out.new) store.old store.new) }
 {
-    let text = trace_text(rt, path)?;
+    let text = source_text(rt, path)?;
+    // What may have to be said of the file for the certificate is kept before anything is written.
+    let file = certificate.unwrap_or("").to_string(rt.alloc())?;
     let mut bytes = Vec::new(rt.alloc());
     replay(rt, &text, serial, replies, out, &mut bytes)?;
-    save(store, certificate, &bytes)?;
-    Ok(())
+    match save(store, certificate, &bytes) {
+        Ok(()) => Ok(()),
+        Err(StoreFailed(error)) => Err(Fault::Io { file, error }),
+    }
 }
 
-/// Checks the certificate of the file, writes the verdict to `out`, and answers whether it is accepted.
-fn check_file<R: Files + AllocGlobal, S: Sink>(
+/// Checks the certificate of the file, or of standard input where it is `-`, writes the verdict to `out`, and answers whether it is accepted.
+fn check_file<R: Files + Input + AllocGlobal, S: Sink>(
     rt: &R,
     path: &str,
     out: &mut S,
@@ -122,7 +144,7 @@ fn check_file<R: Files + AllocGlobal, S: Sink>(
     ensures err { IfErr result (HaltsCheck (S.failures out.old) (S.failures out.new)
         (S.taken out.old) (S.taken out.new)) }
 {
-    let text = fs::read(rt, path)?;
+    let text = source_text(rt, Some(path))?;
     let accepted = check_text(rt.alloc(), &text, out)?;
     Ok(accepted)
 }

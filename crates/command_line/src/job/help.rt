@@ -1,4 +1,7 @@
-//! What help says below its list of words.
+//! What help says below its list of words, and the version.
+
+/// The version, which is also that of the crate `teurlaks` and of the header for C.
+pub const VERSION: &str = "0.1.0";
 
 /// Of the program itself.
 pub const PROGRAM_HELP: &str = "\
@@ -63,7 +66,8 @@ docs/FORMATS.md describes traces and reports, and examples/ has some of each.
 
 Examples:
   meshrun run --replies examples/stale_key.trace
-  meshrun run --certificate last.cert examples/chain_of_eight.trace";
+  meshrun run --certificate last.cert examples/chain_of_eight.trace
+  meshrun run --serial - <examples/stale_key.trace";
 
 /// Of `check`.
 pub const CHECK_HELP: &str = "\

@@ -45,7 +45,7 @@ impl Store for OneFile {
     fn write(&mut self, path: &str, bytes: &[u8]) -> Result<(), StoreFailed> {
         if self.fails || self.replace(path, bytes).is_err() {
             self.failures += 1;
-            return Err(StoreFailed);
+            return Err(StoreFailed(io::Error::from(io::ErrorKind::StorageFull)));
         }
         Ok(())
     }
@@ -70,8 +70,13 @@ fn nothing_to_save(rt: HostRuntime) {
     let empty = save(&mut store, Some("a.cert"), b"");
     let failed = save(&mut store, Some("a.cert"), b"text");
     assert_eq!(rt;
-        (unnamed, empty, failed, store.failures),
-        (Ok(()), Ok(()), Err(StoreFailed), 1)
+        (
+            unnamed.is_ok(),
+            empty.is_ok(),
+            failed.is_err(),
+            store.failures
+        ),
+        (true, true, true, 1)
     );
 }
 
@@ -98,5 +103,5 @@ fn saves_to_the_disk(rt: HostRuntime) -> Result<(), Fail> {
 #[test]
 fn no_such_folder(rt: HostRuntime) {
     let saved = save(&mut Disk::new(&rt), Some("no_such_folder/a.cert"), b"text");
-    assert_eq!(rt; saved, Err(StoreFailed));
+    assert!(rt; saved.is_err());
 }

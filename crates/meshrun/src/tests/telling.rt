@@ -5,7 +5,7 @@ use std::test::Fail;
 use trace_runner::{Cause, Memory, ReplayError};
 
 const NO_COMMAND: &[u8] =
-    b"error: 'meshrun' requires a subcommand but one was not provided\n  [subcommands: run, check]\n\nUsage: meshrun <COMMAND>\n\nFor more information, try '--help'.\n";
+    b"error: 'meshrun' requires a subcommand but one was not provided\n  [subcommands: run, check, help]\n\nUsage: meshrun <COMMAND>\n\nFor more information, try '--help'.\n";
 
 // What is printed for the fault: the status, standard output and standard error.
 fn told(alloc: Global, fault: &Fault) -> Result<(u8, Memory, Memory), TellError> {
