@@ -24,8 +24,8 @@ void adopt(struct shards *shards, size_t most);
 enum halving {
     /* Of each shard the pages with the fewest live keys, as Core::compact of the crate `teurlaks` does. */
     SPARSER_HALF,
-    /* All pages go to the pool, and the shards adopt half of them again, in turn: those whose heads are lowest, which were opened by the shards of lower
-     * numbers. Where shards take objects in turn, their pages are alike, so these are halves at random. */
+    /* All pages go to the pool, and the shards adopt half of them again, in turn: those whose heads are lowest, which were opened by the shards of
+     * lower numbers. Where shards take objects in turn, their pages are alike, so these are halves at random. */
     HIGHER_HEADS
 };
 

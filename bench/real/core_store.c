@@ -55,7 +55,10 @@ static int get(uint32_t object, void *bytes, uint32_t len) {
 }
 
 static void compact_cores(void) {
-    for (unsigned class = 0; class < CLASSES; class++) compact(&cores[class], core_store_halving);
+    for (unsigned class = 0; class < CLASSES; class++) {
+        struct teurlaks_totals_reply totals = teurlaks_totals(&cores[class].core);
+        if (is_sparse(totals.live, totals.pages, class)) compact(&cores[class], core_store_halving);
+    }
 }
 
 static struct pages pages(void) {

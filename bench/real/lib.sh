@@ -22,14 +22,16 @@ replays() {
     local recording=$1 round name
     shift
     for round in 1 2 3 4 5; do
-        "$here/out/replay" core never "$recording" "$@" | sed 's/^/core-never /'
-        "$here/out/replay" core compact "$recording" "$@" | sed 's/^/core-compact /'
-        "$here/out/replay" core compact-halves "$recording" "$@" | sed 's/^/core-halves /'
+        for name in never compact compact-halves compact-sparse compact-halves-sparse; do
+            "$here/out/replay" core "$name" "$recording" "$@" | sed "s/^/core-$name /"
+        done
     done
     for name in rounds rounds-64 rounds-256; do
         "$here/out/replay" core "$name" "$recording" "$@" | sed "s/^/core-$name /"
     done
-    "$here/out/replay" split compact "$recording" "$@" | sed 's/^/split-compact /'
+    for name in compact compact-sparse; do
+        "$here/out/replay" split "$name" "$recording" "$@" | sed "s/^/split-$name /"
+    done
     "$here/out/replay" malloc compact "$recording" "$@" | sed 's/^/glibc /'
     for name in "${!libraries[@]}"; do
         LD_PRELOAD=$(library "${libraries[$name]}") "$here/out/replay" malloc compact "$recording" "$@" | sed "s/^/$name /"

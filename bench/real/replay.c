@@ -1,18 +1,21 @@
-/* `replay STORE WHEN RECORDING CHECKPOINT..`: replays what a process asked its allocator, of up to 256 bytes, over a store: `core`, `split` or `malloc`
- * (stores.h). Each checkpoint is a number of records, in ascending order. WHEN is
+/* `replay STORE WHEN RECORDING CHECKPOINT..`: replays what a process asked its allocator, of up to 256 bytes, over a store: `core`, `split` or
+ * `malloc` (stores.h). Each checkpoint is a number of records, in ascending order. WHEN is
  *
  *   never     nothing is given back
  *   compact   at each checkpoint the store gives back what it can
- *   compact-halves   of `core` alone: as compact, by halves at random, in place of the sparser half of each shard
- *   rounds    of `core` alone: at each checkpoint it is told what folds would give back, in a process that is forked there, and beside it what the
- *             search of Mesh would, on the same pages. The replay itself goes on with nothing folded.
+ *   compact-sparse   the same, but only of those pages, by the size of their objects, of whose slots less than two thirds hold one
  *
- *   rounds-64, rounds-256   of `core` alone: as rounds, of objects of 65 to 256 bytes alone, each cut off at 64 or 16 bytes, so that a page has
- *             so many slots for them, as it has in a `Slab` of Rust for values of more and of fewer than 128 bytes
+ * and of `core` alone
  *
- * A line of JSON tells what was read, one tells each checkpoint, and one the processor time of all steps and of all compactions. At each checkpoint each live
- * object is compared with what was put, which no time counts. Kilobytes are those of VmRSS beyond what the program took before the store, after
- * the allocator was asked to hand back what it keeps free. */
+ *   compact-halves, compact-halves-sparse   as these, by halves at random, in place of the sparser half of each shard
+ *   rounds    at each checkpoint it is told what folds would give back, in a process that is forked there, and beside it what the search of Mesh
+ *             would, on the same pages; the replay itself goes on with nothing folded
+ *   rounds-64, rounds-256   as rounds, of objects of 65 to 256 bytes alone, each cut off at 64 or 16 bytes, so that a page has so many slots
+ *             for them, as it has in a `Slab` of Rust for values of more and of fewer than 128 bytes
+ *
+ * A line of JSON tells what was read, one tells each checkpoint, and one the processor time of all steps and of all compactions. At each checkpoint
+ * each live object is compared with what was put, which no time counts. Kilobytes are those of VmRSS beyond what the program took before the store,
+ * after the allocator was asked to hand back what it keeps free. */
 #define _DEFAULT_SOURCE
 #include "allocator.h"
 #include "core_store.h"
@@ -28,9 +31,9 @@ enum { ROUNDS = 3 };
 enum when { NEVER, COMPACT, BY_ROUNDS };
 
 static struct steps steps;
-static struct selection selection = {0, MOST_BYTES};
 static const struct store *store;
 static enum when when;
+unsigned compacted_below_percent;
 
 /* Of each object that is live its bytes, else 0; and which put it is of. */
 static uint32_t *bytes_of_object;
@@ -191,16 +194,32 @@ static const struct store *store_of(const char *name) {
     return NULL;
 }
 
-static enum when when_of(const char *name) {
-    if (!strcmp(name, "never")) return NEVER;
-    if (!strcmp(name, "compact")) return COMPACT;
-    if (store != &core_store) fail("never or compact");
-    if (!strcmp(name, "rounds-64")) selection = (struct selection){65, 64};
-    if (!strcmp(name, "rounds-256")) selection = (struct selection){65, 16};
-    if (!strncmp(name, "rounds", strlen("rounds"))) return BY_ROUNDS;
-    if (strcmp(name, "compact-halves")) fail("never, compact, compact-halves, rounds, rounds-64 or rounds-256");
-    core_store_halving = HIGHER_HEADS;
-    return COMPACT;
+/* The words that a replay may be asked by, and what each says. */
+struct way {
+    const char *name;
+    enum when when;
+    int of_core;
+    enum halving halving;
+    unsigned below_percent;
+    struct selection selection;
+};
+
+static const struct way ways[] = {
+    {"never", NEVER, 0, SPARSER_HALF, 101, {0, MOST_BYTES}},
+    {"compact", COMPACT, 0, SPARSER_HALF, 101, {0, MOST_BYTES}},
+    {"compact-sparse", COMPACT, 0, SPARSER_HALF, 66, {0, MOST_BYTES}},
+    {"compact-halves", COMPACT, 1, HIGHER_HEADS, 101, {0, MOST_BYTES}},
+    {"compact-halves-sparse", COMPACT, 1, HIGHER_HEADS, 66, {0, MOST_BYTES}},
+    {"rounds", BY_ROUNDS, 1, SPARSER_HALF, 101, {0, MOST_BYTES}},
+    {"rounds-64", BY_ROUNDS, 1, SPARSER_HALF, 101, {65, 64}},
+    {"rounds-256", BY_ROUNDS, 1, SPARSER_HALF, 101, {65, 16}},
+};
+
+static const struct way *way_of(const char *name) {
+    for (size_t i = 0; i < sizeof ways / sizeof ways[0]; i++)
+        if (!strcmp(ways[i].name, name) && (!ways[i].of_core || store == &core_store)) return &ways[i];
+    fail("there is no such way to compact this store");
+    return NULL;
 }
 
 int main(int argc, char **argv) {
@@ -209,14 +228,17 @@ int main(int argc, char **argv) {
         return 2;
     }
     store = store_of(argv[1]);
-    when = when_of(argv[2]);
+    const struct way *way = way_of(argv[2]);
+    when = way->when;
+    core_store_halving = way->halving;
+    compacted_below_percent = way->below_percent;
     size_t checkpoints[64], checkpoints_len = 0;
     for (int word = 4; word < argc && checkpoints_len < 64; word++) checkpoints[checkpoints_len++] = strtoull(argv[word], NULL, 10);
-    steps = load_steps(argv[3], selection, checkpoints, checkpoints_len);
+    steps = load_steps(argv[3], way->selection, checkpoints, checkpoints_len);
     bytes_of_object = touched_memory(steps.objects, sizeof *bytes_of_object);
     put_of_object = touched_memory(steps.objects, sizeof *put_of_object);
-    printf("{\"store\": \"%s\", \"when\": \"%s\", \"records\": %zu, \"of_others\": %zu, \"too_large\": %zu, \"unknown\": %zu, \"steps\": %zu}\n", argv[1],
-           argv[2], steps.records, steps.of_others, steps.too_large, steps.unknown, steps.count);
+    printf("{\"store\": \"%s\", \"when\": \"%s\", \"records\": %zu, \"of_others\": %zu, \"too_large\": %zu, \"unknown\": %zu, \"steps\": %zu}\n",
+           argv[1], argv[2], steps.records, steps.of_others, steps.too_large, steps.unknown, steps.count);
     void *keys = touched_memory(steps.objects, store->key_bytes);
     base = resident();
     store->open(&steps, keys);

@@ -18,7 +18,10 @@ struct side {
     struct occupied *occupied;
     /* Where each span is now, and the next span that came to the same page. */
     uint32_t *page_of, *next_guest;
-    size_t opened;
+    /* Whether each page has memory, and how many have. */
+    unsigned char *has_memory;
+    size_t pages;
+    size_t opened, objects;
     /* A bit for each page that has a free slot and is not gone; no word below this one has any. */
     uint64_t *rooms;
     size_t lowest_word;
@@ -56,11 +59,8 @@ static void open_sides(const struct steps *steps, void *room) {
         side->page_of = reserved(MOST_PAGES * sizeof *side->page_of);
         side->next_guest = reserved(MOST_PAGES * sizeof *side->next_guest);
         side->rooms = reserved(MOST_PAGES / 8);
+        side->has_memory = reserved(MOST_PAGES);
     }
-}
-
-static int is_gone(const struct side *side, size_t page) {
-    return side->page_of[page] != page;
 }
 
 static void set_room(struct side *side, size_t page, int has_room) {
@@ -103,6 +103,9 @@ static void put(uint32_t object, const void *bytes, uint32_t len) {
     set_room(side, page, occupied_count(&side->occupied[page]) < slots_of(class));
     memcpy(object_at(class, page, slot), bytes, len);
     keys[object] = (struct key){page, slot};
+    side->objects++;
+    side->pages += !side->has_memory[page];
+    side->has_memory[page] = 1;
 }
 
 static void free_object(uint32_t object, uint32_t len) {
@@ -110,6 +113,7 @@ static void free_object(uint32_t object, uint32_t len) {
     size_t page = side->page_of[keys[object].span];
     occupied_remove(&side->occupied[page], keys[object].slot);
     set_room(side, page, 1);
+    side->objects--;
 }
 
 static int get(uint32_t object, void *bytes, uint32_t len) {
@@ -119,14 +123,19 @@ static int get(uint32_t object, void *bytes, uint32_t len) {
 }
 
 static void let_go(unsigned class, size_t page) {
+    struct side *side = &sides[class];
+    if (!side->has_memory[page]) return;
     madvise(object_at(class, page, 0), PAGE, MADV_DONTNEED);
+    side->has_memory[page] = 0;
+    side->pages--;
 }
 
 /* Copies what is on the one page to the other, and lets the first go. All of its spans are guests of the other from now on. */
 static void mesh_pages(unsigned class, size_t from, size_t onto) {
     struct side *side = &sides[class];
     for (unsigned slot = 0; slot < slots_of(class); slot++)
-        if (side->occupied[from].words[slot / 64] >> slot % 64 & 1) memcpy(object_at(class, onto, slot), object_at(class, from, slot), bytes_of_class[class]);
+        if (side->occupied[from].words[slot / 64] >> slot % 64 & 1)
+            memcpy(object_at(class, onto, slot), object_at(class, from, slot), bytes_of_class[class]);
     occupied_unite(&side->occupied[onto], &side->occupied[from]);
     side->occupied[from] = (struct occupied){{0}};
     uint32_t last = from;
@@ -138,22 +147,19 @@ static void mesh_pages(unsigned class, size_t from, size_t onto) {
     let_go(class, from);
 }
 
-static size_t pages_of(unsigned class) {
-    size_t pages = 0;
-    for (size_t page = 0; page < sides[class].opened; page++) pages += occupied_count(&sides[class].occupied[page]) != 0;
-    return pages;
-}
-
 /* Lets pages go with no object, and searches as long as that gives a sixteenth of the pages back. */
 static void compact_side(unsigned class) {
     struct side *side = &sides[class];
     for (size_t page = 0; page < side->opened; page++)
-        if (!is_gone(side, page) && !occupied_count(&side->occupied[page])) let_go(class, page);
+        if (!occupied_count(&side->occupied[page])) let_go(class, page);
     struct mesh_pair *pairs = malloc((side->opened / 2 + 1) * sizeof *pairs);
-    if (!pairs) exit(1);
+    if (!pairs) {
+        perror("malloc");
+        exit(1);
+    }
     size_t found, pages;
     do {
-        pages = pages_of(class);
+        pages = side->pages;
         found = split_mesher(side->occupied, side->opened, slots_of(class), &randomness, pairs);
         for (size_t pair = 0; pair < found; pair++) mesh_pages(class, pairs[pair].from, pairs[pair].onto);
     } while (found && found * 16 >= pages);
@@ -161,12 +167,13 @@ static void compact_side(unsigned class) {
 }
 
 static void compact_sides(void) {
-    for (unsigned class = 0; class < CLASSES; class++) compact_side(class);
+    for (unsigned class = 0; class < CLASSES; class++)
+        if (is_sparse(sides[class].objects, sides[class].pages, class)) compact_side(class);
 }
 
 static struct pages pages(void) {
     struct pages pages;
-    for (unsigned class = 0; class < CLASSES; class++) pages.of_class[class] = pages_of(class);
+    for (unsigned class = 0; class < CLASSES; class++) pages.of_class[class] = sides[class].pages;
     return pages;
 }
 

@@ -40,8 +40,8 @@ struct selection {
     uint32_t least, cut;
 };
 
-/* Reads the recording of the process that was started first. A checkpoint is a number of records: it becomes the number of steps that were taken by then.
- * A request of no bytes takes one. Ends the program where the file is no recording, or where calls are missing. */
+/* Reads the recording of the process that was started first. A checkpoint is a number of records: it becomes the number of steps that were taken by
+ * then. A request of no bytes takes one. Ends the program where the file is no recording, or where calls are missing. */
 struct steps load_steps(const char *file, struct selection selection, const size_t *checkpoints, size_t checkpoints_len);
 
 /* Memory that is touched, or the end of the program. */

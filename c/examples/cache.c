@@ -1,12 +1,12 @@
 /* `cache STORE WHEN [SECONDS]`: a cache of values of 100 to 250 bytes whose working set grows, shrinks and shifts, by four threads, and what the
  * system counts as resident (VmRSS) each second.
  *
- * STORE is `core`, a core for each thread, or `malloc`, a block for each value. WHEN is `compact`, each second, or `never`. The keys are drawn by
- * Zipf's law, the least recently used value goes when there is no room, and every value that is found is compared with what was put. The
- * requests are the same in each run, and those of rust/examples/cache.rs.
+ * STORE is `core`, a core for each thread, or `malloc`, a block for each value. WHEN is `compact`, in each second at whose end fewer than two
+ * thirds of the slots of a core's pages hold a value, or `never`. The keys are drawn by Zipf's law, the least recently used value goes when there is
+ * no room, and every value that is found is compared with what was put. The requests are the same in each run, and those of rust/examples/cache.rs.
  *
- * A core is used by one thread at a time, so each thread has one, with the keys that a hash gives it. The seats of an arena that all threads share would stand
- * in its place in struct values, and nothing else would change.
+ * A core is used by one thread at a time, so each thread has one, with the keys that a hash gives it. A seat of an arena that all threads share would
+ * stand in its place in struct values, and nothing else would change.
  *
  * Build it with c/pages.c and the archive, with -pthread -lm. */
 #define _GNU_SOURCE
@@ -22,7 +22,7 @@
 #include <unistd.h>
 
 enum { THREADS = 4, MOST_VALUES = 40000, BUCKETS = 1 << 16, KEYS = 1000000, REQUESTS_A_SECOND = 100000 };
-enum { LEAST_BYTES = 100, MOST_BYTES = 250, SHARDS = 32, PAGES_OF_A_SHARD = 1024, MOST_GROUPS = 4096 };
+enum { LEAST_BYTES = 100, MOST_BYTES = 250, SHARDS = 32, PAGES_OF_A_SHARD = 1024, SLOTS = 16, MOST_GROUPS = 4096 };
 
 static void die(const char *why, unsigned status) {
     fprintf(stderr, "cache: %s: status %u\n", why, status);
@@ -107,10 +107,13 @@ static void fold_sparse_half(struct teurlaks_handle *core) {
     }
 }
 
-/* Gives back the pages with no value, and folds as long as that gives a sixteenth of the pages back. */
+/* Gives back the pages with no value, and folds as long as that gives a sixteenth of the pages back: only where so many slots are free that it is
+ * worth its time. */
 static void values_compact(struct values *values) {
     size_t pages, gone;
     if (!values->in_core) return;
+    struct teurlaks_totals_reply totals = teurlaks_totals(&values->core);
+    if (totals.live * 3 >= totals.pages * SLOTS * 2) return;
     for (uint32_t shard = 0; shard < SHARDS; shard++) teurlaks_trim(&values->core, shard);
     do {
         pages = teurlaks_totals(&values->core).pages;

@@ -2,9 +2,9 @@
 //! system counts as resident (`VmRSS`) each second.
 //!
 //! STORE is `core`, a `teurlaks::Core` for each thread, or `boxes`, a `Box<[u8]>` for each value, of whichever allocator the program was started with.
-//! WHEN is `compact`, for `Core::compact` each second, or `never`. The keys are drawn by Zipf's law, the least recently used value goes when
-//! there is no room, and every value that is found is compared with what was put. The requests are the same in each run, so many a second,
-//! and where a machine is slower a second lasts longer.
+//! WHEN is `compact`, for `Core::compact` in each second at whose end fewer than two thirds of the slots of a core's pages hold a value, or `never`.
+//! The keys are drawn by Zipf's law, the least recently used value goes when there is no room, and every value that is found is compared with what
+//! was put. The requests are the same in each run, so many a second, and where a machine is slower a second lasts longer.
 //!
 //! A core is used by one thread at a time, so each thread has one, with the keys that a hash gives it. A seat of an arena that all threads share would
 //! implement [`Values`] as well, and nothing else would change.
@@ -91,6 +91,8 @@ trait Values {
 
 /// How many shards a core has. One opens 1,024 pages in its life, and a fold uses one up.
 const SHARDS: u32 = 32;
+/// How many values of these sizes a page holds.
+const SLOTS: usize = 16;
 
 /// Values in a core whose shards take them in turn.
 struct InCore {
@@ -134,8 +136,12 @@ impl Values for InCore {
         self.core.free(name.key());
     }
 
+    /// Only where so many slots are free that it is worth its time.
     fn compact(&mut self) -> Result<(), Refused> {
-        self.core.compact().map(|_| ())
+        if self.core.len() * 3 < self.core.pages() * SLOTS * 2 {
+            self.core.compact()?;
+        }
+        Ok(())
     }
 
     fn pages(&self) -> usize {
