@@ -10,7 +10,7 @@
 #include <sys/wait.h>
 #include <unistd.h>
 
-enum { THREADS = 4, BLOCKS = 10000, OF_A_THREAD = 5000, OF_A_CHILD = 7001, OF_A_STARTED = 8001 };
+enum { THREADS = 4, BLOCKS = 10000, SMALL = 60, OF_A_THREAD = 5000, OF_A_CHILD = 7001, OF_A_STARTED = 8001 };
 
 /* So that no call is left out for having no use. */
 static void *volatile kept;
@@ -20,16 +20,20 @@ static void die(const char *why) {
     exit(1);
 }
 
-/* Blocks of one size, three at a time, so that addresses go from thread to thread. */
+/* Blocks of two sizes, so that addresses go from thread to thread. The last small one stays. */
 static void *work(void *number) {
     size_t size = OF_A_THREAD + (size_t)number;
+    void *small = NULL;
     for (int block = 0; block < BLOCKS; block++) {
         void *first = malloc(size), *second = malloc(size);
+        free(small);
         first = realloc(first, size + 100);
+        small = malloc(SMALL + (size_t)number);
         kept = first;
         free(second);
         free(first);
     }
+    kept = small;
     return NULL;
 }
 
@@ -52,6 +56,15 @@ static void each_call(void) {
     kept = at;
     free(at);
     free(NULL);
+    /* Small ones: one that cannot grow, one that goes above what is replayed and comes back, and one of no bytes. */
+    at = malloc(101);
+    kept = at;
+    if (realloc(at, PTRDIFF_MAX)) die("a block that cannot be");
+    at = realloc(at, 300);
+    kept = at;
+    at = realloc(at, 16);
+    kept = at;
+    kept = malloc(0);
 }
 
 /* A child that ends at once, while threads of this process are at work. */
