@@ -38,6 +38,15 @@ replays() {
     done
 }
 
+# A line for each tenth of the records, with how many they are, but for the last tenth, in which a program takes all apart.
+tenths() {
+    local records tenth
+    records=$(od -A n -t u8 -j 8 -N 8 "$1")
+    for tenth in 1 2 3 4 5 6 7 8 9; do
+        echo "$tenth/10 $((records * tenth / 10))"
+    done
+}
+
 # What stands above all that was measured.
 told() {
     echo "# $(date -u +%Y-%m-%d). $(system)."
