@@ -8,6 +8,7 @@ mod core;
 mod names;
 mod raw;
 mod refused;
+pub mod shared;
 pub mod slab;
 pub mod store;
 mod values;
@@ -17,6 +18,8 @@ pub use crate::core::{Core, Limits, Marked, Stepped};
 pub use bytes::{Bytes, BytesKey, Words};
 pub use names::{Group, Key, ParseKeyError};
 pub use refused::{InsertError, Refused};
+#[doc(inline)]
+pub use shared::SharedStore;
 #[doc(inline)]
 pub use slab::Slab;
 #[doc(inline)]

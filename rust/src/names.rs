@@ -72,6 +72,12 @@ impl Key {
         self.shard.into()
     }
 
+    /// The same but for the shard.
+    #[inline]
+    pub(crate) fn with_shard(self, shard: u8) -> Key {
+        Key { shard, ..self }
+    }
+
     /// The serial number of its span among those that the shard has opened, below 1,024 for a key that was given out.
     #[must_use]
     pub fn serial(self) -> u32 {

@@ -350,6 +350,18 @@ impl Drop for Waiting<'_> {
     }
 }
 
+impl<T> Store<T> {
+    /// Frees the key, and says whether it was live: as [`Store::remove`], but for the value.
+    pub fn free(&mut self, key: Key) -> bool {
+        self.core.free(key)
+    }
+
+    /// The live key that comes next after this one, as [`Core::next_live`].
+    pub(crate) fn next_live(&self, after: Option<Key>) -> Option<Key> {
+        self.core.next_live(after)
+    }
+}
+
 /// Lends the words of the least object that holds the value, and how many they are.
 #[inline]
 fn as_words<T: Copy, R>(value: T, keep: impl FnOnce(*const u128, usize) -> R) -> R {

@@ -1,47 +1,9 @@
 //! What the system has again after a compaction and after trims, and what happens where it has none left. It is one test, since the limit is the process's.
 
+mod common;
+
+use common::{kilobytes, with_bytes_left};
 use teurlaks::{Core, Key, Limits, Refused, Slab, Stepped};
-
-#[repr(C)]
-struct Limit {
-    soft: u64,
-    hard: u64,
-}
-
-/// The bytes of address space that a process may have, as Linux numbers this.
-const RLIMIT_AS: i32 = 9;
-
-extern "C" {
-    fn getrlimit(resource: i32, limit: *mut Limit) -> i32;
-    fn setrlimit(resource: i32, limit: *const Limit) -> i32;
-}
-
-/// Runs the call with so many bytes of address space left.
-fn with_bytes_left<R>(bytes: u64, call: impl FnOnce() -> R) -> R {
-    let mut old = Limit { soft: 0, hard: 0 };
-    // SAFETY: both calls are given a limit that is there.
-    unsafe {
-        assert_eq!(getrlimit(RLIMIT_AS, &mut old), 0);
-        let soft = 1024 * kilobytes("VmSize:") + bytes;
-        assert_eq!(setrlimit(RLIMIT_AS, &Limit { soft, hard: old.hard }), 0);
-        let done = call();
-        assert_eq!(setrlimit(RLIMIT_AS, &old), 0);
-        done
-    }
-}
-
-/// What the system says of the process.
-fn kilobytes(name: &str) -> u64 {
-    let status = std::fs::read_to_string("/proc/self/status").expect("Linux tells it");
-    let line = status
-        .lines()
-        .find_map(|line| line.strip_prefix(name))
-        .expect("it has a line");
-    line.split_whitespace()
-        .next()
-        .and_then(|number| number.parse().ok())
-        .expect("it is a number")
-}
 
 type Fold = fn(&mut Slab<[u64; 30]>) -> Result<(), Refused>;
 

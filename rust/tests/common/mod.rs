@@ -1,4 +1,5 @@
-//! What several tests share.
+//! What several tests share, of which not each asks for all.
+#![allow(dead_code)]
 
 /// Marsaglia's xorshift.
 pub struct Random(pub u64);
@@ -16,4 +17,69 @@ impl Random {
     pub fn below(&mut self, count: usize) -> usize {
         ((self.next() >> 11) % count as u64) as usize
     }
+}
+
+/// What the system says of the process, as `VmRSS:`.
+pub fn kilobytes(name: &str) -> u64 {
+    let status = std::fs::read_to_string("/proc/self/status").expect("Linux tells it");
+    let line = status
+        .lines()
+        .find_map(|line| line.strip_prefix(name))
+        .expect("it has a line");
+    line.split_whitespace()
+        .next()
+        .and_then(|number| number.parse().ok())
+        .expect("it is a number")
+}
+
+#[repr(C)]
+struct Limit {
+    soft: u64,
+    hard: u64,
+}
+
+/// What Linux limits for a process: its number there, and the line that tells how much the process has.
+struct Resource {
+    number: i32,
+    line: &'static str,
+}
+
+const ADDRESS_SPACE: Resource = Resource {
+    number: 9,
+    line: "VmSize:",
+};
+
+/// What may be written to and is no file's, also where it was reserved before.
+const DATA: Resource = Resource {
+    number: 2,
+    line: "VmData:",
+};
+
+extern "C" {
+    fn getrlimit(resource: i32, limit: *mut Limit) -> i32;
+    fn setrlimit(resource: i32, limit: *const Limit) -> i32;
+}
+
+/// Runs the call with so many bytes of address space left. The limit is the process's.
+pub fn with_bytes_left<R>(bytes: u64, call: impl FnOnce() -> R) -> R {
+    with_left(ADDRESS_SPACE, bytes, call)
+}
+
+/// Runs the call with so many bytes left that may be written to. The limit is the process's.
+pub fn with_data_left<R>(bytes: u64, call: impl FnOnce() -> R) -> R {
+    with_left(DATA, bytes, call)
+}
+
+fn with_left<R>(resource: Resource, bytes: u64, call: impl FnOnce() -> R) -> R {
+    let mut old = Limit { soft: 0, hard: 0 };
+    let soft = 1024 * kilobytes(resource.line) + bytes;
+    // SAFETY: all calls are given a limit that is there.
+    unsafe {
+        assert_eq!(getrlimit(resource.number, &mut old), 0);
+        assert_eq!(setrlimit(resource.number, &Limit { soft, hard: old.hard }), 0);
+    }
+    let done = call();
+    // SAFETY: as above.
+    unsafe { assert_eq!(setrlimit(resource.number, &old), 0) };
+    done
 }

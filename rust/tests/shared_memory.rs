@@ -1,0 +1,91 @@
+//! What the system has again of a store that threads share, as they go on, and what happens where it has none left. It is one test, since the limit is the
+//! process's.
+
+mod common;
+
+use common::{kilobytes, with_data_left};
+use std::sync::atomic::{AtomicBool, Ordering};
+use std::thread;
+use teurlaks::{Key, Refused, SharedStore};
+
+const THREADS: u64 = 4;
+const VALUES: u64 = 75_000;
+
+/// Of what four threads have kept one of 20 stays, and most of the memory goes back while they look that up.
+fn most_of_it_leaves_the_process() -> Result<(), Refused> {
+    let store = SharedStore::new()?;
+    // The first key of each thread, and the places of the others.
+    let mut keys: Vec<Vec<Key>> = vec![vec![store.insert([0; 30])?; VALUES as usize]; THREADS as usize];
+    store.clear();
+    let base = kilobytes("VmRSS:");
+    thread::scope(|scope| {
+        for (keys, thread) in keys.iter_mut().zip(0..) {
+            let store = &store;
+            scope.spawn(move || {
+                for (key, number) in keys.iter_mut().zip(thread * VALUES..) {
+                    *key = store.insert([number; 30]).expect("there is memory");
+                }
+            });
+        }
+    });
+    let full = kilobytes("VmRSS:") - base;
+    assert!(full > THREADS * VALUES * 240 / 1024, "{full} KB");
+    store.retain(|_, value| value[0] * 7919 % 100 < 5);
+
+    let compacting = AtomicBool::new(true);
+    let gone = thread::scope(|scope| {
+        for (keys, thread) in keys.iter().zip(0..) {
+            let (store, compacting) = (&store, &compacting);
+            scope.spawn(move || {
+                while compacting.load(Ordering::Relaxed) {
+                    for (key, number) in keys.iter().zip(thread * VALUES..).step_by(17) {
+                        let stays = number * 7919 % 100 < 5;
+                        assert_eq!(store.get(*key), stays.then_some([number; 30]));
+                    }
+                }
+            });
+        }
+        let gone = store.compact();
+        compacting.store(false, Ordering::Relaxed);
+        gone
+    })?;
+    let left = kilobytes("VmRSS:") - base;
+    assert_eq!(store.len() as u64, THREADS * VALUES / 20);
+    assert!(left < full / 3, "of {full} KB {left} are left, and {gone} pages went");
+    Ok(())
+}
+
+/// Inserts until memory is refused, and compacts where hardly any is left: each may be tried again, and no value is lost.
+fn refused_where_there_is_none() -> Result<(), Refused> {
+    let store = SharedStore::new()?;
+    let mut keys = Vec::with_capacity(1 << 20);
+    let refused = with_data_left(1 << 20, || loop {
+        match store.insert([keys.len() as u64; 30]) {
+            Ok(key) => keys.push(key),
+            Err(refused) => return refused,
+        }
+    });
+    assert_eq!((refused, store.len()), (Refused::OutOfMemory, keys.len()));
+    let key = store.insert([1; 30])?;
+    assert!(!keys.contains(&key) && store.remove(key) == Some([1; 30]));
+
+    store.retain(|_, [number, ..]| number * 7919 % 100 < 5);
+    let refused = with_data_left(0, || store.compact());
+    assert_eq!(refused, Err(Refused::OutOfMemory));
+    let found = || {
+        keys.iter().zip(0..).all(|(key, number)| {
+            let stays = number * 7919 % 100 < 5;
+            store.get(*key) == stays.then_some([number; 30])
+        })
+    };
+    assert!(found());
+    assert!(store.compact()? > store.pages());
+    assert!(found());
+    Ok(())
+}
+
+#[test]
+fn memory_goes_back_and_is_refused() -> Result<(), Refused> {
+    most_of_it_leaves_the_process()?;
+    refused_where_there_is_none()
+}
