@@ -34,12 +34,13 @@ pub struct Unfinished<G: Gate> {
 
 /// Takes the arena and its seats apart when no thread works on them any more: settles every ring, as [`Arena::settle`] does,
 /// and gives the logs of all spans, each with its greatest generation, and how many keys each ring had. The receipts are the
-/// caller's, a list for each worker; those of the settled keys go last in them. It owns all locks, so it takes none and waits
-/// for nobody.
+/// caller's, a list for each worker; those of the settled keys go last in them. It owns all locks, so no other thread has
+/// one, and it waits for nobody.
 ///
 /// # Errors
 ///
-/// Arena and seats, with no key taken, where there is no memory for the counts, the receipts or the logs.
+/// Arena and seats, with no key taken, where there is no memory for the counts, the receipts or the logs; or where a guard of a lock was
+/// forgotten, so that its shard is nowhere, which no call here does.
 pub fn finish<G: Gate, K: Receipts>(
     mut arena: Arena<G>,
     mut seats: Vec<Seat>,

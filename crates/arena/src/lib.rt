@@ -21,6 +21,10 @@
 //! crosses to another processor by itself: a block that is not full is handed over by `Seat::hand_over`, by the worker's own
 //! `tend`, and with its 64th further call ([`MOST_DELAY`]).
 //!
+//! A lock is a latch (the crate `latch`): whoever has it wakes nobody. So each call comes in two forms. One waits for its locks, and
+//! lets other threads run meanwhile; the other, whose name begins with `try_`, looks at a lock 50 times at most, and then answers
+//! [`Busy`], with nothing changed. It therefore returns, whatever others do, and may be linked into a static library.
+//!
 //! What is done under a lock is done by one call of a shard, of the pool, `fold_one` or `mark_in` on
 //! what the lock lends ([`sections`]), so the contracts of those calls hold of it, and each look-up,
 //! put, set and free makes its receipt there. A word is only a hint of where a span is: an answer
@@ -46,6 +50,7 @@
 //! seats[1].free_later(key);                                // for the ring to shard 0, without a lock
 //! seats[1].hand_over();                                    // on that ring, with all others that wait
 //! seats[0].tend(rt, &arena, &mut receipts)?;               // 1: the key is freed
+//! let (found, receipt) = seats[1].try_get(&arena, &key)?;  // None; or Busy, while another thread is in that shard
 //! let certificate = arena.mark(rt, &mut steward)?;         // beside the workers
 //! let finished = finish(arena, seats, &mut lists)?;        // the logs of all spans, for an audit
 //! ```

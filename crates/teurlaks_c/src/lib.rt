@@ -12,6 +12,11 @@
 //!   events and replies           Core<Counted> ┘     └ the certificate of the last mark
 //! ```
 //!
+//! A [`ShareHandle`](share_handle::ShareHandle) is the same for threads: it has a seat of an arena, or its steward, each with a share of the
+//! arena, which goes with the last of them. Its calls (`seats.rt`, `stewards.rt`) wait for nobody: where another thread has a lock that a call
+//! needs, it answers `BUSY`, with nothing changed. Both kinds of handle may go to another thread, which is proved (`Send`); a call has its
+//! handle to itself.
+//!
 //! Nothing is asked of a handle: one that has no core, since none was made or it was dropped, is null, and each call tests it. It answers the
 //! status `NO_CORE` then, whatever else it is given; `teurlaks_totals` counts nothing, and `teurlaks_drop` does nothing.
 //!
