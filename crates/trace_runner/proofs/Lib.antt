@@ -10,3 +10,4 @@ pub mod Serving
 pub mod PlanSteps
 pub mod Draining
 pub mod Homes
+pub mod Giving

@@ -6,6 +6,7 @@ pub mod Answers
 pub mod News
 pub mod Barrier
 pub mod Runs
+pub mod Given
 pub mod Kept
 pub mod Recalls
 pub mod Replay

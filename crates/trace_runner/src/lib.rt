@@ -26,6 +26,7 @@
 
 mod checking;
 mod fault;
+mod key_list;
 mod plans;
 mod replay;
 mod replies;

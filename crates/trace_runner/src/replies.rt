@@ -8,6 +8,7 @@ ghost use Rattle.trace_runner.specs.Kept.{AreHome, IsHome, kept_in, kept_none};
 ghost use Rattle.trace_runner.specs.Answers.{answer_told, put_told};
 ghost use Rattle.trace_runner.specs.Report.{answer_line, news_text};
 
+use crate::key_list::KeyList;
 use crate::report::{Answer, PlanNews};
 use crate::writing::{push_answer_line, push_news};
 use span::{Key, Object};
@@ -18,7 +19,7 @@ use std::alloc::{AllocError, Global};
 #[derive(Drop)]
 pub(crate) struct Replies {
     /// Of each put, in order, the key that it gave out.
-    keys: Vec<Option<Key>>,
+    keys: KeyList,
     /// How many answers there are to calls that are no puts: each put has its key.
     others: usize,
     /// Whether the report tells the answers.
@@ -33,7 +34,7 @@ impl Replies {
         ensures { kept_in result ≡ kept_none asked }
     {
         Replies {
-            keys: Vec::new(alloc),
+            keys: KeyList::new(alloc),
             others: 0,
             asked,
             text: Vec::new(alloc),
@@ -45,7 +46,7 @@ impl Replies {
         ensures count { IfOk result (λ count. count ≡ (kept_in self.now).count) }
         ensures err { OnErr result (2 ^ 64 ≤ (kept_in self.now).count) }
     {
-        self.keys.len().checked_add(self.others).ok_or(AllocError)
+        self.keys.len()?.checked_add(self.others).ok_or(AllocError)
     }
 
     /// The report so far.
@@ -62,8 +63,7 @@ impl Replies {
             ≡ Some found → result ≡ found }
         ensures home { (shards : ℕ) → AreHome shards self.now.keys.items → IsHome shards result }
     {
-        let place = first.checked_add(place as usize)?;
-        *self.keys.get(place)?
+        self.keys.key(first, place)
     }
 
     /// Counts an answer to a call that is no put, and tells it where the report does.

@@ -1,0 +1,191 @@
+//! The keys that puts gave out, and which puts were refused.
+
+ghost use Rattle.std.specs.Prelude.{◌≡◌, ◌+◌, ◌<◌, ◌≤◌, ◌^◌, ◌++◌, ◌∷◌, [], ℕ, IfNone, IfOk, IfSome, None, OnErr, OnOk, get_or, length, nat_le, slice_get};
+ghost use Rattle.std.specs.List.{flat_map};
+ghost use Rattle.trace_runner.specs.Given.{AllGiven, AreInRow, all_given, given_in};
+ghost use Rattle.trace_runner.specs.declared.key_list.Stretch.{Stretch};
+ghost use Rattle.trace_runner.specs.declared.key_list.TheConstants.{MOST_REFUSED};
+
+use span::Key;
+use std::alloc::{AllocError, Global};
+use std::marker::Model;
+
+/// That many puts are refused at most, so that a number counts all puts.
+const MOST_REFUSED: usize = 1 << 63;
+
+/// Puts one after another, of which the first ones gave a key out each, and the others were refused.
+#[derive(Clone, Copy)]
+struct Stretch {
+    /// The place of its first put among all puts.
+    place: usize,
+    /// How many keys the puts above it gave out.
+    above: usize,
+    /// How many keys its own gave out.
+    given: usize,
+    /// How many of its puts were refused.
+    refused: usize,
+}
+
+/// What each put gave, in order: its key, or nothing where it was refused. A key takes 16 bytes, and puts that were refused one after
+/// another take 32, however many they are. Contracts see the list of what each put gave.
+#[derive(Drop)]
+pub(crate) struct KeyList {
+    /// The keys, in order.
+    keys: Vec<Key>,
+    /// The stretches of puts, in order, but for the last.
+    closed: Vec<Stretch>,
+    /// The place of the first put of the last stretch.
+    place: usize,
+    /// How many keys the puts above the last stretch gave out; all others are its own.
+    above: usize,
+    /// How many puts of the last stretch were refused.
+    refused: usize,
+}
+
+impl Model for KeyList {
+    ghost Value = { AllGiven };
+
+    ghost view = { λ l. all_given l.keys.items l.closed.items l.above l.refused };
+
+    ghost invariant = { λ l. AreInRow 0 0 l.closed.items l.place l.above
+        × (l.above ≤ length l.keys.items) × (l.place + l.refused ≤ l.above + MOST_REFUSED) };
+}
+
+// The sum. `AllocError` comes exactly where it is more than a number counts.
+fn sum(first: usize, second: usize, third: usize) -> Result<usize, AllocError>
+    ensures count { IfOk result (λ sum. sum ≡ first + second + third) }
+    ensures err { OnErr result (2 ^ 64 ≤ first + second + third) }
+{
+    let both = first.checked_add(second).ok_or(AllocError)?;
+    both.checked_add(third).ok_or(AllocError)
+}
+
+// The place so far below that one, where a number counts as far.
+fn place_below(first: usize, below: u32) -> Option<usize>
+    ensures some { IfSome result (λ place. place ≡ first + below) }
+    ensures none { IfNone result (2 ^ 64 ≤ first + below) }
+{
+    first.checked_add(below as usize)
+}
+
+// How many of the stretches begin at that place or above it.
+fn count_to(closed: &[Stretch], place: usize) -> usize
+    requires { (end : ℕ) × (last : ℕ) × AreInRow 0 0 closed.now end last }
+    ensures within { result ≤ length closed.now }
+    ensures above { (other : ℕ) (one : Stretch) → other < result
+        → slice_get closed.now other ≡ Some one → one.place ≤ place }
+    ensures others { (other : ℕ) (one : Stretch) → result ≤ other
+        → slice_get closed.now other ≡ Some one → place < one.place }
+{
+    closed.partition_point(
+        |one: &Stretch| -> bool
+            ensures { result ≡ nat_le one.now.place place }
+        { one.place <= place },
+    )
+}
+
+// The key that the put at that place of a stretch gave out, whose keys stand among these.
+fn key_in(keys: &[Key], stretch: &Stretch, place: usize) -> Option<Key>
+    requires { stretch.now.above + stretch.now.given ≤ length keys.now }
+    ensures { result ≡ get_or (given_in keys.now stretch.now) place None }
+{
+    if place < stretch.given {
+        return Some(keys[stretch.above + place]);
+    }
+    None
+}
+
+// The key that the put at that place gave out, where all stretches are closed ones.
+fn key_above(keys: &[Key], closed: &[Stretch], place: usize) -> Option<Key>
+    requires { (end : ℕ) × (last : ℕ) × AreInRow 0 0 closed.now end last × (place < end)
+        × (last ≤ length keys.now) }
+    ensures { result ≡ get_or (flat_map (given_in keys.now) closed.now) place None }
+{
+    let count = count_to(closed, place);
+    if count == 0 {
+        return None;
+    }
+    let stretch = closed[count - 1];
+    key_in(keys, &stretch, place - stretch.place)
+}
+
+// The key at that place of the keys below so many of them.
+fn key_below(keys: &[Key], above: usize, place: usize) -> Option<Key>
+    requires { above ≤ length keys.now }
+    ensures { result ≡ slice_get keys.now (above + place) }
+{
+    if place < keys.len() - above {
+        return Some(keys[above + place]);
+    }
+    None
+}
+
+impl KeyList {
+    /// What no put gave.
+    pub(crate) fn new(alloc: Global) -> KeyList
+        ensures { result.items ≡ [] }
+    {
+        KeyList {
+            keys: Vec::new(alloc),
+            closed: Vec::new(alloc),
+            place: 0,
+            above: 0,
+            refused: 0,
+        }
+    }
+
+    /// How many puts there are. `AllocError` comes exactly where they are more than a number counts.
+    pub(crate) fn len(&self) -> Result<usize, AllocError>
+        ensures count { IfOk result (λ len. len ≡ length self.now.items) }
+        ensures err { OnErr result (2 ^ 64 ≤ length self.now.items) }
+    {
+        let given = self.keys.len() - self.above;
+        sum(self.place, given, self.refused)
+    }
+
+    /// The key that the put gave out which stands so far below the put at the place `first`, where there is such a put and it was
+    /// not refused.
+    pub(crate) fn key(&self, first: usize, below: u32) -> Option<Key>
+        ensures { result ≡ get_or self.now.items (first + below) None }
+    {
+        let keys = self.keys.as_slice();
+        let Some(place) = place_below(first, below) else {
+            return None;
+        };
+        if place < self.place {
+            return key_above(keys, self.closed.as_slice(), place);
+        }
+        key_below(keys, self.above, place - self.place)
+    }
+
+    /// Adds what a put gave: its key, or nothing where it was refused. More puts than a number counts find no memory.
+    pub(crate) fn push(&mut self, key: Option<Key>) -> Result<(), AllocError>
+        ensures { OnOk result (self.new.items ≡ self.old.items ++ key ∷ []) }
+    {
+        let Some(key) = key else {
+            let more = MOST_REFUSED - (self.place - self.above);
+            if more <= self.refused {
+                return Err(AllocError);
+            }
+            self.refused += 1;
+            return Ok(());
+        };
+        if self.refused == 0 {
+            self.keys.push(key)?;
+            return Ok(());
+        }
+        let given = self.keys.len() - self.above;
+        let place = sum(self.place, given, self.refused)?;
+        self.closed.push(Stretch {
+            place: self.place,
+            above: self.above,
+            given,
+            refused: self.refused,
+        })?;
+        self.place = place;
+        self.above = self.keys.len();
+        self.refused = 0;
+        self.keys.push(key)?;
+        Ok(())
+    }
+}
