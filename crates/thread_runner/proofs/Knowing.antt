@@ -1,9 +1,7 @@
 -- What calls on keys are told, by what is known of the keys that puts gave.
-use Rattle.std.proofs.Common.{◌≡◌, ◌∙◌, ◌++◌, ℕ, Bool, false, true, List, [], ◌∷◌, Option, None, Some, ap, inl, inr, refl, set, slice_get, subst, sym}
+use Rattle.std.proofs.Common.{◌≡◌, ◌∙◌, ◌++◌, ℕ, Bool, false, true, List, [], ◌∷◌, Option, None, Some, ap, refl, subst, sym}
 use Rattle.span.specs.Log.{Value}
 use Rattle.std.specs.List.{AllByRecursion}
-use Rattle.std.proofs.lemmas.Bool.Decides.{eqb_tells}
-use Rattle.marks.proofs.Lists.{slice_get-set_other, slice_get-set_same}
 use Rattle.arena.specs.Receipts.{free_receipt, get_receipt, put_receipt, set_receipt}
 use Rattle.span.specs.Receipts.{look_up, set as set_call}
 use Rattle.span.specs.declared.key.Key.{Key}
@@ -11,7 +9,7 @@ use Rattle.span.specs.declared.receipt.Receipt.{Receipt}
 use Rattle.thread_runner.specs.Asked.{Answers, Asked, Called, Frees, Gets, GivenKeys, IsLeft, IsSetTo, Outcome, Puts, Sets, is_look_up, is_sending}
 use Rattle.thread_runner.specs.Followed.{entries_on, receipts_from}
 use Rattle.thread_runner.specs.Grown.{Grows, Tells}
-use Rattle.thread_runner.specs.Known.{AreFresh, AreKept, AreKnown, given_by}
+use Rattle.thread_runner.specs.Known.{AreFresh, AreKnown}
 use Rattle.thread_runner.specs.Told.{is_free}
 use Rattle.thread_runner.specs.declared.diary.Diary.{Diary}
 use Rattle.thread_runner.specs.declared.diary.Other.{Other}
@@ -19,21 +17,6 @@ use Rattle.thread_runner.specs.declared.diary.Other.TheVariants as other
 use Rattle.thread_runner.specs.declared.keys.Given.{Given}
 use Rattle.thread_runner.proofs.Growing.{Tells-one}
 use Rattle.thread_runner.proofs.Taking.{is_free-free}
-
--- what is kept is what was given, where nothing else is
-pub AreKept-given_by : (kept : List (Option (Option Key))) → AreKept kept (given_by kept)
-AreKept-given_by kept place key there = rw there refl
-
--- what a put gave is kept at a place where nothing was
-pub AreKept-set : (kept : List (Option (Option Key))) (place : ℕ) (key : Option Key) (given : GivenKeys) → slice_get kept place ≡ Some None → AreKept (set kept place (Some key)) given
-    → AreKept kept given × (given place ≡ key)
-AreKept-set kept place key given none are = (
-  (λ at one there. elim (eqb_tells place at) [
-    | inl (passes, same) ↦ absurd (let it : Some None ≡ Some (Some one) = sym none ∙ ap (slice_get kept) same ∙ there in cc)
-    | inr (fails, differ) ↦ are at one (slice_get-set_other kept place at (Some key) (λ e. differ (sym e)) ∙ there)
-  ]),
-  are place key (slice_get-set_same kept place None (Some key) none),
-)
 
 -- where there is none
 pub None-not_some : {X : Type 0} (o : Option X) → ((x : X) → o ≡ Some x → ⊥) → o ≡ None
@@ -53,7 +36,7 @@ each-parts P [] ys each = (tt, each)
 each-parts P (x ∷ xs) ys each = let (left, right) = each-parts P xs ys each.1 in ((each.0, left), right)
 
 -- one thing was asked that changes nothing of what is known of keys
-pub Tells-still : (section thread number : ℕ) (asked : Asked) (outcome : Outcome) (kept : List (Option (Option Key))) (fresh later : List Given) (old new : Diary) → later ≡ fresh
+pub Tells-still : (section thread number : ℕ) (asked : Asked) (outcome : Outcome) (kept : List Given) (fresh later : List Given) (old new : Diary) → later ≡ fresh
     → ((given : GivenKeys) → AreKnown kept fresh given → Answers given section thread asked outcome) → Grows (entries_on number outcome) (receipts_from outcome) 1 old new
     → Tells section thread number (asked ∷ []) (AreKnown kept fresh) (AreKnown kept later) old new
 Tells-still section thread number asked outcome kept fresh later old new same answers grows =
@@ -61,15 +44,12 @@ Tells-still section thread number asked outcome kept fresh later old new same an
     Tells-one section thread number asked outcome (AreKnown kept fresh) (AreKnown kept later) old new (λ given known. answers given (fits given known)) fits grows
 
 -- a put is kept with what it gave
-pub Tells-put : (section thread number place : ℕ) (value : Value) (outcome : Outcome) (key : Option Key) (kept : List (Option (Option Key))) (fresh later : List Given) (old new : Diary)
-    → later ≡ fresh ++ record { place = place; key = key } ∷ [] → ((given : GivenKeys) → given place ≡ key → Answers given section thread (Puts place value) outcome)
+pub Tells-put : (section thread number place : ℕ) (value : Value) (outcome : Outcome) (key : Option Key) (kept : List Given) (fresh later : List Given) (old new : Diary)
+    → ((given : GivenKeys) → AreFresh later given → AreFresh fresh given × (given place ≡ key)) → ((given : GivenKeys) → given place ≡ key → Answers given section thread (Puts place value) outcome)
     → Grows (entries_on number outcome) (receipts_from outcome) 1 old new → Tells section thread number (Puts place value ∷ []) (AreKnown kept fresh) (AreKnown kept later) old new
-Tells-put section thread number place value outcome key kept fresh later old new pushed answers grows =
-    let one : Given = record { place = place; key = key } in
-    let parts : (given : GivenKeys) → AreKnown kept later given → AreFresh fresh given × AreFresh (one ∷ []) given =
-    λ given known. each-parts (λ (g : Given). given g.place ≡ g.key) fresh (one ∷ []) (subst (λ f. AreFresh f given) pushed known.1) in
+Tells-put section thread number place value outcome key kept fresh later old new entered answers grows =
     Tells-one section thread number (Puts place value) outcome (AreKnown kept fresh) (AreKnown kept later) old new
-    (λ given known. answers given (parts given known).1.0) (λ given known. (known.0, (parts given known).0)) grows
+    (λ given known. answers given (entered given known.1).1) (λ given known. (known.0, (entered given known.1).0)) grows
 
 -- the receipt of a put
 pub Answers-put : (given : GivenKeys) (section thread place : ℕ) (value : Value) (key : Key) (receipt : Receipt) → receipt ≡ put_receipt thread section value key receipt.at → given place ≡ Some key

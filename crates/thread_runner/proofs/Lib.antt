@@ -10,3 +10,4 @@ mod Knowing
 mod LiveSlots
 mod Numbering
 mod Lists
+pub mod Keeping

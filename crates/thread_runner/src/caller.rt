@@ -11,11 +11,12 @@ ghost use Rattle.trace_text.specs.Places.{place_by};
 ghost use Rattle.thread_runner.specs.Asked.{Called, Frees, Gets, GivenKeys, Leaves, Puts, Said, Sets, Tends, Trims, asked_at, asked_by, is_adoption};
 ghost use Rattle.thread_runner.specs.Followed.{entries_on};
 ghost use Rattle.thread_runner.specs.Grown.{Grows, IsEmptyDiary, TakesIn, Tells, TellsAdoption};
-ghost use Rattle.thread_runner.specs.Known.{AreFresh, AreKept, AreKnown};
+ghost use Rattle.thread_runner.specs.Known.{AreFresh, AreKnown};
+ghost use Rattle.thread_runner.specs.declared.keys.Given.{Given};
 
 use crate::diary::{Diary, Other};
 use crate::error::Halt;
-use crate::keys::{Given, Keys};
+use crate::keys::{Given, Keys, enter, find};
 use crate::layout::Text;
 use abandoned::{AdoptError, ReceiveError};
 use arena::{Arena, Gate, Seat};
@@ -33,8 +34,6 @@ pub(crate) struct Caller<'a, G: Gate> {
     seat: Seat,
     /// What its puts gave in this section, in order.
     fresh: Vec<Given>,
-    /// How many puts it made in the sections before.
-    kept: usize,
     /// What it was told.
     diary: Diary,
     /// Whether it ended in this section, so that its shard is to be abandoned.
@@ -92,7 +91,6 @@ impl<'a, G: Gate> Caller<'a, G> {
             arena,
             seat,
             fresh: Vec::new(alloc),
-            kept: 0,
             diary: Diary::new(alloc, replies),
             leaves: false,
         })
@@ -188,14 +186,14 @@ impl<'a, G: Gate> Caller<'a, G> {
                 value,
                 ..
             } => self.fill(rt, number, binds, *class, *count, *value),
-            Call::Get { key } => self.get(rt, text, keys, number, place_of(reads, key.index)?),
+            Call::Get { key } => self.get(rt, keys, number, place_of(reads, key.index)?),
             Call::Set { key, class, value } => {
                 let place = place_of(reads, key.index)?;
-                self.set(rt, text, keys, number, place, counting_from(*class, *value))
+                self.set(rt, keys, number, place, counting_from(*class, *value))
             }
-            Call::Free { key } => self.free(rt, text, keys, number, place_of(reads, key.index)?),
-            Call::Sweep { from, to, .. } => self.sweep(rt, text, keys, number, reads, *from..*to),
-            Call::Later { key } => self.later(text, keys, number, place_of(reads, key.index)?),
+            Call::Free { key } => self.free(rt, keys, number, place_of(reads, key.index)?),
+            Call::Sweep { from, to, .. } => self.sweep(rt, keys, number, reads, *from..*to),
+            Call::Later { key } => self.later(keys, number, place_of(reads, key.index)?),
             Call::Tend => self.tend(rt, number),
             Call::Trim => self.trim(rt, number),
             Call::End => {
@@ -227,23 +225,9 @@ impl<'a, G: Gate> Caller<'a, G> {
         Ok(())
     }
 
-    // What a put of its own gave in this section, by the place of its key among all keys that the lines bind.
-    fn fresh_at(&self, text: &Text<'_>, place: usize) -> Option<Option<Key>>
-        ensures { (given : GivenKeys) → AreFresh self.now.fresh.items given
-            → IfSome result (λ key. given place ≡ key) }
-    {
-        let index = text.layout.index(place)?.checked_sub(self.kept)?;
-        let one = self.fresh.get(index)?;
-        if one.place == place {
-            Some(one.key)
-        } else {
-            None
-        }
-    }
-
     // The key that a put gave, by the place of the key among all keys that the lines bind: a put of an earlier section, or of its
     // own. It halts where no such put was made.
-    fn key_at(&self, text: &Text<'_>, keys: &Keys, place: usize) -> Result<Option<Key>, Halt>
+    fn key_at(&self, keys: &Keys, place: usize) -> Result<Option<Key>, Halt>
         ensures { (given : GivenKeys)
             → AreKnown keys.now.kept.items self.now.fresh.items given
             → IfOk result (λ key. given place ≡ key) }
@@ -251,7 +235,7 @@ impl<'a, G: Gate> Caller<'a, G> {
         if let Some(key) = keys.get(place) {
             return Ok(key);
         }
-        match self.fresh_at(text, place) {
+        match find(self.fresh.as_slice(), place) {
             Some(key) => Ok(key),
             None => Err(Halt::Doubled),
         }
@@ -268,7 +252,7 @@ impl<'a, G: Gate> Caller<'a, G> {
         base: u128,
     ) -> Result<(), Halt>
         requires { last_word class base < 2 ^ 128 }
-        ensures told { (kept : List (Option (Option Key)))
+        ensures told { (kept : List Given)
             → OnOk result (Tells self.old.seat.section self.old.seat.worker number
             (Puts place (counted_from class base) ∷ [])
             (AreKnown kept self.old.fresh.items)
@@ -281,12 +265,12 @@ impl<'a, G: Gate> Caller<'a, G> {
         match self.seat.put(rt, self.arena, counting_from(class, base)) {
             Ok((key, receipt)) => {
                 let key = Some(key);
-                self.fresh.push(Given { place, key })?;
+                enter(&mut self.fresh, place, key)?;
                 self.keep(number, receipt)
             }
             Err(PutError::PagesSpent) => {
                 let key = None;
-                self.fresh.push(Given { place, key })?;
+                enter(&mut self.fresh, place, key)?;
                 self.other(number, Other::PagesSpent)
             }
             Err(PutError::OutOfMemory) => Err(Halt::OutOfMemory),
@@ -306,7 +290,7 @@ impl<'a, G: Gate> Caller<'a, G> {
         value: u128,
     ) -> Result<(), Halt>
         requires { last_word class (value + count - 1) < 2 ^ 128 }
-        ensures told { (kept : List (Option (Option Key)))
+        ensures told { (kept : List Given)
             → OnOk result (Tells self.old.seat.section self.old.seat.worker number
             (map (λ i. Puts (first + i) (counted_from class (value + i)))
             (range_with_len 0 count))
@@ -325,14 +309,7 @@ impl<'a, G: Gate> Caller<'a, G> {
     }
 
     // Looks the key of that place up, where it was given out.
-    fn get<R: Wait>(
-        &mut self,
-        rt: &R,
-        text: &Text<'_>,
-        keys: &Keys,
-        number: usize,
-        place: usize,
-    ) -> Result<(), Halt>
+    fn get<R: Wait>(&mut self, rt: &R, keys: &Keys, number: usize, place: usize) -> Result<(), Halt>
         ensures told { OnOk result (Tells self.old.seat.section self.old.seat.worker number
             (Gets place ∷ [])
             (AreKnown keys.now.kept.items self.old.fresh.items)
@@ -342,7 +319,7 @@ impl<'a, G: Gate> Caller<'a, G> {
         ensures table { self.new.seat.table ≡ self.old.seat.table }
         ensures section { self.new.seat.section ≡ self.old.seat.section }
     {
-        let Some(key) = self.key_at(text, keys, place)? else {
+        let Some(key) = self.key_at(keys, place)? else {
             return self.other(number, Other::Unbound);
         };
         let (_, receipt) = self.seat.get(rt, self.arena, &key);
@@ -353,7 +330,6 @@ impl<'a, G: Gate> Caller<'a, G> {
     fn set<R: Wait>(
         &mut self,
         rt: &R,
-        text: &Text<'_>,
         keys: &Keys,
         number: usize,
         place: usize,
@@ -368,7 +344,7 @@ impl<'a, G: Gate> Caller<'a, G> {
         ensures table { self.new.seat.table ≡ self.old.seat.table }
         ensures section { self.new.seat.section ≡ self.old.seat.section }
     {
-        let Some(key) = self.key_at(text, keys, place)? else {
+        let Some(key) = self.key_at(keys, place)? else {
             return self.other(number, Other::Unbound);
         };
         let (_, receipt) = self.seat.set(rt, self.arena, &key, value)?;
@@ -379,7 +355,6 @@ impl<'a, G: Gate> Caller<'a, G> {
     fn free<R: Wait>(
         &mut self,
         rt: &R,
-        text: &Text<'_>,
         keys: &Keys,
         number: usize,
         place: usize,
@@ -393,7 +368,7 @@ impl<'a, G: Gate> Caller<'a, G> {
         ensures table { self.new.seat.table ≡ self.old.seat.table }
         ensures section { self.new.seat.section ≡ self.old.seat.section }
     {
-        let Some(key) = self.key_at(text, keys, place)? else {
+        let Some(key) = self.key_at(keys, place)? else {
             return self.other(number, Other::Unbound);
         };
         let (_, receipt) = self.seat.free(rt, self.arena, &key);
@@ -404,7 +379,6 @@ impl<'a, G: Gate> Caller<'a, G> {
     fn sweep<R: Wait>(
         &mut self,
         rt: &R,
-        text: &Text<'_>,
         keys: &Keys,
         number: usize,
         first: usize,
@@ -422,19 +396,13 @@ impl<'a, G: Gate> Caller<'a, G> {
     {
         for index in indices.start..indices.end {
             let place = place_of(first, Some(index))?;
-            self.free(rt, text, keys, number, place)?;
+            self.free(rt, keys, number, place)?;
         }
         Ok(())
     }
 
     // Leaves the key of that place to be freed later, where it was given out.
-    fn later(
-        &mut self,
-        text: &Text<'_>,
-        keys: &Keys,
-        number: usize,
-        place: usize,
-    ) -> Result<(), Halt>
+    fn later(&mut self, keys: &Keys, number: usize, place: usize) -> Result<(), Halt>
         ensures told { OnOk result (Tells self.old.seat.section self.old.seat.worker number
             (Leaves place ∷ [])
             (AreKnown keys.now.kept.items self.old.fresh.items)
@@ -444,7 +412,7 @@ impl<'a, G: Gate> Caller<'a, G> {
         ensures table { self.new.seat.table ≡ self.old.seat.table }
         ensures section { self.new.seat.section ≡ self.old.seat.section }
     {
-        let Some(key) = self.key_at(text, keys, place)? else {
+        let Some(key) = self.key_at(keys, place)? else {
             return self.other(number, Other::Unbound);
         };
         if !self.seat.has_shard_of(&key) {
@@ -458,7 +426,7 @@ impl<'a, G: Gate> Caller<'a, G> {
 
     // Frees the keys that have come in on the rings to its shard.
     fn tend<R: Wait>(&mut self, rt: &R, number: usize) -> Result<(), Halt>
-        ensures told { (kept : List (Option (Option Key)))
+        ensures told { (kept : List Given)
             → OnOk result (Tells self.old.seat.section self.old.seat.worker number (Tends ∷ [])
             (AreKnown kept self.old.fresh.items)
             (AreKnown kept self.new.fresh.items)
@@ -474,7 +442,7 @@ impl<'a, G: Gate> Caller<'a, G> {
 
     // Gives back the pages of its shard on which nothing is live.
     fn trim<R: Wait>(&mut self, rt: &R, number: usize) -> Result<(), Halt>
-        ensures told { (kept : List (Option (Option Key)))
+        ensures told { (kept : List Given)
             → OnOk result (Tells self.old.seat.section self.old.seat.worker number (Trims ∷ [])
             (AreKnown kept self.old.fresh.items)
             (AreKnown kept self.new.fresh.items)
@@ -547,23 +515,22 @@ impl<'a, G: Gate> Caller<'a, G> {
         Ok(())
     }
 
-    /// Adds what its puts of this section gave to what those of the sections before gave. From now on its receipts carry the
+    /// Adds what its puts of this section gave to what those of other threads gave in it. From now on its receipts carry the
     /// next section.
-    pub(crate) fn go_on(&mut self, keys: &mut Keys) -> Result<(), Halt>
+    pub(crate) fn go_on(&mut self, latest: &mut Vec<Given>) -> Result<(), Halt>
         ensures diary { self.new.diary ≡ self.old.diary }
         ensures thread { self.new.seat.worker ≡ self.old.seat.worker }
         ensures table { self.new.seat.table ≡ self.old.seat.table }
         ensures section { OnOk result (self.new.seat.section ≡ self.old.seat.section + 1) }
-        ensures before { (given : GivenKeys) → AreKept keys.new.kept.items given
-            → OnOk result (AreKept keys.old.kept.items given) }
-        ensures kept { (given : GivenKeys) → AreKept keys.new.kept.items given
+        ensures before { (given : GivenKeys) → AreFresh latest.new.items given
+            → OnOk result (AreFresh latest.old.items given) }
+        ensures kept { (given : GivenKeys) → AreFresh latest.new.items given
             → OnOk result (AreFresh self.old.fresh.items given) }
     {
         if self.seat.section() == u64::MAX {
             return Err(Halt::Doubled);
         }
-        keys.keep_all(self.fresh.as_slice())?;
-        self.kept = self.kept.saturating_add(self.fresh.len());
+        latest.extend_from_slice(self.fresh.as_slice())?;
         self.fresh.clear();
         self.seat.next_section();
         Ok(())

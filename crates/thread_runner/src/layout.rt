@@ -35,8 +35,6 @@ pub(crate) struct Layout {
     places: Vec<Vec<usize>>,
     /// Of each line that is neither empty nor a remark, how many keys the lines above it bind; by place.
     firsts: Vec<LineFirst>,
-    /// Of each key, in the order in which the lines bind them, how many keys the lines of its thread bind before it.
-    indices: Vec<usize>,
 }
 
 // That many empty lists.
@@ -74,23 +72,6 @@ fn push_at(lists: &mut [Vec<usize>], thread: usize, place: usize) -> Result<(), 
     Ok(())
 }
 
-// Enters the next keys, which a line of the thread binds. `bound` are how many keys each thread's lines above it bind.
-fn enter_keys(
-    indices: &mut Vec<usize>,
-    bound: &mut [usize],
-    thread: u32,
-    count: usize,
-) -> Result<(), AllocError> {
-    for _ in 0..count {
-        let index = bound.get(thread as usize).copied().unwrap_or(0);
-        indices.push(index)?;
-        if let Some(count) = bound.get_mut(thread as usize) {
-            *count = index.saturating_add(1);
-        }
-    }
-    Ok(())
-}
-
 // Where the lines of each of that many threads stand.
 fn places_by_thread(
     alloc: Global,
@@ -104,21 +85,6 @@ fn places_by_thread(
         enter_place(places.as_mut_slice(), place, lines.line_at(place))?;
     }
     Ok(places)
-}
-
-// Of each key that the lines of that many threads bind, how many the lines of its thread bind before it.
-fn indices_of(alloc: Global, lines: &LineList, threads: usize) -> Result<Vec<usize>, AllocError> {
-    let mut indices = Vec::new(alloc);
-    let mut bound = Vec::with_capacity(alloc, threads)?;
-    for _ in 0..threads {
-        bound.push(0)?;
-    }
-    for place in 0..lines.len() {
-        if let Line::Call { thread, call } = lines.line_at(place) {
-            enter_keys(&mut indices, bound.as_mut_slice(), *thread, keys_by(call))?;
-        }
-    }
-    Ok(indices)
 }
 
 // Enters the number of a line's place, where the line is neither empty nor a remark.
@@ -181,7 +147,6 @@ impl Layout {
         Ok(Layout {
             places: places_by_thread(alloc, lines, shards)?,
             firsts: firsts_of(alloc, lines)?,
-            indices: indices_of(alloc, lines, shards)?,
         })
     }
 
@@ -217,11 +182,6 @@ impl Layout {
             .saturating_sub(done)
     }
 
-    /// How many keys the lines bind.
-    pub(crate) fn keys(&self) -> usize {
-        self.indices.len()
-    }
-
     /// The place, among all keys that the lines bind, of the first key that the line at that place binds.
     pub(crate) fn first(&self, place: usize) -> Option<usize>
         ensures { (lines : List Line) → AreFirsts lines self.now.firsts.items
@@ -233,12 +193,6 @@ impl Layout {
         }
         let index = self.firsts.partition_point(|one| one.place < place);
         first_at(self.firsts.as_slice(), index, place)
-    }
-
-    /// How many keys the lines of its thread bind before the key at that place. Nothing is proved of it: who asks looks
-    /// whether it was right.
-    pub(crate) fn index(&self, place: usize) -> Option<usize> {
-        self.indices.get(place).copied()
     }
 }
 

@@ -2,13 +2,13 @@
 ghost use Rattle.std.specs.Prelude.{◌≡◌, ◌+◌, ◌<◌, ◌≤◌, ◌^◌, ℕ, IfOk, List, None, OnOk, Option, Some, length, slice_get, take, true};
 ghost use Rattle.std.specs.List.{AllByRecursion};
 ghost use Rattle.std.proofs.Props.{props};
-ghost use Rattle.span.specs.declared.key.Key.{Key};
 ghost use Rattle.trace_text.specs.Causes.{is_adopt, marks};
 ghost use Rattle.trace_text.specs.declared.line.Line.{Line};
 ghost use Rattle.trace_runner.specs.Barrier.{is_barrier};
 ghost use Rattle.thread_runner.specs.Asked.{GivenKeys};
 ghost use Rattle.thread_runner.specs.Grown.{AreDiaries, Rests};
-ghost use Rattle.thread_runner.specs.Known.{AreKept};
+ghost use Rattle.thread_runner.specs.Known.{AreKept, AreKnown};
+ghost use Rattle.thread_runner.specs.declared.keys.Given.{Given};
 ghost use Rattle.thread_runner.specs.Marked.{AreNotesOf, barrier_from, is_mark, is_mark_at, marks_above};
 ghost use Rattle.thread_runner.specs.Noted.{HaveCome, plan_pairs};
 
@@ -16,7 +16,7 @@ use crate::body::Note;
 use crate::diary::Diary;
 use crate::error::Halt;
 use crate::keeper::Keeper;
-use crate::keys::Keys;
+use crate::keys::{Given, Keys};
 use crate::layout::Text;
 use crate::worker::{Briefing, Known, Reading, Resting, SentOff, Settled, Worker};
 use arena::{Arena, Gate, Seat, Steward};
@@ -90,7 +90,7 @@ fn threads_in<'a, G: Gate, J: Reading>(
     requires shown { text.now.replies ≡ J.shown }
     requires seats { AllByRecursion (λ seat. (seat.table ≡ J.table) × (seat.section ≡ 0))
         seats.items }
-    ensures { (kept : List (Option (Option Key))) → IfOk result (λ threads.
+    ensures { (kept : List Given) → IfOk result (λ threads.
         AllByRecursion (λ one. Rests J.lines J.shown J.table (AreKept kept) 0
         one.caller.seat one.done one.caller.diary) threads.items) }
 {
@@ -135,6 +135,23 @@ fn briefing<'k, J: Reading, K: Known>(keys: &'k Keys, from: usize, end: usize) -
     }
 }
 
+// All workers end the section, with what their puts gave in it.
+fn each_rested<'a, G: Gate, J: Reading, K: Known>(
+    alloc: Global,
+    workers: Vec<Settled<'a, G, J, K>>,
+) -> Result<(Vec<Resting<'a, G>>, Vec<Given>), Halt>
+    ensures { IfOk result (λ both. AllByRecursion (λ one. Rests J.lines J.shown J.table
+        (AreKnown K.kept both.1.items) (K.section + 1)
+        one.caller.seat one.done one.caller.diary) both.0.items) }
+{
+    let mut latest = Vec::new(alloc);
+    let mut threads = Vec::with_capacity(alloc, workers.len())?;
+    for worker in workers {
+        threads.push(worker.rested(&mut latest)?)?;
+    }
+    Ok((threads, latest))
+}
+
 // All workers end the section, and what their puts gave is kept.
 fn all_rested<'a, G: Gate, J: Reading, K: Known>(
     alloc: Global,
@@ -146,12 +163,8 @@ fn all_rested<'a, G: Gate, J: Reading, K: Known>(
         (AreKept both.1.kept.items) (K.section + 1)
         one.caller.seat one.done one.caller.diary) both.0.items) }
 {
-    let mut keys = keys;
-    let mut threads = Vec::with_capacity(alloc, workers.len())?;
-    for worker in workers {
-        threads.push(worker.rested(&mut keys)?)?;
-    }
-    Ok((threads, keys))
+    let (threads, latest) = each_rested(alloc, workers)?;
+    Ok((threads, keys.with(latest)?))
 }
 
 // A section's lines of one worker.
@@ -635,7 +648,7 @@ pub(crate) fn run_sections<'a, R: Threads + Wait + Sync, G: Gate + Sync, J: Read
         alloc,
         text,
         threads: threads_in::<G, J>(alloc, arena, text, seats)?,
-        keys: Keys::none(alloc, text.layout.keys())?,
+        keys: Keys::none(alloc),
         sections: 0,
         of: PhantomData,
     };

@@ -3,17 +3,17 @@ ghost use Rattle.std.specs.Prelude.{◌≡◌, ◌+◌, ◌<◌, ◌≤◌, ◌^
 ghost use Rattle.std.proofs.Props.{props};
 ghost use Rattle.arena.specs.Delays.{HasNoneWaiting};
 ghost use Rattle.arena.specs.Seats.{Table};
-ghost use Rattle.span.specs.declared.key.Key.{Key};
 ghost use Rattle.trace_text.specs.Causes.{is_adopt, marks};
 ghost use Rattle.trace_text.specs.declared.line.Line.{Line};
 ghost use Rattle.thread_runner.specs.Asked.{GivenKeys};
 ghost use Rattle.thread_runner.specs.Grown.{IsDiaryOf, Rests, Tracks};
-ghost use Rattle.thread_runner.specs.Known.{AreKept, AreKnown};
+ghost use Rattle.thread_runner.specs.Known.{AreFresh, AreKept, AreKnown};
+ghost use Rattle.thread_runner.specs.declared.keys.Given.{Given};
 
 use crate::caller::Caller;
 use crate::diary::Diary;
 use crate::error::Halt;
-use crate::keys::Keys;
+use crate::keys::{Given, Keys};
 use crate::layout::Text;
 use arena::{Arena, Gate, Seat};
 use std::alloc::{AllocError, Global};
@@ -45,7 +45,7 @@ impl Reading for Brand {
 /// What a section begins with, which proofs alone know: so that the type of each of its workers says what that worker knows.
 pub(crate) trait Known: Send + Sync {
     /// What is kept of the puts of the sections before.
-    ghost kept: { List (Option (Option Key)) };
+    ghost kept: { List Given };
 
     /// The section's number.
     ghost section: { ℕ };
@@ -89,7 +89,7 @@ impl<'a, G: Gate> Resting<'a, G> {
         text: &Text<'_>,
         seat: Seat,
     ) -> Option<Resting<'a, G>>
-        ensures { (kept : List (Option (Option Key))) → seat.section ≡ 0
+        ensures { (kept : List Given) → seat.section ≡ 0
             → IfSome result (λ resting. Rests text.now.trace.now.lines.items text.now.replies
             seat.table (AreKept kept) 0 resting.caller.seat resting.done resting.caller.diary) }
     {
@@ -307,13 +307,12 @@ impl<'a, G: Gate, J: Reading, K: Known> Settled<'a, G, J, K> {
         })
     }
 
-    /// Adds what its puts of the section gave to what those of the sections before gave, and ends the section.
-    pub(crate) fn rested(self, keys: &mut Keys) -> Result<Resting<'a, G>, Halt>
-        ensures before { (given : GivenKeys) → AreKept keys.new.kept.items given
-            → OnOk result (AreKept keys.old.kept.items given) }
-        ensures rests { ((given : GivenKeys) → AreKept keys.old.kept.items given
-            → AreKept K.kept given) → IfOk result (λ resting. Rests J.lines J.shown J.table
-            (AreKept keys.new.kept.items) (K.section + 1)
+    /// Adds what its puts of the section gave to what those of other threads gave in it, and ends the section.
+    pub(crate) fn rested(self, latest: &mut Vec<Given>) -> Result<Resting<'a, G>, Halt>
+        ensures before { (given : GivenKeys) → AreFresh latest.new.items given
+            → OnOk result (AreFresh latest.old.items given) }
+        ensures rests { IfOk result (λ resting. Rests J.lines J.shown J.table
+            (AreKnown K.kept latest.new.items) (K.section + 1)
             resting.caller.seat resting.done resting.caller.diary) }
     {
         let Settled {
@@ -321,7 +320,7 @@ impl<'a, G: Gate, J: Reading, K: Known> Settled<'a, G, J, K> {
             done,
             ..
         } = self;
-        caller.go_on(keys)?;
+        caller.go_on(latest)?;
         Ok(Resting { caller, done })
     }
 }

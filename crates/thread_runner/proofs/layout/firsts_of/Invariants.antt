@@ -1,4 +1,4 @@
-use Rattle.std.proofs.Common.{◌≡◌, length, take}
+use Rattle.std.proofs.Common.{◌≡◌, take}
 use Rattle.trace_text.specs.Causes.{keys_in}
 use Rattle.thread_runner.specs.Laid.{AreFirsts}
 use Rattle.thread_runner.proofs.layout.firsts_of.Given as goal

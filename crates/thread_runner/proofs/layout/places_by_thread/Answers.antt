@@ -1,4 +1,4 @@
-use Rattle.std.proofs.Common.{rules, ◌≡◌, ◌∙◌, ◌++◌, ◌∷◌, [], ◌+◌, ◌≤◌, ap, arith, drop, length, map, subst, sym, take, vec_items}
+use Rattle.std.proofs.Common.{rules, ◌≡◌, ◌++◌, arith, drop, length, map, take, vec_items}
 use Rattle.std.proofs.Math.Seq.{take-append_seam}
 use Rattle.std.proofs.lemmas.List.{length-take-le}
 use Rattle.audit.proofs.Replies.{take_more}

@@ -1,7 +1,7 @@
-use Rattle.std.proofs.Common.{◌≡◌, List, Option}
+use Rattle.std.proofs.Common.{◌≡◌, List}
 use Rattle.std.specs.List.{AllByRecursion}
 use Rattle.std.specs.Vec.Iter.{into_iter_items}
-use Rattle.span.specs.declared.key.Key.{Key}
+use Rattle.thread_runner.specs.declared.keys.Given.{Given}
 use Rattle.thread_runner.specs.Grown.{Rests}
 use Rattle.thread_runner.specs.Known.{AreKept}
 use Rattle.thread_runner.proofs.section.threads_in.Given as goal
@@ -10,5 +10,5 @@ use Rattle.thread_runner.proofs.section.threads_in.Given as goal
 abbrev pub invariant-loop-seat : goal.invariant-loop-seat
 invariant-loop-seat g l = record {
   left : AllByRecursion (λ seat. (seat.table ≡ g.J.Reading.table) × (seat.section ≡ 0)) (into_iter_items l.seat-iterator);
-  threads : (kept : List (Option (Option Key))) → AllByRecursion (λ one. Rests g.J.Reading.lines g.J.Reading.shown g.J.Reading.table (AreKept kept) 0 one.caller.seat one.done one.caller.diary) l.threads.items;
+  threads : (kept : List Given) → AllByRecursion (λ one. Rests g.J.Reading.lines g.J.Reading.shown g.J.Reading.table (AreKept kept) 0 one.caller.seat one.done one.caller.diary) l.threads.items;
 }

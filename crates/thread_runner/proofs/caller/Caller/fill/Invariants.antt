@@ -1,7 +1,7 @@
 use Rattle.trace_text.specs.Objects.{counted_from}
-use Rattle.std.proofs.Common.{◌≡◌, ◌+◌, List, Option, map}
+use Rattle.std.proofs.Common.{◌≡◌, ◌+◌, List, map}
 use Rattle.std.specs.List.{range_with_len}
-use Rattle.span.specs.declared.key.Key.{Key}
+use Rattle.thread_runner.specs.declared.keys.Given.{Given}
 use Rattle.thread_runner.specs.Asked.{Puts}
 use Rattle.thread_runner.specs.Grown.{Tells}
 use Rattle.thread_runner.specs.Known.{AreKnown}
@@ -10,7 +10,7 @@ use Rattle.thread_runner.proofs.caller.Caller.fill.Given as goal
 -- the puts so far
 abbrev pub invariant-loop-i : goal.invariant-loop-i
 invariant-loop-i g l = record {
-  told : (kept : List (Option (Option Key))) → Tells l.fn.self.seat.section l.fn.self.seat.worker l.number (map (λ k. Puts (l.first + k) (counted_from l.class (l.value + k))) (range_with_len 0 l.i))
+  told : (kept : List Given) → Tells l.fn.self.seat.section l.fn.self.seat.worker l.number (map (λ k. Puts (l.first + k) (counted_from l.class (l.value + k))) (range_with_len 0 l.i))
       (AreKnown kept l.fn.self.fresh.items) (AreKnown kept l.self.fresh.items) l.fn.self.diary l.self.diary;
   table : l.self.seat.table ≡ l.fn.self.seat.table;
   thread : l.self.seat.worker ≡ l.fn.self.seat.worker;

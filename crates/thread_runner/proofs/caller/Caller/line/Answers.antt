@@ -1,4 +1,4 @@
-use Rattle.std.proofs.Common.{◌≡◌, ◌∙◌, ◌+◌, OnOk, Some, arith, slice_get, subst, sym, take}
+use Rattle.std.proofs.Common.{◌≡◌, ◌∙◌, ◌+◌, OnOk, Some, slice_get, subst, sym, take}
 use Rattle.std.proofs.lemmas.Option.{same_Some}
 use Rattle.trace_text.proofs.Clips.{all_fine}
 use Rattle.thread_runner.specs.Asked.{asked_at}

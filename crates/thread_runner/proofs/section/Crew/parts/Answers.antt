@@ -1,4 +1,3 @@
-use Rattle.std.proofs.Common.{◌≡◌}
 use Rattle.thread_runner.proofs.section.Crew.parts.Goals as goal
 
 pub begun-requires-clause-rest : goal.begun-requires-clause-rest
