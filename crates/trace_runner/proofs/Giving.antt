@@ -90,6 +90,15 @@ get_or-row keys (stretch ∷ more) at below end last (suc index) place one row f
       ),
     )
 
+-- a closed stretch's keys are among those above the last one
+pub row_last : (closed : List Stretch) (place above end last index : ℕ) (one : Stretch) → AreInRow place above closed end last → slice_get closed index ≡ Some one → one.above + one.given ≤ last
+row_last [] place above end last index one row here = absurd cc
+row_last (stretch ∷ more) place above end last zero one row here =
+    let same : stretch ≡ one = cc in
+    let ends = row_ends more (place + (stretch.given + stretch.refused)) (above + stretch.given) end last row.1.1 in
+    omega (arith, ends.1, row.1.0, ap (λ (s : Stretch). s.above) same, ap (λ (s : Stretch). s.given) same)
+row_last (stretch ∷ more) place above end last (suc index) one row here = row_last more (place + (stretch.given + stretch.refused)) (above + stretch.given) end last index one row.1.1 here
+
 -- they begin one below another
 pub row_ascends : (closed : List Stretch) (place above end last low high : ℕ) (a b : Stretch) → AreInRow place above closed end last → low < high → slice_get closed low ≡ Some a → slice_get closed high ≡ Some b → a.place ≤ b.place
 row_ascends [] place above end last low high a b row less first second = absurd cc

@@ -1,5 +1,5 @@
 -- What puts gave, as it is kept. No public clause cites this module.
-use Rattle.std.specs.Prelude.{◌≡◌, ◌+◌, ◌++◌, ℕ, List, [], ◌∷◌, Option, Some, None, drop, map, replicate, take}
+use Rattle.std.specs.Prelude.{◌≡◌, ◌+◌, ◌++◌, ℕ, List, [], ◌∷◌, Option, Some, None, drop, map, replicate, slice_get, take}
 use Rattle.std.specs.List.{flat_map}
 use Rattle.span.specs.declared.key.Key.{Key}
 use Rattle.trace_runner.specs.declared.key_list.Stretch.{Stretch}
@@ -21,3 +21,8 @@ abbrev pub AreInRow : (place above : ℕ) → List Stretch → (end last : ℕ) 
 AreInRow place above [] end last = (place ≡ end) × (above ≡ last)
 AreInRow place above (stretch ∷ more) end last =
     (stretch.place ≡ place) × ((stretch.above ≡ above) × AreInRow (place + (stretch.given + stretch.refused)) (above + stretch.given) more end last)
+
+-- the key at that index, if there is one
+abbrev pub key_at : List Key → Option ℕ → Option Key
+key_at keys None = None
+key_at keys (Some index) = slice_get keys index

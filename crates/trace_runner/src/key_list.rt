@@ -1,8 +1,9 @@
 //! The keys that puts gave out, and which puts were refused.
 
-ghost use Rattle.std.specs.Prelude.{◌≡◌, ◌+◌, ◌<◌, ◌≤◌, ◌^◌, ◌++◌, ◌∷◌, [], ℕ, IfNone, IfOk, IfSome, None, OnErr, OnOk, get_or, length, nat_le, slice_get};
+ghost use Rattle.std.specs.Prelude.{◌≡◌, ◌+◌, ◌<◌, ◌≤◌, ◌^◌, ◌++◌, ◌∷◌, [], ℕ, List, IfNone, IfOk, IfSome, None, OnErr, OnOk, get_or, length, nat_le, slice_get};
 ghost use Rattle.std.specs.List.{flat_map};
-ghost use Rattle.trace_runner.specs.Given.{AllGiven, AreInRow, all_given, given_in};
+ghost use Rattle.trace_runner.specs.Given.{AllGiven, AreInRow, all_given, given_in, key_at};
+ghost use Rattle.span.specs.declared.key.Key.{Key};
 ghost use Rattle.trace_runner.specs.declared.key_list.Stretch.{Stretch};
 ghost use Rattle.trace_runner.specs.declared.key_list.TheConstants.{MOST_REFUSED};
 
@@ -84,38 +85,61 @@ fn count_to(closed: &[Stretch], place: usize) -> usize
     )
 }
 
-// The key that the put at that place of a stretch gave out, whose keys stand among these.
-fn key_in(keys: &[Key], stretch: &Stretch, place: usize) -> Option<Key>
-    requires { stretch.now.above + stretch.now.given ≤ length keys.now }
-    ensures { result ≡ get_or (given_in keys.now stretch.now) place None }
-{
-    if place < stretch.given {
-        return Some(keys[stretch.above + place]);
-    }
-    None
-}
-
-// The key that the put at that place gave out, where all stretches are closed ones.
-fn key_above(keys: &[Key], closed: &[Stretch], place: usize) -> Option<Key>
+// Where among all keys that one stands which the put at that place gave out, and none where it was refused. It stays out of the
+// calls of a line: most traces have no put that was refused.
+#[inline(never)]
+fn index_above(closed: &[Stretch], place: usize) -> Option<usize>
     requires { (end : ℕ) × (last : ℕ) × AreInRow 0 0 closed.now end last × (place < end)
-        × (last ≤ length keys.now) }
-    ensures { result ≡ get_or (flat_map (given_in keys.now) closed.now) place None }
+        × (last < 2 ^ 64) }
+    ensures { (keys : List Key) (end : ℕ) (last : ℕ) → AreInRow 0 0 closed.now end last
+        → place < end → last ≤ length keys
+        → get_or (flat_map (given_in keys) closed.now) place None ≡ key_at keys result }
 {
     let count = count_to(closed, place);
     if count == 0 {
         return None;
     }
     let stretch = closed[count - 1];
-    key_in(keys, &stretch, place - stretch.place)
+    let below = place - stretch.place;
+    if below >= stretch.given {
+        return None;
+    }
+    Some(stretch.above + below)
 }
 
-// The key at that place of the keys below so many of them.
-fn key_below(keys: &[Key], above: usize, place: usize) -> Option<Key>
-    requires { above ≤ length keys.now }
-    ensures { result ≡ slice_get keys.now (above + place) }
+// The same for the put so far below the one at the place `first`, where the last stretch begins at the place `last`, below so
+// many keys.
+#[inline(always)]
+fn index_of(
+    closed: &[Stretch],
+    last: usize,
+    above: usize,
+    first: usize,
+    below: u32,
+) -> Option<usize>
+    requires { AreInRow 0 0 closed.now last above }
+    ensures { (keys : List Key) (refused : ℕ) → above ≤ length keys
+        → last + refused ≤ above + MOST_REFUSED → length keys < 2 ^ 63
+        → get_or (all_given keys closed.now above refused).items (first + below) None
+        ≡ key_at keys result }
 {
-    if place < keys.len() - above {
-        return Some(keys[above + place]);
+    let Some(place) = place_below(first, below) else {
+        return None;
+    };
+    if place < last {
+        return index_above(closed, place);
+    }
+    Some(place - (last - above))
+}
+
+// The key at that index.
+#[inline(always)]
+fn key_at(keys: &[Key], index: Option<usize>) -> Option<Key>
+    ensures { result ≡ key_at keys.now index }
+{
+    let index = index?;
+    if index < keys.len() {
+        return Some(keys[index]);
     }
     None
 }
@@ -145,17 +169,12 @@ impl KeyList {
 
     /// The key that the put gave out which stands so far below the put at the place `first`, where there is such a put and it was
     /// not refused.
+    #[inline(always)]
     pub(crate) fn key(&self, first: usize, below: u32) -> Option<Key>
         ensures { result ≡ get_or self.now.items (first + below) None }
     {
-        let keys = self.keys.as_slice();
-        let Some(place) = place_below(first, below) else {
-            return None;
-        };
-        if place < self.place {
-            return key_above(keys, self.closed.as_slice(), place);
-        }
-        key_below(keys, self.above, place - self.place)
+        let index = index_of(self.closed.as_slice(), self.place, self.above, first, below);
+        key_at(self.keys.as_slice(), index)
     }
 
     /// Adds what a put gave: its key, or nothing where it was refused. More puts than a number counts find no memory.
