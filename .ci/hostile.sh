@@ -227,6 +227,21 @@ empty_lines() {
     rm feeds.trace
 }
 
+# Counts that fills which are refused, and sweeps of what they did not give, take memory by none of their keys: forty of each, of
+# 262,144 keys, ran out of it here.
+refused_fills() {
+    local fill under=(sh -c 'ulimit -v 100000; exec "$@"' sh)
+    {
+        printf 'mesh 1\nshards 1\npages 1\nring 1\ngens 1\n0 fill a 256 0\n'
+        for fill in {1..40}; do printf '0 fill b%d 262144 0\n0 sweep b%d 0 262144\n' "$fill" "$fill"; done
+    } >refused.trace
+    echo 'end pages 1 live 256 calls 20971776' >said
+    audited said >report
+    expect 0 said $nothing $nothing run --serial refused.trace
+    expect 0 report $nothing $nothing run refused.trace
+    rm refused.trace
+}
+
 # Streams each other of whose reads and writes is interrupted by a signal: it is made again.
 interrupted_streams() {
     local under
@@ -246,6 +261,7 @@ hostile_use() {
     forbidden_files
     names_alike
     empty_lines
+    refused_fills
     if [ "$built" != "$program" ]; then return; fi
     longest_texts
     if ! build_library texts || ! build_library refuse; then
