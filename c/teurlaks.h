@@ -2,9 +2,9 @@
  * the pool are folded onto those of running shards while every key stays valid. The library is proved (crates/teurlaks_c); README.md
  * beside this file has a page of use, and a table of what may be called from which thread.
  *
- * Each call may be given a handle that has no core, since none was made or it was dropped, or NULL in its place: it answers
- * TEURLAKS_NO_CORE, a teurlaks_drop does nothing, and a teurlaks_totals counts nothing. What is answered of a handle without a core is proved;
- * NULL is tested for in C (teurlaks_calls.h).
+ * Each call but teurlaks_new may be given a handle that has no core, since none was made or it was dropped, and every call NULL in its place:
+ * it answers TEURLAKS_NO_CORE, a teurlaks_drop does nothing, and a teurlaks_totals counts nothing. What is answered of a handle without a core
+ * is proved; NULL is tested for in C (teurlaks_calls.h).
  *
  * What a caller owes, since nothing can check it:
  * - A handle begins as zeros. Only the library reads or writes it and what it points to, and of two copies of a handle one is never used again.
