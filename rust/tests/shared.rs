@@ -298,6 +298,38 @@ fn pages_fold_beside_those_who_look_up_and_change() -> Result<(), Refused> {
 }
 
 #[test]
+fn few_pages_fold_where_their_shard_has_folded() -> Result<(), Refused> {
+    let store = SharedStore::new()?;
+    let stay = sparse(&store)?;
+    assert!(store.compact()? > 3000);
+    // Two of 16 stay on each page, of hardly more than 60 in each of four shards or more.
+    let (stay, go): (Vec<_>, Vec<_>) = stay
+        .into_iter()
+        .partition(|(_, number)| number.wrapping_mul(0x9e37_79b9_7f4a_7c15) >> 61 == 0);
+    assert!(go.iter().all(|(key, _)| store.free(*key)));
+    store.trim();
+    assert!(store.compact()? > 0);
+    assert!(stay
+        .iter()
+        .all(|(key, number)| store.get(*key) == Some(Value::new(*number))));
+    Ok(())
+}
+
+#[test]
+fn few_pages_are_trimmed_alone() -> Result<(), Refused> {
+    let store = SharedStore::with_limits(limits(1, 9))?;
+    let keys: Vec<Key> = (0..512_u32)
+        .map(|number| store.insert(number))
+        .collect::<Result<_, _>>()?;
+    assert!(keys[1..256].iter().all(|key| store.free(*key)) && keys[258..].iter().all(|key| store.free(*key)));
+    assert_eq!((store.compact(), store.pages()), (Ok(0), 2));
+    assert!(store.free(keys[0]));
+    assert_eq!((store.compact(), store.pages()), (Ok(1), 1));
+    assert_eq!((store.get(keys[256]), store.get(keys[257])), (Some(256), Some(257)));
+    Ok(())
+}
+
+#[test]
 fn compactions_wait_for_each_other() -> Result<(), Refused> {
     let store = SharedStore::with_limits(limits(4, 1024))?;
     let stay = sparse(&store)?;

@@ -3,6 +3,7 @@
 use super::shard::Shard;
 use crate::names::Key;
 use std::fmt;
+use std::iter::FusedIterator;
 
 /// How many values are looked at under one hold of a lock.
 pub(super) const PIECE: usize = 64;
@@ -61,6 +62,8 @@ impl<T: Copy> Iterator for Iter<'_, T> {
         self.piece.pop()
     }
 }
+
+impl<T: Copy> FusedIterator for Iter<'_, T> {}
 
 impl<T> fmt::Debug for Iter<'_, T> {
     fn fmt(&self, f: &mut fmt::Formatter<'_>) -> fmt::Result {
