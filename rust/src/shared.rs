@@ -201,7 +201,7 @@ impl<T: Copy> SharedStore<T> {
         self.with(key, Store::remove)
     }
 
-    /// Each key with its value, in the order of keys: by shard, serial number and slot.
+    /// Each key with its value, by shards, the serial numbers of spans, and slots.
     ///
     /// No lock is held while the caller works with what it was given, so it may call the store, and others go on. A key that is live all the while
     /// comes once, with a value that it had meanwhile; one that comes or goes meanwhile may come or not, and none comes twice.

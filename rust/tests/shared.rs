@@ -316,6 +316,47 @@ fn few_pages_fold_where_their_shard_has_folded() -> Result<(), Refused> {
 }
 
 #[test]
+fn what_is_compacted_takes_values_again() -> Result<(), Refused> {
+    const PAGES: usize = 1000;
+    let store = SharedStore::with_limits(limits(1, 1024))?;
+    let mut random = Random(7);
+    for number in 0..16 * PAGES as u64 {
+        store.insert(Value::<29>::new(number))?;
+    }
+    // On each page at least one stays: a group that was trimmed may take a value on a new page.
+    store.retain(|key, _| {
+        let (serial, slot) = place(key);
+        slot == serial % 16 || random.below(16) == 0
+    });
+    store.compact()?;
+    let (pages, free) = (store.pages(), 16 * store.pages() - store.len());
+    assert!(pages < PAGES / 2);
+    for number in 0..free as u64 {
+        store.insert(Value::new(number))?;
+    }
+    // No group was left in the pool, so no place on any page.
+    assert_eq!(store.pages(), pages);
+    store.insert(Value::new(0))?;
+    assert_eq!(store.pages(), pages + 1);
+    Ok(())
+}
+
+#[test]
+fn a_walk_goes_by_shards_serial_numbers_and_slots() -> Result<(), Refused> {
+    let store = SharedStore::new()?;
+    sparse(&store)?;
+    let shard = |key: Key| {
+        key.to_string()
+            .split('.')
+            .next()
+            .and_then(|shard| shard.parse::<u8>().ok())
+    };
+    let places: Vec<_> = store.iter().map(|(key, _)| (shard(key), place(key))).collect();
+    assert!(places.len() == 4000 && places.windows(2).all(|two| two[0] < two[1]));
+    Ok(())
+}
+
+#[test]
 fn few_pages_are_trimmed_alone() -> Result<(), Refused> {
     let store = SharedStore::with_limits(limits(1, 9))?;
     let keys: Vec<Key> = (0..512_u32)
