@@ -46,7 +46,14 @@ use std::fmt;
 /// Under its lock each core answers as a plain map of keys: that is the proved library. That a call finds the core of its key, and that the locks
 /// are taken as they should be, is tested (`tests/shared.rs`). There is no `unsafe` in it.
 ///
-/// # Order
+/// # Threads
+///
+/// It is `Send` and `Sync` where its values are `Send`:
+///
+/// ```compile_fail
+/// fn share<T: Sync>() {}
+/// share::<teurlaks::SharedStore<*const u8>>(); // a pointer is not `Send`
+/// ```
 ///
 /// Calls under one key are in one order, which all threads see. [`SharedStore::len`], [`SharedStore::pages`] and [`SharedStore::iter`] go from
 /// shard to shard, so beside other threads they are of no single moment.
