@@ -62,7 +62,8 @@ use std::fmt;
 ///
 /// [`SharedStore::update`] and [`SharedStore::retain`] call a closure under the lock of a shard, so that it decides about the value that is there.
 /// Where it panics, that value stays as it was, what was done before stays done, and the lock is let go of: no later call of any thread panics
-/// because of it. The closure must not call the store itself, which may wait for its own lock for ever. An [`Iter`] holds no lock while its user works.
+/// because of it. The closure must not call the store itself, which may wait for its own lock for ever. An [`Iter`] holds no lock while its user
+/// works.
 pub struct SharedStore<T> {
     shards: Box<[Shard<T>]>,
     homes: Homes,
@@ -86,8 +87,8 @@ impl<T: Copy> SharedStore<T> {
 
     /// A store of these limits. A shard takes some 8 KB with its first value, and nothing before.
     ///
-    /// As many threads as twice the processors have shards of their own, four each, or fewer where there are not so many; a thread beyond that begins at
-    /// those of an earlier one.
+    /// As many threads as twice the processors have shards of their own, four each, or fewer where there are not so many; a thread beyond that
+    /// begins at those of an earlier one.
     ///
     /// # Errors
     ///
