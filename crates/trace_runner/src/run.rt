@@ -238,7 +238,8 @@ impl<'t> Run<'t> {
         Ok(())
     }
 
-    /// Frees the key, where it was given out.
+    /// Frees the key, where it was given out. It is inlined, so that no key of a sweep goes through memory.
+    #[inline(always)]
     fn free(&mut self, number: usize, key: Option<Key>) -> Result<(), AllocError>
         ensures made { OnOk result (Makes number (on_key event.Free key ∷ []) self.old.core
             (kept_in self.old.replies) self.new.core (kept_in self.new.replies)) }
