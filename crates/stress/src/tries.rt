@@ -191,6 +191,32 @@ fn try_beside(
     busy
 }
 
+// A look-up that is held in the first shard, and what calls beside it answer.
+fn meet<R: Threads + Wait + Sync>(
+    rt: &R,
+    arena: &Arena<Holding<'_>, Counted>,
+    signals: &Signals,
+    first: &mut Seat,
+    second: &mut Seat,
+    third: &mut Seat,
+    steward: &mut Steward,
+    key: &Key,
+) -> (bool, [bool; 5])
+    requires first { first.old.limits ≡ arena.now.limits }
+    requires second { second.old.limits ≡ arena.now.limits }
+    requires third { third.old.limits ≡ arena.now.limits }
+    requires steward { steward.old.limits ≡ arena.now.limits }
+{
+    signals.armed.store(1, SeqCst);
+    let met = thread::join(
+        rt,
+        || get(rt, arena, second, key),
+        || try_beside(arena, signals, first, third, steward, key),
+    );
+    signals.armed.store(0, SeqCst);
+    met
+}
+
 // That, and what the first seat tends once nobody is inside.
 fn busy<R: Threads + Wait + Sync>(rt: &R, alloc: Global) -> Option<([bool; 5], Tended)> {
     let signals = Signals::new();
@@ -211,17 +237,20 @@ fn busy<R: Threads + Wait + Sync>(rt: &R, alloc: Global) -> Option<([bool; 5], T
     if !leave(&mut second, left) {
         return None;
     }
-    signals.armed.store(1, SeqCst);
-    let (found, answers) = thread::join(
+    let (found, answers) = meet(
         rt,
-        || get(rt, &arena, &mut second, &key),
-        || { try_beside(&arena, &signals, &mut first, &mut third, &mut steward, &key) },
+        &arena,
+        &signals,
+        &mut first,
+        &mut second,
+        &mut third,
+        &mut steward,
+        &key,
     );
-    signals.armed.store(0, SeqCst);
-    let tended = try_tend(&arena, &mut first)?;
-    if !found {
+    if !found || !first.fits(&arena) {
         return None;
     }
+    let tended = try_tend(&arena, &mut first)?;
     Some((answers, tended))
 }
 
