@@ -177,7 +177,8 @@ impl KeyList {
         key_at(self.keys.as_slice(), index)
     }
 
-    /// Adds what a put gave: its key, or nothing where it was refused. More puts than a number counts find no memory.
+    /// Adds what a put gave: its key, or nothing where it was refused. `AllocError` comes where memory runs out, or where more
+    /// than 2^63 puts would have been refused.
     pub(crate) fn push(&mut self, key: Option<Key>) -> Result<(), AllocError>
         ensures { OnOk result (self.new.items ≡ self.old.items ++ key ∷ []) }
     {
