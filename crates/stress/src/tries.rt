@@ -169,11 +169,10 @@ fn try_beside(
     third: &mut Seat,
     steward: &mut Steward,
     key: &Key,
-) -> [bool; 5]
-    requires first { first.old.limits ≡ arena.now.limits }
-    requires third { third.old.limits ≡ arena.now.limits }
-    requires steward { steward.old.limits ≡ arena.now.limits }
-{
+) -> [bool; 5] {
+    if !first.fits(arena) || !third.fits(arena) || !steward.fits(arena) {
+        return [false; 5];
+    }
     let came = is_set_in_time(&signals.came, TURNS);
     signals.begun.store(1, SeqCst);
     let busy = [
@@ -202,10 +201,7 @@ fn meet<R: Threads + Wait + Sync>(
     steward: &mut Steward,
     key: &Key,
 ) -> (bool, [bool; 5])
-    requires first { first.old.limits ≡ arena.now.limits }
-    requires second { second.old.limits ≡ arena.now.limits }
-    requires third { third.old.limits ≡ arena.now.limits }
-    requires steward { steward.old.limits ≡ arena.now.limits }
+    requires { second.old.limits ≡ arena.now.limits }
 {
     signals.armed.store(1, SeqCst);
     let met = thread::join(
