@@ -2,7 +2,7 @@
 
 mod meshing;
 
-pub(crate) use meshing::{letting_go, meshing};
+pub(crate) use meshing::{done, letting_go, marked, meshing, stepped, MOST_GROUPS};
 pub use meshing::{Marked, Stepped};
 
 use crate::bytes::{words_for, Bytes, BytesKey, Words, MOST_BYTES, MOST_WORDS};
@@ -206,10 +206,7 @@ impl Core {
     // What a put answers, which makes a key live where it is done.
     #[inline]
     fn was_put(&mut self, put: raw::PutReply) -> Result<Key, Refused> {
-        if put.status != raw::OK {
-            return Err(Refused::of(put.status));
-        }
-        let key = Key::of(put.key).ok_or_else(|| Refused::of(put.status))?;
+        let key = was_put(put)?;
         self.live += 1;
         Ok(key)
     }
@@ -464,9 +461,18 @@ fn words_of<R>(bytes: &[u8], keep: impl FnOnce(*const u128, usize) -> Result<R, 
     keep(first, len)
 }
 
+// What a put answers: its key, where it was done.
+#[inline]
+pub(crate) fn was_put(put: raw::PutReply) -> Result<Key, Refused> {
+    if put.status != raw::OK {
+        return Err(Refused::of(put.status));
+    }
+    Key::of(put.key).ok_or_else(|| Refused::of(put.status))
+}
+
 // What the status of a set says.
 #[inline]
-fn was_set(status: u32) -> Result<bool, Refused> {
+pub(crate) fn was_set(status: u32) -> Result<bool, Refused> {
     match status {
         raw::OK => Ok(true),
         raw::NONE => Ok(false),

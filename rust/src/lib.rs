@@ -1,6 +1,7 @@
 #![doc = include_str!("../README.md")]
 #![warn(missing_docs, missing_debug_implementations)]
 
+pub mod arena;
 mod blocks;
 mod bytes;
 mod compact;
@@ -15,6 +16,8 @@ mod values;
 pub mod walk;
 
 pub use crate::core::{Core, Limits, Marked, Stepped};
+#[doc(inline)]
+pub use arena::Arena;
 pub use bytes::{Bytes, BytesKey, Words};
 pub use names::{Group, Key, ParseKeyError};
 pub use refused::{InsertError, Refused};

@@ -25,6 +25,10 @@ pub enum Refused {
     Config,
     /// No plan is open.
     NoPlan,
+    /// The ring to another seat holds as many keys as it may: that seat is to tend first, or the key is freed here.
+    RingFull,
+    /// Each seat of the arena was handed out.
+    NoSeatLeft,
     /// A status that no contract allows here: the archive is not the one that this crate is written for.
     Unknown(u32),
 }
@@ -41,6 +45,7 @@ impl Refused {
             raw::NOTHING_TO_ADOPT => Refused::NothingToAdopt,
             raw::CONFIG => Refused::Config,
             raw::NO_PLAN => Refused::NoPlan,
+            raw::RING_FULL => Refused::RingFull,
             other => Refused::Unknown(other),
         }
     }
@@ -57,6 +62,8 @@ impl fmt::Display for Refused {
             Refused::NothingToAdopt => "no group of the pool has a page: there is nothing to adopt",
             Refused::Config => "a number is out of its range",
             Refused::NoPlan => "no plan is open: mark first",
+            Refused::RingFull => "the ring holds as many keys as it may: tend there, or free the key here",
+            Refused::NoSeatLeft => "each seat of the arena was handed out",
             Refused::Unknown(status) => {
                 return write!(f, "the archive answered {status}, which this crate does not know")
             }

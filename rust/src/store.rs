@@ -364,7 +364,7 @@ impl<T> Store<T> {
 
 /// Lends the words of the least object that holds the value, and how many they are.
 #[inline]
-fn as_words<T: Copy, R>(value: T, keep: impl FnOnce(*const u128, usize) -> R) -> R {
+pub(crate) fn as_words<T: Copy, R>(value: T, keep: impl FnOnce(*const u128, usize) -> R) -> R {
     let mut words = [MaybeUninit::<u128>::uninit(); MOST_WORDS];
     let first = words.as_mut_ptr().cast::<u128>();
     let len = words_for(size_of::<T>());

@@ -7,7 +7,7 @@ use crate::raw;
 use crate::refused::Refused;
 
 /// How many groups a plan may have on a side.
-const MOST_GROUPS: usize = 4096;
+pub(crate) const MOST_GROUPS: usize = 4096;
 
 /// What a mark saw and planned.
 #[derive(Clone, Copy, Debug, PartialEq, Eq, Hash)]
@@ -153,17 +153,7 @@ impl Core {
     /// - [`Refused::OutOfMemory`]: memory was refused; the pair is then still the next.
     pub fn step(&mut self) -> Result<Stepped, Refused> {
         // SAFETY: as in `insert`.
-        let raw::StepReply {
-            status,
-            abandoned,
-            owned,
-        } = unsafe { raw::teurlaks_step(self.handle.get()) };
-        match status {
-            raw::OK => Ok(Stepped::Folded(Group(abandoned), Group(owned))),
-            raw::EMPTIED => Ok(Stepped::Emptied(Group(abandoned), Group(owned))),
-            raw::NO_PAIR_LEFT => Ok(Stepped::NoPairLeft),
-            other => Err(Refused::of(other)),
-        }
+        stepped(unsafe { raw::teurlaks_step(self.handle.get()) })
     }
 
     /// Closes the open plan; pairs that are left are dropped. It takes no memory.
@@ -287,7 +277,7 @@ impl Core {
 }
 
 /// What the mark says, where it was not refused.
-fn marked(reply: raw::MarkReply) -> Result<Marked, Refused> {
+pub(crate) fn marked(reply: raw::MarkReply) -> Result<Marked, Refused> {
     let raw::MarkReply {
         status,
         abandoned,
@@ -303,7 +293,23 @@ fn marked(reply: raw::MarkReply) -> Result<Marked, Refused> {
     })
 }
 
-fn done(status: u32) -> Result<(), Refused> {
+/// What the step did, where it was not refused.
+pub(crate) fn stepped(reply: raw::StepReply) -> Result<Stepped, Refused> {
+    let raw::StepReply {
+        status,
+        abandoned,
+        owned,
+    } = reply;
+    match status {
+        raw::OK => Ok(Stepped::Folded(Group(abandoned), Group(owned))),
+        raw::EMPTIED => Ok(Stepped::Emptied(Group(abandoned), Group(owned))),
+        raw::NO_PAIR_LEFT => Ok(Stepped::NoPairLeft),
+        other => Err(Refused::of(other)),
+    }
+}
+
+/// What such a status says.
+pub(crate) fn done(status: u32) -> Result<(), Refused> {
     match status {
         raw::OK => Ok(()),
         other => Err(Refused::of(other)),

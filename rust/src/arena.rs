@@ -1,0 +1,243 @@
+//! Plain values that threads share, each from a seat of its own, under the locks of the proved library.
+
+mod seat;
+mod share;
+
+pub use seat::Seat;
+
+use crate::bytes::MOST_BYTES;
+use crate::core::{done, marked, stepped, Limits, Marked, Stepped, MOST_GROUPS};
+use crate::raw;
+use crate::refused::Refused;
+use share::{patiently, Share};
+use std::cell::Cell;
+use std::fmt;
+use std::marker::PhantomData;
+use std::mem::size_of;
+
+/// How many keys a ring holds where nobody says so.
+const RING: u32 = 256;
+
+/// Plain values of one type, 1 to 256 bytes each, that threads share, each from a [`Seat`] of its own; and whose sparse pages are folded while they go on.
+///
+/// An arena has a shard for each seat, and hands the seats out one by one. A thread keeps its values in the shard of its seat, and reads, sets and frees those of
+/// all shards. Whoever has the arena itself is its steward: it plans folds of the groups that seats have left to the pool ([`Seat::retire`], [`Seat::end`]) onto those of the shards,
+/// and carries them out beside the others. Every key stays valid.
+///
+/// Arena and seats may be dropped in any order, each may go to a thread of its own, also one of [`std::thread::spawn`], and the memory goes with the last of them.
+/// For words, the values are `u128`, or `[u128; 4]` or `[u128; 16]`.
+///
+/// ```
+/// use std::thread;
+/// use teurlaks::arena::{Arena, Totals};
+/// use teurlaks::{Limits, Refused};
+///
+/// let mut arena = Arena::open(Limits { shards: 2, ..Limits::default() })?;
+/// let (mut here, mut there) = (arena.seat()?, arena.seat()?);
+/// let worker = thread::spawn(move || {
+///     let keys: Vec<_> = (0..1000_u64).map(|n| there.insert(n)).collect::<Result<_, _>>()?;
+///     there.end()?; // its pages go to the pool, and the seat goes with the thread
+///     Ok::<_, Refused>(keys)
+/// });
+/// let seven = here.insert(7)?;
+/// let keys = worker.join().unwrap()?;
+/// for key in &keys[..999] {
+///     assert!(here.free(*key)); // from whichever seat
+/// }
+/// assert_eq!(arena.mesh()?, 1); // the page with the last value is folded onto the one that is here
+/// assert_eq!(arena.totals(), Totals { pages: 1, live: 2 });
+/// assert_eq!((here.get(keys[999]), here.get(seven)), (Some(999), Some(7)));
+/// assert_eq!(here.get(keys[0]), None); // now and for ever
+/// # Ok::<(), teurlaks::Refused>(())
+/// ```
+///
+/// # What is proved, and what is tested
+///
+/// Of each call it is proved that it returns, that it does nothing undefined, and that it is the call of the arena that it is named for, which works under its locks on proved shards and a
+/// proved pool and answers as its receipt says; that where another thread has a lock that it needs nothing has changed; and that a handle may go to another thread.
+/// That a call beside other threads does what its receipt says is tested: by runs whose receipts are audited against one history (`docs/PROMISES.md`, *Running threads*).
+/// Of this crate it is tested (`tests/arena.rs`) that a call is made again where a lock was taken, and that each thread finds what it expects; that one call at a time is made on a handle its types
+/// see to, which are `Send` and not `Sync`.
+///
+/// A [`SharedStore`](crate::SharedStore) is called by any thread through `&self`, and has locks of the standard library. An arena has proved ones, frees that wait for nobody, and
+/// folds between shards; in return each thread needs a seat.
+pub struct Arena<T> {
+    share: Share,
+    limits: Limits,
+    // As of a seat.
+    values: PhantomData<Cell<T>>,
+}
+
+/// What an arena keeps, at one time.
+#[derive(Clone, Copy, Debug, PartialEq, Eq, Hash)]
+pub struct Totals {
+    /// How many pages of 4,096 bytes there are.
+    pub pages: usize,
+    /// How many keys are live.
+    pub live: usize,
+}
+
+impl<T: Copy> Arena<T> {
+    const FITS: () = assert!(
+        1 <= size_of::<T>() && size_of::<T>() <= MOST_BYTES,
+        "a value of an arena has 1 to 256 bytes"
+    );
+
+    /// An arena of these limits with no value, which has a seat for each shard. Between each two seats there is a ring of 256 keys for [`Seat::free_later`], of 8
+    /// bytes each: 32 KB for four seats, and 8 MB for 64.
+    ///
+    /// # Errors
+    ///
+    /// [`Refused::Config`] exactly where a number is out of its range, and [`Refused::OutOfMemory`] where memory was refused.
+    pub fn open(limits: Limits) -> Result<Arena<T>, Refused> {
+        Arena::with_rings(limits, RING)
+    }
+
+    /// As [`Arena::open`], with rings of so many keys, 1 to 1,024.
+    ///
+    /// # Errors
+    ///
+    /// As of [`Arena::open`].
+    pub fn with_rings(limits: Limits, keys: u32) -> Result<Arena<T>, Refused> {
+        let () = Self::FITS;
+        let Limits {
+            shards,
+            pages,
+            generations,
+        } = limits;
+        // SAFETY: the handle has nothing yet.
+        let share = Share::new(|out| unsafe { raw::teurlaks_arena_open(out, shards, pages, keys, generations) });
+        Ok(Arena {
+            share: share.map_err(Refused::of)?,
+            limits,
+            values: PhantomData,
+        })
+    }
+}
+
+impl<T> Arena<T> {
+    /// The numbers with which it was made.
+    #[must_use]
+    pub fn limits(&self) -> Limits {
+        self.limits
+    }
+
+    /// A seat that nobody has had. There is one for each shard.
+    ///
+    /// # Errors
+    ///
+    /// - [`Refused::NoSeatLeft`]: each was handed out;
+    /// - [`Refused::OutOfMemory`]: memory was refused.
+    pub fn seat(&mut self) -> Result<Seat<T>, Refused> {
+        // SAFETY: the handle has a steward, no other call runs on it, and the other one has nothing yet.
+        let share = Share::new(|out| unsafe { raw::teurlaks_steward_seat(self.share.handle(), out) });
+        share.map(Seat::new).map_err(|status| match status {
+            raw::NONE => Refused::NoSeatLeft,
+            other => Refused::of(other),
+        })
+    }
+
+    /// Plans folds of the pool's groups onto those of the shards, as many as can be of the 4,096 of each side with the fewest live keys, and opens the plan. Until it is
+    /// closed, the groups that it folds onto take no value, and no group is adopted. It holds all locks for as long as it plans.
+    ///
+    /// # Errors
+    ///
+    /// - [`Refused::PlanOpen`]: a plan is open;
+    /// - [`Refused::OutOfMemory`]: none is, and memory was refused.
+    pub fn mark_some(&mut self) -> Result<Marked, Refused> {
+        // SAFETY: the handle has a steward, and no other call runs on it.
+        marked(patiently(|| unsafe {
+            raw::teurlaks_steward_mark_some(self.share.handle())
+        }))
+    }
+
+    /// Carries out the next pair of the open plan, under the locks of the pool and of one shard.
+    ///
+    /// # Errors
+    ///
+    /// - [`Refused::NoPlan`]: no plan is open;
+    /// - [`Refused::OutOfMemory`]: memory was refused; the pair is then still the next.
+    pub fn step(&mut self) -> Result<Stepped, Refused> {
+        // SAFETY: as in `mark_some`.
+        stepped(patiently(|| unsafe { raw::teurlaks_steward_step(self.share.handle()) }))
+    }
+
+    /// Closes the open plan; pairs that are left are dropped. It takes no memory. An arena that is dropped closes its plan.
+    ///
+    /// # Errors
+    ///
+    /// [`Refused::NoPlan`] alone, where no plan is open.
+    pub fn close(&mut self) -> Result<(), Refused> {
+        done(self.close_if_open())
+    }
+
+    fn close_if_open(&mut self) -> u32 {
+        // SAFETY: as in `mark_some`.
+        patiently(|| unsafe { raw::teurlaks_steward_close(self.share.handle()) })
+    }
+
+    /// Marks, takes all steps and closes, and says how many folds there were, each of which gave a page back. The mark is that of [`Arena::mark_some`]; where it may not
+    /// have seen all groups, and folds at least a sixteenth of those that it saw of the pool, there is another.
+    ///
+    /// # Errors
+    ///
+    /// - [`Refused::PlanOpen`]: a plan is open;
+    /// - [`Refused::OutOfMemory`]: memory was refused to a mark or to a step; what was folded before stays so, and no plan is open.
+    pub fn mesh(&mut self) -> Result<usize, Refused> {
+        let mut gone = 0;
+        loop {
+            let Marked {
+                abandoned,
+                owned,
+                folds,
+                ..
+            } = self.mark_some()?;
+            let folded = self.take_steps();
+            self.close()?;
+            gone += folded?;
+            let sees_all = abandoned.max(owned) < MOST_GROUPS;
+            if sees_all || folds * 16 < abandoned {
+                return Ok(gone);
+            }
+        }
+    }
+
+    /// Carries out all pairs of the open plan, and says how many folds there were.
+    fn take_steps(&mut self) -> Result<usize, Refused> {
+        let mut folded = 0;
+        loop {
+            match self.step()? {
+                Stepped::Folded(..) => folded += 1,
+                Stepped::Emptied(..) => {}
+                Stepped::NoPairLeft => return Ok(folded),
+            }
+        }
+    }
+
+    /// How many pages there are and how many keys are live, at one time: it holds all locks meanwhile.
+    #[must_use]
+    pub fn totals(&mut self) -> Totals {
+        // SAFETY: as in `mark_some`.
+        let totals = patiently(|| unsafe { raw::teurlaks_steward_totals(self.share.handle()) });
+        debug_assert_eq!(totals.status, raw::OK, "totals are not refused");
+        Totals {
+            pages: totals.pages,
+            live: totals.live,
+        }
+    }
+}
+
+impl<T> Drop for Arena<T> {
+    fn drop(&mut self) {
+        // Else the groups of its plan would take no value, and their shards could not end.
+        self.close_if_open();
+    }
+}
+
+impl<T> fmt::Debug for Arena<T> {
+    fn fmt(&self, f: &mut fmt::Formatter<'_>) -> fmt::Result {
+        f.debug_struct("Arena")
+            .field("limits", &self.limits)
+            .finish_non_exhaustive()
+    }
+}

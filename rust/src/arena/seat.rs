@@ -1,0 +1,221 @@
+//! What a thread does at its seat.
+
+use super::share::{patiently, Share};
+use crate::bytes::MOST_WORDS;
+use crate::core::{done, was_put, was_set};
+use crate::names::{Group, Key};
+use crate::raw;
+use crate::refused::Refused;
+use crate::store::as_words;
+use std::cell::Cell;
+use std::fmt;
+use std::marker::PhantomData;
+use std::mem::MaybeUninit;
+use std::ptr::NonNull;
+
+/// A thread's place at an [`Arena`](super::Arena): it keeps values in the shard of the seat, and reads, sets and frees those of all shards.
+///
+/// It may go to another thread (`Send`), and is of one thread at a time (not `Sync`). A call that needs a lock which another thread has waits for it:
+/// it pauses, lets others run, and then sleeps for 20 microseconds at a time. Most calls hold a lock for well below a microsecond, a mark holds all for as long as it plans.
+///
+/// A seat that is dropped is not handed out again. Its shard's values stay, under keys that each other seat finds, and the shard takes no further one. So that its pages
+/// can be folded, [`Seat::end`] leaves them to the pool before. What other threads have left to it ([`Seat::free_later`]) nobody frees any more once it is gone.
+pub struct Seat<T> {
+    share: Share,
+    // A value of any other type is none of this arena, whatever its lifetime: it is read at all seats.
+    values: PhantomData<Cell<T>>,
+}
+
+impl<T> Seat<T> {
+    /// The seat that a handle has.
+    pub(super) fn new(share: Share) -> Seat<T> {
+        Seat {
+            share,
+            values: PhantomData,
+        }
+    }
+}
+
+impl<T: Copy> Seat<T> {
+    /// Keeps a value in the shard of the seat, and gives its key, which was never given out before.
+    ///
+    /// # Errors
+    ///
+    /// - [`Refused::PagesSpent`]: no page of the shard has a usable slot, and it may have no further one, or has opened 1,024 in its life;
+    /// - [`Refused::Ended`]: the shard has ended;
+    /// - [`Refused::OutOfMemory`]: none of these holds, and memory was refused.
+    #[doc(alias = "put")]
+    #[inline]
+    pub fn insert(&mut self, value: T) -> Result<Key, Refused> {
+        was_put(as_words(value, |first, len| {
+            // SAFETY: the handle has a seat, no other call runs on it, and so many words stand there.
+            patiently(|| unsafe { raw::teurlaks_seat_put_words(self.share.handle(), first.cast(), len) })
+        }))
+    }
+
+    /// The value of the key, where it is live, of whichever shard.
+    #[inline]
+    #[must_use]
+    pub fn get(&self, key: Key) -> Option<T> {
+        let mut words = [MaybeUninit::<u128>::uninit(); MOST_WORDS];
+        let first = words.as_mut_ptr().cast();
+        // SAFETY: as in `insert`, and there is room for 16 words.
+        let got =
+            patiently(|| unsafe { raw::teurlaks_seat_get_words(self.share.handle(), key.raw(), first, MOST_WORDS) });
+        // SAFETY: the library is proved to find what was put or set, and at all seats only values of this type were.
+        (got.status == raw::OK).then(|| unsafe { words.as_ptr().cast::<T>().read_unaligned() })
+    }
+
+    /// Sets the key to the value in place, and says whether it did: where it is live. It takes no memory.
+    ///
+    /// # Errors
+    ///
+    /// As of [`Core::set`](crate::Core::set).
+    #[inline]
+    pub fn set(&mut self, key: Key, value: T) -> Result<bool, Refused> {
+        was_set(as_words(value, |first, len| {
+            // SAFETY: as in `insert`.
+            patiently(|| unsafe { raw::teurlaks_seat_set_words(self.share.handle(), key.raw(), first.cast(), len) })
+        }))
+    }
+
+    /// Frees the key, and gives its value, where it was live: that of a moment before, which another thread may have set since. Of threads that take
+    /// out one key, one gets a value.
+    #[inline]
+    pub fn remove(&mut self, key: Key) -> Option<T> {
+        let value = self.get(key)?;
+        self.free(key).then_some(value)
+    }
+}
+
+impl<T> Seat<T> {
+    /// Whether the key is live, of whichever shard.
+    #[inline]
+    #[must_use]
+    pub fn contains(&self, key: Key) -> bool {
+        let none = NonNull::dangling().as_ptr();
+        // SAFETY: as in `insert`, and there is no room, into which nothing is written.
+        let got = patiently(|| unsafe { raw::teurlaks_seat_get_words(self.share.handle(), key.raw(), none, 0) });
+        got.status != raw::NONE
+    }
+
+    /// Frees the key, and says whether it was live. The key finds nothing from then on, at any seat. It takes no memory.
+    #[inline]
+    pub fn free(&mut self, key: Key) -> bool {
+        // SAFETY: as in `insert`.
+        patiently(|| unsafe { raw::teurlaks_seat_free(self.share.handle(), key.raw()) }) == raw::OK
+    }
+
+    /// Leaves the key to the seat of the shard that gave it out, which frees it when it next tends ([`Seat::tend`]); until then it is live. It takes no lock and
+    /// no memory, and waits for nobody.
+    ///
+    /// Keys go in blocks: one is seen there at the latest with the 64th further call of this seat, with a [`Seat::hand_over`], or when this seat tends, ends or is dropped.
+    ///
+    /// # Errors
+    ///
+    /// - [`Refused::RingFull`]: the ring to that seat took none, and the key is still the caller's, who may free it or try again once that seat has
+    ///   tended. What was left before is handed over.
+    /// - [`Refused::Config`]: the arena has no shard of this number.
+    #[inline]
+    pub fn free_later(&mut self, key: Key) -> Result<(), Refused> {
+        // SAFETY: as in `insert`.
+        match unsafe { raw::teurlaks_seat_free_later(self.share.handle(), key.raw()) } {
+            raw::OK => Ok(()),
+            raw::NONE => Err(Refused::Config),
+            other => Err(Refused::of(other)),
+        }
+    }
+
+    /// Hands over the keys that were left to others and wait for their block to be full. It takes no lock and no memory.
+    pub fn hand_over(&mut self) {
+        // SAFETY: as in `insert`.
+        let status = unsafe { raw::teurlaks_seat_hand_over(self.share.handle()) };
+        debug_assert_eq!(status, raw::OK, "the handle has a seat");
+    }
+
+    /// Hands over as [`Seat::hand_over`] does, takes the keys that others have left to the seat's shard, as many as are seen, frees each, and says how many there
+    /// were, with those that were not live any more.
+    ///
+    /// # Errors
+    ///
+    /// [`Refused::OutOfMemory`] where memory was refused. What was freed before stays so, and the other keys are still there.
+    pub fn tend(&mut self) -> Result<usize, Refused> {
+        let mut taken = 0;
+        let tended = patiently(|| {
+            // SAFETY: as in `insert`.
+            let tended = unsafe { raw::teurlaks_seat_tend(self.share.handle()) };
+            taken += tended.count;
+            tended
+        });
+        done(tended.status).map(|()| taken)
+    }
+
+    /// Ends the seat's shard: its groups go to the pool, with their pages, from where they are folded or adopted, and it takes no value again. All keys stay
+    /// what they are, and the seat goes on to read, set and free.
+    ///
+    /// # Errors
+    ///
+    /// - [`Refused::Ended`]: it has ended before;
+    /// - [`Refused::PlanOpen`]: one of its groups is in the open plan;
+    /// - [`Refused::OutOfMemory`]: none of these holds, and memory was refused.
+    pub fn end(&mut self) -> Result<(), Refused> {
+        // SAFETY: as in `insert`.
+        done(patiently(|| unsafe { raw::teurlaks_seat_end(self.share.handle()) }))
+    }
+
+    /// Moves up to `most` groups of the seat's shard to the pool, with their pages, and says how many went: those with the fewest live keys, of those that
+    /// have one. The shard goes on.
+    ///
+    /// # Errors
+    ///
+    /// - [`Refused::Ended`]: the shard has ended;
+    /// - [`Refused::PlanOpen`]: one of its groups is in the open plan;
+    /// - [`Refused::OutOfMemory`]: none of these holds, and memory was refused.
+    pub fn retire(&mut self, most: usize) -> Result<usize, Refused> {
+        // SAFETY: as in `insert`.
+        let retired = patiently(|| unsafe { raw::teurlaks_seat_retire(self.share.handle(), most) });
+        done(retired.status).map(|()| retired.count)
+    }
+
+    /// Gives back the pages of the seat's shard on which nothing is live, and says how many went. A group of the open plan keeps its page. It takes no
+    /// memory.
+    pub fn trim(&mut self) -> usize {
+        // SAFETY: as in `insert`.
+        let trimmed = patiently(|| unsafe { raw::teurlaks_seat_trim(self.share.handle()) });
+        debug_assert_eq!(trimmed.status, raw::OK, "a trim is not refused");
+        trimmed.count
+    }
+
+    /// Moves the pool's group of lowest head that has a page to the seat's shard, and gives its name.
+    ///
+    /// # Errors
+    ///
+    /// - [`Refused::PagesSpent`]: the shard has as many groups as it may have pages;
+    /// - [`Refused::Ended`]: it has ended;
+    /// - [`Refused::PlanOpen`]: a plan is open;
+    /// - [`Refused::NothingToAdopt`]: no group of the pool has a page;
+    /// - [`Refused::OutOfMemory`]: none of these holds, and memory was refused.
+    pub fn adopt(&mut self) -> Result<Group, Refused> {
+        // SAFETY: as in `insert`.
+        let adopted = patiently(|| unsafe { raw::teurlaks_seat_adopt(self.share.handle()) });
+        done(adopted.status).map(|()| Group(adopted.head))
+    }
+}
+
+impl<T> fmt::Debug for Seat<T> {
+    fn fmt(&self, f: &mut fmt::Formatter<'_>) -> fmt::Result {
+        f.debug_struct("Seat").finish_non_exhaustive()
+    }
+}
+
+/// A seat of values with a longer life is none of values with a shorter one: else what is kept at one seat would be read at another after its end.
+///
+/// ```compile_fail
+/// use teurlaks::arena::Seat;
+///
+/// fn shorten<'s>(seat: Seat<&'static str>) -> Seat<&'s str> {
+///     seat
+/// }
+/// ```
+#[cfg(doctest)]
+struct OneType;

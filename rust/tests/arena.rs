@@ -1,0 +1,512 @@
+//! Seats of an arena by threads: each thread's values are what it expects of them, beside other threads and a steward who folds.
+
+mod common;
+
+use common::Random;
+use std::collections::BTreeMap;
+use std::sync::atomic::{AtomicBool, Ordering};
+use std::sync::{Barrier, Mutex};
+use std::thread;
+use std::time::Duration;
+use teurlaks::arena::{Arena, Seat, Totals};
+use teurlaks::{Key, Limits, Refused, Stepped};
+
+/// A value whose every word says which it is.
+#[derive(Clone, Copy, Debug, PartialEq)]
+struct Value<const WORDS: usize> {
+    number: u64,
+    words: [u64; WORDS],
+}
+
+impl<const WORDS: usize> Value<WORDS> {
+    fn new(number: u64) -> Value<WORDS> {
+        let words = [number ^ 0x55; WORDS];
+        Value { number, words }
+    }
+
+    fn is_whole(&self) -> bool {
+        *self == Value::new(self.number)
+    }
+}
+
+/// A key with the number of its value, from one thread to another.
+type Handed = Mutex<Vec<(Key, u64)>>;
+
+/// One thread at its seat, with what it expects.
+struct Worker<'i, const WORDS: usize> {
+    seat: Seat<Value<WORDS>>,
+    inboxes: &'i [Handed],
+    here: usize,
+    random: Random,
+    live: Vec<(Key, u64)>,
+    stale: Vec<Key>,
+    // Left to other seats, and so no more live once all have tended.
+    left: Vec<Key>,
+    // Whether it becomes more, and how many it becomes at most.
+    grows: bool,
+    aim: usize,
+    // The number of its next value.
+    number: u64,
+    // How many groups it may yet retire: each fold uses up one of the pages that a shard opens in its life.
+    retires: usize,
+}
+
+impl<'i, const WORDS: usize> Worker<'i, WORDS> {
+    fn new(seat: Seat<Value<WORDS>>, inboxes: &'i [Handed], here: usize) -> Worker<'i, WORDS> {
+        let number = here as u64 * 1_000_000_000;
+        Worker {
+            seat,
+            inboxes,
+            here,
+            random: Random(number + 88_172_645_463_325_252),
+            live: Vec::new(),
+            stale: Vec::new(),
+            left: Vec::new(),
+            grows: true,
+            aim: 3000,
+            number,
+            retires: 400,
+        }
+    }
+
+    /// Some calls, a quarter of them inserts or frees.
+    fn work(&mut self, most: usize) -> Result<(), Refused> {
+        for turn in 0..most / 4 {
+            self.insert_or_free()?;
+            self.look_up();
+            self.change()?;
+            self.hand_key_over();
+            if turn % 256 == 0 {
+                self.seat.tend()?;
+            }
+        }
+        Ok(())
+    }
+
+    /// Grows to as many values as it aims at, and shrinks to a twentieth of that.
+    fn insert_or_free(&mut self) -> Result<(), Refused> {
+        if self.grows || self.live.is_empty() {
+            let key = self.seat.insert(Value::new(self.number))?;
+            self.live.push((key, self.number));
+            self.number += 1;
+            self.grows = self.live.len() < self.aim;
+            return Ok(());
+        }
+        let (key, number) = self.live.swap_remove(self.random.below(self.live.len()));
+        self.free(key, number)?;
+        self.grows = self.live.len() * 20 < self.aim;
+        if self.grows {
+            self.aim = 500 + self.random.below(2500);
+            self.stale.drain(..self.stale.len() / 2);
+            self.give_back()?;
+        }
+        Ok(())
+    }
+
+    /// Now, or later, where the ring takes it.
+    fn free(&mut self, key: Key, number: u64) -> Result<(), Refused> {
+        match number % 3 {
+            0 => assert_eq!(self.seat.remove(key), Some(Value::new(number))),
+            1 => assert!(self.seat.free(key)),
+            _ => match self.seat.free_later(key) {
+                Ok(()) => {
+                    self.left.push(key);
+                    return Ok(());
+                }
+                Err(Refused::RingFull) => assert!(self.seat.free(key)),
+                Err(refused) => return Err(refused),
+            },
+        }
+        self.stale.push(key);
+        Ok(())
+    }
+
+    /// Leaves the sparse half of its pages to the pool, or takes all that is there.
+    fn give_back(&mut self) -> Result<(), Refused> {
+        self.seat.trim();
+        let most = self.retires.min(60);
+        match self.seat.retire(most) {
+            Ok(went) => self.retires -= went,
+            Err(Refused::PlanOpen) => {}
+            Err(refused) => return Err(refused),
+        }
+        if self.number % 2 == 0 {
+            return Ok(());
+        }
+        loop {
+            match self.seat.adopt() {
+                Ok(_) => {}
+                Err(Refused::NothingToAdopt | Refused::PlanOpen | Refused::PagesSpent) => return Ok(()),
+                Err(refused) => return Err(refused),
+            }
+        }
+    }
+
+    fn look_up(&mut self) {
+        if !self.live.is_empty() {
+            let (key, number) = self.live[self.random.below(self.live.len())];
+            assert_eq!(self.seat.get(key), Some(Value::new(number)));
+            assert!(self.seat.contains(key));
+        }
+        if !self.stale.is_empty() {
+            let key = self.stale[self.random.below(self.stale.len())];
+            assert_eq!(self.seat.get(key), None);
+            assert!(!self.seat.contains(key));
+        }
+    }
+
+    fn change(&mut self) -> Result<(), Refused> {
+        if !self.live.is_empty() {
+            let at = self.random.below(self.live.len());
+            assert!(self.seat.set(self.live[at].0, Value::new(self.number))?);
+            self.live[at].1 = self.number;
+            self.number += 1;
+        }
+        if let Some(key) = self.stale.last() {
+            assert!(!self.seat.set(*key, Value::new(0))? && !self.seat.free(*key));
+            assert_eq!(self.seat.remove(*key), None);
+        }
+        Ok(())
+    }
+
+    /// Hands a key to another thread now and then, and takes what came in.
+    fn hand_key_over(&mut self) {
+        let to = self.random.below(16 * self.inboxes.len());
+        if to < self.inboxes.len() && !self.live.is_empty() {
+            let handed = self.live.swap_remove(self.random.below(self.live.len()));
+            self.inboxes[to].lock().unwrap().push(handed);
+            self.live.append(&mut self.inboxes[self.here].lock().unwrap());
+        }
+    }
+}
+
+/// So many threads make so many calls in all, and a steward folds beside them. Then all is taken out.
+fn threads_find_what_they_expect<const WORDS: usize>(threads: u32, calls: usize) {
+    let limits = Limits {
+        shards: threads,
+        ..Limits::default()
+    };
+    let mut arena = Arena::<Value<WORDS>>::open(limits).unwrap();
+    let inboxes: Vec<Handed> = (0..threads).map(|_| Handed::default()).collect();
+    let seats: Vec<_> = (0..threads).map(|_| arena.seat().unwrap()).collect();
+    let (done, folds) = thread::scope(|scope| {
+        let inboxes = &inboxes[..];
+        let workers: Vec<_> = seats
+            .into_iter()
+            .enumerate()
+            .map(|(here, seat)| {
+                scope.spawn(move || {
+                    let mut worker = Worker::new(seat, inboxes, here);
+                    worker.work(calls / threads as usize).unwrap();
+                    (worker.seat, worker.live, worker.left)
+                })
+            })
+            .collect();
+        let mut folds = 0;
+        while !workers.iter().all(|worker| worker.is_finished()) {
+            folds += arena.mesh().unwrap();
+            thread::sleep(Duration::from_millis(1));
+        }
+        let done: Vec<_> = workers.into_iter().map(|worker| worker.join().unwrap()).collect();
+        (done, folds)
+    });
+    // A short run has no sparse page.
+    assert!(folds > 0 || calls < 1_000_000);
+
+    let mut seats = Vec::new();
+    let mut live: BTreeMap<Key, u64> = BTreeMap::new();
+    let mut left = Vec::new();
+    for (seat, its_live, its_left) in done {
+        seats.push(seat);
+        live.extend(its_live);
+        left.extend(its_left);
+    }
+    live.extend(inboxes.into_iter().flat_map(|inbox| inbox.into_inner().unwrap()));
+    settle(&mut seats);
+    assert_eq!(arena.totals().live, live.len());
+    let seat = &mut seats[0];
+    assert!(left.iter().all(|key| !seat.contains(*key)));
+    for (key, number) in &live {
+        assert_eq!(seat.remove(*key), Some(Value::new(*number)));
+    }
+    for seat in &mut seats {
+        seat.trim();
+    }
+    assert_eq!(arena.totals(), Totals { pages: 0, live: 0 });
+}
+
+/// Frees all that was left to a seat.
+fn settle<T>(seats: &mut [Seat<T>]) {
+    seats.iter_mut().for_each(Seat::hand_over);
+    for seat in seats {
+        seat.tend().unwrap();
+    }
+}
+
+/// Five million calls are asked for, where no variable says how many.
+fn calls() -> usize {
+    let asked = std::env::var("CALLS").ok().and_then(|calls| calls.parse().ok());
+    asked.unwrap_or(5_000_000)
+}
+
+#[test]
+fn by_four_threads() {
+    threads_find_what_they_expect::<29>(4, calls() / 2);
+}
+
+#[test]
+fn by_eight_threads() {
+    threads_find_what_they_expect::<7>(8, calls() / 2);
+}
+
+fn limits(shards: u32, pages: u32) -> Limits {
+    Limits {
+        shards,
+        pages,
+        ..Limits::default()
+    }
+}
+
+/// So many pages of 16 values, of which each keeps one, at another slot than the next page does.
+fn sparse(seat: &mut Seat<Value<29>>, pages: u64) -> Result<Vec<(Key, u64)>, Refused> {
+    let all: Vec<(Key, u64)> = (0..16 * pages)
+        .map(|number| Ok((seat.insert(Value::new(number))?, number)))
+        .collect::<Result<_, Refused>>()?;
+    let stays = |(key, _): &(Key, u64)| key.slot() == key.serial() % 16;
+    let (stay, go): (Vec<_>, Vec<_>) = all.into_iter().partition(stays);
+    for (key, _) in go {
+        assert!(seat.free(key));
+    }
+    assert_eq!(stay.len() as u64, pages);
+    Ok(stay)
+}
+
+#[test]
+fn pages_fold_beside_those_who_look_up_and_change() -> Result<(), Refused> {
+    let mut arena = Arena::open(limits(4, 1024))?;
+    let mut first = arena.seat()?;
+    let stay = sparse(&mut first, 1000)?;
+    let folding = AtomicBool::new(true);
+    let start = Barrier::new(4);
+    let seats = [arena.seat()?, arena.seat()?, arena.seat()?];
+    let folds = thread::scope(|scope| {
+        let (stay, folding, start) = (&stay, &folding, &start);
+        for (thread, mut seat) in seats.into_iter().enumerate() {
+            scope.spawn(move || {
+                let own = || stay.iter().skip(thread).step_by(3);
+                let mut times = 0;
+                start.wait();
+                while folding.load(Ordering::Relaxed) || times < 3 {
+                    times += 1;
+                    for (key, number) in own() {
+                        assert_eq!(seat.get(*key), Some(Value::new(number + times - 1)));
+                        assert_eq!(seat.set(*key, Value::new(number + times)), Ok(true));
+                        let other = seat.get(stay[(*number as usize + times as usize) % stay.len()].0);
+                        assert!(other.is_some_and(|value| value.is_whole()));
+                    }
+                }
+                for (key, number) in own() {
+                    assert_eq!(seat.set(*key, Value::new(*number)), Ok(true));
+                }
+            });
+        }
+        start.wait();
+        assert_eq!(first.retire(500)?, 500);
+        let folds = arena.mesh();
+        folding.store(false, Ordering::Relaxed);
+        folds
+    })?;
+    assert!(folds > 450, "{folds} of 500 pages went");
+    assert_eq!(arena.totals().pages, 1000 - folds);
+    assert!(stay
+        .iter()
+        .all(|(key, number)| first.get(*key) == Some(Value::new(*number))));
+    Ok(())
+}
+
+#[test]
+fn a_thread_ends_while_others_hold_its_keys() -> Result<(), Refused> {
+    let mut arena = Arena::open(limits(3, 64))?;
+    let (mut ends, mut stays, mut looks) = (arena.seat()?, arena.seat()?, arena.seat()?);
+    let keys = thread::spawn(move || {
+        let keys: Vec<_> = (0..4000_u64).map(|n| ends.insert(n)).collect::<Result<_, _>>()?;
+        ends.end()?;
+        assert_eq!((ends.end(), ends.insert(0)), (Err(Refused::Ended), Err(Refused::Ended)));
+        assert_eq!(ends.get(keys[7]), Some(7)); // it goes on to look up and free
+        Ok::<_, Refused>(keys)
+    });
+    let keys = keys.join().unwrap()?;
+    let of_it = keys[0].shard();
+    let own: Vec<_> = (0..256).map(|n| stays.insert(n)).collect::<Result<_, _>>()?;
+    thread::scope(|scope| {
+        let (keys, looks) = (&keys, &mut looks);
+        scope.spawn(move || {
+            for (n, key) in keys.iter().enumerate().filter(|(n, _)| n % 2 == 0) {
+                assert_eq!(looks.remove(*key), Some(n as u64));
+            }
+        });
+        for (n, key) in keys.iter().enumerate().filter(|(n, _)| n % 2 == 1) {
+            assert_eq!(stays.set(*key, n as u64 + 1), Ok(true));
+        }
+        while stays.adopt().is_ok() {}
+        arena.mesh()
+    })?;
+    for (n, key) in keys.iter().enumerate() {
+        assert_eq!(stays.get(*key), (n % 2 == 1).then_some(n as u64 + 1));
+    }
+    assert_eq!(arena.totals().live, 2000 + own.len());
+    // A key that is left to a seat which is gone stays live until it is freed.
+    assert_eq!(looks.free_later(keys[1]), Ok(()));
+    looks.hand_over();
+    assert!(stays.contains(keys[1]) && stays.free(keys[1]) && keys[1].shard() == of_it);
+    Ok(())
+}
+
+#[test]
+fn frees_come_later() -> Result<(), Refused> {
+    let mut arena = Arena::with_rings(limits(2, 4), 8)?;
+    let (mut here, mut there) = (arena.seat()?, arena.seat()?);
+    let keys: Vec<_> = (0..12_u128).map(|n| there.insert(n)).collect::<Result<_, _>>()?;
+    for key in &keys[..8] {
+        assert_eq!(here.free_later(*key), Ok(()));
+    }
+    assert_eq!(here.free_later(keys[8]), Err(Refused::RingFull));
+    assert_eq!(arena.totals().live, 12);
+    assert_eq!(thread::spawn(move || (there.tend(), there)).join().unwrap().0, Ok(8));
+    assert_eq!(keys.iter().filter(|key| here.contains(**key)).count(), 4);
+    let elsewhere = Key::from_bits(9 << 56 | 1).unwrap();
+    assert_eq!(here.free_later(elsewhere), Err(Refused::Config));
+    assert!(!here.free(elsewhere) && here.get(elsewhere).is_none());
+    Ok(())
+}
+
+#[test]
+fn a_key_that_waits_is_handed_over_by_its_seat() -> Result<(), Refused> {
+    let mut arena = Arena::open(limits(2, 4))?;
+    let (mut here, mut there) = (arena.seat()?, arena.seat()?);
+    let keys: Vec<_> = (0..3_u128).map(|n| there.insert(n)).collect::<Result<_, _>>()?;
+    here.free_later(keys[0])?;
+    here.hand_over();
+    assert_eq!(there.tend(), Ok(1));
+    here.free_later(keys[1])?;
+    // The 64th further call hands it over.
+    (0..64).for_each(|_| assert!(here.contains(keys[2])));
+    assert_eq!(there.tend(), Ok(1));
+    here.free_later(keys[2])?;
+    drop(here);
+    assert_eq!(there.tend(), Ok(1));
+    assert_eq!(arena.totals().live, 0);
+    Ok(())
+}
+
+#[test]
+fn calls_are_refused_as_they_say() -> Result<(), Refused> {
+    for wrong in [limits(0, 1), limits(65, 1), limits(1, 0), limits(1, 1025)] {
+        assert_eq!(Arena::<u64>::open(wrong).err(), Some(Refused::Config));
+    }
+    for keys in [0, 1025] {
+        assert_eq!(
+            Arena::<u64>::with_rings(limits(1, 1), keys).err(),
+            Some(Refused::Config)
+        );
+    }
+    let mut arena = Arena::open(limits(2, 1))?;
+    assert_eq!(arena.limits(), limits(2, 1));
+    let (mut here, mut there) = (arena.seat()?, arena.seat()?);
+    assert_eq!(arena.seat().err(), Some(Refused::NoSeatLeft));
+    assert_eq!(
+        (arena.step(), arena.close()),
+        (Err(Refused::NoPlan), Err(Refused::NoPlan))
+    );
+    assert_eq!(here.adopt(), Err(Refused::NothingToAdopt));
+    let keys: Vec<_> = (0..256_u64).map(|n| here.insert(n)).collect::<Result<_, _>>()?;
+    assert_eq!(here.insert(0), Err(Refused::PagesSpent));
+    let other = there.insert(7)?;
+    keys[..255].iter().for_each(|key| assert!(here.free(*key)));
+    assert_eq!(here.retire(1), Ok(1));
+    let marked = arena.mark_some()?;
+    assert_eq!((marked.abandoned, marked.owned, marked.folds), (1, 1, 1));
+    assert_eq!(arena.mark_some(), Err(Refused::PlanOpen));
+    assert_eq!(
+        (there.retire(1), there.end()),
+        (Err(Refused::PlanOpen), Err(Refused::PlanOpen))
+    );
+    assert_eq!(here.adopt(), Err(Refused::PlanOpen));
+    assert!(matches!(arena.step(), Ok(Stepped::Folded(..))));
+    assert_eq!(arena.step(), Ok(Stepped::NoPairLeft));
+    assert_eq!(arena.close(), Ok(()));
+    assert_eq!((arena.mesh(), arena.totals()), (Ok(0), Totals { pages: 1, live: 2 }));
+    assert_eq!((there.get(keys[255]), here.get(other)), (Some(255), Some(7)));
+    assert!(format!("{arena:?} {here:?}").contains("Arena"));
+    Ok(())
+}
+
+/// What is left when the handles of an arena go, in each order.
+#[test]
+fn handles_go_in_any_order() -> Result<(), Refused> {
+    enum Handle {
+        Arena(Arena<[u64; 8]>),
+        Seat(Seat<[u64; 8]>),
+    }
+    let orders = (0..24).map(|order: usize| [order % 4, order / 4 % 3, order / 12 % 2, 0]);
+    for order in orders {
+        let mut arena = Arena::open(limits(4, 8))?;
+        let mut seats = [arena.seat()?, arena.seat()?, arena.seat()?];
+        let keys: Vec<_> = (0..100)
+            .map(|n| seats[n % 3].insert([n as u64; 8]))
+            .collect::<Result<_, _>>()?;
+        seats[0].end()?;
+        seats[1].free_later(keys[0])?;
+        // A plan that is open is closed by the arena's drop.
+        arena.mark_some()?;
+        let mut handles: Vec<_> = seats.into_iter().map(Handle::Seat).collect();
+        handles.push(Handle::Arena(arena));
+        for next in order {
+            drop(handles.swap_remove(next));
+            for handle in &mut handles {
+                match handle {
+                    Handle::Arena(arena) => assert_eq!(arena.totals().live, 100),
+                    Handle::Seat(seat) => assert_eq!(seat.get(keys[99]), Some([99; 8])),
+                }
+            }
+        }
+        assert!(handles.is_empty());
+    }
+    Ok(())
+}
+
+#[test]
+fn a_plan_goes_with_the_arena() -> Result<(), Refused> {
+    let mut arena = Arena::open(limits(2, 1))?;
+    let (mut here, mut there) = (arena.seat()?, arena.seat()?);
+    let (first, key) = (here.insert(1_u64)?, here.insert(2)?);
+    assert!(here.free(first));
+    here.end()?;
+    there.insert(3)?;
+    assert_eq!(arena.mark_some()?.folds, 1);
+    assert_eq!(there.insert(4), Err(Refused::PagesSpent)); // its page is in the plan
+    drop(arena);
+    assert_eq!(there.insert(4).map(|_| there.get(key)), Ok(Some(2)));
+    assert_eq!(there.end(), Ok(()));
+    Ok(())
+}
+
+/// Has a method for each type, and another one for each that is `Sync`: only where the type is not is it known which is meant.
+trait NotIfSync<Marker> {
+    fn is_not_sync() {}
+}
+
+impl<T: ?Sized> NotIfSync<()> for T {}
+
+struct OfSync;
+
+impl<T: ?Sized + Sync> NotIfSync<OfSync> for T {}
+
+#[test]
+fn handles_may_go_to_another_thread_and_are_of_one() {
+    fn is_send<T: Send + 'static>() {}
+    is_send::<Arena<u64>>();
+    is_send::<Seat<u64>>();
+    <Arena<u64> as NotIfSync<_>>::is_not_sync();
+    <Seat<u64> as NotIfSync<_>>::is_not_sync();
+}
