@@ -1,5 +1,6 @@
-/* Handles that are NULL, that never had a core, and that have none any more: each call answers them, with its pointers to words and bytes
- * there or NULL. With TEURLAKS_UNTESTED it is the archive that answers, and no pointer is NULL. */
+/* Handles that are NULL, that never had a core, a seat or a steward, that have it no more, or that have the other of these two: each call
+ * answers them, with its pointers to words and bytes there or NULL. With TEURLAKS_UNTESTED it is the archive that answers, and no pointer is
+ * NULL. */
 #include "teurlaks.h"
 #include <stdio.h>
 #include <stdlib.h>
@@ -51,6 +52,69 @@ static void each_key(struct teurlaks_handle *none) {
     WANT(!none || !none->at);
 }
 
+/* What each call of a seat says of a handle without one. */
+static void each_call_of_a_seat(struct teurlaks_share_handle *none, struct teurlaks_key key) {
+    struct teurlaks_word words[16] = {{7, 7}};
+    for (size_t len = 1; len <= 16; len *= 4) {
+        WANT(teurlaks_seat_put_words(none, words, len).status == TEURLAKS_NO_CORE);
+        WANT(teurlaks_seat_set_words(none, key, words, len) == TEURLAKS_NO_CORE);
+    }
+    struct teurlaks_words_reply found = teurlaks_seat_get_words(none, key, words, 16);
+    WANT(found.status == TEURLAKS_NO_CORE && found.len == 0 && words[0].low == 7);
+    WANT(teurlaks_seat_free(none, key) == TEURLAKS_NO_CORE);
+    WANT(teurlaks_seat_free_later(none, key) == TEURLAKS_NO_CORE);
+    WANT(teurlaks_seat_hand_over(none) == TEURLAKS_NO_CORE);
+    WANT(teurlaks_seat_tend(none).status == TEURLAKS_NO_CORE && teurlaks_seat_tend(none).count == 0);
+    WANT(teurlaks_seat_end(none) == TEURLAKS_NO_CORE);
+    WANT(teurlaks_seat_retire(none, 9).status == TEURLAKS_NO_CORE && teurlaks_seat_retire(none, 9).count == 0);
+    WANT(teurlaks_seat_trim(none).status == TEURLAKS_NO_CORE && teurlaks_seat_trim(none).count == 0);
+    WANT(teurlaks_seat_adopt(none).status == TEURLAKS_NO_CORE);
+}
+
+/* The same of the steward's. */
+static void each_call_of_a_steward(struct teurlaks_share_handle *none) {
+    struct teurlaks_share_handle out = {0};
+    WANT(teurlaks_steward_seat(none, &out) == TEURLAKS_NO_CORE && !out.at);
+    WANT(teurlaks_steward_mark_some(none).status == TEURLAKS_NO_CORE);
+    WANT(teurlaks_steward_step(none).status == TEURLAKS_NO_CORE);
+    WANT(teurlaks_steward_close(none) == TEURLAKS_NO_CORE);
+    struct teurlaks_arena_totals_reply totals = teurlaks_steward_totals(none);
+    WANT(totals.status == TEURLAKS_NO_CORE && totals.pages == 0 && totals.live == 0);
+}
+
+static void each_call_of_a_share(struct teurlaks_share_handle *none, struct teurlaks_key key) {
+    each_call_of_a_seat(none, key);
+    each_call_of_a_steward(none);
+    teurlaks_share_drop(none);
+    WANT(!none || !none->at);
+}
+
+/* A seat in the place of the steward and the steward in that of a seat are answered as handles of nothing, and what has something is given
+ * nothing more. */
+static void shares(void) {
+    struct teurlaks_share_handle steward = {0}, seat = {0};
+    each_call_of_a_share(&seat, (struct teurlaks_key){0, 0, 0, 1});
+    WANT(teurlaks_arena_open(&steward, 0, 4, 1, 9) == TEURLAKS_CONFIG && !steward.at);
+    WANT(teurlaks_arena_open(&steward, 2, 4, 1, 9) == TEURLAKS_OK && teurlaks_arena_open(&steward, 0, 4, 1, 9) == TEURLAKS_HAS_CORE);
+    WANT(teurlaks_steward_seat(&steward, &seat) == TEURLAKS_OK && teurlaks_steward_seat(&steward, &seat) == TEURLAKS_HAS_CORE);
+    struct teurlaks_put_reply put = teurlaks_seat_put_words(&seat, &one, 1);
+    WANT(put.status == TEURLAKS_OK);
+    each_call_of_a_seat(&steward, put.key);
+    each_call_of_a_steward(&seat);
+    WANT(teurlaks_seat_put_words(&seat, &one, 2).status == TEURLAKS_CONFIG && teurlaks_seat_set_words(&seat, put.key, &one, 0) == TEURLAKS_CONFIG);
+#ifndef TEURLAKS_UNTESTED
+    each_call_of_a_share(NULL, put.key);
+    WANT(teurlaks_arena_open(NULL, 1, 1, 1, 1) == TEURLAKS_NO_CORE && teurlaks_steward_seat(&steward, NULL) == TEURLAKS_NO_CORE);
+    WANT(teurlaks_seat_put_words(&seat, NULL, 4).status == TEURLAKS_CONFIG && teurlaks_seat_set_words(&seat, put.key, NULL, 1) == TEURLAKS_CONFIG);
+    WANT(teurlaks_seat_get_words(&seat, put.key, NULL, 16).status == TEURLAKS_TOO_SMALL);
+#endif
+    WANT(teurlaks_steward_totals(&steward).live == 1 && teurlaks_seat_free(&seat, put.key) == TEURLAKS_OK);
+    teurlaks_share_drop(&steward);
+    teurlaks_share_drop(&seat);
+    each_call_of_a_share(&seat, put.key);
+    each_call_of_a_share(&steward, put.key);
+}
+
 /* NULL for the words of an object is no words, and for a room no room. */
 static void nowhere(struct teurlaks_handle *core, struct teurlaks_key key) {
 #ifndef TEURLAKS_UNTESTED
@@ -74,8 +138,8 @@ static void nowhere(struct teurlaks_handle *core, struct teurlaks_key key) {
 
 /* Each status has a text of its own, and no other number has one. */
 static void texts(void) {
-    const char *unknown = teurlaks_strerror(TEURLAKS_HAS_CORE + 1);
-    for (uint32_t status = 0; status <= TEURLAKS_HAS_CORE; status++) {
+    const char *unknown = teurlaks_strerror(TEURLAKS_BUSY + 1);
+    for (uint32_t status = 0; status <= TEURLAKS_BUSY; status++) {
         WANT(teurlaks_strerror(status) != unknown);
         for (uint32_t other = 0; other < status; other++) WANT(teurlaks_strerror(other) != teurlaks_strerror(status));
     }
@@ -99,6 +163,7 @@ int main(void) {
     each_key(&core);
     WANT(teurlaks_new(&core, 1, 1, 1, 1) == TEURLAKS_OK);
     teurlaks_drop(&core);
+    shares();
     texts();
     return 0;
 }

@@ -1,0 +1,272 @@
+/* Four threads with a seat each, and a steward beside them: each thread finds what it expects under keys of its own and under those that
+ * others gave it, frees some later, and leaves sparse pages to the pool, which are folded meanwhile. At the end nothing is live, and no page
+ * is left. -DROUNDS says how many rounds of calls each thread makes. */
+#define _POSIX_C_SOURCE 200809L
+#include "teurlaks.h"
+#include <pthread.h>
+#include <sched.h>
+#include <stdatomic.h>
+#include <stdio.h>
+#include <stdlib.h>
+#include <time.h>
+
+#ifndef ROUNDS
+#define ROUNDS 200000
+#endif
+
+#define WANT(holds)                                                                                                                              \
+    do {                                                                                                                                         \
+        if (!(holds)) {                                                                                                                          \
+            printf("threads.c:%d: %s\n", __LINE__, #holds);                                                                                      \
+            exit(1);                                                                                                                             \
+        }                                                                                                                                        \
+    } while (0)
+
+/* The call, again and again while another thread has a lock that it needs: it has changed nothing then. */
+#define PATIENTLY(reply, status, call)                                                                                                           \
+    do reply = call;                                                                                                                             \
+    while ((status) == TEURLAKS_BUSY && !sched_yield())
+
+enum { THREADS = 4, MOST = 4096, WORDS = 4 };
+
+/* A key, and the number of which its words are made. */
+struct kept {
+    struct teurlaks_key key;
+    uint64_t number;
+};
+
+/* What others give to a thread. */
+struct inbox {
+    pthread_mutex_t lock;
+    struct kept kept[MOST];
+    size_t count;
+};
+
+struct worker {
+    struct teurlaks_share_handle seat;
+    pthread_t thread;
+    struct inbox inbox;
+    struct kept live[MOST];
+    size_t count, aim;
+    int grows;
+    uint64_t number, random;
+    /* How many groups it may yet retire: each fold uses up one of the pages that a shard opens in its life. */
+    size_t retires;
+};
+
+static struct worker workers[THREADS];
+static atomic_int ended;
+
+/* Marsaglia's xorshift. */
+static uint64_t below(uint64_t *state, uint64_t count) {
+    *state ^= *state << 13;
+    *state ^= *state >> 7;
+    *state ^= *state << 17;
+    return (*state >> 11) % count;
+}
+
+static struct teurlaks_word word(uint64_t number, uint64_t place) { return (struct teurlaks_word){number + place, ~number}; }
+
+static void words_of(uint64_t number, struct teurlaks_word words[WORDS]) {
+    for (uint64_t i = 0; i < WORDS; i++) words[i] = word(number, i);
+}
+
+static struct teurlaks_key put(struct worker *me) {
+    struct teurlaks_word words[WORDS];
+    struct teurlaks_put_reply reply;
+    words_of(me->number, words);
+    PATIENTLY(reply, reply.status, teurlaks_seat_put_words(&me->seat, words, WORDS));
+    WANT(reply.status == TEURLAKS_OK);
+    return reply.key;
+}
+
+static void set(struct worker *me, struct kept *kept) {
+    struct teurlaks_word words[WORDS];
+    uint32_t status;
+    kept->number = me->number++;
+    words_of(kept->number, words);
+    PATIENTLY(status, status, teurlaks_seat_set_words(&me->seat, kept->key, words, WORDS));
+    WANT(status == TEURLAKS_OK);
+}
+
+static void finds(struct worker *me, struct kept kept) {
+    struct teurlaks_word words[16];
+    struct teurlaks_words_reply reply;
+    PATIENTLY(reply, reply.status, teurlaks_seat_get_words(&me->seat, kept.key, words, 16));
+    WANT(reply.status == TEURLAKS_OK && reply.len == WORDS);
+    for (uint64_t i = 0; i < WORDS; i++) WANT(words[i].low == word(kept.number, i).low && words[i].high == word(kept.number, i).high);
+}
+
+/* Frees it, which it finds live once. */
+static void free_now(struct worker *me, struct teurlaks_key key) {
+    uint32_t status;
+    struct teurlaks_words_reply reply;
+    PATIENTLY(status, status, teurlaks_seat_free(&me->seat, key));
+    WANT(status == TEURLAKS_OK);
+    PATIENTLY(status, status, teurlaks_seat_free(&me->seat, key));
+    WANT(status == TEURLAKS_NONE);
+    PATIENTLY(reply, reply.status, teurlaks_seat_get_words(&me->seat, key, NULL, 0));
+    WANT(reply.status == TEURLAKS_NONE);
+}
+
+static void free_later(struct worker *me, struct teurlaks_key key) {
+    uint32_t status = teurlaks_seat_free_later(&me->seat, key);
+    if (status == TEURLAKS_RING_FULL) free_now(me, key);
+    else WANT(status == TEURLAKS_OK);
+}
+
+static struct kept take_any(struct worker *me) {
+    size_t at = below(&me->random, me->count);
+    struct kept kept = me->live[at];
+    me->live[at] = me->live[--me->count];
+    return kept;
+}
+
+/* Leaves sparse pages to the pool, or takes what is there. */
+static void give_back(struct worker *me) {
+    struct teurlaks_trim_reply trimmed;
+    PATIENTLY(trimmed, trimmed.status, teurlaks_seat_trim(&me->seat));
+    WANT(trimmed.status == TEURLAKS_OK);
+    struct teurlaks_retire_reply retired;
+    PATIENTLY(retired, retired.status, teurlaks_seat_retire(&me->seat, me->retires < 20 ? me->retires : 20));
+    WANT(retired.status == TEURLAKS_OK || retired.status == TEURLAKS_PLAN_OPEN);
+    me->retires -= retired.count;
+    if (me->number % 2) return;
+    struct teurlaks_adopt_reply adopted;
+    do PATIENTLY(adopted, adopted.status, teurlaks_seat_adopt(&me->seat));
+    while (adopted.status == TEURLAKS_OK);
+    WANT(adopted.status == TEURLAKS_NOTHING_TO_ADOPT || adopted.status == TEURLAKS_PLAN_OPEN);
+}
+
+/* Grows to as many as it aims at, and shrinks to a twentieth of that. */
+static void put_or_free(struct worker *me) {
+    if (me->grows || !me->count) {
+        struct kept kept = {put(me), me->number++};
+        me->live[me->count++] = kept;
+        me->grows = me->count < me->aim;
+        return;
+    }
+    struct kept kept = take_any(me);
+    finds(me, kept);
+    if (kept.number % 2) free_now(me, kept.key);
+    else free_later(me, kept.key);
+    me->grows = me->count * 20 < me->aim;
+    if (me->grows) {
+        me->aim = 500 + below(&me->random, 2500);
+        give_back(me);
+    }
+}
+
+static void give(struct worker *me, struct inbox *to) {
+    pthread_mutex_lock(&to->lock);
+    if (to->count < MOST) to->kept[to->count++] = take_any(me);
+    pthread_mutex_unlock(&to->lock);
+}
+
+static void take(struct worker *me) {
+    pthread_mutex_lock(&me->inbox.lock);
+    while (me->inbox.count && me->count < MOST) me->live[me->count++] = me->inbox.kept[--me->inbox.count];
+    pthread_mutex_unlock(&me->inbox.lock);
+}
+
+static void tend(struct worker *me) {
+    struct teurlaks_tend_reply reply;
+    PATIENTLY(reply, reply.status, teurlaks_seat_tend(&me->seat));
+    WANT(reply.status == TEURLAKS_OK);
+}
+
+static void *work(void *at) {
+    struct worker *me = at;
+    for (long round = 0; round < ROUNDS; round++) {
+        put_or_free(me);
+        if (me->count) {
+            finds(me, me->live[below(&me->random, me->count)]);
+            set(me, &me->live[below(&me->random, me->count)]);
+        }
+        uint64_t to = below(&me->random, 16 * THREADS);
+        if (to < THREADS && me->count) give(me, &workers[to].inbox);
+        if (round % 64 == 0) take(me);
+        if (round % 256 == 0) tend(me);
+    }
+    take(me);
+    atomic_fetch_add(&ended, 1);
+    return NULL;
+}
+
+/* A mark, its steps and a close; it answers how many folds there were. */
+static size_t mesh(struct teurlaks_share_handle *steward) {
+    struct teurlaks_mark_reply mark;
+    struct teurlaks_step_reply step;
+    uint32_t status;
+    size_t folds = 0;
+    PATIENTLY(mark, mark.status, teurlaks_steward_mark_some(steward));
+    WANT(mark.status == TEURLAKS_OK);
+    do {
+        PATIENTLY(step, step.status, teurlaks_steward_step(steward));
+        folds += step.status == TEURLAKS_OK;
+    } while (step.status == TEURLAKS_OK || step.status == TEURLAKS_EMPTIED);
+    WANT(step.status == TEURLAKS_NO_PAIR_LEFT && folds <= mark.folds);
+    PATIENTLY(status, status, teurlaks_steward_close(steward));
+    WANT(status == TEURLAKS_OK);
+    return folds;
+}
+
+static struct teurlaks_arena_totals_reply totals(struct teurlaks_share_handle *steward) {
+    struct teurlaks_arena_totals_reply reply;
+    PATIENTLY(reply, reply.status, teurlaks_steward_totals(steward));
+    WANT(reply.status == TEURLAKS_OK);
+    return reply;
+}
+
+/* What is left when the threads are gone: what they have, and nothing that was left to a seat. The first of them frees all of it. */
+static void end(struct teurlaks_share_handle *steward) {
+    size_t live = 0;
+    for (int i = 0; i < THREADS; i++) WANT(teurlaks_seat_hand_over(&workers[i].seat) == TEURLAKS_OK);
+    for (int i = 0; i < THREADS; i++) {
+        tend(&workers[i]);
+        live += workers[i].count + workers[i].inbox.count;
+    }
+    WANT(totals(steward).live == live);
+    for (int i = 0; i < THREADS; i++) {
+        for (size_t at = 0; at < workers[i].count; at++) {
+            finds(&workers[0], workers[i].live[at]);
+            free_now(&workers[0], workers[i].live[at].key);
+        }
+        for (size_t at = 0; at < workers[i].inbox.count; at++) free_now(&workers[0], workers[i].inbox.kept[at].key);
+    }
+    for (int i = 0; i < THREADS; i++) WANT(teurlaks_seat_trim(&workers[i].seat).status == TEURLAKS_OK);
+    WANT(totals(steward).live == 0 && totals(steward).pages == 0);
+}
+
+int main(void) {
+    struct teurlaks_share_handle steward = {0}, none = {0};
+    WANT(teurlaks_arena_open(&steward, THREADS, 1024, 256, UINT32_MAX) == TEURLAKS_OK);
+    for (int i = 0; i < THREADS; i++) {
+        struct worker *worker = &workers[i];
+        WANT(teurlaks_steward_seat(&steward, &worker->seat) == TEURLAKS_OK && !pthread_mutex_init(&worker->inbox.lock, NULL));
+        worker->grows = 1, worker->aim = 2000, worker->retires = 300;
+        worker->number = (uint64_t)i << 40, worker->random = 88172645463325252u + i;
+    }
+    WANT(teurlaks_steward_seat(&steward, &none) == TEURLAKS_NONE);
+    for (int i = 0; i < THREADS; i++) WANT(!pthread_create(&workers[i].thread, NULL, work, &workers[i]));
+
+    size_t folds = 0;
+    while (atomic_load(&ended) < THREADS) {
+        folds += mesh(&steward);
+        nanosleep(&(struct timespec){0, 1000000}, NULL);
+    }
+    for (int i = 0; i < THREADS; i++) pthread_join(workers[i].thread, NULL);
+    /* A short run has no sparse page. */
+    WANT(folds > 0 || ROUNDS < 100000);
+    end(&steward);
+    printf("%d threads, %d rounds each, %zu folds\n", THREADS, ROUNDS, folds);
+
+    /* In whatever order: the memory goes with the last one. */
+    teurlaks_share_drop(&workers[0].seat);
+    teurlaks_share_drop(&steward);
+    for (int i = 1; i < THREADS; i++) {
+        WANT(teurlaks_seat_end(&workers[i].seat) == TEURLAKS_OK && teurlaks_seat_end(&workers[i].seat) == TEURLAKS_ENDED);
+        teurlaks_share_drop(&workers[i].seat);
+    }
+    return 0;
+}
