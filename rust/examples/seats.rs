@@ -1,5 +1,6 @@
-//! `seats ROUNDS`: four threads with a seat each, six rounds where no number is given. In each round they fill up, let most of it go, leave their sparse pages to the pool, and look the
-//! others' values up; a steward folds beside them. It prints how many pages and values there are after each round.
+//! `seats ROUNDS`: four threads with a seat each, six rounds where no number is given. In each round they fill up, let most of it go, leave their
+//! sparse pages to the pool, and look the others' values up; a steward folds beside them. It prints how many pages and values there are after each
+//! round.
 
 use std::process::ExitCode;
 use std::sync::{Barrier, Mutex};

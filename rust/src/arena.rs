@@ -18,14 +18,15 @@ use std::mem::size_of;
 /// How many keys a ring holds where nobody says so.
 const RING: u32 = 256;
 
-/// Plain values of one type, 1 to 256 bytes each, that threads share, each from a [`Seat`] of its own; and whose sparse pages are folded while they go on.
+/// Plain values of one type, 1 to 256 bytes each, that threads share, each from a [`Seat`] of its own; and whose sparse pages are folded while they
+/// go on.
 ///
-/// An arena has a shard for each seat, and hands the seats out one by one. A thread keeps its values in the shard of its seat, and reads, sets and frees those of
-/// all shards. Whoever has the arena itself is its steward: it plans folds of the groups that seats have left to the pool ([`Seat::retire`], [`Seat::end`]) onto those of the shards,
-/// and carries them out beside the others. Every key stays valid.
+/// An arena has a shard for each seat, and hands the seats out one by one. A thread keeps its values in the shard of its seat, and reads, sets and
+/// frees those of all shards. Whoever has the arena itself is its steward: it plans folds of the groups that seats have left to the pool
+/// ([`Seat::retire`], [`Seat::end`]) onto those of the shards, and carries them out beside the others. Every key stays valid.
 ///
-/// Arena and seats may be dropped in any order, each may go to a thread of its own, also one of [`std::thread::spawn`], and the memory goes with the last of them.
-/// For words, the values are `u128`, or `[u128; 4]` or `[u128; 16]`.
+/// Arena and seats may be dropped in any order, each may go to a thread of its own, also one of [`std::thread::spawn`], and the memory goes with
+/// the last of them. For words, the values are `u128`, or `[u128; 4]` or `[u128; 16]`.
 ///
 /// ```
 /// use std::thread;
@@ -53,14 +54,15 @@ const RING: u32 = 256;
 ///
 /// # What is proved, and what is tested
 ///
-/// Of each call it is proved that it returns, that it does nothing undefined, and that it is the call of the arena that it is named for, which works under its locks on proved shards and a
-/// proved pool and answers as its receipt says; that where another thread has a lock that it needs nothing has changed; and that a handle may go to another thread.
-/// That a call beside other threads does what its receipt says is tested: by runs whose receipts are audited against one history (`docs/PROMISES.md`, *Running threads*).
-/// Of this crate it is tested (`tests/arena.rs`) that a call is made again where a lock was taken, and that each thread finds what it expects; that one call at a time is made on a handle its types
-/// see to, which are `Send` and not `Sync`.
+/// Of each call it is proved that it returns, that it does nothing undefined, and that it is the call of the arena that it is named for, which
+/// works under its locks on proved shards and a proved pool and answers as its receipt says; that nothing has changed where another thread has a
+/// lock that it needs, or, of a tend, that it tells how far it came; and that a handle may go to another thread. That a call beside other threads
+/// does what its receipt says is tested: by runs whose receipts are audited against one history (`docs/PROMISES.md`, *Running threads*). Of this
+/// crate it is tested (`tests/arena.rs`) that a call is made again where a lock was taken, and that each thread finds what it expects. That one
+/// call at a time is made on a handle its types see to, which are `Send` and not `Sync`.
 ///
-/// A [`SharedStore`](crate::SharedStore) is called by any thread through `&self`, and has locks of the standard library. An arena has proved ones, frees that wait for nobody, and
-/// folds between shards; in return each thread needs a seat.
+/// A [`SharedStore`](crate::SharedStore) is called by any thread through `&self`, and has locks of the standard library. An arena has proved ones,
+/// frees that wait for nobody, and folds between shards; in return each thread needs a seat.
 pub struct Arena<T> {
     share: Share,
     limits: Limits,
@@ -83,8 +85,8 @@ impl<T: Copy> Arena<T> {
         "a value of an arena has 1 to 256 bytes"
     );
 
-    /// An arena of these limits with no value, which has a seat for each shard. Between each two seats there is a ring of 256 keys for [`Seat::free_later`], of 8
-    /// bytes each: 32 KB for four seats, and 8 MB for 64.
+    /// An arena of these limits with no value, which has a seat for each shard. Between each two seats there is a ring of 256 keys for
+    /// [`Seat::free_later`], of 16 bytes each: 64 KB for four seats, and 16 MB for 64, which are resident once they are used.
     ///
     /// # Errors
     ///
@@ -137,8 +139,9 @@ impl<T> Arena<T> {
         })
     }
 
-    /// Plans folds of the pool's groups onto those of the shards, as many as can be of the 4,096 of each side with the fewest live keys, and opens the plan. Until it is
-    /// closed, the groups that it folds onto take no value, and no group is adopted. It holds all locks for as long as it plans.
+    /// Plans folds of the pool's groups onto those of the shards, as many as can be of the 4,096 of each side with the fewest live keys, and opens
+    /// the plan. Until it is closed, the groups that it folds onto take no value, and no group is adopted. It holds all locks for as long as it
+    /// plans.
     ///
     /// # Errors
     ///
@@ -176,8 +179,9 @@ impl<T> Arena<T> {
         patiently(|| unsafe { raw::teurlaks_steward_close(self.share.handle()) })
     }
 
-    /// Marks, takes all steps and closes, and says how many folds there were, each of which gave a page back. The mark is that of [`Arena::mark_some`]; where it may not
-    /// have seen all groups, and folds at least a sixteenth of those that it saw of the pool, there is another.
+    /// Marks, takes all steps and closes, and says how many folds there were, each of which gave a page back. The mark is that of
+    /// [`Arena::mark_some`]; where it may not have seen all groups, and folds at least a sixteenth of those that it saw of the pool, there is
+    /// another.
     ///
     /// # Errors
     ///

@@ -180,39 +180,16 @@ impl<'i, const WORDS: usize> Worker<'i, WORDS> {
     }
 }
 
+/// What a thread leaves: its seat, its live keys with the numbers of their values, and the keys that it left to others.
+type Left<const WORDS: usize> = (Seat<Value<WORDS>>, Vec<(Key, u64)>, Vec<Key>);
+
 /// So many threads make so many calls in all, and a steward folds beside them. Then all is taken out.
 fn threads_find_what_they_expect<const WORDS: usize>(threads: u32, calls: usize) {
-    let limits = Limits {
-        shards: threads,
-        ..Limits::default()
-    };
-    let mut arena = Arena::<Value<WORDS>>::open(limits).unwrap();
+    let mut arena = Arena::open(limits(threads, 1024)).unwrap();
     let inboxes: Vec<Handed> = (0..threads).map(|_| Handed::default()).collect();
-    let seats: Vec<_> = (0..threads).map(|_| arena.seat().unwrap()).collect();
-    let (done, folds) = thread::scope(|scope| {
-        let inboxes = &inboxes[..];
-        let workers: Vec<_> = seats
-            .into_iter()
-            .enumerate()
-            .map(|(here, seat)| {
-                scope.spawn(move || {
-                    let mut worker = Worker::new(seat, inboxes, here);
-                    worker.work(calls / threads as usize).unwrap();
-                    (worker.seat, worker.live, worker.left)
-                })
-            })
-            .collect();
-        let mut folds = 0;
-        while !workers.iter().all(|worker| worker.is_finished()) {
-            folds += arena.mesh().unwrap();
-            thread::sleep(Duration::from_millis(1));
-        }
-        let done: Vec<_> = workers.into_iter().map(|worker| worker.join().unwrap()).collect();
-        (done, folds)
-    });
+    let (done, folds) = beside_a_steward::<WORDS>(&mut arena, &inboxes, calls / threads as usize);
     // A short run has no sparse page.
     assert!(folds > 0 || calls < 1_000_000);
-
     let mut seats = Vec::new();
     let mut live: BTreeMap<Key, u64> = BTreeMap::new();
     let mut left = Vec::new();
@@ -233,6 +210,37 @@ fn threads_find_what_they_expect<const WORDS: usize>(threads: u32, calls: usize)
         seat.trim();
     }
     assert_eq!(arena.totals(), Totals { pages: 0, live: 0 });
+}
+
+/// One thread for each inbox makes so many calls. It tells what each leaves, and how many folds there were meanwhile.
+fn beside_a_steward<const WORDS: usize>(
+    arena: &mut Arena<Value<WORDS>>,
+    inboxes: &[Handed],
+    calls: usize,
+) -> (Vec<Left<WORDS>>, usize) {
+    let seats: Vec<_> = inboxes.iter().map(|_| arena.seat().unwrap()).collect();
+    thread::scope(|scope| {
+        let workers: Vec<_> = seats
+            .into_iter()
+            .enumerate()
+            .map(|(here, seat)| {
+                scope.spawn(move || {
+                    let mut worker = Worker::new(seat, inboxes, here);
+                    worker.work(calls).unwrap();
+                    (worker.seat, worker.live, worker.left)
+                })
+            })
+            .collect();
+        let mut folds = 0;
+        while !workers.iter().all(|worker| worker.is_finished()) {
+            folds += arena.mesh().unwrap();
+            thread::sleep(Duration::from_millis(1));
+        }
+        (
+            workers.into_iter().map(|worker| worker.join().unwrap()).collect(),
+            folds,
+        )
+    })
 }
 
 /// Frees all that was left to a seat.
@@ -372,7 +380,7 @@ fn frees_come_later() -> Result<(), Refused> {
     }
     assert_eq!(here.free_later(keys[8]), Err(Refused::RingFull));
     assert_eq!(arena.totals().live, 12);
-    assert_eq!(thread::spawn(move || (there.tend(), there)).join().unwrap().0, Ok(8));
+    assert_eq!(thread::spawn(move || there.tend()).join().unwrap(), Ok(8));
     assert_eq!(keys.iter().filter(|key| here.contains(**key)).count(), 4);
     let elsewhere = Key::from_bits(9 << 56 | 1).unwrap();
     assert_eq!(here.free_later(elsewhere), Err(Refused::Config));

@@ -15,11 +15,13 @@ use std::ptr::NonNull;
 
 /// A thread's place at an [`Arena`](super::Arena): it keeps values in the shard of the seat, and reads, sets and frees those of all shards.
 ///
-/// It may go to another thread (`Send`), and is of one thread at a time (not `Sync`). A call that needs a lock which another thread has waits for it:
-/// it pauses, lets others run, and then sleeps for 20 microseconds at a time. Most calls hold a lock for well below a microsecond, a mark holds all for as long as it plans.
+/// It may go to another thread (`Send`), and is of one thread at a time (not `Sync`). A call that needs a lock which another thread has waits for
+/// it: it pauses, lets others run, and then sleeps for 20 microseconds at a time. Most calls hold a lock for well below a microsecond; a mark holds
+/// all of them for as long as it plans.
 ///
-/// A seat that is dropped is not handed out again. Its shard's values stay, under keys that each other seat finds, and the shard takes no further one. So that its pages
-/// can be folded, [`Seat::end`] leaves them to the pool before. What other threads have left to it ([`Seat::free_later`]) nobody frees any more once it is gone.
+/// A seat that is dropped is not handed out again. Its shard takes no further value then, and its values stay, under keys that each other seat
+/// finds. Their pages stay too, until they are empty, so [`Seat::end`] leaves them to the pool before, from where they are folded onto others. What
+/// other threads have left to it ([`Seat::free_later`]) nobody frees any more once it is gone.
 pub struct Seat<T> {
     share: Share,
     // A value of any other type is none of this arena, whatever its lifetime: it is read at all seats.
@@ -106,10 +108,11 @@ impl<T> Seat<T> {
         patiently(|| unsafe { raw::teurlaks_seat_free(self.share.handle(), key.raw()) }) == raw::OK
     }
 
-    /// Leaves the key to the seat of the shard that gave it out, which frees it when it next tends ([`Seat::tend`]); until then it is live. It takes no lock and
-    /// no memory, and waits for nobody.
+    /// Leaves the key to the seat of the shard that gave it out, which frees it when it next tends ([`Seat::tend`]); until then it is live. It
+    /// takes no lock and no memory, and waits for nobody.
     ///
-    /// Keys go in blocks: one is seen there at the latest with the 64th further call of this seat, with a [`Seat::hand_over`], or when this seat tends, ends or is dropped.
+    /// Keys go in blocks: one is seen there at the latest with the 64th further call of this seat, with a [`Seat::hand_over`], or when this seat
+    /// tends, ends or is dropped.
     ///
     /// # Errors
     ///
@@ -133,8 +136,8 @@ impl<T> Seat<T> {
         debug_assert_eq!(status, raw::OK, "the handle has a seat");
     }
 
-    /// Hands over as [`Seat::hand_over`] does, takes the keys that others have left to the seat's shard, as many as are seen, frees each, and says how many there
-    /// were, with those that were not live any more.
+    /// Hands over as [`Seat::hand_over`] does, takes the keys that others have left to the seat's shard, as many as are seen, frees each, and says
+    /// how many there were, with those that were not live any more.
     ///
     /// # Errors
     ///
@@ -150,8 +153,8 @@ impl<T> Seat<T> {
         done(tended.status).map(|()| taken)
     }
 
-    /// Ends the seat's shard: its groups go to the pool, with their pages, from where they are folded or adopted, and it takes no value again. All keys stay
-    /// what they are, and the seat goes on to read, set and free.
+    /// Ends the seat's shard: its groups go to the pool, with their pages, from where they are folded or adopted, and it takes no value again. All
+    /// keys stay what they are, and the seat goes on to read, set and free.
     ///
     /// # Errors
     ///
@@ -163,8 +166,8 @@ impl<T> Seat<T> {
         done(patiently(|| unsafe { raw::teurlaks_seat_end(self.share.handle()) }))
     }
 
-    /// Moves up to `most` groups of the seat's shard to the pool, with their pages, and says how many went: those with the fewest live keys, of those that
-    /// have one. The shard goes on.
+    /// Moves up to `most` groups of the seat's shard to the pool, with their pages, and says how many went: those with the fewest live keys, of
+    /// those that have one. The shard goes on.
     ///
     /// # Errors
     ///
@@ -177,8 +180,8 @@ impl<T> Seat<T> {
         done(retired.status).map(|()| retired.count)
     }
 
-    /// Gives back the pages of the seat's shard on which nothing is live, and says how many went. A group of the open plan keeps its page. It takes no
-    /// memory.
+    /// Gives back the pages of the seat's shard on which nothing is live, and says how many went. A group of the open plan keeps its page. It takes
+    /// no memory.
     pub fn trim(&mut self) -> usize {
         // SAFETY: as in `insert`.
         let trimmed = patiently(|| unsafe { raw::teurlaks_seat_trim(self.share.handle()) });

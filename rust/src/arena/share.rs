@@ -49,6 +49,7 @@ pub(super) trait Answer {
 }
 
 impl Answer for u32 {
+    #[inline]
     fn status(&self) -> u32 {
         *self
     }
