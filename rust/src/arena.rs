@@ -9,7 +9,7 @@ use crate::bytes::MOST_BYTES;
 use crate::core::{done, marked, stepped, Limits, Marked, Stepped, MOST_GROUPS};
 use crate::raw;
 use crate::refused::Refused;
-use share::{patiently, Share};
+use share::{Share, Turn};
 use std::cell::Cell;
 use std::fmt;
 use std::marker::PhantomData;
@@ -65,6 +65,7 @@ const RING: u32 = 256;
 /// frees that wait for nobody, and folds between shards; in return each thread needs a seat.
 pub struct Arena<T> {
     share: Share,
+    turn: Turn,
     limits: Limits,
     // As of a seat.
     values: PhantomData<Cell<T>>,
@@ -111,6 +112,7 @@ impl<T: Copy> Arena<T> {
         let share = Share::new(|out| unsafe { raw::teurlaks_arena_open(out, shards, pages, keys, generations) });
         Ok(Arena {
             share: share.map_err(Refused::of)?,
+            turn: Turn::new(),
             limits,
             values: PhantomData,
         })
@@ -133,10 +135,11 @@ impl<T> Arena<T> {
     pub fn seat(&mut self) -> Result<Seat<T>, Refused> {
         // SAFETY: the handle has a steward, no other call runs on it, and the other one has nothing yet.
         let share = Share::new(|out| unsafe { raw::teurlaks_steward_seat(self.share.handle(), out) });
-        share.map(Seat::new).map_err(|status| match status {
-            raw::NONE => Refused::NoSeatLeft,
-            other => Refused::of(other),
-        })
+        match share {
+            Ok(share) => Ok(Seat::new(share, self.turn.clone())),
+            Err(raw::NONE) => Err(Refused::NoSeatLeft),
+            Err(other) => Err(Refused::of(other)),
+        }
     }
 
     /// Plans folds of the pool's groups onto those of the shards, as many as can be of the 4,096 of each side with the fewest live keys, and opens
@@ -149,9 +152,10 @@ impl<T> Arena<T> {
     /// - [`Refused::OutOfMemory`]: none is, and memory was refused.
     pub fn mark_some(&mut self) -> Result<Marked, Refused> {
         // SAFETY: the handle has a steward, and no other call runs on it.
-        marked(patiently(|| unsafe {
-            raw::teurlaks_steward_mark_some(self.share.handle())
-        }))
+        marked(
+            self.turn
+                .at_steward(|| unsafe { raw::teurlaks_steward_mark_some(self.share.handle()) }),
+        )
     }
 
     /// Carries out the next pair of the open plan, under the locks of the pool and of one shard.
@@ -162,7 +166,10 @@ impl<T> Arena<T> {
     /// - [`Refused::OutOfMemory`]: memory was refused; the pair is then still the next.
     pub fn step(&mut self) -> Result<Stepped, Refused> {
         // SAFETY: as in `mark_some`.
-        stepped(patiently(|| unsafe { raw::teurlaks_steward_step(self.share.handle()) }))
+        stepped(
+            self.turn
+                .at_steward(|| unsafe { raw::teurlaks_steward_step(self.share.handle()) }),
+        )
     }
 
     /// Closes the open plan; pairs that are left are dropped. It takes no memory. An arena that is dropped closes its plan.
@@ -176,7 +183,8 @@ impl<T> Arena<T> {
 
     fn close_if_open(&mut self) -> u32 {
         // SAFETY: as in `mark_some`.
-        patiently(|| unsafe { raw::teurlaks_steward_close(self.share.handle()) })
+        self.turn
+            .at_steward(|| unsafe { raw::teurlaks_steward_close(self.share.handle()) })
     }
 
     /// Marks, takes all steps and closes, and says how many folds there were, each of which gave a page back. The mark is that of
@@ -222,7 +230,9 @@ impl<T> Arena<T> {
     #[must_use]
     pub fn totals(&mut self) -> Totals {
         // SAFETY: as in `mark_some`.
-        let totals = patiently(|| unsafe { raw::teurlaks_steward_totals(self.share.handle()) });
+        let totals = self
+            .turn
+            .at_steward(|| unsafe { raw::teurlaks_steward_totals(self.share.handle()) });
         debug_assert_eq!(totals.status, raw::OK, "totals are not refused");
         Totals {
             pages: totals.pages,

@@ -1,6 +1,6 @@
 //! What a thread does at its seat.
 
-use super::share::{patiently, Share};
+use super::share::{Share, Turn};
 use crate::bytes::MOST_WORDS;
 use crate::core::{done, was_put, was_set};
 use crate::names::{Group, Key};
@@ -17,22 +17,24 @@ use std::ptr::NonNull;
 ///
 /// It may go to another thread (`Send`), and is of one thread at a time (not `Sync`). A call that needs a lock which another thread has waits for
 /// it: it pauses, lets others run, and then sleeps for 20 microseconds at a time. Most calls hold a lock for well below a microsecond; a mark holds
-/// all of them for as long as it plans.
+/// all of them for as long as it plans. While the steward waits for a lock, each call of a seat lets others run before it begins, up to 32 times.
 ///
 /// A seat that is dropped is not handed out again. Its shard takes no further value then, and its values stay, under keys that each other seat
 /// finds. Their pages stay too, until they are empty, so [`Seat::end`] leaves them to the pool before, from where they are folded onto others. What
 /// other threads have left to it ([`Seat::free_later`]) nobody frees any more once it is gone.
 pub struct Seat<T> {
     share: Share,
+    turn: Turn,
     // A value of any other type is none of this arena, whatever its lifetime: it is read at all seats.
     values: PhantomData<Cell<T>>,
 }
 
 impl<T> Seat<T> {
     /// The seat that a handle has.
-    pub(super) fn new(share: Share) -> Seat<T> {
+    pub(super) fn new(share: Share, turn: Turn) -> Seat<T> {
         Seat {
             share,
+            turn,
             values: PhantomData,
         }
     }
@@ -51,7 +53,8 @@ impl<T: Copy> Seat<T> {
     pub fn insert(&mut self, value: T) -> Result<Key, Refused> {
         was_put(as_words(value, |first, len| {
             // SAFETY: the handle has a seat, no other call runs on it, and so many words stand there.
-            patiently(|| unsafe { raw::teurlaks_seat_put_words(self.share.handle(), first.cast(), len) })
+            self.turn
+                .at_seat(|| unsafe { raw::teurlaks_seat_put_words(self.share.handle(), first.cast(), len) })
         }))
     }
 
@@ -62,8 +65,9 @@ impl<T: Copy> Seat<T> {
         let mut words = [MaybeUninit::<u128>::uninit(); MOST_WORDS];
         let first = words.as_mut_ptr().cast();
         // SAFETY: as in `insert`, and there is room for 16 words.
-        let got =
-            patiently(|| unsafe { raw::teurlaks_seat_get_words(self.share.handle(), key.raw(), first, MOST_WORDS) });
+        let got = self
+            .turn
+            .at_seat(|| unsafe { raw::teurlaks_seat_get_words(self.share.handle(), key.raw(), first, MOST_WORDS) });
         // SAFETY: the library is proved to find what was put or set, and at all seats only values of this type were.
         (got.status == raw::OK).then(|| unsafe { words.as_ptr().cast::<T>().read_unaligned() })
     }
@@ -77,7 +81,8 @@ impl<T: Copy> Seat<T> {
     pub fn set(&mut self, key: Key, value: T) -> Result<bool, Refused> {
         was_set(as_words(value, |first, len| {
             // SAFETY: as in `insert`.
-            patiently(|| unsafe { raw::teurlaks_seat_set_words(self.share.handle(), key.raw(), first.cast(), len) })
+            self.turn
+                .at_seat(|| unsafe { raw::teurlaks_seat_set_words(self.share.handle(), key.raw(), first.cast(), len) })
         }))
     }
 
@@ -97,7 +102,9 @@ impl<T> Seat<T> {
     pub fn contains(&self, key: Key) -> bool {
         let none = NonNull::dangling().as_ptr();
         // SAFETY: as in `insert`, and there is no room, into which nothing is written.
-        let got = patiently(|| unsafe { raw::teurlaks_seat_get_words(self.share.handle(), key.raw(), none, 0) });
+        let got = self
+            .turn
+            .at_seat(|| unsafe { raw::teurlaks_seat_get_words(self.share.handle(), key.raw(), none, 0) });
         got.status != raw::NONE
     }
 
@@ -105,7 +112,9 @@ impl<T> Seat<T> {
     #[inline]
     pub fn free(&mut self, key: Key) -> bool {
         // SAFETY: as in `insert`.
-        patiently(|| unsafe { raw::teurlaks_seat_free(self.share.handle(), key.raw()) }) == raw::OK
+        self.turn
+            .at_seat(|| unsafe { raw::teurlaks_seat_free(self.share.handle(), key.raw()) })
+            == raw::OK
     }
 
     /// Leaves the key to the seat of the shard that gave it out, which frees it when it next tends ([`Seat::tend`]); until then it is live. It
@@ -144,7 +153,7 @@ impl<T> Seat<T> {
     /// [`Refused::OutOfMemory`] where memory was refused. What was freed before stays so, and the other keys are still there.
     pub fn tend(&mut self) -> Result<usize, Refused> {
         let mut taken = 0;
-        let tended = patiently(|| {
+        let tended = self.turn.at_seat(|| {
             // SAFETY: as in `insert`.
             let tended = unsafe { raw::teurlaks_seat_tend(self.share.handle()) };
             taken += tended.count;
@@ -163,7 +172,10 @@ impl<T> Seat<T> {
     /// - [`Refused::OutOfMemory`]: none of these holds, and memory was refused.
     pub fn end(&mut self) -> Result<(), Refused> {
         // SAFETY: as in `insert`.
-        done(patiently(|| unsafe { raw::teurlaks_seat_end(self.share.handle()) }))
+        done(
+            self.turn
+                .at_seat(|| unsafe { raw::teurlaks_seat_end(self.share.handle()) }),
+        )
     }
 
     /// Moves up to `most` groups of the seat's shard to the pool, with their pages, and says how many went: those with the fewest live keys, of
@@ -176,7 +188,9 @@ impl<T> Seat<T> {
     /// - [`Refused::OutOfMemory`]: none of these holds, and memory was refused.
     pub fn retire(&mut self, most: usize) -> Result<usize, Refused> {
         // SAFETY: as in `insert`.
-        let retired = patiently(|| unsafe { raw::teurlaks_seat_retire(self.share.handle(), most) });
+        let retired = self
+            .turn
+            .at_seat(|| unsafe { raw::teurlaks_seat_retire(self.share.handle(), most) });
         done(retired.status).map(|()| retired.count)
     }
 
@@ -184,7 +198,9 @@ impl<T> Seat<T> {
     /// no memory.
     pub fn trim(&mut self) -> usize {
         // SAFETY: as in `insert`.
-        let trimmed = patiently(|| unsafe { raw::teurlaks_seat_trim(self.share.handle()) });
+        let trimmed = self
+            .turn
+            .at_seat(|| unsafe { raw::teurlaks_seat_trim(self.share.handle()) });
         debug_assert_eq!(trimmed.status, raw::OK, "a trim is not refused");
         trimmed.count
     }
@@ -200,7 +216,9 @@ impl<T> Seat<T> {
     /// - [`Refused::OutOfMemory`]: none of these holds, and memory was refused.
     pub fn adopt(&mut self) -> Result<Group, Refused> {
         // SAFETY: as in `insert`.
-        let adopted = patiently(|| unsafe { raw::teurlaks_seat_adopt(self.share.handle()) });
+        let adopted = self
+            .turn
+            .at_seat(|| unsafe { raw::teurlaks_seat_adopt(self.share.handle()) });
         done(adopted.status).map(|()| Group(adopted.head))
     }
 }

@@ -2,6 +2,8 @@
 
 use crate::raw;
 use std::cell::UnsafeCell;
+use std::sync::atomic::{AtomicBool, Ordering};
+use std::sync::Arc;
 use std::time::Duration;
 use std::{hint, ptr, thread};
 
@@ -78,17 +80,64 @@ answers!(
     ArenaTotalsReply
 );
 
-/// Makes the call, again and again while another thread has a lock that it needs: it has changed nothing then.
-#[inline]
-pub(super) fn patiently<A: Answer>(mut call: impl FnMut() -> A) -> A {
-    let answer = call();
-    if answer.status() == raw::BUSY {
-        insist(call)
-    } else {
+/// Whether the steward of an arena waits. It needs all locks at once, which threads that call without a pause hardly ever leave, so these let it go
+/// first. It is a hint: who finds what rests on the locks alone.
+#[derive(Clone)]
+pub(super) struct Turn {
+    steward_waits: Arc<AtomicBool>,
+}
+
+impl Turn {
+    pub fn new() -> Turn {
+        Turn {
+            steward_waits: Arc::new(AtomicBool::new(false)),
+        }
+    }
+
+    /// Makes the call of a seat, again and again while another thread has a lock that it needs: it has changed nothing then.
+    #[inline]
+    pub fn at_seat<A: Answer>(&self, mut call: impl FnMut() -> A) -> A {
+        if self.steward_waits() {
+            self.let_steward();
+        }
+        let answer = call();
+        if answer.status() == raw::BUSY {
+            insist(call)
+        } else {
+            answer
+        }
+    }
+
+    /// The same of the steward's.
+    pub fn at_steward<A: Answer>(&self, mut call: impl FnMut() -> A) -> A {
+        let answer = call();
+        if answer.status() != raw::BUSY {
+            return answer;
+        }
+        self.steward_waits.store(true, Ordering::Relaxed);
+        let answer = insist(call);
+        self.steward_waits.store(false, Ordering::Relaxed);
         answer
+    }
+
+    #[inline]
+    fn steward_waits(&self) -> bool {
+        self.steward_waits.load(Ordering::Relaxed)
+    }
+
+    /// Lets others run while the steward waits, for a while at most: it may wait for a processor too.
+    #[cold]
+    fn let_steward(&self) {
+        for _ in 0..MOST_YIELDS {
+            thread::yield_now();
+            if !self.steward_waits() {
+                return;
+            }
+        }
     }
 }
 
+/// Makes the call that met a lock until it has it.
 #[cold]
 fn insist<A: Answer>(mut call: impl FnMut() -> A) -> A {
     let mut patience = Patience::new();
@@ -101,16 +150,19 @@ fn insist<A: Answer>(mut call: impl FnMut() -> A) -> A {
     }
 }
 
+/// How often a seat lets others run before a call, while the steward waits.
+const MOST_YIELDS: u32 = 32;
+
 /// How often a call pauses, twice as long each time, before it lets others run.
 const MOST_PAUSES: u32 = 4;
 
 /// How often it waits before it sleeps.
-const MOST_YIELDS: u32 = 32;
+const MOST_WAITS: u32 = 32;
 
-/// How long it sleeps at a time: a mark holds all locks for some milliseconds where there are many pages.
+/// How long it sleeps at a time: who has the lock waits for a processor then, or marks.
 const SLEEP: Duration = Duration::from_micros(20);
 
-/// Waits longer and longer. A lock is held for some 50 ns by most calls, of which the library itself looks at it 50 times.
+/// Waits longer and longer. The library itself looks at a lock 50 times before it answers that another thread has it.
 struct Patience {
     times: u32,
 }
@@ -123,7 +175,7 @@ impl Patience {
     fn wait(&mut self) {
         match self.times {
             few if few < MOST_PAUSES => (0..1 << few).for_each(|_| hint::spin_loop()),
-            some if some < MOST_YIELDS => thread::yield_now(),
+            some if some < MOST_WAITS => thread::yield_now(),
             _ => return thread::sleep(SLEEP),
         }
         self.times += 1;
