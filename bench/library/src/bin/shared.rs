@@ -1,8 +1,9 @@
-//! `shared WHO WORK THREADS CALLS`: a store that so many threads share, in a process of its own. WHO is `shared` (`teurlaks::SharedStore`), `mutex` (a
-//! `teurlaks::Store` behind one mutex) or `sharded-slab`. Each thread has 1,000 words of 128 bits of its own, and WORK is `churn` (each call frees
-//! one and puts another), `own` (each reads one) or `other` (each reads one of another thread, of all others in turn); or each has as many as it has
-//! calls, and WORK is `later`: it frees those of the next thread. It tells nanoseconds a call of the slowest thread, by the clock, the least of 10
-//! rounds in which all threads began at once.
+//! `shared WHO WORK THREADS CALLS`: a store that so many threads share, in a process of its own. WHO is `shared` (`teurlaks::SharedStore`), `arena`
+//! (a seat of a `teurlaks::Arena` for each thread), `mutex` (a `teurlaks::Store` behind one mutex) or `sharded-slab`. Each thread has 1,000 words
+//! of 128 bits of its own, and WORK is `churn` (each call frees one and puts another), `own` (each reads one) or `other` (each reads one of another
+//! thread's, of all others in turn); or each has as many as it has calls, and WORK is `later`: it frees those of the next thread, by `free_later`
+//! at a seat, which tends after each 64 calls. It tells nanoseconds a call of the slowest thread, by the clock, the least of 10 rounds in which all
+//! threads began at once.
 
 use beside::random::Random;
 use std::hint;
@@ -19,47 +20,125 @@ const MOST_TRIES: usize = 3000;
 /// What threads share.
 trait Store: Sync {
     type Key: Copy + Send + Sync;
-    fn put(&self, value: u128) -> Self::Key;
+    type Place<'s>: Place<Key = Self::Key>
+    where
+        Self: 's;
+    /// What a thread calls.
+    fn place(&self) -> Self::Place<'_>;
+}
+
+/// What one thread has of a store.
+trait Place {
+    type Key;
+    fn put(&mut self, value: u128) -> Self::Key;
     fn get(&self, key: Self::Key) -> Option<u128>;
-    fn free(&self, key: Self::Key) -> bool;
+    fn free(&mut self, key: Self::Key) -> bool;
+    /// Frees another thread's, now or once that thread rests.
+    fn free_later(&mut self, key: Self::Key) {
+        assert!(self.free(key));
+    }
+    fn rest(&mut self) {}
 }
 
 impl Store for teurlaks::SharedStore<u128> {
     type Key = teurlaks::Key;
-    fn put(&self, value: u128) -> Self::Key {
+    type Place<'s> = &'s Self;
+    fn place(&self) -> &Self {
+        self
+    }
+}
+
+impl Place for &teurlaks::SharedStore<u128> {
+    type Key = teurlaks::Key;
+    fn put(&mut self, value: u128) -> Self::Key {
         self.insert(value).expect("it fits the shards")
     }
     fn get(&self, key: Self::Key) -> Option<u128> {
-        self.get(key)
+        teurlaks::SharedStore::get(self, key)
     }
-    fn free(&self, key: Self::Key) -> bool {
-        self.free(key)
+    fn free(&mut self, key: Self::Key) -> bool {
+        teurlaks::SharedStore::free(self, key)
+    }
+}
+
+struct Seats(Mutex<teurlaks::Arena<u128>>);
+impl Seats {
+    fn new(shards: usize) -> Option<Seats> {
+        let limits = teurlaks::Limits {
+            shards: u32::try_from(shards).ok()?,
+            ..teurlaks::Limits::default()
+        };
+        Some(Seats(Mutex::new(teurlaks::Arena::open(limits).ok()?)))
+    }
+}
+impl Store for Seats {
+    type Key = teurlaks::Key;
+    type Place<'s> = teurlaks::arena::Seat<u128>;
+    fn place(&self) -> Self::Place<'_> {
+        self.0.lock().unwrap().seat().expect("there is one for each thread")
+    }
+}
+
+impl Place for teurlaks::arena::Seat<u128> {
+    type Key = teurlaks::Key;
+    fn put(&mut self, value: u128) -> Self::Key {
+        self.insert(value).expect("it fits the shard")
+    }
+    fn get(&self, key: Self::Key) -> Option<u128> {
+        teurlaks::arena::Seat::get(self, key)
+    }
+    fn free(&mut self, key: Self::Key) -> bool {
+        teurlaks::arena::Seat::free(self, key)
+    }
+    fn free_later(&mut self, key: Self::Key) {
+        if teurlaks::arena::Seat::free_later(self, key).is_err() {
+            assert!(self.free(key));
+        }
+    }
+    fn rest(&mut self) {
+        self.tend().expect("it takes no memory");
     }
 }
 
 struct Locked(Mutex<teurlaks::Store<u128>>);
 impl Store for Locked {
     type Key = teurlaks::Key;
-    fn put(&self, value: u128) -> Self::Key {
+    type Place<'s> = &'s Self;
+    fn place(&self) -> &Self {
+        self
+    }
+}
+
+impl Place for &Locked {
+    type Key = teurlaks::Key;
+    fn put(&mut self, value: u128) -> Self::Key {
         self.0.lock().unwrap().insert(value).expect("it fits the shards")
     }
     fn get(&self, key: Self::Key) -> Option<u128> {
         self.0.lock().unwrap().get(key)
     }
-    fn free(&self, key: Self::Key) -> bool {
+    fn free(&mut self, key: Self::Key) -> bool {
         self.0.lock().unwrap().free(key)
     }
 }
 
 impl Store for sharded_slab::Slab<u128> {
     type Key = usize;
-    fn put(&self, value: u128) -> usize {
+    type Place<'s> = &'s Self;
+    fn place(&self) -> &Self {
+        self
+    }
+}
+
+impl Place for &sharded_slab::Slab<u128> {
+    type Key = usize;
+    fn put(&mut self, value: u128) -> usize {
         self.insert(value).expect("its limit is far above this")
     }
     fn get(&self, key: usize) -> Option<u128> {
-        self.get(key).map(|entry| *entry)
+        sharded_slab::Slab::get(self, key).map(|entry| *entry)
     }
-    fn free(&self, key: usize) -> bool {
+    fn free(&mut self, key: usize) -> bool {
         self.remove(key)
     }
 }
@@ -95,7 +174,7 @@ impl Gate {
 }
 
 /// The calls of one thread of a round.
-fn calls<S: Store>(store: &S, work: Work, thread: usize, calls: usize, keys: &[OnceLock<Vec<S::Key>>]) {
+fn calls<P: Place<Key: Copy>>(place: &mut P, work: Work, thread: usize, calls: usize, keys: &[OnceLock<Vec<P::Key>>]) {
     let others = keys.len() - 1;
     let mut random = Random::new(thread as u64 + 1);
     let of = |thread: usize| keys[thread % keys.len()].get().map_or(&[][..], Vec::as_slice);
@@ -104,25 +183,26 @@ fn calls<S: Store>(store: &S, work: Work, thread: usize, calls: usize, keys: &[O
             let mut own = of(thread).to_vec();
             for call in 0..calls {
                 let key = &mut own[random.below(VALUES)];
-                assert!(store.free(*key));
-                *key = store.put(call as u128);
+                assert!(place.free(*key));
+                *key = place.put(call as u128);
             }
         }
         Work::Own => {
             let own = of(thread);
             for _ in 0..calls {
-                assert!(hint::black_box(store.get(own[random.below(VALUES)])).is_some());
+                assert!(hint::black_box(place.get(own[random.below(VALUES)])).is_some());
             }
         }
         Work::Other => {
             for call in 0..calls {
                 let key = of(thread + 1 + call % others)[random.below(VALUES)];
-                assert!(hint::black_box(store.get(key)).is_some());
+                assert!(hint::black_box(place.get(key)).is_some());
             }
         }
         Work::Later => {
-            for key in of(thread + 1) {
-                assert!(store.free(*key));
+            for keys in of(thread + 1).chunks(64) {
+                keys.iter().for_each(|key| place.free_later(*key));
+                place.rest();
             }
         }
     }
@@ -138,10 +218,11 @@ fn round<S: Store>(store: S, work: Work, threads: usize, count: usize) -> Option
     let keys: Vec<OnceLock<Vec<S::Key>>> = (0..threads).map(|_| OnceLock::new()).collect();
     let values = if work == Work::Later { count } else { VALUES };
     let one = |thread: usize| {
-        let _ = keys[thread].set((0..values).map(|value| store.put(value as u128)).collect());
+        let mut place = store.place();
+        let _ = keys[thread].set((0..values).map(|value| place.put(value as u128)).collect());
         gate.wait();
         let begun = Instant::now();
-        calls(&store, work, thread, count, &keys);
+        calls(&mut place, work, thread, count, &keys);
         let took = begun.elapsed();
         // The threads stay until all are done: a shard of a thread that is gone may be another's.
         gate.wait();
@@ -162,6 +243,7 @@ fn round<S: Store>(store: S, work: Work, threads: usize, count: usize) -> Option
 fn of(who: &str, work: Work, threads: usize, calls: usize) -> Option<f64> {
     let rounds = (0..MOST_TRIES).filter_map(|_| match who {
         "shared" => round(teurlaks::SharedStore::new().ok()?, work, threads, calls),
+        "arena" => round(Seats::new(threads)?, work, threads, calls),
         "mutex" => round(Locked(Mutex::new(teurlaks::Store::new().ok()?)), work, threads, calls),
         "sharded-slab" => round(sharded_slab::Slab::new(), work, threads, calls),
         _ => None,
@@ -192,7 +274,7 @@ fn main() -> ExitCode {
             ExitCode::SUCCESS
         }
         None => {
-            eprintln!("shared shared|mutex|sharded-slab churn|own|other|later THREADS CALLS, with 2 threads or more for other and later");
+            eprintln!("shared shared|arena|mutex|sharded-slab churn|own|other|later THREADS CALLS, with 2 threads or more for other and later");
             ExitCode::from(2)
         }
     }
