@@ -62,7 +62,8 @@ const RING: u32 = 256;
 /// call at a time is made on a handle its types see to, which are `Send` and not `Sync`.
 ///
 /// A [`SharedStore`](crate::SharedStore) is called by any thread through `&self`, and has locks of the standard library. An arena has proved ones,
-/// frees that wait for nobody, and folds between shards; in return each thread needs a seat, and a call takes three to five times as long.
+/// frees that wait for nobody, and folds between shards; in return each thread needs a seat, and calls take longer: a look-up some five times as
+/// long, a free with a put three times (`bench/README.md`).
 pub struct Arena<T> {
     share: Share,
     turn: Turn,
