@@ -47,7 +47,10 @@ fn source_of_pages() -> PathBuf {
     let object = folder.join("pages.o");
     let words = ["-std=c11", "-O2", "-fPIC", "-pthread", "-c"];
     run(tool("CC", "cc").args(words).arg(&source).arg("-o").arg(&object));
-    run(tool("AR", "ar").arg("rcs").arg(folder.join("libteurlaks_pages.a")).arg(&object));
+    run(tool("AR", "ar")
+        .arg("rcs")
+        .arg(folder.join("libteurlaks_pages.a"))
+        .arg(&object));
     folder
 }
 

@@ -152,12 +152,28 @@ extern "C" {
     pub fn teurlaks_step(handle: *mut Handle) -> StepReply;
     pub fn teurlaks_close(handle: *mut Handle) -> u32;
     pub fn teurlaks_certificate(handle: *mut Handle, text: *mut u8, text_len: usize) -> CertificateReply;
-    pub fn teurlaks_arena_open(out: *mut ShareHandle, shards: u32, page_limit: u32, ring_capacity: u32, gens: u32) -> u32;
+    pub fn teurlaks_arena_open(
+        out: *mut ShareHandle,
+        shards: u32,
+        page_limit: u32,
+        ring_capacity: u32,
+        gens: u32,
+    ) -> u32;
     pub fn teurlaks_steward_seat(handle: *mut ShareHandle, out: *mut ShareHandle) -> u32;
     pub fn teurlaks_share_drop(handle: *mut ShareHandle);
     pub fn teurlaks_seat_put_words(handle: *mut ShareHandle, words: *const RawWord, words_len: usize) -> PutReply;
-    pub fn teurlaks_seat_get_words(handle: *mut ShareHandle, key: RawKey, words: *mut RawWord, words_len: usize) -> WordsReply;
-    pub fn teurlaks_seat_set_words(handle: *mut ShareHandle, key: RawKey, words: *const RawWord, words_len: usize) -> u32;
+    pub fn teurlaks_seat_get_words(
+        handle: *mut ShareHandle,
+        key: RawKey,
+        words: *mut RawWord,
+        words_len: usize,
+    ) -> WordsReply;
+    pub fn teurlaks_seat_set_words(
+        handle: *mut ShareHandle,
+        key: RawKey,
+        words: *const RawWord,
+        words_len: usize,
+    ) -> u32;
     pub fn teurlaks_seat_free(handle: *mut ShareHandle, key: RawKey) -> u32;
     pub fn teurlaks_seat_free_later(handle: *mut ShareHandle, key: RawKey) -> u32;
     pub fn teurlaks_seat_hand_over(handle: *mut ShareHandle) -> u32;

@@ -206,7 +206,14 @@ fn of_c(text: &str) -> Declarations {
 fn exported() -> Declarations {
     let mut declarations = Declarations::default();
     for file in [
-        "handle", "share_handle", "replies", "status", "calls", "meshing", "seats", "stewards",
+        "handle",
+        "share_handle",
+        "replies",
+        "status",
+        "calls",
+        "meshing",
+        "seats",
+        "stewards",
     ] {
         of_rust(
             &read(&format!("crates/teurlaks_c/src/{file}.rt")),
