@@ -1,10 +1,10 @@
-//! `cache STORE WHEN SECONDS`: a cache of values of 100 to 250 bytes whose working set grows, shrinks and shifts, by four threads, and what the
+//! `cache [STORE WHEN [SECONDS]]`: a cache of values of 100 to 250 bytes whose working set grows, shrinks and shifts, by four threads, and what the
 //! system counts as resident (`VmRSS`) each second.
 //!
 //! STORE is `core`, a `teurlaks::Core` for each thread, or `boxes`, a `Box<[u8]>` for each value, of whichever allocator the program was started with.
 //! WHEN is `compact`, for `Core::compact` in each second at whose end fewer than two thirds of the slots of a core's pages hold a value, or `never`.
 //! The keys are drawn by Zipf's law, the least recently used value goes when there is no room, and every value that is found is compared with what
-//! was put. The requests are the same in each run, so many a second, and where a machine is slower a second lasts longer.
+//! was put. With no words it is `core compact 20`. The requests are the same in each run, so many a second, and where a machine is slower a second lasts longer.
 //!
 //! A core is used by one thread at a time, so each thread has one, with the keys that a hash gives it. A seat of an arena that all threads share would
 //! implement [`Values`] as well, and nothing else would change.
@@ -457,12 +457,13 @@ fn main() -> ExitCode {
     let words: Vec<String> = std::env::args().skip(1).collect();
     let words: Vec<&str> = words.iter().map(String::as_str).collect();
     let (store, when, seconds) = match words[..] {
+        [] => ("core", "compact", Some(20)),
         [store @ ("core" | "boxes"), when @ ("compact" | "never")] => (store, when, Some(20)),
         [store @ ("core" | "boxes"), when @ ("compact" | "never"), seconds] => (store, when, seconds.parse().ok()),
         _ => ("", "", None),
     };
     let Some(seconds) = seconds else {
-        eprintln!("cache core|boxes compact|never [SECONDS]");
+        eprintln!("cache [core|boxes compact|never [SECONDS]]");
         return ExitCode::from(2);
     };
     let when = if when == "compact" { When::Compact } else { When::Never };
