@@ -1,13 +1,13 @@
 -- Each step of a latch keeps its rule.
-use Rattle.std.proofs.Common.{◌≡◌, ℕ, ◌<◌, ◌≢◌, List, [], ◌∷◌, ◌++◌, length, get_or, set, sym, refl, ap, ◌∙◌, subst, arith, length-set, get_or-set_same}
-use Rattle.std.specs.Prelude.{Option, Some, None}
+use Rattle.std.proofs.Common.{◌≡◌, ℕ, [], ◌∷◌, length, get_or, set, refl, ap, ◌∙◌, arith, length-set, get_or-set_same}
+use Rattle.std.specs.Prelude.{Option, Some}
 use mathlib.Core.Logic.{dite}
 use mathlib.Core.Option.{some}
 use native.Mathlib.Decide.{ℕ_discrete}
 use lib.ListN.{get_elem?}
-use Rattle.atomic_table.specs.Table.{State, Me, Act, step, keeps, takes, gives, chain, stepped, Allows, Arrives, put_back, opening}
+use Rattle.atomic_table.specs.Table.{State, Me, step, keeps, takes, gives, Allows, Arrives, put_back}
 use Rattle.atomic_table.proofs.Lists.{set_here}
-use Rattle.latch.specs.Rule.{HasValue, IsKept, took, gave}
+use Rattle.latch.specs.Rule.{IsKept, took, gave}
 
 module _ {T : Type 0} where
   -- a swap with 1 takes the slot where it finds 0

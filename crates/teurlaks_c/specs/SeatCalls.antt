@@ -1,5 +1,5 @@
 -- What the calls on the seats of an arena do.
-use Rattle.std.specs.Prelude.{◌≡◌, ◌⊎◌, ◌≤◌, ◌<◌, ◌++◌, ℕ, Bool, true, false, List, Option, Some, None, Result, Ok, Err, IfOk, OnErr, OnOk, MatchOption, MatchResult, [], ◌∷◌, drop, if◌then◌else◌, length, slice_index_or, slice_set}
+use Rattle.std.specs.Prelude.{◌≡◌, ◌⊎◌, ◌≤◌, ◌<◌, ◌++◌, ℕ, Bool, true, false, List, Option, Some, None, Result, Ok, Err, IfOk, OnErr, OnOk, MatchOption, MatchResult, [], ◌∷◌, if◌then◌else◌, slice_index_or, slice_set}
 use Rattle.std.specs.declared.alloc.AllocError.{AllocError}
 use Rattle.span.specs.Classes.{IsObject}
 use Rattle.span.specs.Log.{Value}
@@ -24,12 +24,11 @@ use Rattle.teurlaks_c.specs.declared.replies.TendReply.{TendReply}
 use Rattle.teurlaks_c.specs.declared.replies.RawKey.{RawKey}
 use Rattle.teurlaks_c.specs.declared.replies.RawWord.{RawWord}
 use Rattle.teurlaks_c.specs.declared.share.Share.{Share}
-use Rattle.teurlaks_c.specs.declared.share.Share.TheVariants.{Seat, Steward}
+use Rattle.teurlaks_c.specs.declared.share.Share.TheVariants.{Seat}
 use Rattle.teurlaks_c.specs.declared.share.SharedSeat.{SharedSeat}
 use Rattle.teurlaks_c.specs.Calls.{SaysWords}
 use Rattle.teurlaks_c.specs.Keys.{IsKeyOf, IsNoKey, IsSpanOf}
 use Rattle.teurlaks_c.specs.Status.{busy, config, done, no_core, none, out_of_memory, ring_full, adopt_status, put_status, receive_status}
-use Rattle.teurlaks_c.specs.Words.{words_of}
 
 -- the handle has no seat
 abbrev pub HasNoSeat : Option Share → Type 0

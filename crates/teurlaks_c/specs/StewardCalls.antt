@@ -1,5 +1,5 @@
 -- What the calls on the steward of an arena do.
-use Rattle.std.specs.Prelude.{◌≡◌, ◌≢◌, ◌≤◌, ℕ, Bool, true, false, Option, Some, None, Result, Ok, Err, IfOk, IsSome, OnErr, OnOk, MatchOption, is_some, length}
+use Rattle.std.specs.Prelude.{◌≡◌, ℕ, Bool, true, false, Option, Some, None, Result, Ok, Err, IfOk, OnErr, OnOk, MatchOption, is_some}
 use Rattle.std.specs.declared.alloc.AllocError.{AllocError}
 use Rattle.certificate.specs.declared.certificate.Certificate.{Certificate}
 use Rattle.certificate.specs.Plans.{IsBestPlanOf, IsShortOf}
@@ -14,11 +14,11 @@ use Rattle.teurlaks_c.specs.declared.replies.MarkReply.{MarkReply}
 use Rattle.teurlaks_c.specs.declared.replies.StepReply.{StepReply}
 use Rattle.teurlaks_c.specs.declared.replies.ArenaTotalsReply.{ArenaTotalsReply}
 use Rattle.teurlaks_c.specs.declared.share.Share.{Share}
-use Rattle.teurlaks_c.specs.declared.share.Share.TheVariants.{Seat, Steward}
+use Rattle.teurlaks_c.specs.declared.share.Share.TheVariants.{Steward}
 use Rattle.teurlaks_c.specs.declared.share.SharedSteward.{SharedSteward}
 use Rattle.teurlaks_c.specs.Calls.{CountsOf, kept}
 use Rattle.teurlaks_c.specs.Keys.{IsSpanOf}
-use Rattle.teurlaks_c.specs.Status.{busy, done, no_core, no_pair_left, no_plan, none, out_of_memory, mark_status, status_of_outcome}
+use Rattle.teurlaks_c.specs.Status.{busy, done, no_core, no_pair_left, no_plan, out_of_memory, mark_status, status_of_outcome}
 
 -- the handle has no steward
 abbrev pub HasNoSteward : Option Share → Type 0

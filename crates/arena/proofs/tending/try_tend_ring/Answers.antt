@@ -1,6 +1,5 @@
-use Rattle.std.proofs.Common.{◌≡◌, ◌∙◌, ◌++◌, ◌∷◌, ◌<◌, [], ap, sym, arith, take, length, length-drop, append_assoc}
+use Rattle.std.proofs.Common.{◌≡◌, ◌∙◌, ◌++◌, ◌∷◌, [], ap, sym, arith, take, length-drop, append_assoc}
 use Rattle.arena.proofs.Frees.{AddsFrees-one, AddsFrees-more, next_left}
-use Rattle.arena.proofs.TendedRings.{ring_known}
 use Rattle.arena.proofs.tending.try_tend_ring.Goals as goal
 
 pub peek_known-key-requires : goal.peek_known-key-requires

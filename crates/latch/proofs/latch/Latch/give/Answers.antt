@@ -1,4 +1,4 @@
-use Rattle.std.proofs.Common.{rules, ◌≡◌, ◌∷◌, [], ap, ◌∙◌}
+use Rattle.std.proofs.Common.{rules, ◌∷◌, ap, ◌∙◌}
 use Rattle.atomic_table.specs.Table.{rest}
 use Rattle.std.specs.Prelude.{Some}
 use Rattle.latch.proofs.Steps.{gives_it}
