@@ -1,5 +1,5 @@
 -- What the calls on the seats of an arena do.
-use Rattle.std.specs.Prelude.{◌≡◌, ◌⊎◌, ◌≤◌, ◌<◌, ◌++◌, ℕ, Bool, true, false, List, Option, Some, None, Result, Ok, Err, IfOk, OnErr, OnOk, MatchOption, MatchResult, [], ◌∷◌, if◌then◌else◌, slice_index_or, slice_set}
+use Rattle.std.specs.Prelude.{◌≡◌, ◌⊎◌, ◌≤◌, ◌<◌, ◌++◌, ℕ, Bool, true, false, List, Option, Some, None, Result, Ok, Err, IfOk, IsOk, OnErr, OnOk, MatchOption, MatchResult, [], ◌∷◌, if◌then◌else◌, slice_index_or, slice_set}
 use Rattle.std.specs.declared.alloc.AllocError.{AllocError}
 use Rattle.span.specs.Classes.{IsObject}
 use Rattle.span.specs.Log.{Value}
@@ -10,9 +10,9 @@ use Rattle.shard.specs.declared.error.PutError.{PutError}
 use Rattle.abandoned.specs.declared.error.ReceiveError.{ReceiveError}
 use Rattle.abandoned.specs.declared.error.AdoptError.{AdoptError}
 use Rattle.latch.specs.declared.latch.Busy.{Busy}
-use Rattle.arena.specs.Delays.{CountsCall, HandsOver as HandsOverKeys}
+use Rattle.arena.specs.Delays.{CountsCall, HandsOver as HandsOverKeys, HasNoneWaiting, delay_begun}
 use Rattle.arena.specs.Receipts.{get_receipt, put_receipt, set_receipt, free_receipt}
-use Rattle.arena.specs.Seats.{KeepsEnds, SeatState, sent_lists}
+use Rattle.arena.specs.Seats.{KeepsEnds, SeatState, free_places, sending_side, sent_lists}
 use Rattle.arena.specs.Tended.{IsTended}
 use Rattle.arena.specs.declared.seat.trying.Tended.{Tended}
 use Rattle.teurlaks_c.specs.declared.replies.PutReply.{PutReply}
@@ -70,10 +70,6 @@ Sets key value before answer after =
 abbrev pub Frees : Key → SeatState → Result (Bool × Receipt) Busy → SeatState → Type 0
 Frees key before answer after = IfOk answer (λ freed. freed.1 ≡ free_receipt before.worker before.section key freed.0 freed.1.at) × IsOneCall before answer after
 
--- the call is one of the seat, and its answer that of the shard and the pool under their locks
-abbrev pub IsCall : {Answer : Type 0} → SeatState → Result Answer Busy → SeatState → Type 0
-IsCall before answer after = IsOneCall before answer after
-
 -- at most that many groups go
 abbrev pub Retires : ℕ → SeatState → Result (Result ℕ ReceiveError) Busy → SeatState → Type 0
 Retires most before answer after = IfOk answer (λ retired. IfOk retired (λ count. count ≤ most)) × IsOneCall before answer after
@@ -82,18 +78,35 @@ Retires most before answer after = IfOk answer (λ retired. IfOk retired (λ cou
 abbrev pub Ends : SeatState → Result (Result (Unit {0}) ReceiveError) Busy → SeatState → Type 0
 Ends before answer after = OnOk answer (HandsOverKeys before after) × OnErr answer (after ≡ before)
 
--- the key is left to the thread of the shard that opened its span, or the ring is full; or the arena has no such shard
+-- the key is left to the thread of the shard that opened its span, or the ring is full, which it is where no place is known to be free; or the arena has no such shard
 abbrev pub FreesLater : Key → SeatState → Option (Result (Unit {0}) Key) → SeatState → Type 0
 FreesLater key before answer after = MatchOption answer
     ((key.span.shard < before.limits.shards → ⊥) × (after ≡ before))
-    (λ sent. (key.span.shard < before.limits.shards) × KeepsEnds before after × MatchResult sent
-    (λ left. sent_lists after ≡ slice_set (sent_lists before) key.span.shard (slice_index_or (sent_lists before) key.span.shard [] ++ key ∷ []))
-    (λ back. (back ≡ key) × (sent_lists after ≡ sent_lists before)))
+    (λ sent. (key.span.shard < before.limits.shards) × KeepsEnds before after × (after.section ≡ before.section) × (after.inboxes ≡ before.inboxes)
+    × (0 < slice_index_or (free_places before.outboxes) key.span.shard 0 → IsOk sent)
+    × MatchResult sent
+    (λ left. (after.delay ≡ delay_begun before.delay)
+    × (sent_lists after ≡ slice_set (sent_lists before) key.span.shard (slice_index_or (sent_lists before) key.span.shard [] ++ key ∷ [])))
+    (λ back. (back ≡ key) × HasNoneWaiting after × (sent_lists after ≡ sent_lists before)))
 
--- keys were taken from the seat's rings, in order, and each was freed
+-- keys were taken from the seat's rings, in order, and each was freed; what the seat has left to others is handed over
 abbrev pub Tends : SeatState → Result Tended AllocError → SeatState → Type 0
 Tends before answer after =
-    IfOk answer (λ tended. (told : List Receipt) × IsTended before.limits.ring_capacity before after [] told tended.count) × KeepsEnds before after
+    IfOk answer (λ tended. (told : List Receipt) × IsTended before.limits.ring_capacity before after [] told tended.count)
+    × HasNoneWaiting after × KeepsEnds before after × (sending_side after ≡ sending_side before)
+
+-- nothing is asked of the seat
+abbrev pub Stays : SeatState → Unit {0} → SeatState → Type 0
+Stays before answer after = after ≡ before
+
+-- what C reads where nothing is asked: this status, where there is a seat
+abbrev pub SaysInstead : ℕ → ℕ → Option (Unit {0}) → Type 0
+SaysInstead status says None = says ≡ no_core
+SaysInstead status says (Some stayed) = says ≡ status
+
+-- nothing is asked of the seat, and this is answered in place of what it would say
+abbrev pub AsksNothing : ℕ → Option Share → ℕ → Option Share → Type 0
+AsksNothing status old says new = (answer : _) × Asks Stays old answer new × SaysInstead status says answer
 
 -- what C reads of a put
 abbrev pub SaysPut : PutReply → Option (Result (Result (Key × Receipt) PutError) Busy) → Type 0
@@ -102,10 +115,10 @@ SaysPut says (Some (Err b)) = says.status ≡ busy
 SaysPut says (Some (Ok (Ok put))) = (says.status ≡ done) × IsKeyOf says.key put.0
 SaysPut says (Some (Ok (Err error))) = says.status ≡ put_status error
 
--- words that are no object are refused, and nothing changes; others are put by the seat
+-- words that are no object are refused; others are put by the seat
 abbrev pub PutsWords : Option Share → List ℕ → PutReply → Option Share → Type 0
 PutsWords old words says new =
-    (IsObject words × ((answer : _) × Asks (Puts words) old answer new × SaysPut says answer)) ⊎ ((IsObject words → ⊥) × (says.status ≡ config) × (new ≡ old))
+    (IsObject words × ((answer : _) × Asks (Puts words) old answer new × SaysPut says answer)) ⊎ ((IsObject words → ⊥) × AsksNothing config old says.status new)
 
 -- what C reads of a look-up, and what it leaves in the room
 abbrev pub SaysGot : List RawWord → WordsReply → List RawWord → Option (Result (Option Value × Receipt) Busy) → Type 0
@@ -115,7 +128,7 @@ SaysGot room says room_new (Some (Ok got)) = SaysWords room says room_new got.0
 
 -- the words of the key with these numbers, if it is live
 abbrev pub GetsWords : Option Share → RawKey → List RawWord → WordsReply → List RawWord → Option Share → Type 0
-GetsWords old raw room says room_new new = (IsNoKey raw × (says.status ≡ none) × (says.len ≡ 0) × (room_new ≡ room) × (new ≡ old))
+GetsWords old raw room says room_new new = (IsNoKey raw × AsksNothing none old says.status new × (says.len ≡ 0) × (room_new ≡ room))
     ⊎ ((key : Key) × IsKeyOf raw key × ((answer : _) × Asks (Gets key) old answer new × SaysGot room says room_new answer))
 
 -- what C reads of a free
@@ -127,7 +140,7 @@ SaysFreed says (Some (Ok (false, receipt))) = says ≡ none
 
 -- the key with these numbers is freed, if it is live
 abbrev pub FreesKey : Option Share → RawKey → ℕ → Option Share → Type 0
-FreesKey old raw says new = (IsNoKey raw × (says ≡ none) × (new ≡ old)) ⊎ ((key : Key) × IsKeyOf raw key × ((answer : _) × Asks (Frees key) old answer new × SaysFreed says answer))
+FreesKey old raw says new = (IsNoKey raw × AsksNothing none old says new) ⊎ ((key : Key) × IsKeyOf raw key × ((answer : _) × Asks (Frees key) old answer new × SaysFreed says answer))
 
 -- what C reads of a set
 abbrev pub SaysSet : ℕ → Option (Result (Result (Bool × Receipt) AllocError) Busy) → Type 0
@@ -137,10 +150,10 @@ SaysSet says (Some (Ok (Err error))) = says ≡ out_of_memory
 SaysSet says (Some (Ok (Ok (true, receipt)))) = says ≡ done
 SaysSet says (Some (Ok (Ok (false, receipt)))) = says ≡ none
 
--- words that are no object are refused, and nothing changes; to others the key with these numbers is set, if it is live and its object has as many words
+-- words that are no object are refused; to others the key with these numbers is set, if it is live and its object has as many words
 abbrev pub SetsWords : Option Share → RawKey → List ℕ → ℕ → Option Share → Type 0
-SetsWords old raw words says new = ((IsObject words → ⊥) × (says ≡ config) × (new ≡ old))
-    ⊎ ((IsNoKey raw × (says ≡ none) × (new ≡ old))
+SetsWords old raw words says new = ((IsObject words → ⊥) × AsksNothing config old says new)
+    ⊎ ((IsObject words × (IsNoKey raw × AsksNothing none old says new))
     ⊎ (IsObject words × ((key : Key) × IsKeyOf raw key × ((answer : _) × Asks (Sets key words) old answer new × SaysSet says answer))))
 
 -- what C reads of a retirement
@@ -179,7 +192,7 @@ SaysLeft says (Some (Some (Err back))) = says ≡ ring_full
 
 -- the key with these numbers is left to its shard's thread, if there is one
 abbrev pub LeavesKey : Option Share → RawKey → ℕ → Option Share → Type 0
-LeavesKey old raw says new = (IsNoKey raw × (says ≡ none) × (new ≡ old)) ⊎ ((key : Key) × IsKeyOf raw key × ((answer : _) × Asks (FreesLater key) old answer new × SaysLeft says answer))
+LeavesKey old raw says new = (IsNoKey raw × AsksNothing none old says new) ⊎ ((key : Key) × IsKeyOf raw key × ((answer : _) × Asks (FreesLater key) old answer new × SaysLeft says answer))
 
 -- what C reads of a hand-over
 abbrev pub SaysHandedOver : ℕ → Option (Unit {0}) → Type 0

@@ -1,5 +1,5 @@
 -- What the calls on the steward of an arena do.
-use Rattle.std.specs.Prelude.{◌≡◌, ℕ, Bool, true, false, Option, Some, None, Result, Ok, Err, IfOk, OnErr, OnOk, MatchOption, is_some}
+use Rattle.std.specs.Prelude.{◌≡◌, ℕ, Bool, true, false, Option, Some, None, Result, Ok, Err, IfOk, OnErr, OnOk, MatchOption, is_some, ◌++◌, ◌∷◌, [], ◌⊎◌, vec_len}
 use Rattle.std.specs.declared.alloc.AllocError.{AllocError}
 use Rattle.certificate.specs.declared.certificate.Certificate.{Certificate}
 use Rattle.certificate.specs.Plans.{IsBestPlanOf, IsShortOf}
@@ -14,23 +14,49 @@ use Rattle.teurlaks_c.specs.declared.replies.MarkReply.{MarkReply}
 use Rattle.teurlaks_c.specs.declared.replies.StepReply.{StepReply}
 use Rattle.teurlaks_c.specs.declared.replies.ArenaTotalsReply.{ArenaTotalsReply}
 use Rattle.teurlaks_c.specs.declared.share.Share.{Share}
-use Rattle.teurlaks_c.specs.declared.share.Share.TheVariants.{Steward}
+use Rattle.teurlaks_c.specs.declared.share.Share.TheVariants.{Seat, Steward}
 use Rattle.teurlaks_c.specs.declared.share.SharedSteward.{SharedSteward}
+use Rattle.std.specs.Arc.{arc_value}
 use Rattle.teurlaks_c.specs.Calls.{CountsOf, kept}
 use Rattle.teurlaks_c.specs.Keys.{IsSpanOf}
-use Rattle.teurlaks_c.specs.Status.{busy, done, no_core, no_pair_left, no_plan, out_of_memory, mark_status, status_of_outcome}
+use Rattle.teurlaks_c.specs.Status.{busy, done, has_core, no_core, no_pair_left, no_plan, out_of_memory, mark_status, status_of_outcome, none}
 
 -- the handle has no steward
 abbrev pub HasNoSteward : Option Share → Type 0
 HasNoSteward (Some (Steward steward)) = ⊥
 HasNoSteward held = Unit {0}
 
--- a steward of a new arena of these numbers, with no plan and no certificate
+-- a steward of a new arena of these numbers, with a seat for each shard, no plan and no certificate
 pub record HasNewArena (limits : Limits) (new : Option Share) : Type 0 where
   pub steward : SharedSteward
   pub is : new ≡ Some (Steward steward)
   pub state : steward.steward ≡ record { limits = limits; plan = None }
   pub last : steward.last ≡ None
+  pub seats : vec_len steward.seats ≡ limits.shards
+
+-- a seat is handed out, which leaves the steward's list; or there is none left; or memory is refused, and the list is as it was
+abbrev pub HandsOutOf : SharedSteward → ℕ → SharedSteward → Option Share → Type 0
+HandsOutOf before says after (Some (Seat seat)) =
+    (says ≡ done) × (arc_value seat.arena ≡ arc_value before.arena) × (before.seats.items ≡ after.seats.items ++ seat.seat ∷ [])
+HandsOutOf before says after None =
+    (((says ≡ none) × (vec_len before.seats ≡ 0)) ⊎ (says ≡ out_of_memory)) × (after.seats.items ≡ before.seats.items)
+HandsOutOf before says after (Some (Steward other)) = ⊥
+
+-- the steward of the handle hands out a seat, or has none left, or is refused memory; its arena, plan and certificate stay
+pub record HandsOutSeat (old : Option Share) (says : ℕ) (new out : Option Share) : Type 0 where
+  pub before : SharedSteward
+  pub after : SharedSteward
+  pub before_is : old ≡ Some (Steward before)
+  pub after_is : new ≡ Some (Steward after)
+  pub arena_is : after.arena ≡ before.arena
+  pub state : after.steward ≡ before.steward
+  pub last : after.last ≡ before.last
+  pub handed : HandsOutOf before says after out
+
+-- a seat of the handle's steward is left to another handle, where that has nothing and the first one has a steward
+abbrev pub LeavesSeat : (old out : Option Share) → ℕ → (new out_new : Option Share) → Type 0
+LeavesSeat old (Some taken) says new out_new = (says ≡ has_core) × (new ≡ old) × (out_new ≡ Some taken)
+LeavesSeat old None says new out_new = (HasNoSteward old × (says ≡ no_core) × (new ≡ old) × (out_new ≡ None)) ⊎ HandsOutSeat old says new out_new
 
 -- the steward of the handle does this and answers that, at the same arena and with the same seats to give out
 pub record AtSteward {Answer : Type 0} (does : SharedSteward → Answer → SharedSteward → Type 0) (old : Option Share) (answer : Answer) (new : Option Share) : Type 0 where
@@ -38,6 +64,8 @@ pub record AtSteward {Answer : Type 0} (does : SharedSteward → Answer → Shar
   pub after : SharedSteward
   pub before_is : old ≡ Some (Steward before)
   pub after_is : new ≡ Some (Steward after)
+  pub arena_is : after.arena ≡ before.arena
+  pub seats_are : after.seats ≡ before.seats
   pub did : does before answer after
 
 -- the handle's steward is asked, where it has one

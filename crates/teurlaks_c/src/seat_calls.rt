@@ -2,7 +2,7 @@
 ghost use Rattle.std.specs.Prelude.{◌≡◌, MatchOption};
 ghost use Rattle.arena.specs.Delays.{HandsOver};
 ghost use Rattle.arena.specs.Seats.{SeatState};
-ghost use Rattle.teurlaks_c.specs.SeatCalls.{Asks, AtSeat, Ends, Frees, FreesLater, Gets, HasNoSeat, IsOneCall, Puts, Retires, Sets, Tends};
+ghost use Rattle.teurlaks_c.specs.SeatCalls.{Asks, AtSeat, Ends, Frees, FreesLater, Gets, HasNoSeat, IsOneCall, Puts, Retires, Sets, Stays, Tends};
 
 use crate::share::{Shards, Share, SharedSeat};
 use crate::share_handle::ShareHandle;
@@ -60,6 +60,18 @@ fn ask_seat<C: SeatCall>(shared: &mut SharedSeat, call: &C) -> C::Answer
     ensures does { C.does call.now shared.old.seat result shared.new.seat }
 {
     call.ask(&mut shared.seat, &*shared.arena)
+}
+
+/// Nothing, where what is asked for names no key or no object.
+#[derive(Drop)]
+pub(crate) struct Stay;
+
+impl SeatCall for Stay {
+    type Answer = ();
+
+    ghost does = { λ call. Stays };
+
+    fn ask(&self, _seat: &mut Seat, _arena: &Shards) {}
 }
 
 /// A put of the object.

@@ -1,7 +1,7 @@
 // The calls of a seat, for the thread that has its handle.
 ghost use Rattle.std.specs.Prelude.{◌≡◌};
 ghost use Rattle.arena.specs.Delays.{HandsOver};
-ghost use Rattle.teurlaks_c.specs.SeatCalls.{Asks, Ends, FreesKey, GetsWords, IsOneCall, LeavesKey, PutsWords, Retires, SaysAdopted, SaysEnded, SaysFreed, SaysGot, SaysHandedOver, SaysLeft, SaysPut, SaysRetired, SaysSet, SaysTended, SaysTrimmed, SetsWords, Tends};
+ghost use Rattle.teurlaks_c.specs.SeatCalls.{Asks, AsksNothing, Ends, FreesKey, GetsWords, IsOneCall, LeavesKey, PutsWords, Retires, SaysAdopted, SaysEnded, SaysFreed, SaysGot, SaysHandedOver, SaysLeft, SaysPut, SaysRetired, SaysSet, SaysTended, SaysTrimmed, SetsWords, Tends};
 ghost use Rattle.teurlaks_c.specs.Status.{adopt_status, put_status, receive_status};
 ghost use Rattle.teurlaks_c.specs.Words.{words_of};
 
@@ -12,7 +12,7 @@ use crate::replies::{
     AdoptReply, PutReply, RawKey, RawWord, RetireReply, TendReply, TrimReply, WordsReply,
 };
 use crate::seat_calls::{
-    Adopt, End, Free, FreeLater, Get, HandOver, Put, Retire, Set, Tend, Trim, at_seat,
+    Adopt, End, Free, FreeLater, Get, HandOver, Put, Retire, Set, Stay, Tend, Trim, at_seat,
 };
 use crate::share_handle::ShareHandle;
 use crate::status::{
@@ -38,7 +38,7 @@ pub extern "C" fn teurlaks_seat_put_words(
 {
     let Some(value) = object_of(words) else {
         return PutReply {
-            status: CONFIG,
+            status: or_no_seat(CONFIG, alloc, handle),
             key: no_key(),
         };
     };
@@ -59,7 +59,7 @@ pub extern "C" fn teurlaks_seat_get_words(
 {
     let Some(key) = key_of(key) else {
         return WordsReply {
-            status: NONE,
+            status: or_no_seat(NONE, alloc, handle),
             len: 0,
         };
     };
@@ -78,10 +78,10 @@ pub extern "C" fn teurlaks_seat_set_words(
     ensures { SetsWords handle.old.share key (words_of words.now) result handle.new.share }
 {
     let Some(value) = object_of(words) else {
-        return CONFIG;
+        return or_no_seat(CONFIG, alloc, handle);
     };
     let Some(key) = key_of(key) else {
-        return NONE;
+        return or_no_seat(NONE, alloc, handle);
     };
     set_reply(at_seat(alloc, handle, &Set { key, value }))
 }
@@ -92,7 +92,7 @@ pub extern "C" fn teurlaks_seat_free(alloc: Global, handle: &mut ShareHandle, ke
     ensures { FreesKey handle.old.share key result handle.new.share }
 {
     let Some(key) = key_of(key) else {
-        return NONE;
+        return or_no_seat(NONE, alloc, handle);
     };
     freed_reply(at_seat(alloc, handle, &Free { key }))
 }
@@ -152,7 +152,7 @@ pub extern "C" fn teurlaks_seat_free_later(
     ensures { LeavesKey handle.old.share key result handle.new.share }
 {
     let Some(key) = key_of(key) else {
-        return NONE;
+        return or_no_seat(NONE, alloc, handle);
     };
     left_reply(at_seat(alloc, handle, &FreeLater { key }))
 }
@@ -177,6 +177,16 @@ pub extern "C" fn teurlaks_seat_tend(alloc: Global, handle: &mut ShareHandle) ->
         × SaysTended result answer }
 {
     tended_reply(at_seat(alloc, handle, &Tend))
+}
+
+// That status, where the handle has a seat.
+fn or_no_seat(status: u32, alloc: Global, handle: &mut ShareHandle) -> u32
+    ensures { AsksNothing status handle.old.share result handle.new.share }
+{
+    match at_seat(alloc, handle, &Stay) {
+        Some(()) => status,
+        None => NO_CORE,
+    }
 }
 
 // What C reads of a deferred free.

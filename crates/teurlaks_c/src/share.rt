@@ -1,6 +1,6 @@
 // What the handle of a thread has of an arena.
 ghost use Rattle.std.specs.Arc.{arc_value};
-ghost use Rattle.std.specs.Prelude.{◌≡◌};
+ghost use Rattle.std.specs.Prelude.{◌≡◌, All};
 
 use crate::held::Witness;
 use arena::{Arena, NoGate, Seat, Steward};
@@ -33,6 +33,7 @@ pub struct SharedSteward {
     /// The seats that no thread has.
     pub seats: Vec<Seat>,
     pub ghost fits: { steward.limits ≡ (arc_value arena).limits },
+    pub ghost seats_fit: { All (λ seat. seat.limits ≡ (arc_value arena).limits) seats.items },
 }
 
 /// What a handle has: a seat or a steward.

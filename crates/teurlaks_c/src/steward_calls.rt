@@ -26,7 +26,9 @@ pub(crate) trait StewardCall {
 
     /// Makes the call.
     fn ask(&self, shared: &mut SharedSteward) -> Self::Answer
-        ensures { does self.now shared.old result shared.new };
+        ensures arena { shared.new.arena ≡ shared.old.arena }
+        ensures seats { shared.new.seats ≡ shared.old.seats }
+        ensures does { does self.now shared.old result shared.new };
 }
 
 /// Asks the steward of the handle, where it has one.

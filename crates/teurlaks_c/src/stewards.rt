@@ -1,14 +1,17 @@
 // An arena from its beginning to its end, and the calls of its steward.
-ghost use Rattle.std.specs.Prelude.{◌≡◌, ◌↔◌, ◌≢◌, Err, IfErr, IfOk, IsErrOf, IsSome, MatchBool, None, ◌<◌, vec_capacity, vec_len};
+ghost use Rattle.std.specs.Prelude.{◌≡◌, ◌↔◌, ◌≢◌, IfErr, IfOk, IsErrOf, IsSome, MatchBool, None, vec_len, MatchResult, Some};
+ghost use Rattle.std.specs.Arc.{arc_value};
 ghost use Rattle.arena.specs.declared.error.OpenError.TheVariants as open_error;
+ghost use Rattle.teurlaks_c.specs.declared.share.SharedSeat.{SharedSeat};
+ghost use Rattle.teurlaks_c.specs.declared.share.Share.TheVariants as shares;
 ghost use Rattle.marks.specs.Numbers.{AreWithin, limits_of};
 ghost use Rattle.teurlaks_c.specs.Status.{config, has_core, mark_status, status_of_outcome};
-ghost use Rattle.teurlaks_c.specs.StewardCalls.{Asks, Closes, HasNewArena, Keeps, Marks, SaysClosed, SaysMarked, SaysStepped, SaysTotals, TakesStep};
+ghost use Rattle.teurlaks_c.specs.StewardCalls.{Asks, Closes, HandsOutOf, HandsOutSeat, HasNewArena, Keeps, LeavesSeat, Marks, SaysClosed, SaysMarked, SaysStepped, SaysTotals, TakesStep};
 
 use crate::keys::raw_span;
 use crate::meshing::{unmarked, unstepped};
 use crate::replies::{ArenaTotalsReply, MarkReply, StepReply};
-use crate::share::{Share, SharedSeat, SharedSteward};
+use crate::share::{Shards, Share, SharedSeat, SharedSteward};
 use crate::share_handle::ShareHandle;
 use crate::status::{
     BUSY, CONFIG, EMPTIED, HAS_CORE, NO_CORE, NO_PAIR_LEFT, NO_PLAN, NONE, OK, OUT_OF_MEMORY,
@@ -79,7 +82,7 @@ fn opened(
     ensures new { IfOk result (λ shared. (shared.steward ≡ record {
       limits = limits_of shards page_limit ring_capacity gens;
       plan = None;
-    }) × (shared.last ≡ None)) }
+    }) × (shared.last ≡ None) × (vec_len shared.seats ≡ shards)) }
 {
     let (arena, seats, steward) = Arena::open_with_log(
         alloc,
@@ -117,21 +120,12 @@ pub extern "C" fn teurlaks_steward_seat(
     handle: &mut ShareHandle,
     out: &mut ShareHandle,
 ) -> u32
-    ensures taken { IsSome out.old.share → (result ≡ has_core) × (handle.new.share ≡ handle.old.share) }
-    ensures refused { (result ≡ 0 → ⊥) → out.new.share ≡ out.old.share }
+    ensures { LeavesSeat handle.old.share out.old.share result handle.new.share out.new.share }
 {
     if has_share(alloc, out) {
         return HAS_CORE;
     }
-    let Some(mut share) = replace(handle, ShareHandle::none()).into_box(alloc) else {
-        return NO_CORE;
-    };
-    let seat = match &mut *share {
-        Share::Seat(_) => Err(NO_CORE),
-        Share::Steward(steward) => seat_of(alloc, steward),
-    };
-    *handle = ShareHandle::of(share);
-    match seat {
+    match hand_out(alloc, handle) {
         Ok(seat) => {
             *out = ShareHandle::of(seat);
             OK
@@ -140,43 +134,74 @@ pub extern "C" fn teurlaks_steward_seat(
     }
 }
 
-// A seat that no thread has, in a box of its own, or the status that says why there is none.
-fn seat_of(alloc: Global, steward: &mut SharedSteward) -> Result<Box<Share>, u32>
-    ensures refused { IfErr result (λ status. status ≡ 0 → ⊥) }
-    ensures same { (steward.new.steward ≡ steward.old.steward)
-        × (steward.new.last ≡ steward.old.last) }
+// A seat of the handle's steward, in a box of its own, or the status that says why there is none.
+fn hand_out(alloc: Global, handle: &mut ShareHandle) -> Result<Box<Share>, u32>
+    ensures { MatchResult result
+        (λ seat. HandsOutSeat handle.old.share 0 handle.new.share (Some seat.value))
+        (λ status. LeavesSeat handle.old.share None status handle.new.share None) }
 {
-    let Ok(arena) = Arc::try_clone(&steward.arena) else {
-        return Err(OUT_OF_MEMORY);
+    let Some(mut share) = replace(handle, ShareHandle::none()).into_box(alloc) else {
+        return Err(NO_CORE);
     };
+    let seat = take_seat(alloc, &mut *share);
+    *handle = ShareHandle::of(share);
+    seat
+}
+
+// The same of what is shared.
+fn take_seat(alloc: Global, share: &mut Share) -> Result<Box<Share>, u32>
+    ensures { MatchResult result
+        (λ seat. HandsOutSeat (Some share.old) 0 (Some share.new) (Some seat.value))
+        (λ status. LeavesSeat (Some share.old) None status (Some share.new) None) }
+{
+    match share {
+        Share::Seat(_) => Err(NO_CORE),
+        Share::Steward(steward) => seat_of(alloc, steward),
+    }
+}
+
+// The same of a steward.
+fn seat_of(alloc: Global, steward: &mut SharedSteward) -> Result<Box<Share>, u32>
+    ensures handed { MatchResult result
+        (λ seat. HandsOutOf steward.old 0 steward.new (Some seat.value))
+        (λ status. HandsOutOf steward.old status steward.new None) }
+    ensures same { (steward.new.arena ≡ steward.old.arena)
+        × (steward.new.steward ≡ steward.old.steward) × (steward.new.last ≡ steward.old.last) }
+{
     let Some(seat) = steward.seats.pop() else {
         return Err(NONE);
     };
-    // Each seat is of its arena.
-    if !seat.fits(&*arena) {
-        return Err(NONE);
-    }
-    match Box::new(alloc, Share::Seat(SharedSeat { arena, seat })) {
+    match boxed_seat(alloc, &steward.arena, seat) {
         Ok(share) => Ok(share),
-        Err(failed) => {
-            take_back(&mut steward.seats, failed);
+        Err(seat) => {
+            steward.seats.push_reserved(seat);
             Err(OUT_OF_MEMORY)
         }
     }
 }
 
-// The seat that has no box is one that no thread has again.
-fn take_back(seats: &mut Vec<Seat>, failed: AllocFailed<Share>)
-    requires { vec_len seats.old < vec_capacity seats.old }
+// The seat with a share of the arena, in a box; or the seat, where memory was refused.
+fn boxed_seat(alloc: Global, arena: &Arc<Shards, Global>, seat: Seat) -> Result<Box<Share>, Seat>
+    requires { seat.limits ≡ (arc_value arena.now).limits }
+    ensures ok { IfOk result (λ boxed. (shared : SharedSeat) × (boxed.value ≡ shares.Seat shared)
+        × (arc_value shared.arena ≡ arc_value arena.now) × (shared.seat ≡ seat)) }
+    ensures err { IfErr result (λ back. back ≡ seat) }
 {
-    let AllocFailed { value } = failed;
-    match value {
-        Share::Seat(shared) => {
-            let SharedSeat { arena, seat } = shared;
-            drop(arena);
-            seats.push_reserved(seat);
+    let Ok(arena) = Arc::try_clone(arena) else {
+        return Err(seat);
+    };
+    match Box::new(alloc, Share::Seat(SharedSeat { arena, seat })) {
+        Ok(share) => Ok(share),
+        Err(failed) => {
+            let AllocFailed { value } = failed;
+            match value {
+                Share::Seat(shared) => {
+                    let SharedSeat { seat, .. } = shared;
+                    Err(seat)
+                }
+                Share::Steward(_) => unreachable!(),
+            }
         }
-        Share::Steward(steward) => drop(steward),
     }
 }
 

@@ -8,4 +8,5 @@ returns-in-Ok-new-clause-ok c done = record {
   is = c.of.ensures ∙ ap Some c.in-Ok-new.ensures.ok;
   state = c.in-Ok.ensures.new.0;
   last = c.in-Ok.ensures.new.1;
+  seats = c.in-Ok.ensures.new.2;
 }

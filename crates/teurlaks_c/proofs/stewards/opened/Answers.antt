@@ -1,0 +1,12 @@
+use Rattle.std.proofs.Common.{ap, sym, ◌∙◌}
+use Rattle.teurlaks_c.proofs.HandingOut.{standing-limits}
+use Rattle.teurlaks_c.proofs.stewards.opened.Goals as goal
+
+pub invariant_of-result : goal.invariant_of-result
+invariant_of-result c =
+    let numbers = sym (ap (λ arena. arena.limits) c.in-Ok.ensures.ok) in
+    let opened = c.in_ok-arena.ensures in
+    record {
+      fits = ap (λ s. s.limits) opened.steward ∙ numbers;
+      seats_fit = λ k d below. standing-limits c.in_ok-arena.arena.limits c.args.shards c.in_ok-arena.seats.items opened.standing k d below ∙ numbers;
+    }
