@@ -6,7 +6,7 @@ mod share;
 pub use seat::Seat;
 
 use crate::bytes::MOST_BYTES;
-use crate::core::{done, marked, stepped, Limits, Marked, Stepped, MOST_GROUPS};
+use crate::core::{done, marked, stepped, Limits, Marked, Stepped};
 use crate::raw;
 use crate::refused::Refused;
 use share::{Share, Turn};
@@ -189,8 +189,8 @@ impl<T> Arena<T> {
     }
 
     /// Marks, takes all steps and closes, and says how many folds there were, each of which gave a page back. The mark is that of
-    /// [`Arena::mark_some`]; where it may not have seen all groups, and folds at least a sixteenth of those that it saw of the pool, there is
-    /// another.
+    /// [`Arena::mark_some`]; where it may not have seen all groups, and folds at least a sixteenth of those that it saw of the pool and at
+    /// least one, there is another.
     ///
     /// # Errors
     ///
@@ -199,17 +199,11 @@ impl<T> Arena<T> {
     pub fn mesh(&mut self) -> Result<usize, Refused> {
         let mut gone = 0;
         loop {
-            let Marked {
-                abandoned,
-                owned,
-                folds,
-                ..
-            } = self.mark_some()?;
+            let marked = self.mark_some()?;
             let folded = self.take_steps();
             self.close()?;
             gone += folded?;
-            let sees_all = abandoned.max(owned) < MOST_GROUPS;
-            if sees_all || folds * 16 < abandoned {
+            if !marked.wants_another() {
                 return Ok(gone);
             }
         }

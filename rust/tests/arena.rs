@@ -2,35 +2,15 @@
 
 mod common;
 
+use common::numbered::{Handed, Value};
 use common::Random;
 use std::collections::BTreeMap;
 use std::sync::atomic::{AtomicBool, Ordering};
-use std::sync::{Barrier, Mutex};
+use std::sync::Barrier;
 use std::thread;
 use std::time::Duration;
 use teurlaks::arena::{Arena, Seat, Totals};
 use teurlaks::{Key, Limits, Refused, Stepped};
-
-/// A value whose every word says which it is.
-#[derive(Clone, Copy, Debug, PartialEq)]
-struct Value<const WORDS: usize> {
-    number: u64,
-    words: [u64; WORDS],
-}
-
-impl<const WORDS: usize> Value<WORDS> {
-    fn new(number: u64) -> Value<WORDS> {
-        let words = [number ^ 0x55; WORDS];
-        Value { number, words }
-    }
-
-    fn is_whole(&self) -> bool {
-        *self == Value::new(self.number)
-    }
-}
-
-/// A key with the number of its value, from one thread to another.
-type Handed = Mutex<Vec<(Key, u64)>>;
 
 /// One thread at its seat, with what it expects.
 struct Worker<'i, const WORDS: usize> {
@@ -496,6 +476,23 @@ fn a_plan_goes_with_the_arena() -> Result<(), Refused> {
     drop(arena);
     assert_eq!(there.insert(4).map(|_| there.get(key)), Ok(Some(2)));
     assert_eq!(there.end(), Ok(()));
+    Ok(())
+}
+
+/// Where no group waits in the pool, a mark of as many groups as a plan takes is the last one.
+#[test]
+fn many_groups_and_an_empty_pool() -> Result<(), Refused> {
+    let mut arena = Arena::open(limits(5, 1_024))?;
+    let mut seats = (0..5).map(|_| arena.seat()).collect::<Result<Vec<_>, _>>()?;
+    for seat in &mut seats {
+        let keys: Vec<Key> = (0..1_000 * 16)
+            .map(|number| seat.insert([number as u64; 32]))
+            .collect::<Result<_, _>>()?;
+        assert!(keys.iter().step_by(2).all(|key| seat.free(*key)));
+    }
+    assert!(arena.mark_some()?.owned >= 4_096);
+    arena.close()?;
+    assert_eq!(arena.mesh(), Ok(0));
     Ok(())
 }
 

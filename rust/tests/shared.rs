@@ -2,36 +2,16 @@
 
 mod common;
 
+use common::numbered::{Handed, Value};
 use common::Random;
 use std::collections::{BTreeMap, BTreeSet};
 use std::ops::Range;
 use std::panic::{catch_unwind, AssertUnwindSafe};
 use std::sync::atomic::{AtomicBool, Ordering};
-use std::sync::{Barrier, Mutex};
+use std::sync::Barrier;
 use std::thread;
 use std::time::Duration;
 use teurlaks::{Key, Limits, Refused, SharedStore};
-
-/// A value whose every word says which it is.
-#[derive(Clone, Copy, Debug, PartialEq)]
-struct Value<const WORDS: usize> {
-    number: u64,
-    words: [u64; WORDS],
-}
-
-impl<const WORDS: usize> Value<WORDS> {
-    fn new(number: u64) -> Value<WORDS> {
-        let words = [number ^ 0x55; WORDS];
-        Value { number, words }
-    }
-
-    fn is_whole(&self) -> bool {
-        *self == Value::new(self.number)
-    }
-}
-
-/// A key with the number of its value, from one thread to another.
-type Handed = Mutex<Vec<(Key, u64)>>;
 
 /// One thread with what it expects.
 struct Worker<'s, const WORDS: usize> {

@@ -7,7 +7,7 @@ use crate::raw;
 use crate::refused::Refused;
 
 /// How many groups a plan may have on a side.
-pub(crate) const MOST_GROUPS: usize = 4096;
+const MOST_GROUPS: usize = 4096;
 
 /// What a mark saw and planned.
 #[derive(Clone, Copy, Debug, PartialEq, Eq, Hash)]
@@ -20,6 +20,15 @@ pub struct Marked {
     pub folds: usize,
     /// How many groups are in the short set, which shows that.
     pub short_set: usize,
+}
+
+impl Marked {
+    /// Whether another mark is worth its time: this one may not have seen all groups, and folds at least a sixteenth of those that it saw of the
+    /// pool, and at least one.
+    pub(crate) fn wants_another(&self) -> bool {
+        let sees_all = self.abandoned.max(self.owned) < MOST_GROUPS;
+        !sees_all && self.folds > 0 && self.folds * 16 >= self.abandoned
+    }
 }
 
 /// What a step did.
@@ -226,17 +235,11 @@ impl Core {
     pub(crate) fn mesh_with(&mut self, mut folded: impl FnMut(Group, Group)) -> Result<usize, Refused> {
         let before = self.pages();
         loop {
-            let Marked {
-                abandoned,
-                owned,
-                folds,
-                ..
-            } = self.mark_some()?;
+            let marked = self.mark_some()?;
             let taken = self.take_steps(&mut folded);
             self.close()?;
             taken?;
-            let sees_all = abandoned.max(owned) < MOST_GROUPS;
-            if sees_all || folds * 16 < abandoned.max(1) {
+            if !marked.wants_another() {
                 return Ok(before - self.pages());
             }
         }

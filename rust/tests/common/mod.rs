@@ -1,6 +1,8 @@
 //! What several tests share, of which not each asks for all.
 #![allow(dead_code)]
 
+pub mod numbered;
+
 /// Marsaglia's xorshift.
 pub struct Random(pub u64);
 
@@ -12,8 +14,6 @@ impl Random {
         self.0
     }
 
-    // Not each test asks for it.
-    #[allow(dead_code)]
     pub fn below(&mut self, count: usize) -> usize {
         ((self.next() >> 11) % count as u64) as usize
     }
