@@ -27,7 +27,7 @@ pub struct Place {
 #[derive(Drop)]
 pub struct Directory {
     // By the rank of the guest.
-    places: HashMap<u32, Place>,
+    places: HashMap<u64, Place>,
     // For how many more entries the table has room.
     room: usize,
 }
@@ -127,7 +127,7 @@ impl Directory {
 }
 
 // Inserts where there is room, which needs no memory.
-fn insert_reserved(places: &mut HashMap<u32, Place>, guest: u32, place: Place)
+fn insert_reserved(places: &mut HashMap<u64, Place>, guest: u64, place: Place)
     requires { 0 < hash.spare places.old }
     ensures updates { hash.Updates nat_eq places.old places.new guest (Some place) }
     ensures spare { hash.spare places.old ≤ hash.spare places.new + 1 }

@@ -7,7 +7,7 @@ pub const MOST_SHARDS: u32 = 64;
 pub const MOST_SPANS: u32 = 1024;
 
 /// How many span ids there are: the rank of an id is below this.
-pub const ALL_IDS: u32 = MOST_SHARDS * MOST_SPANS;
+pub const ALL_IDS: u64 = MOST_SHARDS as u64 * MOST_SPANS as u64;
 
 /// How many pages one shard has at most.
 pub const MOST_PAGES: usize = 1024;
