@@ -245,7 +245,8 @@ struct teurlaks_arena_totals_reply {
     size_t live;
 };
 
-/* Leaves the steward of a new arena to a handle that has nothing, where it answers TEURLAKS_OK; the numbers are those of teurlaks_new. */
+/* Leaves the steward of a new arena to a handle that has nothing, where it answers TEURLAKS_OK; the numbers are those of teurlaks_new.
+ * A shard of an arena opens 1,024 pages at most in its life. */
 uint32_t teurlaks_arena_open(struct teurlaks_share_handle *out, uint32_t shards, uint32_t page_limit, uint32_t ring_capacity, uint32_t gens);
 
 /* Leaves a seat that no handle has had to `out`, which has nothing: TEURLAKS_NONE where the steward has no further one. */
