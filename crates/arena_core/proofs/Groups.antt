@@ -57,7 +57,6 @@ pub record IsCall (before after : ShardState) : Type 0 where
   pub number_is : after.number ≡ before.number
   pub page_limit_is : after.page_limit ≡ before.page_limit
   pub gens_is : after.gens ≡ before.gens
-  pub ended_is : after.ended ≡ before.ended
   pub opened_more : before.opened ≤ after.opened
   pub spans : (id : SpanId) → times_in id after + own id before ≡ times_in id before + own id after
   pub strays_are : sum_in (strays before.gens) after ≡ sum_in (strays before.gens) before
@@ -109,7 +108,6 @@ IsCall-Puts before after value key at (running, inl (index, group, room, span_is
   number_is = ap (λ (s : ShardState). s.number) after_is;
   page_limit_is = ap (λ (s : ShardState). s.page_limit) after_is;
   gens_is = ap (λ (s : ShardState). s.gens) after_is;
-  ended_is = ap (λ (s : ShardState). s.ended) after_is;
   opened_more = omega (arith, ap (λ (s : ShardState). s.opened) after_is);
   spans = λ id.
       let same = sum_in-with_head (named id) before after index group (with_put group.head key.slot value) (with_object group.page (class_of value) key.slot value) room.here refl (ap (λ (s : ShardState). s.groups) after_is) in
@@ -121,7 +119,6 @@ IsCall-Puts before after value key at (running, inr (full, pages, spans, (shard_
   number_is = ap (λ (s : ShardState). s.number) after_is;
   page_limit_is = ap (λ (s : ShardState). s.page_limit) after_is;
   gens_is = ap (λ (s : ShardState). s.gens) after_is;
-  ended_is = ap (λ (s : ShardState). s.ended) after_is;
   opened_more = omega (arith, ap (λ (s : ShardState). s.opened) after_is);
   spans = λ id.
       let one : sum_by (named id) (spans_of opened) ≡ cond {A = ℕ} (eqb before.number id.shard && eqb before.opened id.serial) 1 0 =
@@ -146,7 +143,6 @@ IsCall-ChangesSpan before after changes = record {
   number_is = ap (λ (s : ShardState). s.number) changes.after_is;
   page_limit_is = ap (λ (s : ShardState). s.page_limit) changes.after_is;
   gens_is = ap (λ (s : ShardState). s.gens) changes.after_is;
-  ended_is = ap (λ (s : ShardState). s.ended) changes.after_is;
   opened_more = omega (arith, ap (λ (s : ShardState). s.opened) changes.after_is);
   spans = λ id. omega (arith, ap (own id) changes.after_is, named_still id);
   strays_are = kept (strays before.gens) (ap (λ n. cond {A = ℕ} (eqb n before.gens) 0 1) changes.same.gens_is);

@@ -131,21 +131,22 @@ impl<L: Log> Core<L> {
     }
 
     /// Takes the event and answers it. The replies to puts, look-ups, sets, frees, deferred frees and settlings are those of
-    /// a plain map of keys; ends, retirements, trims, adoptions, marks, steps and closes leave the map that the core shows as it is.
+    /// a plain map of keys; ends, begins, retirements, trims, adoptions, marks, steps and closes leave the map that the core shows as it is.
     ///
     /// A refused event changes nothing. Of several causes that hold, the first of these is answered:
     ///
-    /// | Refusal | Put | Set | End | Retire | Trim | Adopt | Mark | Step |
-    /// |---|---|---|---|---|---|---|---|---|
-    /// | [`Refusal::PagesSpent`] | the shard needs a page that it may not have | | | | | the shard has as many groups as it may have pages | | |
-    /// | [`Refusal::Ended`] | the shard has ended | | the shard has ended | the shard has ended | | the shard has ended | | |
-    /// | [`Refusal::PlanOpen`] | | | the shard has a closed group | the shard has a closed group | | a plan is open | a plan is open | |
-    /// | [`Refusal::TooMany`] | | | | | | | a side has more than 4,096 groups | |
-    /// | [`Refusal::NothingToAdopt`] | | | | | | no group of the pool has a page | | |
-    /// | [`Refusal::Config`] | there is no such shard | | there is no such shard | there is no such shard | there is no such shard | there is no such shard | | |
-    /// | [`Refusal::OutOfMemory`] | an allocation was refused | an allocation was refused | an allocation was refused | an allocation was refused | | an allocation was refused | an allocation was refused | an allocation was refused; the pair stays next |
+    /// | Refusal | Put | Set | End | Begin | Retire | Trim | Adopt | Mark | Step |
+    /// |---|---|---|---|---|---|---|---|---|---|
+    /// | [`Refusal::PagesSpent`] | the shard needs a page that it may not have | | | | | | the shard has as many groups as it may have pages | | |
+    /// | [`Refusal::Ended`] | the shard has ended | | the shard has ended | | the shard has ended | | the shard has ended | | |
+    /// | [`Refusal::Running`] | | | | the shard has not ended | | | | | |
+    /// | [`Refusal::PlanOpen`] | | | the shard has a closed group | | the shard has a closed group | | a plan is open | a plan is open | |
+    /// | [`Refusal::TooMany`] | | | | | | | | a side has more than 4,096 groups | |
+    /// | [`Refusal::NothingToAdopt`] | | | | | | | no group of the pool has a page | | |
+    /// | [`Refusal::Config`] | there is no such shard | | there is no such shard | there is no such shard | there is no such shard | there is no such shard | there is no such shard | | |
+    /// | [`Refusal::OutOfMemory`] | an allocation was refused | an allocation was refused | an allocation was refused | | an allocation was refused | | an allocation was refused | an allocation was refused | an allocation was refused; the pair stays next |
     ///
-    /// A look-up, a free and a close are never refused, and take no memory. A set is refused only in place of a yes. A deferred
+    /// A look-up, a free and a close are never refused, and take no memory. A set is refused only in place of a yes. A begin, a deferred
     /// free and a settling take no memory either: [`Refusal::RingFull`] comes exactly where the ring of the deferred free holds
     /// as many keys as it may, and [`Refusal::Config`] exactly where there is no such worker or shard.
     ///
@@ -182,6 +183,10 @@ impl<L: Log> Core<L> {
             },
             Event::End { shard } => match self.end(shard) {
                 Ok(()) => Reply::ShardEnded,
+                Err(refusal) => Reply::Refused(refusal),
+            },
+            Event::Begin { shard } => match self.begin(shard) {
+                Ok(()) => Reply::ShardBegun,
                 Err(refusal) => Reply::Refused(refusal),
             },
             Event::Retire { shard, most } => match self.retire(shard, most) {
