@@ -59,7 +59,7 @@ pub enum Refusal {
     #[error("out of memory: free some and try again")]
     OutOfMemory,
     /// A put or an adoption needs a further group, and the shard has as many as it may have pages; or a put needs a new span,
-    /// and the shard has opened all its 1,024.
+    /// and the shard has opened as many as it may.
     #[error("the shard may have no further page: free keys, or ask another shard")]
     PagesSpent,
     /// The shard has ended.

@@ -10,6 +10,7 @@ mod classes;
 mod plans;
 mod retiring;
 mod setting;
+mod spans;
 mod trimming;
 
 fn key(shard: u32, serial: u32, slot: u8, generation: u32) -> Option<Key> {
