@@ -91,10 +91,11 @@ impl Spans {
     /// The home of the span, to be changed, where it has one.
     #[inline]
     pub fn find_mut(&mut self, span: Span) -> Option<&mut Home> {
-        let mut place = self.first_place(span);
-        if self.places.get(place)?.as_ref()?.span != span {
-            place = self.place_of(span)?;
+        let place = self.first_place(span);
+        if self.places.get(place)?.as_ref()?.span == span {
+            return self.places[place].as_mut();
         }
+        let place = self.place_of(span)?;
         self.places[place].as_mut()
     }
 
