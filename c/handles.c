@@ -15,6 +15,11 @@
 
 static const struct teurlaks_word one = {1, 2};
 
+_Static_assert(sizeof(struct teurlaks_key) == 12 && _Alignof(struct teurlaks_key) == 4, "a key has no padding");
+
+/* The key of the first object of a core. */
+static const struct teurlaks_key least = {.generation = 1};
+
 /* What each call says of a handle without a core. The key has numbers that some key has, or none that any has. */
 static void each_call(struct teurlaks_handle *none, struct teurlaks_key key) {
     struct teurlaks_word words[16] = {{7, 7}};
@@ -47,9 +52,9 @@ static void each_call(struct teurlaks_handle *none, struct teurlaks_key key) {
 }
 
 static void each_key(struct teurlaks_handle *none) {
-    each_call(none, (struct teurlaks_key){0, 0, 0, 0});
-    each_call(none, (struct teurlaks_key){0, 0, 0, 1});
-    each_call(none, (struct teurlaks_key){255, 255, 65535, 4294967295u});
+    each_call(none, (struct teurlaks_key){0});
+    each_call(none, least);
+    each_call(none, (struct teurlaks_key){.serial = UINT32_MAX, .generation = UINT32_MAX, .shard = 255, .slot = 255, .reserved = 65535});
     WANT(!none || !none->at);
 }
 
@@ -95,7 +100,7 @@ static void each_call_of_a_share(struct teurlaks_share_handle *none, struct teur
  * nothing more. */
 static void shares(void) {
     struct teurlaks_share_handle steward = {0}, seat = {0};
-    each_call_of_a_share(&seat, (struct teurlaks_key){0, 0, 0, 1});
+    each_call_of_a_share(&seat, least);
     WANT(teurlaks_arena_open(&steward, 0, 4, 1, 9) == TEURLAKS_CONFIG && !steward.at);
     WANT(teurlaks_arena_open(&steward, 2, 4, 1, 9) == TEURLAKS_OK && teurlaks_arena_open(&steward, 0, 4, 1, 9) == TEURLAKS_HAS_CORE);
     WANT(teurlaks_steward_seat(&steward, &seat) == TEURLAKS_OK && teurlaks_steward_seat(&steward, &seat) == TEURLAKS_HAS_CORE);

@@ -20,9 +20,9 @@
 #include <stddef.h>
 #include <stdint.h>
 
-#define TEURLAKS_VERSION "0.1.0"
+#define TEURLAKS_VERSION "0.2.0"
 #define TEURLAKS_VERSION_MAJOR 0
-#define TEURLAKS_VERSION_MINOR 1
+#define TEURLAKS_VERSION_MINOR 2
 #define TEURLAKS_VERSION_PATCH 0
 
 #ifdef __cplusplus
@@ -57,12 +57,14 @@ struct teurlaks_handle {
     uint8_t *at;
 };
 
-/* The name of one stored object, 8 bytes. Any numbers may be given: a key that is not live finds nothing. */
+/* The name of one stored object, 12 bytes, none of them padding: two keys are the same where memcmp finds their bytes the same. Any numbers may be
+ * given: a key that is not live finds nothing, and none is live whose last two bytes are not zeros. */
 struct teurlaks_key {
+    uint32_t serial;     /* of its span, among those that the shard has opened */
+    uint32_t generation; /* from 1 on: all zeros are no key */
     uint8_t shard;
     uint8_t slot;
-    uint16_t serial;
-    uint32_t generation;
+    uint16_t reserved; /* 0 */
 };
 
 /* The name of a span, and of the group that it heads. */

@@ -46,7 +46,7 @@ static inline void teurlaks_tested_drop(struct teurlaks_handle *handle) {
 }
 
 static inline struct teurlaks_put_reply teurlaks_tested_put(struct teurlaks_handle *handle, uint32_t shard, struct teurlaks_word value) {
-    struct teurlaks_put_reply none = {TEURLAKS_NO_CORE, {0, 0, 0, 0}};
+    struct teurlaks_put_reply none = {TEURLAKS_NO_CORE, {0, 0, 0, 0, 0}};
     return handle ? teurlaks_put(handle, shard, value) : none;
 }
 
@@ -56,7 +56,7 @@ static inline struct teurlaks_get_reply teurlaks_tested_get(struct teurlaks_hand
 }
 
 static inline struct teurlaks_put_reply teurlaks_tested_put_words(struct teurlaks_handle *handle, uint32_t shard, const struct teurlaks_word *words, size_t words_len) {
-    struct teurlaks_put_reply none = {TEURLAKS_NO_CORE, {0, 0, 0, 0}};
+    struct teurlaks_put_reply none = {TEURLAKS_NO_CORE, {0, 0, 0, 0, 0}};
     struct teurlaks_word no_word = {0, 0};
     return handle ? teurlaks_put_words(handle, shard, words ? words : &no_word, words ? words_len : 0) : none;
 }
@@ -81,7 +81,7 @@ static inline uint32_t teurlaks_tested_free(struct teurlaks_handle *handle, stru
 }
 
 static inline struct teurlaks_next_reply teurlaks_tested_next(struct teurlaks_handle *handle, struct teurlaks_key after) {
-    struct teurlaks_next_reply none = {TEURLAKS_NO_CORE, {0, 0, 0, 0}};
+    struct teurlaks_next_reply none = {TEURLAKS_NO_CORE, {0, 0, 0, 0, 0}};
     return handle ? teurlaks_next(handle, after) : none;
 }
 
@@ -151,7 +151,7 @@ static inline void teurlaks_tested_share_drop(struct teurlaks_share_handle *hand
 }
 
 static inline struct teurlaks_put_reply teurlaks_tested_seat_put_words(struct teurlaks_share_handle *handle, const struct teurlaks_word *words, size_t words_len) {
-    struct teurlaks_put_reply none = {TEURLAKS_NO_CORE, {0, 0, 0, 0}};
+    struct teurlaks_put_reply none = {TEURLAKS_NO_CORE, {0, 0, 0, 0, 0}};
     struct teurlaks_word no_word = {0, 0};
     return handle ? teurlaks_seat_put_words(handle, words ? words : &no_word, words ? words_len : 0) : none;
 }

@@ -9,10 +9,11 @@ pub struct Handle {
 #[repr(C)]
 #[derive(Clone, Copy, PartialEq, Eq, PartialOrd, Ord, Hash)]
 pub struct RawKey {
+    pub serial: u32,
+    pub generation: u32,
     pub shard: u8,
     pub slot: u8,
-    pub serial: u16,
-    pub generation: u32,
+    pub reserved: u16,
 }
 
 #[repr(C)]

@@ -394,7 +394,7 @@ fn frees_come_later() -> Result<(), Refused> {
     assert_eq!(arena.totals().live, 12);
     assert_eq!(thread::spawn(move || there.tend()).join().unwrap(), Ok(8));
     assert_eq!(keys.iter().filter(|key| here.contains(**key)).count(), 4);
-    let elsewhere = Key::from_bits(9 << 56 | 1).unwrap();
+    let elsewhere = Key::from_bits(9 << 72 | 1).unwrap();
     assert_eq!(here.free_later(elsewhere), Err(Refused::Config));
     assert!(!here.free(elsewhere) && here.get(elsewhere).is_none());
     Ok(())

@@ -211,7 +211,7 @@ impl Core {
     /// - [`Refused::PlanOpen`]: a plan is open;
     /// - [`Refused::OutOfMemory`]: memory was refused to a mark or to a step; what was folded before stays so, and no plan is open.
     pub fn mesh(&mut self) -> Result<usize, Refused> {
-        self.mesh_with(|_, _| ())
+        self.mesh_with(Core::step)
     }
 
     /// Gives back the pages on which no key is live, folds sparse pages onto others until that hardly gives any back, and says how many
@@ -259,12 +259,15 @@ impl Core {
         (0..self.shards()).filter_map(|shard| self.trim(shard).ok()).sum()
     }
 
-    /// As `mesh`, and tells of each fold when it is done.
-    pub(crate) fn mesh_with(&mut self, mut folded: impl FnMut(Group, Group)) -> Result<usize, Refused> {
+    /// As `mesh`, by that step.
+    pub(crate) fn mesh_with(
+        &mut self,
+        mut step: impl FnMut(&mut Core) -> Result<Stepped, Refused>,
+    ) -> Result<usize, Refused> {
         let before = self.pages();
         loop {
             let marked = self.mark_some()?;
-            let taken = self.take_steps(&mut folded);
+            let taken = self.take_steps(&mut step);
             self.close()?;
             taken?;
             if !marked.wants_another() {
@@ -273,14 +276,9 @@ impl Core {
         }
     }
 
-    fn take_steps(&mut self, folded: &mut impl FnMut(Group, Group)) -> Result<(), Refused> {
-        loop {
-            match self.step()? {
-                Stepped::NoPairLeft => return Ok(()),
-                Stepped::Folded(abandoned, owned) => folded(abandoned, owned),
-                Stepped::Emptied(..) => {}
-            }
-        }
+    fn take_steps(&mut self, step: &mut impl FnMut(&mut Core) -> Result<Stepped, Refused>) -> Result<(), Refused> {
+        while step(self)? != Stepped::NoPairLeft {}
+        Ok(())
     }
 
     /// The text of the last mark's certificate, which shows that no plan has more folds, or `None` before the first mark. `meshrun check`
