@@ -1,7 +1,8 @@
 -- Spans without those in which no slot is live.
-use Rattle.std.proofs.Common.{zero, suc, ◌≡◌, ℕ, ◌+◌, Bool, true, false, not, cond, List, [], ◌∷◌, Option, Some, None, MatchOption, filter, length, slice_get, ◌∙◌, ap, sym, subst, refl, arith}
+use Rattle.std.proofs.Common.{zero, suc, ◌≡◌, ℕ, ◌+◌, Bool, true, false, not, cond, List, [], ◌∷◌, ◌++◌, Option, Some, None, MatchOption, filter, length, map, slice_get, ◌∙◌, ap, sym, subst, refl, arith}
 use Rattle.std.specs.FinSet.{empty, empty_of_len, len, union}
 use Rattle.std.proofs.lemmas.Bool.{ltb-false}
+use Rattle.std.proofs.lemmas.List.{length-append}
 use Rattle.std.proofs.lemmas.List.Filters.{length-filter_both}
 use Rattle.bitmap.specs.Slots.{AreDisjoint}
 use Rattle.span.specs.Log.{live_slots}
@@ -9,12 +10,12 @@ use Rattle.span.specs.Ids.{same_span}
 use Rattle.span.specs.State.{SpanState}
 use Rattle.span.specs.declared.id.SpanId.{SpanId}
 use Rattle.page.specs.Words.{Words}
-use Rattle.groups.specs.Dead.{dead_among, is_dead, is_live, live_among, without_dead}
-use Rattle.groups.specs.Group.{Group, spans_of}
+use Rattle.groups.specs.Dead.{dead_among, dead_guests, is_dead, is_live, live_among, without_dead}
+use Rattle.groups.specs.Group.{Group, spans_in, spans_of}
 use Rattle.groups.specs.Sound.{AreStored, IsSoundGroup}
 use Rattle.groups.specs.Spans.{AreApart, union_of}
 use Rattle.groups.proofs.GroupSpans.{times}
-use Rattle.groups.proofs.Lists.{count-cons, same_some}
+use Rattle.groups.proofs.Lists.{count-append, count-cons, same_some}
 use Rattle.groups.proofs.Unions.{union-empty, union-swap}
 
 -- what a filter leaves
@@ -107,3 +108,34 @@ module _ {Closed : Type 0} (group : Group Closed) where
       by_page : (page : Option Words) → MatchOption page (union_of (spans_of group) ≡ empty) (AreStored (spans_of group)) → MatchOption page (union_of (spans_of (without_dead group)) ≡ empty) (AreStored (spans_of (without_dead group)))
       by_page None none = occupied-without_dead ∙ none
       by_page (Some words) stored = λ place span there. let was = before-without_dead place span there in stored was.0 span was.1
+
+-- groups that lose such guests
+
+module _ {Closed : Type 0} where
+  -- each id stands in the groups as often as among what is left and what went
+  pub times-without_dead : (id : SpanId) (groups : List (Group Closed)) → times id (spans_in (map without_dead groups)) + times id (dead_guests groups) ≡ times id (spans_in groups)
+  times-without_dead id [] = refl
+  times-without_dead id (group ∷ groups) =
+      let p = λ (s : SpanState). same_span s.id id in
+      omega (
+        arith,
+        times-without_dead id groups,
+        times-live id group.guests,
+        count-cons p group.head (live_among group.guests ++ spans_in (map without_dead groups)),
+        count-cons p group.head (group.guests ++ spans_in groups),
+        count-append p (live_among group.guests) (spans_in (map without_dead groups)),
+        count-append p group.guests (spans_in groups),
+        count-append p (dead_among group.guests) (dead_guests groups),
+      )
+
+  pub length-without_dead : (groups : List (Group Closed)) → length (spans_in (map without_dead groups)) + length (dead_guests groups) ≡ length (spans_in groups)
+  length-without_dead [] = refl
+  length-without_dead (group ∷ groups) =
+      omega (
+        arith,
+        length-without_dead groups,
+        length-live group.guests,
+        length-append (live_among group.guests) (spans_in (map without_dead groups)),
+        length-append group.guests (spans_in groups),
+        length-append (dead_among group.guests) (dead_guests groups),
+      )
