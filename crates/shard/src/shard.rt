@@ -28,6 +28,7 @@ use std::alloc::{AllocError, Global};
 use std::marker::Model;
 
 mod folds;
+mod forgetting;
 mod logs;
 mod moves;
 mod replacing;
