@@ -1,22 +1,13 @@
-use Rattle.std.proofs.Common.{◌≡◌, None, refl, subst, sym}
-use Rattle.std.specs.Prelude.{Result, IsOkUnless, IsSome, Err}
+use Rattle.std.proofs.Common.{None, refl, subst, sym}
+use Rattle.std.specs.Prelude.{IsSome}
 use Rattle.std.proofs.lemmas.Bool.{false≢true}
-use Rattle.span.specs.declared.id.SpanId.{SpanId}
 use Rattle.page.specs.Words.{Words}
-use Rattle.abandoned.specs.declared.error.AdoptError.{AdoptError}
-use Rattle.abandoned.specs.declared.error.AdoptError.TheVariants.{NothingToAdopt, OutOfMemory}
-use Rattle.abandoned.proofs.pool.Pool.adopt.Goals as goal
-
--- an answer that is no error, or says only that an allocation was refused, does not say that there is nothing to adopt
-found_some : (answer : Result SpanId AdoptError) → IsOkUnless answer OutOfMemory → answer ≡ Err NothingToAdopt → ⊥
-found_some answer only nothing =
-    let same : NothingToAdopt ≡ OutOfMemory = subst (λ (r : Result SpanId AdoptError). IsOkUnless r OutOfMemory) nothing only in
-    cc
+use Rattle.abandoned.proofs.pool.Pool.adoptable.Goals as goal
 
 pub returns-clause-nothing : goal.returns-clause-nothing
 returns-clause-nothing g c =
     let lowest = c.in-Some.ensures.lowest in (
-      (λ nothing. absurd (found_some c.move_to.result c.move_to.ensures.only nothing)),
+      (λ said. absurd cc),
       (λ causes. let paged : IsSome {T = Words} None = subst IsSome (causes.3 lowest.0 lowest.1 lowest.2.here) lowest.2.paged in absurd cc),
     )
 
