@@ -113,7 +113,6 @@ impl<L: Log> Core<L> {
         if !are_within(shards, page_limit, ring_capacity, gens) {
             return Err(CoreError::Config);
         }
-        let whereabouts = Whereabouts::new(alloc, shards)?;
         let plan = CurrentPlan::new(alloc)?;
         let rings = Rings::new(alloc, shards, ring_capacity)?;
         let shards = new_shards(alloc, shards, page_limit, gens)?;
@@ -125,7 +124,7 @@ impl<L: Log> Core<L> {
             shards,
             pool: Pool::with_log(alloc),
             plan,
-            whereabouts,
+            whereabouts: Whereabouts::new(alloc),
             rings,
         })
     }
