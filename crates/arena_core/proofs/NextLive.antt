@@ -5,6 +5,7 @@ use Rattle.std.proofs.lemmas.Bool.{cases_eq, cases_lt}
 use Rattle.std.proofs.lemmas.Option.{none-some}
 use Rattle.span.specs.declared.id.SpanId.{SpanId}
 use Rattle.span.specs.declared.key.Key.{Key}
+use Rattle.span.specs.declared.limits.TheConstants.{ALL_IDS, MOST_SPANS}
 use Rattle.span.specs.Ids.{rank}
 use Rattle.span.specs.Log.{Value}
 use Rattle.span.specs.Order.{HasNoneBeyond, HasNoneFrom, IsAfter, IsFirstFrom, IsNextLive}
@@ -14,7 +15,7 @@ use Rattle.shard.specs.State.{ShardState}
 use Rattle.groups.proofs.Lists.{found_at, same_some}
 use Rattle.groups.proofs.Ranks.{id_from_rank}
 use Rattle.abandoned.specs.Shown.{shown as shown_by_pool}
-use Rattle.arena_core.specs.Moved.{KnowsMoved, named}
+use Rattle.arena_core.specs.Moved.{Entries, KnowsMoved, named}
 use Rattle.arena_core.specs.NextLive.{HasNoneBetween, HasNoneIn, IsFirstLive}
 use Rattle.arena_core.specs.Sound.{HasSoundGroups}
 use Rattle.arena_core.specs.State.{CoreState, has_span, opened_by, shard_with, shown, shown_at}
@@ -179,7 +180,7 @@ module _ (core : CoreState) (sound : HasSoundGroups core) where
   first-pool id slot (Some key) owned its = IsFirstFrom-pool id slot key its
 
 -- a span stands in the shard that opened it, in the one that is named, or in none
-module _ (shards : List ShardState) (entries : List (Option ℕ)) (knows : KnowsMoved shards entries) (id : SpanId) (slot : ℕ) (home : HasNoneIn shards id.shard id slot) where
+module _ (shards : List ShardState) (entries : Entries) (knows : KnowsMoved shards entries) (id : SpanId) (slot : ℕ) (home : HasNoneIn shards id.shard id slot) where
   foreign : (number : ℕ) → ((named entries id ≡ Some number) → HasNoneIn shards number id slot) → HasNoneIn shards number id slot
   foreign number moved shard here key of above = elim (cases_eq number id.shard) [
     | inl same ↦ home shard (ap (slice_get shards) (sym same) ∙ here) key of above

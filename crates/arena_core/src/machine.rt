@@ -129,7 +129,6 @@ impl<L: Log> Core<L> {
     {
         let count = limits.shards();
         let ring_capacity = limits.ring_capacity();
-        let whereabouts = Whereabouts::new(alloc, count)?;
         let plan = CurrentPlan::new(alloc)?;
         let rings = Rings::new(alloc, count, ring_capacity)?;
         let shards = new_shards(alloc, limits)?;
@@ -142,7 +141,7 @@ impl<L: Log> Core<L> {
             shards,
             pool: Pool::with_log(alloc),
             plan,
-            whereabouts,
+            whereabouts: Whereabouts::new(alloc),
             rings,
         })
     }

@@ -7,6 +7,7 @@ ghost use Rattle.arena_core.specs.declared.event.Event.TheVariants as event;
 ghost use Rattle.arena_core.specs.declared.reply.Reply.TheVariants as reply;
 
 use super::Core;
+use super::plans::spans_to_come;
 use crate::reply::{Refusal, adopt_refusal, end_refusal};
 use span::{Log, SpanId};
 
@@ -111,7 +112,7 @@ impl<L: Log> Core<L> {
     }
 
     // Moves the pool's group of lowest head that has a page to the shard of this number, and notes that its spans are
-    // there.
+    // there. The room for the notes is made before anything changes.
     pub(super) fn adopt(&mut self, number: u32) -> Result<SpanId, Refusal>
         ensures exact { MatchResult result
             (λ head. CoreStep self.old (event.Adopt number) (reply.Adopted head) self.new)
@@ -122,6 +123,11 @@ impl<L: Log> Core<L> {
         let Some(shard) = self.shards.get_mut(number as usize) else {
             return Err(self.no_adopter(number));
         };
+        let coming = match self.pool.adoptable(shard) {
+            Ok(head) => head,
+            Err(error) => return Err(adopt_refusal(error)),
+        };
+        self.whereabouts.reserve(spans_to_come(&self.pool, coming))?;
         let head = match self.pool.adopt(shard) {
             Ok(head) => head,
             Err(error) => return Err(adopt_refusal(error)),

@@ -1,5 +1,6 @@
 use Rattle.std.proofs.Common.{◌≡◌, ◌*◌, ◌+◌, arith, subst}
 use Rattle.span.specs.Ids.{rank}
+use Rattle.span.specs.declared.limits.TheConstants.{MOST_SPANS}
 use Rattle.arena_core.specs.NextLive.{HasNoneBetween}
 use Rattle.arena_core.specs.State.{shown}
 use Rattle.arena_core.proofs.NextLive.{HasNoneBetween-more, HasNoneBetween-opened, HasNoneBetween-span, IsFirstLive-span}

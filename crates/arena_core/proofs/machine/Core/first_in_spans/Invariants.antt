@@ -1,4 +1,5 @@
 use Rattle.std.proofs.Common.{◌*◌, ◌+◌}
+use Rattle.span.specs.declared.limits.TheConstants.{MOST_SPANS}
 use Rattle.arena_core.specs.NextLive.{HasNoneBetween}
 use Rattle.arena_core.specs.State.{shown}
 use Rattle.span.specs.declared.limits.TheConstants.{MOST_SPANS}

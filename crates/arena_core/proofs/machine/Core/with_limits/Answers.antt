@@ -1,13 +1,10 @@
-use Rattle.std.proofs.Common.{◌≡◌, ◌*◌, None, ap, length, subst, sym, ◌∙◌}
-use Rattle.std.proofs.lemmas.List.{length-replicate}
-use Rattle.std.proofs.lemmas.List.FromFn.{length-map-range_with_len}
+use Rattle.std.proofs.Common.{◌≡◌, ap, length, subst, sym, ◌∙◌}
 use Rattle.arena_core.specs.Moved.{KnowsMoved}
 use Rattle.arena_core.specs.Rings.{new_rings}
 use Rattle.arena_core.specs.Sound.{IsSound}
-use Rattle.arena_core.specs.State.{CoreState, new_core, new_shard, shown}
+use Rattle.arena_core.specs.State.{CoreState, new_core, shown}
 use Rattle.arena_core.proofs.FieldsKept.{KnowsMoved-new}
 use Rattle.arena_core.proofs.Start.{HasSoundGroups-new_core, IsSound-new_core, new_core-fields, shown-new_core}
-use Rattle.span.specs.declared.limits.TheConstants.{MOST_SPANS}
 use Rattle.arena_core.proofs.machine.Core.with_limits.Goals as goal
 
 -- the fields show as a new core of these numbers
@@ -22,11 +19,9 @@ sound g c = IsSound-new_core c.args.limits (HasSoundGroups-new_core c.args.limit
 
 pub invariant_of-result : goal.invariant_of-result
 invariant_of-result g c =
-    let count : length c.in_ok-shards.shards.items ≡ c.args.limits.shards = ap length c.in_ok-shards.ensures.shards ∙ length-map-range_with_len (new_shard c.args.limits.page_limit c.args.limits.span_limit c.args.limits.gens) 0 c.args.limits.shards in
     record {
       sound = subst IsSound (sym (made g c)) (sound g c);
-      entries = ap length c.in_ok-whereabouts.ensures ∙ length-replicate (MOST_SPANS * c.shards-count.result) None ∙ ap (λ n. MOST_SPANS * n) (c.shards-count.ensures.shards ∙ sym count);
-      moved = subst (λ shards. KnowsMoved shards c.in_ok-whereabouts.whereabouts) (sym c.in_ok-shards.ensures.shards) (KnowsMoved-new c.args.limits c.in_ok-whereabouts.whereabouts);
+      moved = subst (λ shards. KnowsMoved shards c.new-3.result.entries) (sym c.in_ok-shards.ensures.shards) (KnowsMoved-new c.args.limits c.new-3.result.entries);
     }
 
 pub returns-clause-ok : goal.returns-clause-ok
