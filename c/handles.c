@@ -36,6 +36,7 @@ static void each_call(struct teurlaks_handle *none, struct teurlaks_key key) {
     WANT(teurlaks_next(none, key).status == TEURLAKS_NO_CORE);
     WANT(teurlaks_totals(none).pages == 0 && teurlaks_totals(none).live == 0);
     WANT(teurlaks_end(none, 0) == TEURLAKS_NO_CORE);
+    WANT(teurlaks_begin(none, 0) == TEURLAKS_NO_CORE);
     WANT(teurlaks_retire(none, 0, 9).status == TEURLAKS_NO_CORE && teurlaks_retire(none, 0, 9).count == 0);
     WANT(teurlaks_trim(none, 0).status == TEURLAKS_NO_CORE && teurlaks_trim(none, 0).count == 0);
     WANT(teurlaks_adopt(none, 0).status == TEURLAKS_NO_CORE);
@@ -71,6 +72,7 @@ static void each_call_of_a_seat(struct teurlaks_share_handle *none, struct teurl
     WANT(teurlaks_seat_hand_over(none) == TEURLAKS_NO_CORE);
     WANT(teurlaks_seat_tend(none).status == TEURLAKS_NO_CORE && teurlaks_seat_tend(none).count == 0);
     WANT(teurlaks_seat_end(none) == TEURLAKS_NO_CORE);
+    WANT(teurlaks_seat_begin(none) == TEURLAKS_NO_CORE);
     WANT(teurlaks_seat_retire(none, 9).status == TEURLAKS_NO_CORE && teurlaks_seat_retire(none, 9).count == 0);
     WANT(teurlaks_seat_trim(none).status == TEURLAKS_NO_CORE && teurlaks_seat_trim(none).count == 0);
     WANT(teurlaks_seat_adopt(none).status == TEURLAKS_NO_CORE);

@@ -29,8 +29,8 @@
 extern "C" {
 #endif
 
-/* What a call answers; teurlaks_strerror has it in words. From TEURLAKS_OUT_OF_MEMORY to TEURLAKS_CONFIG it is refused, and so it is where
- * the handle is wrong (TEURLAKS_NO_CORE, TEURLAKS_HAS_CORE): nothing has changed then. */
+/* What a call answers; teurlaks_strerror has it in words. From TEURLAKS_OUT_OF_MEMORY to TEURLAKS_CONFIG it is refused, and so it is with
+ * TEURLAKS_RUNNING and where the handle is wrong (TEURLAKS_NO_CORE, TEURLAKS_HAS_CORE): nothing has changed then. */
 enum {
     TEURLAKS_OK = 0,               /* done, or found */
     TEURLAKS_NONE = 1,             /* the key is not live; there is no certificate yet */
@@ -48,7 +48,8 @@ enum {
     TEURLAKS_RING_FULL = 13,       /* a ring holds as many keys as it may: teurlaks_seat_free_later alone answers it */
     TEURLAKS_NO_CORE = 14,         /* the handle has not what the call is for: none was made, or it was dropped; or there is NULL in its place */
     TEURLAKS_HAS_CORE = 15,        /* a handle that is to be given a core, a seat or a steward has one */
-    TEURLAKS_BUSY = 16             /* another thread has a lock that the call needs: nothing has changed, try again */
+    TEURLAKS_BUSY = 16,            /* another thread has a lock that the call needs: nothing has changed, try again */
+    TEURLAKS_RUNNING = 17          /* the shard that is to begin again has not ended */
 };
 
 /* Where a core is. Begin with `struct teurlaks_handle core = {0};`. */
@@ -189,8 +190,12 @@ struct teurlaks_next_reply teurlaks_next(struct teurlaks_handle *handle, struct 
 /* How much is kept. */
 struct teurlaks_totals_reply teurlaks_totals(struct teurlaks_handle *handle);
 
-/* Ends the shard: its groups go to the pool, with their pages, and it takes no object again. */
+/* Ends the shard: its groups go to the pool, with their pages, and it takes no object until it begins again. */
 uint32_t teurlaks_end(struct teurlaks_handle *handle, uint32_t shard);
+
+/* Lets a shard that has ended run again, for a new thread. All keys stay what they are, and none is given out twice. TEURLAKS_RUNNING where it has
+ * not ended, TEURLAKS_CONFIG where there is no such shard, and no other refusal. Takes no memory. */
+uint32_t teurlaks_begin(struct teurlaks_handle *handle, uint32_t shard);
 
 /* Moves up to `most` groups of the shard to the pool, with their pages, and the shard goes on: those with the fewest live keys, of those
  * that have one. Fewer than `most` go only where no group with a live key is left. TEURLAKS_PLAN_OPEN where a group of the shard is in
@@ -247,7 +252,8 @@ struct teurlaks_arena_totals_reply {
     size_t live;
 };
 
-/* Leaves the steward of a new arena to a handle that has nothing, where it answers TEURLAKS_OK; the numbers are those of teurlaks_new. */
+/* Leaves the steward of a new arena to a handle that has nothing, where it answers TEURLAKS_OK; the numbers are those of teurlaks_new.
+ * A shard of an arena opens 1,024 pages at most in its life. */
 uint32_t teurlaks_arena_open(struct teurlaks_share_handle *out, uint32_t shards, uint32_t page_limit, uint32_t ring_capacity, uint32_t gens);
 
 /* Leaves a seat that no handle has had to `out`, which has nothing: TEURLAKS_NONE where the steward has no further one. */
@@ -282,6 +288,9 @@ struct teurlaks_tend_reply teurlaks_seat_tend(struct teurlaks_share_handle *hand
 
 /* As teurlaks_end, of the seat's shard. */
 uint32_t teurlaks_seat_end(struct teurlaks_share_handle *handle);
+
+/* As teurlaks_begin, of the seat's shard, which ended before the seat went to another thread. */
+uint32_t teurlaks_seat_begin(struct teurlaks_share_handle *handle);
 
 /* As teurlaks_retire, of the seat's shard. */
 struct teurlaks_retire_reply teurlaks_seat_retire(struct teurlaks_share_handle *handle, size_t most);

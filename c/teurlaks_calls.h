@@ -30,6 +30,7 @@ static inline const char *teurlaks_strerror(uint32_t status) {
     case TEURLAKS_NO_CORE: return "the handle has not what the call is for: none was made, or it was dropped";
     case TEURLAKS_HAS_CORE: return "the handle has something already: drop it first";
     case TEURLAKS_BUSY: return "another thread has a lock that the call needs: try again";
+    case TEURLAKS_RUNNING: return "the shard has not ended: end it before it begins again";
     default: return "no status of this library";
     }
 }
@@ -91,6 +92,10 @@ static inline struct teurlaks_totals_reply teurlaks_tested_totals(struct teurlak
 
 static inline uint32_t teurlaks_tested_end(struct teurlaks_handle *handle, uint32_t shard) {
     return handle ? teurlaks_end(handle, shard) : (uint32_t)TEURLAKS_NO_CORE;
+}
+
+static inline uint32_t teurlaks_tested_begin(struct teurlaks_handle *handle, uint32_t shard) {
+    return handle ? teurlaks_begin(handle, shard) : (uint32_t)TEURLAKS_NO_CORE;
 }
 
 static inline struct teurlaks_retire_reply teurlaks_tested_retire(struct teurlaks_handle *handle, uint32_t shard, size_t most) {
@@ -183,6 +188,10 @@ static inline uint32_t teurlaks_tested_seat_end(struct teurlaks_share_handle *ha
     return handle ? teurlaks_seat_end(handle) : (uint32_t)TEURLAKS_NO_CORE;
 }
 
+static inline uint32_t teurlaks_tested_seat_begin(struct teurlaks_share_handle *handle) {
+    return handle ? teurlaks_seat_begin(handle) : (uint32_t)TEURLAKS_NO_CORE;
+}
+
 static inline struct teurlaks_retire_reply teurlaks_tested_seat_retire(struct teurlaks_share_handle *handle, size_t most) {
     struct teurlaks_retire_reply none = {TEURLAKS_NO_CORE, 0};
     return handle ? teurlaks_seat_retire(handle, most) : none;
@@ -229,6 +238,7 @@ static inline struct teurlaks_arena_totals_reply teurlaks_tested_steward_totals(
 #define teurlaks_next teurlaks_tested_next
 #define teurlaks_totals teurlaks_tested_totals
 #define teurlaks_end teurlaks_tested_end
+#define teurlaks_begin teurlaks_tested_begin
 #define teurlaks_retire teurlaks_tested_retire
 #define teurlaks_trim teurlaks_tested_trim
 #define teurlaks_adopt teurlaks_tested_adopt
@@ -248,6 +258,7 @@ static inline struct teurlaks_arena_totals_reply teurlaks_tested_steward_totals(
 #define teurlaks_seat_hand_over teurlaks_tested_seat_hand_over
 #define teurlaks_seat_tend teurlaks_tested_seat_tend
 #define teurlaks_seat_end teurlaks_tested_seat_end
+#define teurlaks_seat_begin teurlaks_tested_seat_begin
 #define teurlaks_seat_retire teurlaks_tested_seat_retire
 #define teurlaks_seat_trim teurlaks_tested_seat_trim
 #define teurlaks_seat_adopt teurlaks_tested_seat_adopt

@@ -186,6 +186,12 @@ static void tour(void) {
     AGAIN(put, put.status, teurlaks_put(&core, 1, (struct teurlaks_word){3, 0}));
     WANT(put.status == TEURLAKS_OK && put.key.serial == 0 && teurlaks_totals(&core).pages == 1);
     WANT(teurlaks_get(&core, put.key).value.low == 3);
+    /* Shard 0, which ended, begins again: what it gives out was never given out. */
+    WANT(teurlaks_begin(&core, 2) == TEURLAKS_CONFIG && teurlaks_begin(&core, 1) == TEURLAKS_RUNNING);
+    WANT(teurlaks_begin(&core, 0) == TEURLAKS_OK && teurlaks_begin(&core, 0) == TEURLAKS_RUNNING);
+    AGAIN(other, other.status, teurlaks_put(&core, 0, word(4)));
+    WANT(other.status == TEURLAKS_OK && other.key.shard == 0 && other.key.serial == 1 && other.key.generation == 1);
+    WANT(teurlaks_get(&core, first.key).status == TEURLAKS_NONE && teurlaks_get(&core, other.key).value.low == 4);
     teurlaks_drop(&core);
     WANT(!core.at);
 }

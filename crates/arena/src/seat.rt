@@ -353,6 +353,18 @@ impl Seat {
         ended
     }
 
+    /// Begins the worker's shard again, where it has ended, under the shard's lock, as [`Shard::begin`](shard::Shard::begin) does: it
+    /// takes puts and adopts as before, and issues no key twice. It answers whether it had ended; a shard that runs stays as it was.
+    /// Whether it had no clause here can say, since none names what the lock guarded. So a seat can go to a new thread once its shard
+    /// has ended: what waits on its rings waits for that thread. It takes no memory.
+    pub fn begin<G: Gate, L: Log, R: Wait>(&mut self, rt: &R, arena: &Arena<G, L>) -> bool
+        requires { self.old.limits ≡ arena.now.limits }
+        ensures seat { CountsCall self.old self.new }
+    {
+        let Ok(had_ended) = self.begin_within(&Waits { rt }, arena);
+        had_ended
+    }
+
     /// Retires up to `most` groups of the worker's shard, under the pool's lock and the shard's: those with the fewest live keys,
     /// of those that have one at least, go to the pool, and the shard goes on. It gives how many went, which is `most`, or all
     /// that have a live key.
@@ -460,6 +472,23 @@ impl Seat {
         // Where it was refused, the spans are still in the shard.
         arena.words.set_all(&*shard, Place::Shard(self.worker));
         Ok(received)
+    }
+
+    // Begins the worker's shard again, where it has ended.
+    fn begin_within<G: Gate, L: Log, P: Patience>(
+        &mut self,
+        patience: &P,
+        arena: &Arena<G, L>,
+    ) -> Result<bool, P::Busy>
+        requires { self.old.limits ≡ arena.now.limits }
+        ensures seat { OnOk result (CountsCall self.old self.new) }
+        ensures busy { OnErr result (self.new ≡ self.old) }
+    {
+        let worker = self.worker;
+        let mut shard = patience.lock(&arena.shards[worker as usize])?;
+        arena.gate.inside(worker);
+        self.count_call();
+        Ok(shard.begin())
     }
 
     // Retires up to that many groups of the worker's shard.

@@ -12,6 +12,7 @@ use Rattle.arena_core.specs.declared.machine.Core.TheInside.{Inside}
 use Rattle.arena_core.specs.Kept.{state_of}
 use Rattle.arena_core.specs.Sound.{HasSoundGroups, IsSoundAt}
 use Rattle.arena_core.specs.State.{with_pool, with_shard}
+use Rattle.span.specs.declared.limits.TheConstants.{MOST_PAGES, MOST_SHARDS}
 
 -- the fields with another shard at this number
 abbrev pub with_shard_at : {L : Type 0} → Inside L → ℕ → ShardState → Inside L
@@ -23,7 +24,7 @@ with_both_at c number after pool whereabouts = record c { shards = with_item c.s
 
 pub state_of-with_shard_at : {L : Type 0} (c : Inside L) (number : ℕ) (after : ShardState) → state_of (with_shard_at c number after) ≡ with_shard (state_of c) number after
 state_of-with_shard_at c number after = λ i. record {
-  limits = record { shards = length-set c.shards.items number after i; page_limit = c.page_limit; ring_capacity = c.ring_capacity; gens = c.gens };
+  limits = record { shards = length-set c.shards.items number after i; page_limit = c.page_limit; span_limit = c.span_limit; ring_capacity = c.ring_capacity; gens = c.gens };
   shards = set c.shards.items number after;
   pool = c.pool;
   plan = c.plan;
@@ -32,7 +33,7 @@ state_of-with_shard_at c number after = λ i. record {
 
 pub state_of-with_both_at : {L : Type 0} (c : Inside L) (number : ℕ) (after : ShardState) (pool : PoolState) (whereabouts : List (Option ℕ)) → state_of (with_both_at c number after pool whereabouts) ≡ with_pool (with_shard (state_of c) number after) pool
 state_of-with_both_at c number after pool whereabouts = λ i. record {
-  limits = record { shards = length-set c.shards.items number after i; page_limit = c.page_limit; ring_capacity = c.ring_capacity; gens = c.gens };
+  limits = record { shards = length-set c.shards.items number after i; page_limit = c.page_limit; span_limit = c.span_limit; ring_capacity = c.ring_capacity; gens = c.gens };
   shards = set c.shards.items number after;
   pool = pool;
   plan = c.plan;
@@ -61,8 +62,8 @@ no_read c number none = by_order (cases_lt number (vec_len c.shards))
 
 -- a shard has 1,024 pages at most, and 64 shards at most come
 pub record IsFew (index : ℕ) (shard : ShardState) : Type 0 where
-  pub shards : index < 64
-  pub pages : length shard.groups ≤ 1024
+  pub shards : index < MOST_SHARDS
+  pub pages : length shard.groups ≤ MOST_PAGES
 
 pub IsFew-fields : {L : Type 0} (c : Inside L) (shards : List ShardState) (index : ℕ) (shard : ShardState) → HasSoundGroups (state_of c) → shards ≡ c.shards.items → index < length shards → shard ≡ get_or shards index shard → IsFew index shard
 IsFew-fields c shards index shard kept are within read =

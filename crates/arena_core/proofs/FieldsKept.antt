@@ -38,6 +38,7 @@ use Rattle.arena_core.proofs.Trimmed.{IsCall-Trims}
 use Rattle.arena_core.proofs.OneSpan.{ChangesSpan-Frees, ChangesSpan-Sets}
 use Rattle.arena_core.proofs.Retired.{HasGone-Retires}
 use Rattle.arena_core.proofs.Start.{slice_get-range}
+use Rattle.span.specs.declared.limits.TheConstants.{MOST_SPANS}
 
 -- a shard that stands at this number was read there
 pub read-at : {L : Type 0} (c : Inside L) (number : ℕ) (shard : ShardState) → slice_get c.shards.items number ≡ Some shard → IsRead c number shard
@@ -84,14 +85,14 @@ module _ {L : Type 0} (c : Inside L) (kept : IsKept c) (number : ℕ) (before : 
   pub IsKept-with_both_at : (after : ShardState) (pool : PoolState) → GetsNone number before after → IsSound (state_of (with_both_at c number after pool c.whereabouts)) → IsKept (with_both_at c number after pool c.whereabouts)
   IsKept-with_both_at after pool none sound = record {
     sound = sound;
-    entries = kept.entries ∙ ap (λ n. 1024 * n) (sym (length-set c.shards.items number after));
+    entries = kept.entries ∙ ap (λ n. MOST_SPANS * n) (sym (length-set c.shards.items number after));
     moved = KnowsMoved-set c.shards.items c.whereabouts kept.moved number before after (shard-read c number before read) none;
   }
 
   pub IsKept-with_shard_at : (after : ShardState) → GetsNone number before after → IsSound (state_of (with_shard_at c number after)) → IsKept (with_shard_at c number after)
   IsKept-with_shard_at after none sound = record {
     sound = sound;
-    entries = kept.entries ∙ ap (λ n. 1024 * n) (sym (length-set c.shards.items number after));
+    entries = kept.entries ∙ ap (λ n. MOST_SPANS * n) (sym (length-set c.shards.items number after));
     moved = KnowsMoved-set c.shards.items c.whereabouts kept.moved number before after (shard-read c number before read) none;
   }
 
@@ -125,7 +126,7 @@ module _ {L : Type 0} (c : Inside L) (kept : IsKept c) (number : ℕ) (before : 
       → IsSound (state_of (with_step_at c number after pool plan noted)) → IsKept (with_step_at c number after pool plan noted)
   IsKept-noted after pool plan noted head first comes notes sound = record {
     sound = sound;
-    entries = notes.same_length ∙ kept.entries ∙ ap (λ n. 1024 * n) (sym (length-set c.shards.items number after));
+    entries = notes.same_length ∙ kept.entries ∙ ap (λ n. MOST_SPANS * n) (sym (length-set c.shards.items number after));
     moved = KnowsMoved-noted (state_of c) (state_of (with_step_at c number after pool plan noted)) sound.groups number before after (shard-read c number before read) refl c.whereabouts noted head first kept.entries kept.moved comes notes;
   }
 
@@ -133,17 +134,17 @@ module _ {L : Type 0} (c : Inside L) (kept : IsKept c) (number : ℕ) (before : 
 pub IsKept-mapped : {L : Type 0} (c now : Inside L) → IsKept c → now.whereabouts ≡ c.whereabouts → (closed : GroupState → Bool) → now.shards.items ≡ map (with_flags closed) c.shards.items → IsSound (state_of now) → IsKept now
 IsKept-mapped c now kept whereabouts closed items sound = record {
   sound = sound;
-  entries = ap length whereabouts ∙ kept.entries ∙ ap (λ n. 1024 * n) (sym (ap length items ∙ length-map c.shards.items (with_flags closed)));
+  entries = ap length whereabouts ∙ kept.entries ∙ ap (λ n. MOST_SPANS * n) (sym (ap length items ∙ length-map c.shards.items (with_flags closed)));
   moved =
       subst (KnowsMoved now.shards.items) (sym whereabouts)
       (subst (λ shards. KnowsMoved shards c.whereabouts) (sym items) (KnowsMoved-map c.shards.items c.whereabouts kept.moved (with_flags closed) (has_span-flagged closed)));
 }
 
 -- fields that are as they were
-pub IsKept-unchanged : {L : Type 0} (c now : Inside L) → IsKept c → now.page_limit ≡ c.page_limit → now.ring_capacity ≡ c.ring_capacity → now.gens ≡ c.gens → now.plan ≡ c.plan → now.whereabouts ≡ c.whereabouts → now.rings ≡ c.rings → now.shards.items ≡ c.shards.items → now.pool ≡ c.pool → IsKept now
-IsKept-unchanged c now kept pages ring gens plan whereabouts rings items pool =
+pub IsKept-unchanged : {L : Type 0} (c now : Inside L) → IsKept c → now.page_limit ≡ c.page_limit → now.span_limit ≡ c.span_limit → now.ring_capacity ≡ c.ring_capacity → now.gens ≡ c.gens → now.plan ≡ c.plan → now.whereabouts ≡ c.whereabouts → now.rings ≡ c.rings → now.shards.items ≡ c.shards.items → now.pool ≡ c.pool → IsKept now
+IsKept-unchanged c now kept pages spans ring gens plan whereabouts rings items pool =
     let same : state_of now ≡ state_of c = λ i. record {
-      limits = record { shards = length (items i); page_limit = pages i; ring_capacity = ring i; gens = gens i };
+      limits = record { shards = length (items i); page_limit = pages i; span_limit = spans i; ring_capacity = ring i; gens = gens i };
       shards = items i;
       pool = pool i;
       plan = plan i;
@@ -151,7 +152,7 @@ IsKept-unchanged c now kept pages ring gens plan whereabouts rings items pool =
     } in
     record {
       sound = subst IsSound (sym same) kept.sound;
-      entries = ap length whereabouts ∙ kept.entries ∙ ap (λ n. 1024 * n) (sym (ap length items));
+      entries = ap length whereabouts ∙ kept.entries ∙ ap (λ n. MOST_SPANS * n) (sym (ap length items));
       moved = subst (KnowsMoved now.shards.items) (sym whereabouts) (subst (λ shards. KnowsMoved shards c.whereabouts) (sym items) kept.moved);
     }
 

@@ -1,3 +1,4 @@
+pub mod Begun
 pub mod Changes
 pub mod Codes
 pub mod Distinct

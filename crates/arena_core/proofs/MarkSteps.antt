@@ -152,10 +152,10 @@ module _ (old : CoreState) (sound : IsSound old) where
 
 -- the fields
 
-pub state_of-mapped : {L : Type 0} (c now : Inside L) (change : ShardState → ShardState) → now.page_limit ≡ c.page_limit → now.ring_capacity ≡ c.ring_capacity → now.gens ≡ c.gens → now.rings ≡ c.rings → now.shards.items ≡ map change c.shards.items
+pub state_of-mapped : {L : Type 0} (c now : Inside L) (change : ShardState → ShardState) → now.page_limit ≡ c.page_limit → now.span_limit ≡ c.span_limit → now.ring_capacity ≡ c.ring_capacity → now.gens ≡ c.gens → now.rings ≡ c.rings → now.shards.items ≡ map change c.shards.items
     → state_of now ≡ record (state_of c) { shards = map change c.shards.items; pool = now.pool; plan = now.plan }
-state_of-mapped c now change pages ring gens rings items = λ i. record {
-  limits = record { shards = (ap length items ∙ length-map c.shards.items change) i; page_limit = pages i; ring_capacity = ring i; gens = gens i };
+state_of-mapped c now change pages spans ring gens rings items = λ i. record {
+  limits = record { shards = (ap length items ∙ length-map c.shards.items change) i; page_limit = pages i; span_limit = spans i; ring_capacity = ring i; gens = gens i };
   shards = items i;
   pool = now.pool;
   plan = now.plan;
@@ -195,7 +195,7 @@ with_step_at c number after pool plan whereabouts = record c { shards = with_ite
 
 state_of-with_step_at : {L : Type 0} (c : Inside L) (number : ℕ) (after : ShardState) (pool : PoolState) (plan : Option OpenPlan) (whereabouts : List (Option ℕ)) → state_of (with_step_at c number after pool plan whereabouts) ≡ with_plan (with_pool (with_shard (state_of c) number after) pool) plan
 state_of-with_step_at c number after pool plan whereabouts = λ i. record {
-  limits = record { shards = length-set c.shards.items number after i; page_limit = c.page_limit; ring_capacity = c.ring_capacity; gens = c.gens };
+  limits = record { shards = length-set c.shards.items number after i; page_limit = c.page_limit; span_limit = c.span_limit; ring_capacity = c.ring_capacity; gens = c.gens };
   shards = set c.shards.items number after;
   pool = pool;
   plan = plan;
@@ -217,4 +217,4 @@ pub state_of-refused : {L : Type 0} (c : Inside L) (id : SpanId) (number : ℕ) 
 state_of-refused c id number before after pool there read same pool_is =
     let named = shard-named (state_of c) id number before there read in
     let shards : set c.shards.items number after ≡ c.shards.items = ap (set c.shards.items number) same ∙ set-same c.shards.items number before named.0 in
-    λ i. record { limits = record { shards = length (shards i); page_limit = c.page_limit; ring_capacity = c.ring_capacity; gens = c.gens }; shards = shards i; pool = pool_is i; plan = c.plan; rings = c.rings }
+    λ i. record { limits = record { shards = length (shards i); page_limit = c.page_limit; span_limit = c.span_limit; ring_capacity = c.ring_capacity; gens = c.gens }; shards = shards i; pool = pool_is i; plan = c.plan; rings = c.rings }

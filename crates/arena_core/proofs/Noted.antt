@@ -37,6 +37,7 @@ use Rattle.arena_core.proofs.Spans.{has_span-counted, is_named, named as count_n
 use Rattle.arena_core.proofs.Retired.{IsPartOf}
 use Rattle.shard.specs.Sound.{IsSound as IsSoundShard}
 use Rattle.arena_core.proofs.Steps.{has_span-elsewhere, has_span-here, has_span-not}
+use Rattle.span.specs.declared.limits.TheConstants.{MOST_SPANS}
 
 -- the spans of a group, noted one after another
 
@@ -261,7 +262,7 @@ module _ (core : CoreState) (sound : HasSoundGroups core) where
       (shard, at, has_span-here shard id index place group span (sound.shards number shard at).sound (record { group_is = here.here; span_is = there; id_is = is }))
 
 pub KnowsMoved-noted : (old core : CoreState) → HasSoundGroups core → (number : ℕ) (before after : ShardState) → slice_get old.shards number ≡ Some before → core.shards ≡ set old.shards number after
-    → (entries noted : List (Option ℕ)) (head : SpanId) (first : ℕ) → length entries ≡ 1024 * length old.shards → KnowsMoved old.shards entries → Comes before after head first → Notes entries noted after.groups head first number → KnowsMoved core.shards noted
+    → (entries noted : List (Option ℕ)) (head : SpanId) (first : ℕ) → length entries ≡ MOST_SPANS * length old.shards → KnowsMoved old.shards entries → Comes before after head first → Notes entries noted after.groups head first number → KnowsMoved core.shards noted
 KnowsMoved-noted old core sound number before after here shards_are entries noted head first room knows comes notes id k foreign stands = by_number (cases_eq k number)
   where
     there : slice_get core.shards number ≡ Some after

@@ -1,5 +1,5 @@
 -- The entries of a directory, before and after a change of its table.
-use Rattle.std.proofs.Common.{suc, ◌≡◌, ℕ, ◌+◌, ◌-◌, ◌≤◌, cond, List, [], length, drop, slice_get, Option, Some, None, ap, sym, ◌∙◌, refl, inl, inr, arith, eq-eqb, eqb, nat_eq}
+use Rattle.std.proofs.Common.{suc, ◌≡◌, ℕ, ◌+◌, ◌-◌, ◌≤◌, Bool, true, false, not, cond, List, [], ◌∷◌, length, drop, slice_get, Option, Some, None, is_some, ap, sym, ◌∙◌, refl, inl, inr, arith, eq-eqb, eqb, nat_eq}
 use Rattle.std.specs.Cmp.{nat_cmp_total}
 use Rattle.std.specs.FinMap as map
 use Rattle.std.specs.HashMap as hash
@@ -10,6 +10,7 @@ use Rattle.groups.proofs.Maps.{Sets, Sets-number, drop_step, find-lookup, get-in
 use Rattle.span.specs.Ids.{rank}
 use Rattle.span.specs.State.{SpanState}
 use Rattle.span.specs.declared.id.SpanId.{SpanId}
+use Rattle.groups.specs.Dead.{AreEntered, dead_among, is_live}
 use Rattle.groups.specs.Directory.{DirectoryState, entered, struck}
 use Rattle.groups.specs.DirectoryKept.{entries_of}
 use Rattle.groups.specs.declared.directory.Place.{Place}
@@ -90,4 +91,67 @@ module _ (before now : DirectoryState) (spans : List SpanState) (index : ℕ) (i
       let at : index ≡ length spans = omega arith in
       same_directory now (record before { entries = struck before.entries spans })
       (ap (struck now.entries) (sym (ap (λ n. drop n spans) at ∙ drop_all (length spans) spans (omega arith))) ∙ is.entries)
+      is.room
+
+-- the dead ones of the spans before the index are struck; with the others it comes to all of them
+pub record IsStrikingDead (before now : DirectoryState) (spans : List SpanState) (index : ℕ) : Type 0 where
+  pub entries : struck now.entries (dead_among (drop index spans)) ≡ struck before.entries (dead_among spans)
+  pub room : now.room ≡ before.room
+
+module _ (before now : DirectoryState) (spans : List SpanState) (index : ℕ) (is : IsStrikingDead before now spans index) where
+  module _ (span : SpanState) (here : slice_get spans index ≡ Some span) where
+    after : drop (index + 1) spans ≡ drop (suc index) spans
+    after = let next : index + 1 ≡ suc index = omega arith in ap (λ n. drop n spans) next
+
+    by_test : (b : Bool) → is_live span ≡ b → struck now.entries (dead_among (drop index spans)) ≡ struck now.entries (cond (not b) (span ∷ dead_among (drop (suc index) spans)) (dead_among (drop (suc index) spans)))
+    by_test b is_b = ap (λ left. struck now.entries (dead_among left)) (drop_step spans index span here) ∙ ap (λ c. struck now.entries (cond (not c) (span ∷ dead_among (drop (suc index) spans)) (dead_among (drop (suc index) spans)))) is_b
+
+    pub IsStrikingDead-dead : is_live span ≡ false → IsStrikingDead before (record now { entries = map.remove now.entries (rank span.id) }) spans (index + 1)
+    IsStrikingDead-dead dead = record {
+      entries = ap (λ left. struck (map.remove now.entries (rank span.id)) (dead_among left)) after ∙ sym (by_test false dead) ∙ is.entries;
+      room = is.room;
+    }
+
+    pub IsStrikingDead-live : is_live span ≡ true → IsStrikingDead before now spans (index + 1)
+    IsStrikingDead-live live = record {
+      entries = ap (λ left. struck now.entries (dead_among left)) after ∙ sym (by_test true live) ∙ is.entries;
+      room = is.room;
+    }
+
+  pub IsStrikingDead-all : length spans ≤ index → index ≤ length spans → now ≡ record before { entries = struck before.entries (dead_among spans) }
+  IsStrikingDead-all most least =
+      let at : index ≡ length spans = omega arith in
+      same_directory now (record before { entries = struck before.entries (dead_among spans) })
+      (ap (λ left. struck now.entries (dead_among left)) (sym (ap (λ n. drop n spans) at ∙ drop_all (length spans) spans (omega arith))) ∙ is.entries)
+      is.room
+
+-- the guests before the index are entered anew; with the others it comes to all of them, and each has an entry
+pub record IsMoving (before now : DirectoryState) (guests : List SpanState) (head : SpanId) (index : ℕ) : Type 0 where
+  pub entries : entered now.entries (drop index guests) head (index + 1) ≡ entered before.entries guests head 1
+  pub room : now.room ≡ before.room
+  pub there : AreEntered now.entries guests
+
+module _ (before now : DirectoryState) (guests : List SpanState) (head : SpanId) (index : ℕ) (is : IsMoving before now guests head index) where
+  pub IsMoving-next : (guest : SpanState) → slice_get guests index ≡ Some guest → IsMoving before (record now { entries = map.insert now.entries (rank guest.id) (record { head = head; place = index + 1 }) }) guests head (index + 1)
+  IsMoving-next guest here = record {
+    entries =
+        let next : index + 1 ≡ suc index = omega arith in
+        let after : index + 1 + 1 ≡ suc (index + 1) = omega arith in
+        let with_it = map.insert now.entries (rank guest.id) (record { head = head; place = index + 1 }) in
+        ap (entered with_it (drop (index + 1) guests) head) after
+        ∙ ap (λ n. entered with_it (drop n guests) head (suc (index + 1))) next
+        ∙ ap (λ rest. entered now.entries rest head (index + 1)) (sym (drop_step guests index guest here)) ∙ is.entries;
+    room = is.room;
+    there = λ place span at. still (rank span.id) (eqb (rank span.id) (rank guest.id)) refl (is.there place span at);
+  }
+    where
+      still : (number : ℕ) (b : Bool) → eqb number (rank guest.id) ≡ b → is_some (map.get now.entries number) ≡ true → is_some (map.get (map.insert now.entries (rank guest.id) (record { head = head; place = index + 1 })) number) ≡ true
+      still number true same was = ap is_some (get-insert now.entries (rank guest.id) (record { head = head; place = index + 1 }) number ∙ ap (λ b. cond b (Some (record { head = head; place = index + 1 })) (map.get now.entries number)) same)
+      still number false other was = ap is_some (get-insert now.entries (rank guest.id) (record { head = head; place = index + 1 }) number ∙ ap (λ b. cond b (Some (record { head = head; place = index + 1 })) (map.get now.entries number)) other) ∙ was
+
+  pub IsMoving-all : length guests ≤ index → index ≤ length guests → now ≡ record before { entries = entered before.entries guests head 1 }
+  IsMoving-all most least =
+      let at : index ≡ length guests = omega arith in
+      same_directory now (record before { entries = entered before.entries guests head 1 })
+      (ap (λ rest. entered now.entries rest head (index + 1)) (sym (ap (λ n. drop n guests) at ∙ drop_all (length guests) guests (omega arith))) ∙ is.entries)
       is.room

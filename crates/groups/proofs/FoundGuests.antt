@@ -28,7 +28,7 @@ module _ {G : Type 0} (head : G → SpanState) (guests : G → List SpanState) w
   abbrev spans_of : G → List SpanState
   spans_of group = head group ∷ guests group
 
-  own_heads : (groups : List G) → AreAscending id_of groups → HaveOwnHeads id_of guests groups
+  pub own_heads : (groups : List G) → AreAscending id_of groups → HaveOwnHeads id_of guests groups
   own_heads groups ascend i j a b at_i at_j same =
       let ranks : rank (id_of a) ≡ rank (id_of b) = ap rank same in
       elim (cases_lt i j) [

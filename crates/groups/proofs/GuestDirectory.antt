@@ -59,7 +59,7 @@ module _ {G : Type 0} (head_of : G → SpanId) (guests_of : G → List SpanState
   HasNoGuest groups number = (index place : ℕ) (group : G) (guest : SpanState) → slice_get groups index ≡ Some group → slice_get (guests_of group) place ≡ Some guest → rank guest.id ≡ number → ⊥
 
   -- the guest, among other groups
-  stands_too : (groups others : List G) (number : ℕ) (at : Place) (was : IsGuestAt head_of guests_of groups number at) (index : ℕ) → slice_get others index ≡ Some was.group → IsGuestAt head_of guests_of others number at
+  pub stands_too : (groups others : List G) (number : ℕ) (at : Place) (was : IsGuestAt head_of guests_of groups number at) (index : ℕ) → slice_get others index ≡ Some was.group → IsGuestAt head_of guests_of others number at
   stands_too groups others number at was index here = record {
     index = index;
     place = was.place;
@@ -152,7 +152,7 @@ module _ {G : Type 0} (head_of : G → SpanId) (guests_of : G → List SpanState
 
     module _ (heads : HaveOwnHeads groups) where
       -- a guest stands in one group
-      one_group : (i j p q : ℕ) (a b : G) (x y : SpanState) → slice_get groups i ≡ Some a → slice_get groups j ≡ Some b → slice_get (guests_of a) p ≡ Some x → slice_get (guests_of b) q ≡ Some y → rank x.id ≡ rank y.id → i ≡ j
+      pub one_group : (i j p q : ℕ) (a b : G) (x y : SpanState) → slice_get groups i ≡ Some a → slice_get groups j ≡ Some b → slice_get (guests_of a) p ≡ Some x → slice_get (guests_of b) q ≡ Some y → rank x.id ≡ rank y.id → i ≡ j
       one_group i j p q a b x y at_i at_j at_p at_q same =
           let one : ◌≡◌ {A = Place} (record { head = head_of a; place = suc p }) (record { head = head_of b; place = suc q }) =
           same_some (sym (is.known i p a x at_i at_p) ∙ ap (map.get entries) same ∙ is.known j q b y at_j at_q) in

@@ -1,6 +1,9 @@
+pub mod DeadGuests
 pub mod EmptySets
 pub mod Entered
 pub mod Entries
+pub mod ForgottenGuests
+pub mod ForgottenShown
 pub mod FoundGuests
 pub mod FreedGroups
 pub mod GroupSpans

@@ -66,7 +66,7 @@ union-remove_left a b slot out = same_slots _ _ (λ q.
       | inr else ↦ rw (unsigned_tied q slot, ne_eqb q slot else) refl
     ]
 
-union-swap : (a b : SlotSet) → union a b ≡ union b a
+pub union-swap : (a b : SlotSet) → union a b ≡ union b a
 union-swap a b = same_slots _ _ (λ q. contains-union nat_cmp_total a b q ∙ or_comm (contains a q) (contains b q) ∙ sym (contains-union nat_cmp_total b a q))
 
 pub union-remove_right : (a b : SlotSet) (slot : ℕ) → contains a slot ≡ false → union a (remove b slot) ≡ remove (union a b) slot

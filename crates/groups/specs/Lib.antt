@@ -1,4 +1,5 @@
 pub mod Brief
+pub mod Dead
 pub mod Directory
 pub mod DirectoryKept
 pub mod Group

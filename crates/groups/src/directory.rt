@@ -1,10 +1,12 @@
 // Where guests stand.
-ghost use Rattle.std.specs.Prelude.{◌≡◌, ◌<◌, ◌≤◌, ◌-◌, ◌+◌, OnOk, OnErr, Some, drop, length, max, nat_eq};
+ghost use Rattle.std.specs.Prelude.{◌≡◌, ◌<◌, ◌≤◌, ◌-◌, ◌+◌, OnOk, OnErr, Some, drop, is_some, length, max, nat_eq, true};
 ghost use Rattle.std.specs.FinMap as map;
 ghost use Rattle.std.specs.HashMap as hash;
 ghost use Rattle.span.specs.Ids.{rank};
 ghost use Rattle.groups.specs.Directory.{entered, struck};
+ghost use Rattle.groups.specs.Dead.{AreEntered, dead_among};
 
+use crate::live::is_live;
 use span::{Log, Span, SpanId};
 use std::alloc::{AllocError, Global};
 use std::collections::HashMap;
@@ -115,6 +117,43 @@ impl Directory {
         }
     }
 
+    /// Strikes the entries of those spans in which no slot is live, which takes no memory and leaves the reserved room.
+    pub fn strike_dead<L: Log>(&mut self, guests: &[Span<L>])
+        ensures { self.new ≡ record self.old {
+          entries = struck self.old.entries (dead_among guests.now);
+        } }
+    {
+        for index in 0..guests.len() {
+            if !is_live(&guests[index]) {
+                self.strike(guests[index].id());
+            }
+        }
+    }
+
+    /// Writes into the entries of the guests, each of which has one, that they are the guests of the head, in this order.
+    /// It takes neither memory nor reserved room.
+    pub fn move_all<L: Log>(&mut self, guests: &[Span<L>], head: SpanId)
+        requires { AreEntered self.old.entries guests.now }
+        ensures { self.new ≡ record self.old {
+          entries = entered self.old.entries guests.now head 1;
+        } }
+    {
+        for index in 0..guests.len() {
+            self.move_to(guests[index].id(), head, index + 1);
+        }
+    }
+
+    // Writes into the entry of the guest that it is a guest of the head at the place.
+    fn move_to(&mut self, guest: SpanId, head: SpanId, place: usize)
+        requires { is_some (map.get self.old.entries (rank guest)) ≡ true }
+        ensures { self.new ≡ record self.old {
+          entries = map.insert self.old.entries (rank guest)
+              (record { head = head; place = place });
+        } }
+    {
+        write_over(&mut self.places, guest.rank(), Place { head, place });
+    }
+
     // Strikes the entry of the span, if it has one.
     fn strike(&mut self, guest: SpanId)
         ensures { self.new ≡ record self.old {
@@ -135,5 +174,17 @@ fn insert_reserved(places: &mut HashMap<u64, Place>, guest: u64, place: Place)
     match places.insert(guest, place) {
         Ok(_) => {}
         Err(_) => unreachable!(),
+    }
+}
+
+// Writes over an entry, which needs neither memory nor room.
+fn write_over(places: &mut HashMap<u64, Place>, guest: u64, place: Place)
+    requires { is_some (hash.get nat_eq places.old guest) ≡ true }
+    ensures updates { hash.Updates nat_eq places.old places.new guest (Some place) }
+    ensures spare { hash.spare places.old ≤ hash.spare places.new }
+{
+    match places.get_mut(&guest) {
+        Some(entry) => *entry = place,
+        None => unreachable!(),
     }
 }

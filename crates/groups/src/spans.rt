@@ -7,11 +7,13 @@ ghost use Rattle.span.specs.Classes.{slots_in, width_of};
 ghost use Rattle.span.specs.Log.{live_slots, puts_of, Holds};
 ghost use Rattle.span.specs.SpanLogs.{AreLegal, room_for_logs, span_of_log};
 ghost use Rattle.span.specs.State.{IsSettable, SpanState};
+ghost use Rattle.groups.specs.Dead.{live_among};
 ghost use Rattle.groups.specs.Spans.{all_spans, taken, union_of, IsSpanAt, HasNoSpan, with_put, with_set_at, with_free_at, with_span_at, live_count};
 ghost use Rattle.bitmap.specs.declared.bits.TheConstants.{SLOTS};
 
+use crate::live::is_live;
 use bitmap::Bits256;
-use span::{Class, Entry, Kept, Key, Log, Span, SpanId, SpanLog};
+use span::{Class, Counted, Entry, Kept, Key, Log, Span, SpanId, SpanLog};
 use std::alloc::{AllocError, Global};
 use std::marker::Model;
 use std::mem::swap;
@@ -366,6 +368,23 @@ impl Spans<Kept> {
             push_log(logs, guest);
         }
     }
+}
+
+impl Spans<Counted> {
+    /// Drops the guests in which no slot is live, and keeps the others in order. A guest takes no put, so none of their slots
+    /// can be live again; with kept logs they stay, since an audit reads all. It takes no memory.
+    pub fn forget_guests(&mut self)
+        ensures { self.new ≡ record self.old { guests = live_among self.old.guests } }
+    {
+        keep_live(&mut self.guests);
+    }
+}
+
+// Drops the guests in which no slot is live.
+fn keep_live(guests: &mut Vec<Span<Counted>>)
+    ensures { guests.new.items ≡ live_among guests.old.items }
+{
+    guests.retain(|guest| is_live(guest));
 }
 
 // Moves the span's log to the end of the list, in room that it has.

@@ -1,0 +1,91 @@
+-- What stays where groups lose the guests in which no slot is live.
+use Rattle.std.proofs.Common.{zero, suc, ◌≡◌, ℕ, ◌+◌, ◌≤◌, List, [], ◌∷◌, Option, Some, slice_get, ◌∙◌, ap, sym, subst, arith, inl, inr, refl}
+use Rattle.std.specs.Prelude.{length, map as map_list}
+use Rattle.std.specs.FinSet.{union}
+use Rattle.std.proofs.lemmas.List.{length-map}
+use Rattle.bitmap.specs.Slots.{HasAllBelow, SlotSet}
+use Rattle.span.specs.Classes.{slots_in}
+use Rattle.span.specs.Ids.{same_span}
+use Rattle.span.specs.Log.{worn_slots}
+use Rattle.span.specs.State.{SpanState}
+use Rattle.span.specs.declared.class.Class.{Class}
+use Rattle.span.specs.declared.id.SpanId.{SpanId}
+use Rattle.groups.specs.Dead.{without_dead}
+use Rattle.groups.specs.Group.{Ascend, spans_in, spans_of}
+use Rattle.groups.proofs.DeadGuests.{IsSoundGroup-without_dead, before-without_dead, length-live, occupied-without_dead, times-without_dead}
+use Rattle.groups.proofs.GroupSpans.{count-spans_remove, times}
+use Rattle.groups.proofs.Lists.{before-map, count-cons, same_some}
+use Rattle.shard.specs.Group.{GroupState, HasNoRoom}
+use Rattle.shard.specs.Moves.{HasGuestRoom}
+use Rattle.shard.specs.Rooms.{HasRooms}
+use Rattle.shard.specs.Sound.{IsSound}
+use Rattle.shard.specs.State.{ShardState}
+use Rattle.shard.proofs.AlikeGroups.{AreSoundGroups-map}
+use Rattle.shard.proofs.ChangedBelow.{changed_below}
+
+-- a group that takes no put takes none afterwards
+HasNoRoom-without_dead : (class : Class) (group : GroupState) → HasNoRoom class group → HasNoRoom class (without_dead group)
+HasNoRoom-without_dead class group (inl closed) = inl closed
+HasNoRoom-without_dead class group (inr (inl other)) = inr (inl other)
+HasNoRoom-without_dead class group (inr (inr full)) =
+    inr (inr (subst (λ (slots : SlotSet). HasAllBelow (union slots (worn_slots group.head.gens group.head.log)) (slots_in group.head.class)) (sym (occupied-without_dead group)) full))
+
+pub HasRooms-without_dead : (class : Class) (groups : List GroupState) (rooms : SlotSet) → HasRooms class groups rooms → HasRooms class (map_list without_dead groups) rooms
+HasRooms-without_dead class groups rooms has = record {
+  within = λ q member. rw (length-map groups (without_dead {Closed = _})) (has.within q member);
+  others = λ q other there out.
+      let before = before-map without_dead groups q other there in
+      subst (HasNoRoom class) before.2 (HasNoRoom-without_dead class before.0 (has.others q before.0 before.1 out));
+}
+
+-- the heads are as they were
+
+heads : (a b : GroupState) → without_dead b ≡ a → a.head.id ≡ b.head.id
+heads a b is = ap (λ (g : GroupState). g.head.id) (sym is)
+
+pub IsSound-without_dead : (old : ShardState) → IsSound old → IsSound (record old { groups = map_list without_dead old.groups })
+IsSound-without_dead old sound = record {
+  ascending = λ low high a b less at_low at_high.
+      let x = before-map without_dead old.groups low a at_low in
+      let y = before-map without_dead old.groups high b at_high in
+      rw (heads a x.0 x.2, heads b y.0 y.2) (sound.ascending low high x.0 y.0 less x.1 y.1);
+  groups = AreSoundGroups-map without_dead IsSoundGroup-without_dead old.groups sound.groups;
+  once = λ id. omega (arith, times-without_dead id old.groups, sound.once id);
+  limit = rw (length-map old.groups (without_dead {Closed = _})) sound.limit;
+  serials = λ index place group span there own.
+      let before = before-map without_dead old.groups index group there.0 in
+      let was = before-without_dead before.0 place span (ap (λ (g : GroupState). slice_get (spans_of g) place) before.2 ∙ there.1) in
+      sound.serials index was.0 before.0 span (before.1, was.1) own;
+  opened = sound.opened;
+  gens = sound.gens;
+  none_left = λ ended. ap (map_list without_dead) (sound.none_left ended);
+}
+
+pub HasGuestRoom-without_dead : (groups : List GroupState) (onto : Option SpanId) (more room : ℕ) → HasGuestRoom groups onto more room → HasGuestRoom (map_list without_dead groups) onto more room
+HasGuestRoom-without_dead groups onto more room has head named index group here =
+    let before = before-map without_dead groups index group here.here in
+    let enough : length before.0.guests + more ≤ room = has head named index before.0 (record { here = before.1; head_is = sym (heads group before.0 before.2) ∙ here.head_is }) in
+    let few : length (without_dead before.0).guests ≤ length before.0.guests = omega (arith, length-live before.0.guests) in
+    let same : length (without_dead before.0).guests ≡ length group.guests = ap (λ (g : GroupState). length g.guests) before.2 in
+    omega arith
+
+-- a list of groups of which those below a place have lost such guests
+
+was_below : (at : ℕ) (groups : List GroupState) (index : ℕ) (group : GroupState) → slice_get (changed_below without_dead at groups) index ≡ Some group
+    → (was : GroupState) × (slice_get groups index ≡ Some was) × (group.head.id ≡ was.head.id)
+was_below zero groups index group there = (group, there, refl)
+was_below (suc at) [] index group there = absurd cc
+was_below (suc at) (first ∷ groups) zero group there = (first, refl, ap (λ (g : GroupState). g.head.id) (sym (same_some there)))
+was_below (suc at) (first ∷ groups) (suc index) group there = was_below at groups index group there
+
+pub Ascend-changed_below : (at : ℕ) (groups : List GroupState) → Ascend groups → Ascend (changed_below without_dead at groups)
+Ascend-changed_below at groups ascend low high a b less at_low at_high =
+    let x = was_below at groups low a at_low in
+    let y = was_below at groups high b at_high in
+    rw (x.2, y.2) (ascend low high x.0 y.0 less x.1 y.1)
+
+-- no id stands twice among the guests of a group
+pub guests_once : (groups : List GroupState) → ((id : SpanId) → times id (spans_in groups) ≤ 1) → (index : ℕ) (group : GroupState) → slice_get groups index ≡ Some group → (id : SpanId) → times id group.guests ≤ 1
+guests_once groups once index group here id =
+    let p = λ (s : SpanState). same_span s.id id in
+    omega (arith, once id, count-spans_remove spans_of p groups index group here, count-cons p group.head group.guests)

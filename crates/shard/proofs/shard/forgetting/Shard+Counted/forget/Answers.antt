@@ -1,0 +1,69 @@
+use Rattle.std.proofs.Common.{◌≡◌, ◌∙◌, List, ap, arith, length, refl, sym}
+use Rattle.std.specs.Prelude.{◌+◌, ◌-◌, map as map_list, vec_capacity}
+use Rattle.std.proofs.lemmas.List.{length-map}
+use Rattle.groups.specs.Dead.{dead_guests, without_dead}
+use Rattle.groups.specs.Group.{spans_in}
+use Rattle.groups.proofs.DeadGuests.{length-without_dead}
+use Rattle.groups.proofs.ForgottenShown.{value_of-without_dead}
+use Rattle.shard.specs.Group.{GroupState}
+use Rattle.shard.specs.Kept.{state_of}
+use Rattle.shard.specs.Rooms.{rooms_of}
+use Rattle.shard.specs.Sound.{IsSound}
+use Rattle.shard.specs.State.{ShardState}
+use Rattle.shard.proofs.Forgotten.{HasGuestRoom-without_dead, HasRooms-without_dead, IsSound-without_dead, guests_once}
+use Rattle.shard.proofs.shard.forgetting.Shard+Counted.forget.Goals as goal
+
+pub forget_all-requires-clause-once : goal.forget_all-requires-clause-once
+forget_all-requires-clause-once c = guests_once c.self.inside.groups.items c.self.invariant.sound.once
+
+sound_after : (c : goal.After-forget_all) → IsSound (record (state_of c.self.inside) { groups = c.forget_all.new.groups.items })
+sound_after c = rw c.forget_all.ensures.items (IsSound-without_dead (state_of c.self.inside) c.self.invariant.sound)
+
+pub invariant_of-self : goal.invariant_of-self
+invariant_of-self c = record {
+  number_fits = c.self.invariant.number_fits;
+  pages_fit = c.self.invariant.pages_fit;
+  gens_fit = c.self.invariant.gens_fit;
+  sound = sound_after c;
+  rooms = λ class. rw c.forget_all.ensures.items (HasRooms-without_dead class c.self.inside.groups.items (rooms_of c.self.inside.rooms class) (c.self.invariant.rooms class));
+  room_for_groups = omega (
+    arith,
+    c.self.invariant.room_for_groups,
+    c.forget_all.ensures.capacity,
+    ap length c.forget_all.ensures.items,
+    length-map c.self.inside.groups.items (without_dead {Closed = _}),
+    c.self.inside.groups.ok.0,
+    c.forget_all.new.groups.ok.0,
+  );
+  no_guests = c.self.invariant.no_guests;
+  room_for_guests = rw c.forget_all.ensures.items (HasGuestRoom-without_dead c.self.inside.groups.items c.self.inside.onto c.self.inside.span_room (vec_capacity c.self.inside.guest_room) c.self.invariant.room_for_guests);
+  guests_known = c.forget_all.ensures.known;
+  room_for_entries = rw c.forget_all.ensures.room c.self.invariant.room_for_entries;
+}
+
+-- how many spans there are before and after
+counts : (c : goal.After-span_count) → c.span_count.result + length (dead_guests c.self.inside.groups.items) ≡ c.span_count-before.result
+counts c =
+    let now : c.span_count.result ≡ length (spans_in (map_list without_dead c.self.inside.groups.items)) = c.span_count.ensures.count ∙ ap (λ (groups : List GroupState). length (spans_in groups)) c.forget_all.ensures.items in
+    let before : c.span_count-before.result ≡ length (spans_in c.self.inside.groups.items) = c.span_count-before.ensures.count ∙ ap (λ (s : ShardState). length (spans_in s.groups)) (sym c.self.view_is) in
+    omega (arith, now, before, length-without_dead c.self.inside.groups.items)
+
+pub overflow_sub-result : goal.overflow_sub-result
+overflow_sub-result c = omega (arith, counts c)
+
+pub returns-clause-forgets : goal.returns-clause-forgets
+returns-clause-forgets c = record {
+  after = rw (← c.self.view_is, c.forget_all.ensures.items) refl;
+  count_is =
+      let gone : c.span_count-before.result - c.span_count.result ≡ length (dead_guests c.self.inside.groups.items) = omega (arith, counts c) in
+      gone ∙ ap (λ (s : ShardState). length (dead_guests s.groups)) c.self.view_is;
+}
+
+pub returns-clause-value : goal.returns-clause-value
+returns-clause-value c key =
+    let now = IsSound-without_dead (state_of c.self.inside) c.self.invariant.sound in
+    rw (← c.self.view_is, c.forget_all.ensures.items)
+    (value_of-without_dead c.self.inside.groups.items key c.self.invariant.sound.groups now.groups c.self.invariant.sound.once now.once)
+
+pub returns-clause-sound : goal.returns-clause-sound
+returns-clause-sound c = rw c.forget_all.ensures.items (IsSound-without_dead (state_of c.self.inside) c.self.invariant.sound)

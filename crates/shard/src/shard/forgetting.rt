@@ -1,0 +1,62 @@
+// Guests that can never be live again, which a shard forgets.
+ghost use Rattle.std.specs.Prelude.{◌≡◌, ◌≤◌, ℕ, Some, count_by, map, slice_get, vec_capacity};
+ghost use Rattle.span.specs.Ids.{same_span};
+ghost use Rattle.span.specs.declared.id.SpanId.{SpanId};
+ghost use Rattle.span.specs.declared.key.Key.{Key};
+ghost use Rattle.groups.specs.Dead.{AreEntered, dead_among, live_among, without_dead};
+ghost use Rattle.groups.specs.Directory.{KnowsGuests, entered, struck};
+ghost use Rattle.groups.specs.Group.{Ascend};
+ghost use Rattle.shard.specs.Forgets.{Forgets};
+ghost use Rattle.shard.specs.Group.{GroupState};
+ghost use Rattle.shard.specs.Shown.{shown};
+ghost use Rattle.shard.specs.Sound.{IsSound};
+
+use super::Shard;
+use crate::group::Group;
+use groups::Directory;
+use span::Counted;
+
+impl Shard<Counted> {
+    /// Forgets each guest in which no slot is live, and answers how many. A guest takes no put, so none of its keys can be live
+    /// again: a look-up and a free of one no longer find its span. Heads stay, since they may take puts, and pages do. It takes no memory.
+    pub fn forget(&mut self) -> usize
+        ensures forgets { Forgets self.old result self.new }
+        ensures value { (key : Key) → (shown self.new).value_of key ≡ (shown self.old).value_of key }
+        ensures sound { IsSound self.new }
+    {
+        let before = self.span_count();
+        forget_all(&mut self.groups, &mut self.directory);
+        before - self.span_count()
+    }
+}
+
+// Has each of the groups forget its guests in which no slot is live.
+fn forget_all(groups: &mut Vec<Group<Counted>>, directory: &mut Directory)
+    requires known { KnowsGuests groups.old.items directory.old.entries }
+    requires ascend { Ascend groups.old.items }
+    requires once { (index : ℕ) (group : GroupState) → slice_get groups.old.items index ≡ Some group
+        → (id : SpanId) → count_by (λ span. same_span span.id id) group.guests ≤ 1 }
+    ensures items { groups.new.items ≡ map without_dead groups.old.items }
+    ensures capacity { vec_capacity groups.new ≡ vec_capacity groups.old }
+    ensures known { KnowsGuests groups.new.items directory.new.entries }
+    ensures room { directory.new.room ≡ directory.old.room }
+{
+    for index in 0..groups.len() {
+        forget_in(&mut groups[index], directory);
+    }
+}
+
+// Has the group forget its guests in which no slot is live. The entries of the others say where they stand then.
+fn forget_in(group: &mut Group<Counted>, directory: &mut Directory)
+    requires { AreEntered (struck directory.old.entries (dead_among group.old.guests))
+        (live_among group.old.guests) }
+    ensures group { group.new ≡ without_dead group.old }
+    ensures directory { directory.new ≡ record directory.old {
+      entries = entered (struck directory.old.entries (dead_among group.old.guests))
+          (live_among group.old.guests) group.old.head.id 1;
+    } }
+{
+    directory.strike_dead(group.spans().guests());
+    group.forget_guests();
+    directory.move_all(group.spans().guests(), group.head_id());
+}
