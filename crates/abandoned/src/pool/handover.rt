@@ -209,14 +209,12 @@ impl<L: Log> Pool<L> {
     }
 
     // The head of the group of lowest head that has a page.
-    fn lowest_paged(&self) -> Option<SpanId>
-        ensures lowest { MatchOption result (HasNothingToAdopt self.now) (IsHeadOfLowest self.now) }
-        ensures sound { IsSound self.now }
+    fn lowest_paged(&mut self) -> Option<SpanId>
+        ensures lowest { MatchOption result (HasNothingToAdopt self.old) (IsHeadOfLowest self.old) }
+        ensures same { self.new ≡ self.old }
+        ensures sound { IsSound self.old }
     {
-        let Some(group) = self.groups.lowest_paged() else {
-            return None;
-        };
-        Some(group.head_id())
+        self.groups.lowest_paged()
     }
 
     /// Whether a span of the group of the head is in the shard already, or one that it may yet open, so that it would
