@@ -1,6 +1,6 @@
 -- An adoption: the lowest group that has a page, and what the shard asks of it.
 use Rattle.std.proofs.Common.{◌≡◌, ℕ, ◌≤◌, false, length, Option, Some, None, slice_get, ap, sym, subst, ◌∙◌, refl, inl, inr, arith}
-use Rattle.std.specs.Prelude.{◌≢◌}
+use Rattle.std.specs.Prelude.{◌≢◌, MatchOption}
 use Rattle.std.specs.Option.{IsSome}
 use Rattle.std.proofs.lemmas.Bool.{cases_eq, cases_lt}
 use Rattle.span.specs.Ids.{rank}
@@ -11,7 +11,8 @@ use Rattle.shard.specs.Sound.{IsSound as IsSoundShard}
 use Rattle.shard.specs.State.{ShardState}
 use Rattle.groups.proofs.Heads.{one_of_head}
 use Rattle.groups.proofs.Lists.{same_some}
-use Rattle.abandoned.specs.Calls.{Adopts, HasDoubled, IsDoubled, IsFirstPaged, IsLowestPaged, Lifts, WouldDouble}
+use Rattle.abandoned.specs.Calls.{Adopts, HasDoubled, HasNoPage, HasNothingToAdopt, IsDoubled, IsFirstPaged, IsHeadOfLowest, IsLowestPaged, Lifts, WouldDouble}
+use Rattle.abandoned.specs.Noted.{IsHeadOfFirstPaged}
 use Rattle.abandoned.specs.Sound.{IsSound}
 use Rattle.abandoned.specs.State.{PoolState, PooledState}
 use Rattle.groups.specs.Group.{Ascend, HasNoHead, IsHeadOf, spans_of}
@@ -43,6 +44,10 @@ IsLowestPaged-first pool ascend index group first = record { here = first.here; 
         | inr apart ↦ omega (arith, ascend index other group paged (omega arith) first.here there)
       ]
     ]
+
+pub lowest-first : (pool : PoolState) → Ascend pool.groups → (found : Option SpanId) → MatchOption found (HasNoPage pool.groups) (IsHeadOfFirstPaged pool.groups) → MatchOption found (HasNothingToAdopt pool) (IsHeadOfLowest pool)
+lowest-first pool ascend None none = none
+lowest-first pool ascend (Some head) first = (first.0, first.1, IsLowestPaged-first pool ascend first.0 first.1 first.2, first.3)
 
 pub IsDoubled-lowest : (pool : PoolState) → Ascend pool.groups → (shard : ShardState) (index : ℕ) (group : PooledState) → IsLowestPaged pool index group → IsDoubled pool shard → HasDoubled shard (spans_of group)
 IsDoubled-lowest pool ascend shard index group lowest (other, g, its, doubled) = subst (λ (x : PooledState). HasDoubled shard (spans_of x)) (one_lowest pool ascend other index g group its lowest) doubled

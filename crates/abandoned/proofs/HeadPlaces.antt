@@ -3,17 +3,18 @@ use Rattle.std.proofs.Common.{◌≡◌, ℕ, zero, suc, ◌<◌, ◌≤◌, Lis
 use Rattle.std.proofs.lemmas.Bool.{cases_lt}
 use Rattle.std.proofs.lemmas.Option.{slice_get_within}
 use Rattle.span.specs.Ids.{rank}
+use Rattle.span.specs.declared.limits.TheConstants.{ALL_IDS, MOST_SHARDS, MOST_SPANS}
 use Rattle.groups.proofs.Lists.{there_at}
 use Rattle.abandoned.specs.State.{PooledState}
 use Rattle.groups.specs.Group.{Ascend}
 
 -- heads that ascend are at most as many as there are ids
-pub at_most_ids : (groups : List PooledState) → Ascend groups → length groups ≤ 65536
-at_most_ids groups ascend = elim (cases_lt 65536 (length groups)) [
-  | inl many ↦ absurd (let last = there_at groups 65536 many in
-      let high = below_rank 65536 last.0 last.1 in
-      let fits : last.0.head.id.shard < 64 = last.0.head.id.shard_in_range in
-      let fits' : last.0.head.id.serial < 1024 = last.0.head.id.serial_in_range in
+pub at_most_ids : (groups : List PooledState) → Ascend groups → length groups ≤ ALL_IDS
+at_most_ids groups ascend = elim (cases_lt ALL_IDS (length groups)) [
+  | inl many ↦ absurd (let last = there_at groups ALL_IDS many in
+      let high = below_rank ALL_IDS last.0 last.1 in
+      let fits : last.0.head.id.shard < MOST_SHARDS = last.0.head.id.shard_in_range in
+      let fits' : last.0.head.id.serial < MOST_SPANS = last.0.head.id.serial_in_range in
       omega arith)
   | inr few ↦ few
 ]

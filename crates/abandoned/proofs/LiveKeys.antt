@@ -12,7 +12,7 @@ use Rattle.groups.proofs.LiveCounts.{len-union_of}
 use Rattle.groups.specs.Sound.{AreSoundGroups, AreStored, IsSoundGroup}
 use Rattle.abandoned.specs.State.{PooledState}
 use Rattle.groups.specs.Group.{spans_in, spans_of}
-use Rattle.abandoned.proofs.Passing.{paged}
+use Rattle.abandoned.proofs.Walked.{paged}
 
 count-append : (xs ys : List SpanState) → live_count (xs ++ ys) ≡ live_count xs + live_count ys
 count-append xs ys = sum_by-append (λ (s : SpanState). set.len (live_slots s.log)) xs ys

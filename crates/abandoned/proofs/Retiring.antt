@@ -24,6 +24,7 @@ use Rattle.shard.specs.State.{ShardState}
 use Rattle.shard.specs.declared.shard.retiring.LiveGroup.{LiveGroup}
 use Rattle.shard.proofs.MovedGroups.{AreBetween, spans_in-Lifts}
 use Rattle.shard.proofs.Sparse.{AreSparsestFirst-remove, HasNoLive-none, IsSparsest-first, one_index}
+use Rattle.span.specs.declared.limits.TheConstants.{ALL_IDS}
 use Rattle.abandoned.specs.Calls.{IsInPool, IsPooled, MayTakeIn, TakesIn, with_rooms}
 use Rattle.abandoned.specs.Handover.{AreReady, span_count}
 use Rattle.abandoned.specs.Retires.{HasRetired, MovesSparse, MovesSparsest}
@@ -159,7 +160,7 @@ pub AreReady-going : (pool : PoolState) (shard : ShardState) (told going : List 
 AreReady-going pool shard told going most groups spans sound sound_shard apart are is groups_are spans_are =
     AreReady-reserved pool shard groups spans going (drop most told) sound sound_shard apart (subst (AreSparsestFirst shard.groups) (sym (ap (λ xs. xs ++ drop most told) is ∙ take-append-drop most told)) are) groups_are spans_are
 
-pub span_count-going : (shard : ShardState) (told going : List LiveGroup) (most : ℕ) → IsSoundShard shard → AreSparsestFirst shard.groups told → going ≡ take most told → span_count going ≤ 65536
+pub span_count-going : (shard : ShardState) (told going : List LiveGroup) (most : ℕ) → IsSoundShard shard → AreSparsestFirst shard.groups told → going ≡ take most told → span_count going ≤ ALL_IDS
 span_count-going shard told going most sound are is = omega (
   arith,
   ap span_count is,

@@ -3,9 +3,10 @@ pub mod Groups
 pub mod GroupsKept
 pub mod Handover
 pub mod Kept
-pub mod Numbers
+pub mod Noted
 pub mod Ranked
 pub mod RankedKept
+pub mod RanksKept
 pub mod Retires
 pub mod Shown
 pub mod Sound

@@ -1,48 +1,48 @@
 -- Groups in a row, found by the ranks of their heads. No public clause cites this module.
-use Rattle.std.specs.Prelude.{◌≡◌, ◌⊎◌, ℕ, suc, if◌then◌else◌, List, [], ◌∷◌, Option, None, Some, length, nat_eq, slice_get, slice_set}
+use Rattle.std.specs.Prelude.{suc, ◌≡◌, ◌≢◌, ℕ, if◌then◌else◌, List, [], ◌∷◌, Option, Some, IsSome, insert, length, nat_lt, slice_get}
 use Rattle.span.specs.Ids.{rank}
-use Rattle.span.specs.State.{SpanState}
-use Rattle.abandoned.specs.Calls.{GivesUp}
+use Rattle.abandoned.specs.Groups.{GroupsState}
 use Rattle.abandoned.specs.State.{PooledState}
-use Rattle.groups.specs.Group.{with_span}
-use Rattle.span.specs.declared.limits.TheConstants.{ALL_IDS}
 
--- by the rank of its head, each group that is here, and for how many more there is reserved room
-pub record RankedState : Type 0 where
-  pub by_rank : List (Option PooledState)
-  pub room : ℕ
+-- how many of the first have a number below this one
+abbrev pub lower : {X : Type 0} → (X → ℕ) → ℕ → List X → ℕ
+lower key number [] = 0
+lower key number (x ∷ xs) = if nat_lt (key x) number then suc (lower key number xs) else 0
 
--- the group, if its head has that rank
-abbrev pub of_rank : ℕ → Option PooledState → Option PooledState
-of_rank number None = None
-of_rank number (Some group) = if nat_eq (rank group.head.id) number then Some group else None
+-- the elements by ascending numbers
+abbrev pub arranged : {X : Type 0} → (X → ℕ) → List X → List X
+arranged key [] = []
+arranged key (x ∷ xs) = insert (arranged key xs) (lower key (key x) (arranged key xs)) x
 
--- for each rank from this one on, the group at the place that the index names, if its head has that rank
-abbrev pub are_ranked : List PooledState → ℕ → List ℕ → List (Option PooledState)
-are_ranked groups number [] = []
-are_ranked groups number (place ∷ index) = of_rank number (slice_get groups place) ∷ are_ranked groups (suc number) index
+-- the rank of the head
+abbrev pub head_rank : PooledState → ℕ
+head_rank group = rank group.head.id
 
--- the index names the place of each group
-abbrev pub AreFound : List PooledState → List ℕ → Type 0
-AreFound groups index = (place : ℕ) (group : PooledState) → slice_get groups place ≡ Some group → slice_get index (rank group.head.id) ≡ Some place
+-- the groups by ascending head
+abbrev pub in_order : List PooledState → List PooledState
+in_order groups = arranged head_rank groups
 
--- the group whose head has the rank stands at the place that the index names
-abbrev pub IsFoundAt : List PooledState → List ℕ → ℕ → ℕ → Type 0
-IsFoundAt groups index number place = (group : PooledState) × (slice_get groups place ≡ Some group) × (rank group.head.id ≡ number) × (slice_get index number ≡ Some place)
+-- it is told of each group at which place it stands, and of no other rank
+pub record AreFound (groups : List PooledState) (place_of : ℕ → Option ℕ) : Type 0 where
+  pub known : (place : ℕ) (group : PooledState) → slice_get groups place ≡ Some group → place_of (head_rank group) ≡ Some place
+  pub only : (number place : ℕ) → place_of number ≡ Some place → (group : PooledState) × (slice_get groups place ≡ Some group) × (head_rank group ≡ number)
 
--- there is a place for each rank: those that were there, or, where there was none, places of no group
-pub record IsGrown (old new : List (Option PooledState)) : Type 0 where
-  pub count : length new ≡ ALL_IDS
-  pub as_before : (new ≡ old) ⊎ ((old ≡ []) × ((at : ℕ) (place : Option PooledState) → slice_get new at ≡ Some place → place ≡ None))
+-- no group has a head of this rank
+abbrev pub HasNoRank : List PooledState → ℕ → Type 0
+HasNoRank groups number = (index : ℕ) (group : PooledState) → slice_get groups index ≡ Some group → head_rank group ≢ number
 
--- the group is gone, and all others are found as before
-pub record LetsGo (groups : List PooledState) (index : List ℕ) (gone : PooledState) (left : List PooledState) (index_now : List ℕ) : Type 0 where
-  pub ranked : are_ranked left 0 index_now ≡ slice_set (are_ranked groups 0 index) (rank gone.head.id) None
-  pub found : AreFound left index_now
-  pub fewer : suc (length left) ≡ length groups
-  pub size : length index_now ≡ length index
+-- the group is one of these, and its head has this rank
+abbrev pub HasRankAt : List PooledState → ℕ → PooledState → Type 0
+HasRankAt groups number group = (index : ℕ) × (slice_get groups index ≡ Some group) × (head_rank group ≡ number)
 
--- the group of the rank has another span at the place, and has given its page up where no slot is live
-abbrev pub FreesAt : RankedState → ℕ → PooledState → ℕ → SpanState → RankedState → Type 0
-FreesAt old number group place span new =
-    (now : PooledState) × GivesUp (with_span group place span) now × (new ≡ record old { by_rank = slice_set old.by_rank number (Some now) })
+-- the group at the place is gone, and all others are still there
+pub record LetsGo (groups : List PooledState) (place : ℕ) (left : List PooledState) : Type 0 where
+  pub stood : (now : ℕ) (group : PooledState) → slice_get left now ≡ Some group → (was : ℕ) × (was ≢ place) × (slice_get groups was ≡ Some group)
+  pub stay : (was : ℕ) (group : PooledState) → slice_get groups was ≡ Some group → was ≢ place → (now : ℕ) × (slice_get left now ≡ Some group)
+
+-- there are as many groups, and room for as many, and each that has a page is of the head of one that had a page
+pub record AreOfOld (old new : GroupsState) : Type 0 where
+  pub count : length new.groups ≡ length old.groups
+  pub room : new.room ≡ old.room
+  pub paged : (index : ℕ) (group : PooledState) → slice_get new.groups index ≡ Some group → IsSome group.page
+      → (was : PooledState) × (at : ℕ) × (slice_get old.groups at ≡ Some was) × IsSome was.page × (head_rank was ≡ head_rank group)

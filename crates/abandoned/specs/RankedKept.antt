@@ -1,18 +1,16 @@
--- What the row of groups and its index keep. No public clause cites this module.
-use Rattle.std.specs.Prelude.{◌≡◌, ◌⊎◌, ◌+◌, ◌≤◌, length, vec_capacity}
-use Rattle.abandoned.specs.Groups.{standing}
-use Rattle.abandoned.specs.Ranked.{AreFound, RankedState, are_ranked}
+-- What the row of groups and its table keep. No public clause cites this module.
+use Rattle.std.specs.Prelude.{◌+◌, ◌≤◌, length, nat_eq, vec_capacity}
+use Rattle.std.specs.HashMap as hash
+use Rattle.abandoned.specs.Groups.{GroupsState}
+use Rattle.abandoned.specs.Ranked.{AreFound, in_order}
 use Rattle.abandoned.specs.declared.by_rank.ByRank.TheInside.{Inside}
-use Rattle.span.specs.declared.limits.TheConstants.{ALL_IDS}
 
 -- what contracts see of the fields
-abbrev pub state_of : {L : Type 0} → Inside L → RankedState
-state_of r = record { by_rank = are_ranked r.groups.items 0 r.index.items; room = r.room }
+abbrev pub state_of : {L : Type 0} → Inside L → GroupsState
+state_of r = record { groups = in_order r.groups.items; room = r.room }
 
 pub record IsKept {L : Type 0} (r : Inside L) : Type 0 where
-  pub found : AreFound r.groups.items r.index.items
-  -- as many groups stand in the row as are found
-  pub count : length r.groups.items ≡ length (standing (are_ranked r.groups.items 0 r.index.items))
-  -- the index is of all heads, or of none
-  pub size : (length r.index.items ≡ 0) ⊎ (length r.index.items ≡ ALL_IDS)
+  pub found : AreFound r.groups.items (hash.get nat_eq r.places)
+  -- the reserved room is there, in the row and in the table
   pub reserved : length r.groups.items + r.room ≤ vec_capacity r.groups
+  pub spare : r.room ≤ hash.spare r.places

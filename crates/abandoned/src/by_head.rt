@@ -1,5 +1,5 @@
 // The groups of the pool, each at the place of its head.
-ghost use Rattle.std.specs.Prelude.{◌≡◌, ◌<◌, ◌≤◌, ◌-◌, ◌+◌, ◌++◌, ◌*◌, ◌↔◌, ◌⊎◌, ℕ, [], IfOk, IfSome, IsTrue, MatchOption, OnErr, OnOk, Some, insert, length, map, max, slice_get, slice_set, vec_capacity};
+ghost use Rattle.std.specs.Prelude.{◌≡◌, ◌<◌, ◌≤◌, ◌-◌, ◌+◌, ◌++◌, ◌*◌, ◌↔◌, ◌⊎◌, ℕ, [], IfOk, IfSome, IsSome, IsTrue, MatchOption, OnErr, OnOk, Some, insert, length, map, max, slice_get, slice_set, vec_capacity};
 ghost use Rattle.std.specs.Bool.{OnTrue, OnFalse};
 ghost use Rattle.span.specs.Ids.{rank};
 ghost use Rattle.span.specs.Log.{Holds};
@@ -8,19 +8,20 @@ ghost use Rattle.span.specs.State.{IsSettable, SpanState};
 ghost use Rattle.groups.specs.Pages.{set_group};
 ghost use Rattle.groups.specs.Sound.{IsSoundGroup};
 ghost use Rattle.groups.specs.Spans.{with_free_at, with_set_at, live_count};
-ghost use Rattle.abandoned.specs.Calls.{HasNoPage, IsFirstPaged};
-ghost use Rattle.groups.specs.Group.{HasNoHead, IsHeadOf, IsPlaceFor, paged_in, spans_in, spans_of, summary, with_span};
+ghost use Rattle.abandoned.specs.Calls.{HasNoPage};
+ghost use Rattle.groups.specs.Group.{Ascend, HasNoHead, IsHeadOf, IsPlaceFor, paged_in, spans_in, spans_of, summary, with_span};
 ghost use Rattle.abandoned.specs.Groups.{FreesIn, HasHeadAt, Removes};
-ghost use Rattle.abandoned.specs.Numbers.{HasNoneFrom};
+ghost use Rattle.std.specs.List.{Contains};
+ghost use Rattle.abandoned.specs.Ranked.{head_rank};
+ghost use Rattle.abandoned.specs.Noted.{AreNoted, HasNoPageAt, IsHeadOfFirstPaged, IsPagedHead};
 ghost use Rattle.abandoned.specs.State.{PooledState};
-ghost use Rattle.shard.specs.Rooms.{has_index};
 ghost use Rattle.span.specs.declared.limits.TheConstants.{ALL_IDS};
 ghost use Rattle.bitmap.specs.declared.bits.TheConstants.{SLOTS};
 
-use crate::by_rank::{ByRank, HEADS};
-use crate::numbers::{lowest, mark, next};
+use crate::by_rank::ByRank;
 use crate::pooled::Pooled;
-use bitmap::Bits256;
+use crate::ranks::Ranks;
+use crate::walks;
 use span::{Entry, Kept, Log, SpanId, SpanLog};
 use std::alloc::{AllocError, Global};
 use std::marker::Model;
@@ -28,15 +29,14 @@ use std::marker::Model;
 /// Groups, each found by the rank of its head: a look-up, an arrival and a departure cost the same however many there
 /// are, and no group moves up for another.
 ///
-/// Beside them it keeps a bit for each head, which says whether the group has a page, and one for each 256 of these
-/// bits, which says whether any is on: so it finds the lowest without a walk.
+/// Beside them it keeps the ranks of the heads whose groups have a page, of which the least is at hand. A rank stays there
+/// when its group goes or gives its page up, and is dropped when it comes to be the least, or when more than half of what
+/// is kept would be such.
 #[derive(Drop)]
 pub(crate) struct Groups<L: Log> {
     places: ByRank<L>,
-    // The ranks of the heads whose groups have a page. The parts are made with the first room.
-    paged: Vec<Bits256>,
-    // The parts of `paged` that have a rank.
-    filled: Bits256,
+    // The ranks of the heads of all groups that have a page, and of some that have none or are here no more.
+    paged: Ranks,
 }
 
 impl<L: Log> Model for Groups<L> {
@@ -47,9 +47,9 @@ impl<L: Log> Model for Groups<L> {
 
     ghost coded = { Prim.hlevel codes };
 
-    ghost use Rattle.abandoned.specs.GroupsKept.{IsKept, state_of};
+    ghost use Rattle.abandoned.specs.GroupsKept.{IsKept};
 
-    ghost view = { state_of };
+    ghost view = { λ g. g.places };
 
     ghost invariant = { IsKept };
 }
@@ -61,8 +61,7 @@ impl<L: Log> Groups<L> {
     {
         Groups {
             places: ByRank::new(alloc),
-            paged: Vec::new(alloc),
-            filled: Bits256::empty(),
+            paged: Ranks::new(alloc),
         }
     }
 
@@ -71,7 +70,7 @@ impl<L: Log> Groups<L> {
         ensures { MatchOption result (HasNoHead self.now.groups head)
             (λ group. HasHeadAt self.now.groups head group.now) }
     {
-        self.places.get(head.rank() as usize)
+        self.places.get(head.rank())
     }
 
     /// Makes room for that many more groups, where less is reserved.
@@ -83,7 +82,7 @@ impl<L: Log> Groups<L> {
         ensures ok { OnOk result (self.new ≡ record self.old { room = max self.old.room more }) }
         ensures err { OnErr result (self.new ≡ self.old) }
     {
-        make_parts(&mut self.paged)?;
+        make_room(&mut self.paged, self.places.len(), more)?;
         self.places.reserve(more)
     }
 
@@ -97,20 +96,18 @@ impl<L: Log> Groups<L> {
               room = self.old.room - 1;
             }) }
     {
-        let rank = group.head_id().rank() as usize;
-        mark(&mut self.paged, &mut self.filled, rank, group.is_paged());
-        self.places.put(group);
+        note(&mut self.paged, &group);
+        self.places.insert(group);
     }
 
     /// The group of the head goes, if it is here. The reserved room stays.
     pub(crate) fn remove(&mut self, head: SpanId) -> Option<Pooled<L>>
         ensures { Removes self.old head result self.new }
     {
-        let rank = head.rank() as usize;
-        let Some(group) = self.places.take(rank) else {
+        let Some(group) = self.places.remove(head) else {
             return None;
         };
-        mark(&mut self.paged, &mut self.filled, rank, false);
+        tidy(&self.places, &mut self.paged);
         Some(group)
     }
 
@@ -149,8 +146,7 @@ impl<L: Log> Groups<L> {
             → OnErr result (IsSettable span slot generation words.now) }
         ensures err { OnErr result (self.new ≡ self.old) }
     {
-        let rank = head.rank() as usize;
-        self.places.set(rank, place, slot, generation, words)
+        self.places.set(head, place, slot, generation, words)
     }
 
     /// Frees the slot in the span at the place of the head's group, where it is live there at the generation, and
@@ -169,39 +165,23 @@ impl<L: Log> Groups<L> {
             (with_free_at span slot generation) self.new) }
         ensures unknown { OnFalse result (self.new ≡ self.old) }
     {
-        let rank = head.rank() as usize;
-        let freed = self.places.free(rank, place, slot, generation);
-        mark(
-            &mut self.paged,
-            &mut self.filled,
-            rank,
-            self.places.is_paged(rank),
-        );
-        freed
+        self.places.free(head, place, slot, generation)
     }
 
-    /// The group of lowest head that has a page, in as many steps however many groups there are.
-    pub(crate) fn lowest_paged(&self) -> Option<&Pooled<L>>
-        ensures { MatchOption result (HasNoPage self.now.groups)
-            (λ group. (index : ℕ) × IsFirstPaged self.now.groups index group.now) }
+    /// The head of the group of lowest head that has a page. A rank whose group has none is looked at once.
+    pub(crate) fn lowest_paged(&mut self) -> Option<SpanId>
+        ensures lowest { MatchOption result (HasNoPage self.old.groups)
+            (IsHeadOfFirstPaged self.old.groups) }
+        ensures same { self.new ≡ self.old }
     {
-        let Some(rank) = lowest(self.paged.as_slice(), &self.filled) else {
-            return None;
-        };
-        self.places.get(rank)
+        lowest_paged(&self.places, &mut self.paged)
     }
 
     /// How many groups have a page.
     pub(crate) fn pages(&self) -> usize
         ensures { result ≡ length (paged_in self.now.groups) }
     {
-        let mut pages = 0;
-        let mut from = 0;
-        while let Some(rank) = next(self.paged.as_slice(), from) {
-            pages += 1;
-            from = rank + 1;
-        }
-        pages
+        walks::pages(self.places.as_slice())
     }
 
     /// How many keys are live in those that have a page.
@@ -209,16 +189,7 @@ impl<L: Log> Groups<L> {
         ensures live { result ≡ live_count (spans_in (paged_in self.now.groups)) }
         ensures at_most { result ≤ SLOTS * length self.now.groups }
     {
-        let mut live = 0;
-        let mut from = 0;
-        while let Some(rank) = next(self.paged.as_slice(), from) {
-            let Some(group) = self.places.get(rank) else {
-                unreachable!();
-            };
-            live += group.live();
-            from = rank + 1;
-        }
-        live
+        walks::live(self.places.as_slice())
     }
 
     /// How many spans they have, heads and guests.
@@ -226,13 +197,7 @@ impl<L: Log> Groups<L> {
         requires { length (spans_in self.now.groups) ≤ ALL_IDS }
         ensures { result ≡ length (spans_in self.now.groups) }
     {
-        let mut count = 0;
-        for rank in 0..HEADS {
-            if let Some(group) = self.places.get(rank) {
-                count += group.len();
-            }
-        }
-        count
+        walks::span_count(self.places.as_slice())
     }
 
     /// Each group that has a page, by ascending head: its head, its class and the slots that are live in one of its spans.
@@ -243,15 +208,8 @@ impl<L: Log> Groups<L> {
     pub(crate) fn summaries(&self, alloc: Global) -> Result<Vec<Entry>, AllocError>
         ensures { IfOk result (λ list. list.items ≡ map summary (paged_in self.now.groups)) }
     {
-        let mut list = Vec::new(alloc);
-        let mut from = 0;
-        while let Some(rank) = next(self.paged.as_slice(), from) {
-            let Some(group) = self.places.get(rank) else {
-                unreachable!();
-            };
-            list.push(group.entry())?;
-            from = rank + 1;
-        }
+        let mut list = walks::summaries(self.places.as_slice(), alloc)?;
+        list.sort_unstable_by_key(|entry| entry.id.rank());
         Ok(list)
     }
 }
@@ -266,39 +224,113 @@ impl Groups<Kept> {
         ensures room { room_for_logs logs.old ≡ room_for_logs logs.new + length
             (spans_in self.groups) }
     {
-        let mut places = self.places;
-        for rank in 0..HEADS {
-            if let Some(group) = places.take(rank) {
-                group.into_spans().into_logs(logs);
-            }
+        let mut groups = self.places.into_row();
+        groups.sort_unstable_by_key(|group| group.head_id().rank());
+        walks::into_logs(groups, logs);
+    }
+}
+
+// Makes room in the ranks for those of all groups that are here and of that many more.
+fn make_room(paged: &mut Ranks, groups: usize, more: usize) -> Result<(), AllocError>
+    ensures same { paged.new.ranks ≡ paged.old.ranks }
+    ensures ranks { OnOk result (length paged.new.ranks + more ≤ paged.new.capacity) }
+    ensures groups { OnOk result (groups + more ≤ paged.new.capacity) }
+    ensures capacity { paged.old.capacity ≤ paged.new.capacity }
+{
+    let missing = groups.saturating_sub(paged.len());
+    let Some(wanted) = more.checked_add(missing) else {
+        return Err(AllocError);
+    };
+    paged.reserve(wanted)
+}
+
+// The head of the group of lowest head that has a page. Ranks of no such group are dropped on the way.
+fn lowest_paged<L: Log>(places: &ByRank<L>, paged: &mut Ranks) -> Option<SpanId>
+    requires { AreNoted places.now.groups paged.old.ranks }
+    ensures lowest { MatchOption result (HasNoPage places.now.groups)
+        (IsHeadOfFirstPaged places.now.groups) }
+    ensures noted { AreNoted places.now.groups paged.new.ranks }
+    ensures fewer { length paged.new.ranks ≤ length paged.old.ranks }
+    ensures capacity { paged.new.capacity ≡ paged.old.capacity }
+{
+    while let Some(rank) = paged.least() {
+        if let Some(head) = paged_head(places, rank) {
+            return Some(head);
         }
+        paged.drop_least();
+    }
+    None
+}
+
+// The head of the rank, if its group is here and has a page.
+fn paged_head<L: Log>(places: &ByRank<L>, rank: u64) -> Option<SpanId>
+    ensures head { MatchOption result (HasNoPageAt places.now.groups rank)
+        (IsPagedHead places.now.groups rank) }
+    ensures ascending { Ascend places.now.groups }
+{
+    let Some(group) = places.get(rank) else {
+        return None;
+    };
+    if !group.is_paged() {
+        return None;
+    }
+    Some(group.head_id())
+}
+
+// Notes the ranks anew where most of them are of no account, and gives memory back.
+fn tidy<L: Log>(places: &ByRank<L>, paged: &mut Ranks)
+    requires noted { AreNoted places.now.groups paged.old.ranks }
+    requires room { length paged.old.ranks + places.now.room ≤ paged.old.capacity }
+    requires groups { length places.now.groups + places.now.room ≤ paged.old.capacity }
+    ensures noted { AreNoted places.now.groups paged.new.ranks }
+    ensures few { length paged.new.ranks ≤ 2 * length places.now.groups + 1 }
+    ensures room { length paged.new.ranks + places.now.room ≤ paged.new.capacity }
+    ensures groups { length places.now.groups + places.now.room ≤ paged.new.capacity }
+{
+    renew(places, paged);
+    let used = places.len().max(paged.len());
+    paged.give_back(used, places.room());
+}
+
+// Notes the ranks anew where there are more than twice as many of them as groups.
+fn renew<L: Log>(places: &ByRank<L>, paged: &mut Ranks)
+    requires noted { AreNoted places.now.groups paged.old.ranks }
+    requires room { length paged.old.ranks + places.now.room ≤ paged.old.capacity }
+    requires groups { length places.now.groups + places.now.room ≤ paged.old.capacity }
+    ensures noted { AreNoted places.now.groups paged.new.ranks }
+    ensures few { length paged.new.ranks ≤ 2 * length places.now.groups + 1 }
+    ensures room { length paged.new.ranks + places.now.room ≤ paged.new.capacity }
+    ensures groups { length places.now.groups + places.now.room ≤ paged.new.capacity }
+{
+    if paged.len() / 2 <= places.len() {
+        return;
+    }
+    note_all(places.as_slice(), paged);
+}
+
+// Notes the ranks of the groups that have a page, and no other.
+fn note_all<L: Log>(groups: &[Pooled<L>], paged: &mut Ranks)
+    requires { length groups.now ≤ paged.old.capacity }
+    ensures noted { AreNoted groups.now paged.new.ranks }
+    ensures few { length paged.new.ranks ≤ length groups.now }
+    ensures capacity { paged.old.capacity ≤ paged.new.capacity }
+{
+    paged.clear();
+    for group in groups {
+        note(paged, group);
     }
 }
 
-// Makes the bits of all heads, unless they are there.
-fn make_parts(parts: &mut Vec<Bits256>) -> Result<(), AllocError>
-    requires { (length parts.old.items ≡ 0) ⊎ (length parts.old.items ≡ 256) }
-    ensures same { (number : ℕ) → has_index parts.new.items number
-        ≡ has_index parts.old.items number }
-    ensures ok { OnOk result (length parts.new.items ≡ 256) }
-    ensures err { OnErr result (parts.new.items ≡ parts.old.items) }
+// Notes the rank of the group's head, where the group has a page and there is room.
+fn note<L: Log>(paged: &mut Ranks, group: &Pooled<L>)
+    requires { length paged.old.ranks < paged.old.capacity }
+    ensures noted { IsSome group.now.page → Contains paged.new.ranks (head_rank group.now) }
+    ensures more { (number : ℕ) → Contains paged.old.ranks number
+        → Contains paged.new.ranks number }
+    ensures few { length paged.new.ranks ≤ length paged.old.ranks + 1 }
+    ensures capacity { paged.old.capacity ≤ paged.new.capacity }
 {
-    if parts.len() > 0 {
-        return Ok(());
-    }
-    parts.reserve(HEADS / 256)?;
-    fill_parts(parts);
-    Ok(())
-}
-
-// Makes the parts of a set of no number below their count.
-fn fill_parts(parts: &mut Vec<Bits256>)
-    requires none { parts.old.items ≡ [] }
-    requires room { 256 ≤ vec_capacity parts.old }
-    ensures none { HasNoneFrom parts.new.items 0 }
-    ensures len { length parts.new.items ≡ 256 }
-{
-    for _ in 0..HEADS / 256 {
-        parts.push_reserved(Bits256::empty());
+    if group.is_paged() {
+        paged.put(group.head_id().rank());
     }
 }

@@ -1,47 +1,43 @@
 // Groups in a row, found by the ranks of their heads.
-ghost use Rattle.std.specs.Prelude.{◌≡◌, ◌<◌, ◌≤◌, ◌-◌, ◌+◌, ◌↔◌, [], IfOk, IfSome, IsTrue, MatchOption, None, OnErr, OnOk, Some, length, max, option_map, slice_get, slice_index_or, slice_set, vec_capacity};
+ghost use Rattle.std.specs.Prelude.{◌≡◌, ◌<◌, ◌≤◌, ◌-◌, ◌+◌, ◌↔◌, ℕ, [], IfOk, IsSome, IsTrue, MatchOption, OnErr, OnOk, Some, insert, length, max, nat_eq, slice_get, slice_set, vec_capacity};
 ghost use Rattle.std.specs.Bool.{OnTrue, OnFalse};
+ghost use Rattle.std.specs.HashMap as hash;
 ghost use Rattle.span.specs.Ids.{rank};
 ghost use Rattle.span.specs.Log.{Holds};
 ghost use Rattle.span.specs.State.{IsSettable, SpanState};
 ghost use Rattle.groups.specs.Pages.{set_group};
 ghost use Rattle.groups.specs.Sound.{IsSoundGroup};
-ghost use Rattle.groups.specs.Group.{spans_of, with_span};
-ghost use Rattle.groups.specs.Spans.{with_free_at, with_set_at};
-ghost use Rattle.abandoned.specs.Groups.{has_page};
-ghost use Rattle.abandoned.specs.Ranked.{AreFound, FreesAt, IsFoundAt, IsGrown, LetsGo, are_ranked};
+ghost use Rattle.groups.specs.Group.{Ascend, HasNoHead, IsHeadOf, IsPlaceFor, spans_of};
+ghost use Rattle.groups.specs.Spans.{with_free_at};
+ghost use Rattle.abandoned.specs.Groups.{FreesIn, HasHeadAt, Removes};
+ghost use Rattle.abandoned.specs.Ranked.{AreFound, AreOfOld, HasNoRank, HasRankAt, LetsGo, in_order};
 ghost use Rattle.abandoned.specs.State.{PooledState};
-ghost use Rattle.span.specs.declared.limits.TheConstants.{ALL_IDS};
 
 use crate::pooled::Pooled;
-use span::{ALL_IDS, Log};
+use span::{Log, SpanId};
 use std::alloc::{AllocError, Global};
+use std::collections::HashMap;
 use std::marker::Model;
 
-/// How many ids there are.
-pub(crate) const HEADS: usize = ALL_IDS as usize;
-
-/// Groups in a row, and for the rank of each head that may come two bytes, which say where in the row its group
-/// stands.
+/// Groups in a row, and for the rank of each head where in the row its group stands.
 ///
-/// So memory follows the groups that are here, whichever heads they have, and a look-up reads two places. What the
-/// index says of a rank whose group is not here is of no account: the group that stands there has another head. This
-/// is the sparse set of Briggs and Torczon (1993). The last group takes the place of one that goes.
+/// So memory follows the groups that are here, whichever heads they have, and a look-up, an arrival and a departure cost
+/// the same however many there are. The last group takes the place of one that goes.
 #[derive(Drop)]
 pub(crate) struct ByRank<L: Log> {
     // The groups, in no order.
     groups: Vec<Pooled<L>>,
-    // By the rank of a head, where in `groups` it stands, if it is here. It is made with the first room.
-    index: Vec<u16>,
+    // By the rank of a head, where in `groups` its group stands.
+    places: HashMap<u64, usize>,
     // For how many more groups room is reserved.
     room: usize,
 }
 
 impl<L: Log> Model for ByRank<L> {
-    ghost use Rattle.abandoned.specs.Ranked.{RankedState};
+    ghost use Rattle.abandoned.specs.Groups.{GroupsState};
     ghost use Rattle.std.specs.Coded.{codes};
 
-    ghost Value = { RankedState };
+    ghost Value = { GroupsState };
 
     ghost coded = { Prim.hlevel codes };
 
@@ -55,34 +51,55 @@ impl<L: Log> Model for ByRank<L> {
 impl<L: Log> ByRank<L> {
     /// No group. Takes no memory.
     pub(crate) fn new(alloc: Global) -> ByRank<L>
-        ensures { result ≡ record { by_rank = []; room = 0 } }
+        ensures { result ≡ record { groups = []; room = 0 } }
     {
         ByRank {
             groups: Vec::new(alloc),
-            index: Vec::new(alloc),
+            places: HashMap::new(alloc),
             room: 0,
         }
     }
 
-    /// The group whose head has the rank, if it is here.
-    pub(crate) fn get(&self, rank: usize) -> Option<&Pooled<L>>
-        ensures { option_map (λ group. group.now) result
-            ≡ slice_index_or self.now.by_rank rank None }
+    /// How many groups are here.
+    pub(crate) fn len(&self) -> usize
+        ensures { result ≡ length self.now.groups }
     {
-        let Some(place) = place_of(self.groups.as_slice(), self.index.as_slice(), rank) else {
+        self.groups.len()
+    }
+
+    /// For how many more groups room is reserved.
+    pub(crate) fn room(&self) -> usize
+        ensures { result ≡ self.now.room }
+    {
+        self.room
+    }
+
+    /// The groups, in no order.
+    pub(crate) fn as_slice(&self) -> &[Pooled<L>]
+        ensures order { in_order result.now ≡ self.now.groups }
+        ensures ascending { Ascend self.now.groups }
+    {
+        self.groups.as_slice()
+    }
+
+    /// The groups, in no order.
+    pub(crate) fn into_row(self) -> Vec<Pooled<L>>
+        ensures order { in_order result.items ≡ self.groups }
+        ensures ascending { Ascend self.groups }
+    {
+        self.groups
+    }
+
+    /// The group whose head has the rank, if it is here.
+    pub(crate) fn get(&self, rank: u64) -> Option<&Pooled<L>>
+        ensures found { MatchOption result (HasNoRank self.now.groups rank)
+            (λ group. HasRankAt self.now.groups rank group.now) }
+        ensures ascending { Ascend self.now.groups }
+    {
+        let Some(place) = self.places.get(&rank).copied() else {
             return None;
         };
         Some(&self.groups[place])
-    }
-
-    /// Whether the group is here, and has a page.
-    pub(crate) fn is_paged(&self, rank: usize) -> bool
-        ensures { result ≡ has_page (slice_get self.now.by_rank rank) }
-    {
-        match self.get(rank) {
-            Some(group) => group.is_paged(),
-            None => false,
-        }
     }
 
     /// Makes room for that many more groups, where less is reserved.
@@ -91,162 +108,169 @@ impl<L: Log> ByRank<L> {
     ///
     /// `AllocError` where memory is refused. The groups are then as they were.
     pub(crate) fn reserve(&mut self, more: usize) -> Result<(), AllocError>
-        ensures places { OnOk result (IsGrown self.old.by_rank self.new.by_rank) }
-        ensures room { OnOk result (self.new.room ≡ max self.old.room more) }
+        ensures ok { OnOk result (self.new ≡ record self.old { room = max self.old.room more }) }
         ensures err { OnErr result (self.new ≡ self.old) }
     {
         self.groups.reserve(more)?;
-        lengthen(&mut self.index, HEADS)?;
+        self.places.reserve(more)?;
         self.room = self.room.max(more);
         Ok(())
     }
 
     /// The group comes, in reserved room.
-    pub(crate) fn put(&mut self, group: Pooled<L>)
+    pub(crate) fn insert(&mut self, group: Pooled<L>)
         requires room { 0 < self.old.room }
-        requires new { slice_get self.old.by_rank (rank group.head.id) ≡ Some None }
-        ensures { self.new ≡ record {
-          by_rank = slice_set self.old.by_rank (rank group.head.id) (Some group);
-          room = self.old.room - 1;
-        } }
+        requires new { HasNoHead self.old.groups group.head.id }
+        ensures { (index : ℕ) × IsPlaceFor self.old.groups group.head.id index
+            × (self.new ≡ record {
+              groups = insert self.old.groups index group;
+              room = self.old.room - 1;
+            }) }
     {
-        let rank = group.head_id().rank() as usize;
-        self.index[rank] = self.groups.len() as u16;
+        let place = self.groups.len();
+        enter(&mut self.places, group.head_id().rank(), place);
         self.groups.push_reserved(group);
         self.room -= 1;
     }
 
-    /// The group whose head has the rank goes, if it is here. The reserved room stays.
-    pub(crate) fn take(&mut self, rank: usize) -> Option<Pooled<L>>
-        ensures taken { result ≡ slice_index_or self.old.by_rank rank None }
-        ensures left { self.new ≡ record self.old {
-          by_rank = slice_set self.old.by_rank rank None;
-        } }
+    /// The group of the head goes, if it is here. The reserved room stays.
+    pub(crate) fn remove(&mut self, head: SpanId) -> Option<Pooled<L>>
+        ensures { Removes self.old head result self.new }
     {
-        let Some(place) = place_of(self.groups.as_slice(), self.index.as_slice(), rank) else {
+        let Some(place) = self.places.get(&head.rank()).copied() else {
             return None;
         };
-        let group = let_go(&mut self.groups, &mut self.index, place);
-        give_back(&mut self.groups, self.room);
+        let group = let_go(&mut self.groups, &mut self.places, place);
+        give_back(&mut self.groups, &mut self.places, self.room);
         Some(group)
     }
 
-    /// Sets the object of the slot in the span at the place of the group whose head has the rank to these words, where the
-    /// slot is live there at the generation and its object has as many, and says whether it was.
+    /// Sets the object of the slot in the span at the place of the head's group to these words, where the slot is live
+    /// there at the generation and its object has as many, and says whether it was.
     ///
     /// # Errors
     ///
     /// `AllocError` in place of `true`, where the span's log could not grow. The groups are then as they were.
     pub(crate) fn set(
         &mut self,
-        rank: usize,
+        head: SpanId,
         place: usize,
         slot: u8,
         generation: u32,
         words: &[u128],
     ) -> Result<bool, AllocError>
-        requires { (group : PooledState) × (slice_get self.old.by_rank rank ≡ Some (Some group))
+        requires { (group : PooledState) × HasHeadAt self.old.groups head group
             × (place < length (spans_of group)) × IsSoundGroup group }
-        ensures found { (group : PooledState) (span : SpanState)
-            → slice_get self.old.by_rank rank ≡ Some (Some group)
+        ensures found { (index : ℕ) (group : PooledState) (span : SpanState)
+            → IsHeadOf self.old.groups head index group
             → slice_get (spans_of group) place ≡ Some span
             → IfOk result (λ done. IsTrue done ↔ IsSettable span slot generation words.now) }
-        ensures set { (group : PooledState) (span : SpanState)
-            → slice_get self.old.by_rank rank ≡ Some (Some group)
+        ensures set { (index : ℕ) (group : PooledState) (span : SpanState)
+            → IsHeadOf self.old.groups head index group
             → slice_get (spans_of group) place ≡ Some span
             → IfOk result (λ done. OnTrue done (self.new ≡ record self.old {
-              by_rank = slice_set self.old.by_rank rank
-                  (Some (set_group group place span slot generation words.now));
+              groups = slice_set self.old.groups index
+                  (set_group group place span slot generation words.now);
             })) }
         ensures unknown { IfOk result (λ done. OnFalse done (self.new ≡ self.old)) }
-        ensures refused { (group : PooledState) (span : SpanState)
-            → slice_get self.old.by_rank rank ≡ Some (Some group)
+        ensures refused { (index : ℕ) (group : PooledState) (span : SpanState)
+            → IsHeadOf self.old.groups head index group
             → slice_get (spans_of group) place ≡ Some span
             → OnErr result (IsSettable span slot generation words.now) }
         ensures err { OnErr result (self.new ≡ self.old) }
+        ensures paged { AreOfOld self.old self.new }
     {
-        let Some(at) = place_of(self.groups.as_slice(), self.index.as_slice(), rank) else {
+        let Some(at) = self.places.get(&head.rank()).copied() else {
             unreachable!();
         };
         self.groups[at].set(place, slot, generation, words)
     }
 
-    /// Frees the slot in the span at the place of the group whose head has the rank, where it is live there at the
-    /// generation, and gives up the page of a group that it empties.
-    pub(crate) fn free(&mut self, rank: usize, place: usize, slot: u8, generation: u32) -> bool
-        requires { (group : PooledState) × (slice_get self.old.by_rank rank ≡ Some (Some group))
+    /// Frees the slot in the span at the place of the head's group, where it is live there at the generation, and
+    /// gives up the page of a group that it empties.
+    pub(crate) fn free(&mut self, head: SpanId, place: usize, slot: u8, generation: u32) -> bool
+        requires { (group : PooledState) × HasHeadAt self.old.groups head group
             × (place < length (spans_of group)) }
-        ensures found { (group : PooledState) (span : SpanState)
-            → slice_get self.old.by_rank rank ≡ Some (Some group)
+        ensures found { (index : ℕ) (group : PooledState) (span : SpanState)
+            → IsHeadOf self.old.groups head index group
             → slice_get (spans_of group) place ≡ Some span
             → (IsTrue result ↔ Holds span.log slot generation) }
-        ensures freed { (group : PooledState) (span : SpanState)
-            → slice_get self.old.by_rank rank ≡ Some (Some group)
+        ensures freed { (index : ℕ) (group : PooledState) (span : SpanState)
+            → IsHeadOf self.old.groups head index group
             → slice_get (spans_of group) place ≡ Some span
-            → OnTrue result (FreesAt self.old rank group place
+            → OnTrue result (FreesIn self.old index group place
             (with_free_at span slot generation) self.new) }
         ensures unknown { OnFalse result (self.new ≡ self.old) }
+        ensures paged { AreOfOld self.old self.new }
     {
-        let Some(at) = place_of(self.groups.as_slice(), self.index.as_slice(), rank) else {
+        let Some(at) = self.places.get(&head.rank()).copied() else {
             unreachable!();
         };
         self.groups[at].free(place, slot, generation)
     }
 }
 
-// Where the group stands whose head has the rank, if it is here: the index names a place, and the group there is asked.
-fn place_of<L: Log>(groups: &[Pooled<L>], index: &[u16], rank: usize) -> Option<usize>
-    ensures { MatchOption result (slice_index_or (are_ranked groups.now 0 index.now) rank None ≡ None)
-        (IsFoundAt groups.now index.now rank) }
+// Enters the place of a new rank where there is room, which needs no memory.
+fn enter(places: &mut HashMap<u64, usize>, rank: u64, place: usize)
+    requires { 0 < hash.spare places.old }
+    ensures updates { hash.Updates nat_eq places.old places.new rank (Some place) }
+    ensures spare { hash.spare places.old ≤ hash.spare places.new + 1 }
 {
-    if rank >= index.len() {
-        return None;
+    match places.insert(rank, place) {
+        Ok(_) => {}
+        Err(_) => unreachable!(),
     }
-    let place = usize::from(index[rank]);
-    let Some(group) = groups.get(place) else {
-        return None;
-    };
-    if group.head_id().rank() as usize != rank {
-        return None;
-    }
-    Some(place)
 }
 
-// Makes the index that long, unless it is.
-fn lengthen(index: &mut Vec<u16>, count: usize) -> Result<(), AllocError>
-    ensures ok { OnOk result (length index.new.items ≡ count) }
-    ensures same { length index.old.items ≡ count → index.new.items ≡ index.old.items }
-    ensures err { OnErr result (index.new.items ≡ index.old.items) }
+// Writes another place to a rank that has one.
+fn move_to(places: &mut HashMap<u64, usize>, rank: u64, place: usize)
+    requires { IsSome (hash.get nat_eq places.old rank) }
+    ensures updates { hash.Updates nat_eq places.old places.new rank (Some place) }
+    ensures spare { hash.spare places.new ≡ hash.spare places.old }
 {
-    index.resize(count, 0)
+    match places.get_mut(&rank) {
+        Some(noted) => *noted = place,
+        None => unreachable!(),
+    }
 }
 
 // The group at the place goes, and the last takes its place.
-fn let_go<L: Log>(groups: &mut Vec<Pooled<L>>, index: &mut Vec<u16>, place: usize) -> Pooled<L>
+fn let_go<L: Log>(
+    groups: &mut Vec<Pooled<L>>,
+    places: &mut HashMap<u64, usize>,
+    place: usize,
+) -> Pooled<L>
     requires within { place < length groups.old.items }
-    requires found { AreFound groups.old.items index.old.items }
-    requires few { length groups.old.items ≤ ALL_IDS }
+    requires found { AreFound groups.old.items (hash.get nat_eq places.old) }
     ensures gone { slice_get groups.old.items place ≡ Some result }
-    ensures left { LetsGo groups.old.items index.old.items result groups.new.items index.new.items }
+    ensures left { LetsGo groups.old.items place groups.new.items }
+    ensures found { AreFound groups.new.items (hash.get nat_eq places.new) }
+    ensures fewer { length groups.new.items ≤ length groups.old.items }
     ensures capacity { vec_capacity groups.new ≡ vec_capacity groups.old }
+    ensures spare { hash.spare places.old ≤ hash.spare places.new }
 {
     let group = groups.swap_remove(place);
+    places.remove(&group.head_id().rank());
     if place < groups.len() {
-        let rank = groups[place].head_id().rank() as usize;
-        index[rank] = place as u16;
+        move_to(places, groups[place].head_id().rank(), place);
     }
     group
 }
 
 // Gives memory back where a quarter of the room in the row would do for the groups and those that room is reserved
 // for. Twice as much stays, so that groups that come and go move a row only where it has halved or doubled.
-fn give_back<L: Log>(groups: &mut Vec<Pooled<L>>, room: usize)
-    requires { length groups.old.items + room ≤ vec_capacity groups.old }
+fn give_back<L: Log>(groups: &mut Vec<Pooled<L>>, places: &mut HashMap<u64, usize>, room: usize)
+    requires room { length groups.old.items + room ≤ vec_capacity groups.old }
+    requires spare { room ≤ hash.spare places.old }
     ensures same { groups.new.items ≡ groups.old.items }
+    ensures found { (number : ℕ)
+        → hash.get nat_eq places.new number ≡ hash.get nat_eq places.old number }
     ensures room { length groups.new.items + room ≤ vec_capacity groups.new }
+    ensures spare { room ≤ hash.spare places.new }
 {
     let wanted = groups.len() + room;
     if wanted < groups.capacity() / 4 {
         groups.shrink_to(2 * wanted);
+        places.shrink_to(places.len() + wanted);
     }
 }

@@ -23,8 +23,8 @@
 //! While a plan of folds is open, nothing is adopted, and no shard with a closed group ends or
 //! retires any: the pool is told of the plan, and keeps that (`PlanOpen`).
 //!
-//! No call walks the pool: an index says where the group of each head stands, and a bit for each head says which
-//! of them have a page.
+//! No call on a key or a group walks the pool: a table says where the group of each head stands, and a heap has the
+//! heads whose groups have a page, the lowest first.
 //!
 //! The public fact of the crate is that a pool is a plain map of keys: [`Pool::get`], [`Pool::set`]
 //! and [`Pool::free`] answer and do what a map would (`shown` in `specs/Shown.antt`), and
@@ -50,9 +50,10 @@
 mod by_head;
 mod by_rank;
 mod error;
-mod numbers;
 mod pool;
 mod pooled;
+mod ranks;
+mod walks;
 
 pub use error::{AdoptError, ReceiveError};
 pub use pool::Pool;

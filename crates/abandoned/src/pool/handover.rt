@@ -182,13 +182,14 @@ impl<L: Log> Pool<L> {
         }
     }
 
-    /// The head of the group that [`Pool::adopt`] would move to the shard if no allocation were refused. It takes no memory.
+    /// The head of the group that [`Pool::adopt`] would move to the shard if no allocation were refused. It takes no memory, and
+    /// changes nothing that a caller sees: what is kept to find the lowest head may be put in order.
     ///
     /// # Errors
     ///
     /// Those of [`Pool::adopt`], each exactly where that has it, but for `OutOfMemory`, which never comes.
-    pub fn adoptable(&self, shard: &Shard<L>) -> Result<SpanId, AdoptError>
-        ensures lowest { IfOk result (IsHeadOfLowest self.now) }
+    pub fn adoptable(&mut self, shard: &Shard<L>) -> Result<SpanId, AdoptError>
+        ensures lowest { IfOk result (IsHeadOfLowest self.old) }
 
         // Each refusal.
         ensures spent { (result ≡ Err AdoptError.PagesSpent)
@@ -197,17 +198,18 @@ impl<L: Log> Pool<L> {
             ↔ ((shard.now.page_limit ≢ length shard.now.groups) × (shard.now.ended ≡ true)) }
         ensures doubled { (result ≡ Err AdoptError.Doubled)
             ↔ ((shard.now.page_limit ≢ length shard.now.groups) × (shard.now.ended ≡ false)
-            × IsDoubled self.now shard.now) }
+            × IsDoubled self.old shard.now) }
         ensures plan_open { (result ≡ Err AdoptError.PlanOpen)
             ↔ ((shard.now.page_limit ≢ length shard.now.groups) × (shard.now.ended ≡ false)
-            × (IsDoubled self.now shard.now → ⊥) × (self.now.has_plan ≡ true)) }
+            × (IsDoubled self.old shard.now → ⊥) × (self.old.has_plan ≡ true)) }
         ensures nothing { (result ≡ Err AdoptError.NothingToAdopt)
             ↔ ((shard.now.page_limit ≢ length shard.now.groups) × (shard.now.ended ≡ false)
-            × (self.now.has_plan ≡ false) × HasNothingToAdopt self.now) }
+            × (self.old.has_plan ≡ false) × HasNothingToAdopt self.old) }
         ensures memory { result ≢ Err AdoptError.OutOfMemory }
 
-        // Both are sound.
-        ensures sound { IsSound self.now }
+        // Nothing changes, and both are sound.
+        ensures same { self.new ≡ self.old }
+        ensures sound { IsSound self.new }
         ensures sound_shard { IsSoundShard shard.now }
     {
         let lowest = self.lowest_paged();
@@ -243,14 +245,12 @@ impl<L: Log> Pool<L> {
     }
 
     // The head of the group of lowest head that has a page.
-    fn lowest_paged(&self) -> Option<SpanId>
-        ensures lowest { MatchOption result (HasNothingToAdopt self.now) (IsHeadOfLowest self.now) }
-        ensures sound { IsSound self.now }
+    fn lowest_paged(&mut self) -> Option<SpanId>
+        ensures lowest { MatchOption result (HasNothingToAdopt self.old) (IsHeadOfLowest self.old) }
+        ensures same { self.new ≡ self.old }
+        ensures sound { IsSound self.old }
     {
-        let Some(group) = self.groups.lowest_paged() else {
-            return None;
-        };
-        Some(group.head_id())
+        self.groups.lowest_paged()
     }
 
     /// Whether a span of the group of the head is in the shard already, or one that it may yet open, so that it would

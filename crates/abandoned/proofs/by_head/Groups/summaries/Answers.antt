@@ -1,29 +1,16 @@
-use Rattle.std.proofs.Common.{◌≡◌, ◌∙◌, ◌*◌, ◌<◌, ◌++◌, ◌∷◌, [], List, length, map, ap, subst, sym, arith}
-use Rattle.std.specs.Prelude.{filter, option_map}
-use Rattle.std.proofs.lemmas.List.{map-append}
-use Rattle.bitmap.specs.Slots.{SlotSet}
-use Rattle.abandoned.specs.Groups.{GroupsState}
-use Rattle.abandoned.specs.Numbers.{HasNoneFrom, IsNext}
+use Rattle.std.proofs.Common.{◌∙◌, ap, map, rules}
+use Rattle.std.specs.Prelude.{filter}
+use Rattle.std.proofs.lemmas.List.Sorted.{IsNonDecreasingBy-from_sort_by_key}
+use Rattle.span.specs.Ids.{rank}
+use Rattle.span.specs.declared.entry.Entry.{Entry}
 use Rattle.groups.specs.Group.{summary}
-use Rattle.abandoned.proofs.GroupPlaces.{few_parts}
-use Rattle.abandoned.proofs.Passing.{paged, passing, passing-end, passing-next}
-use Rattle.abandoned.proofs.Places.{held_there}
+use Rattle.abandoned.specs.Groups.{GroupsState}
+use Rattle.abandoned.proofs.SortedLists.{summaries-sorted}
+use Rattle.abandoned.proofs.Walked.{paged}
 use Rattle.abandoned.proofs.by_head.Groups.summaries.Goals as goal
-
-pub loop-rank-preserved : goal.loop-rank-preserved
-loop-rank-preserved g c =
-    let next : IsNext c.self.inside.paged.items c.loop-rank.from c.in-Some.rank = subst (λ (parts : List SlotSet). IsNext parts c.loop-rank.from c.in-Some.rank) c.as_slice.ensures.value c.in-Some.ensures.next in
-    let low : c.in-Some.rank < 256 * length c.self.inside.paged.items = subst (λ (parts : List SlotSet). c.in-Some.rank < 256 * length parts) c.as_slice.ensures.value c.in-Some.ensures.within in
-    let few = few_parts c.self.inside.places.by_rank c.self.inside.paged.items c.self.invariant.sized in
-    let there = held_there c.self.inside.places.by_rank c.in-Some.rank c.in-Some-get.group.now (sym c.get.ensures ∙ ap (option_map (λ group. group.now)) c.in-Some-get.is) in
-    let more = passing-next c.self.inside.places.by_rank c.self.invariant.at_rank c.self.inside.paged.items c.self.invariant.paged_known c.loop-rank.from c.in-Some.rank c.in-Some-get.group.now next there in (
-      c.in_ok-push.ensures.items ∙ rw c.entry.ensures (ap (λ xs. xs ++ summary c.in-Some-get.group.now ∷ []) c.loop-rank.invariant.0)
-          ∙ sym (ap (map summary) more ∙ map-append summary (passing c.self.inside.places.by_rank c.loop-rank.from) (c.in-Some-get.group.now ∷ [])),
-      omega (arith, low, few),
-    )
 
 pub returns : goal.returns
 returns g c =
-    let none : HasNoneFrom c.self.inside.paged.items c.loop-rank.from = subst (λ (parts : List SlotSet). HasNoneFrom parts c.loop-rank.from) c.as_slice.ensures.value c.in_default.ensures.next in
-    let all : filter paged c.args.self.now.groups ≡ passing c.self.inside.places.by_rank c.loop-rank.from = ap (λ (s : GroupsState). filter paged s.groups) (sym c.self.view_is) ∙ passing-end c.self.inside.places.by_rank c.self.invariant.at_rank c.self.inside.paged.items c.self.invariant.paged_known c.loop-rank.from none in
-    c.loop-rank.invariant.0 ∙ ap (map summary) (sym all)
+    summaries-sorted c.as_slice.result.now c.self.inside.places.groups c.in_ok-list.list.items c.sort_unstable_by_key.new.self.items c.as_slice.ensures.order c.as_slice.ensures.ascending c.in_ok-list.ensures c.sort_unstable_by_key.ensures.permutation
+    (IsNonDecreasingBy-from_sort_by_key (λ (entry : Entry). rank entry.id) _ c.sort_unstable_by_key.ensures.sorted (λ a r q k. search rules))
+    ∙ ap (λ (s : GroupsState). map summary (filter paged s.groups)) c.self.view_is

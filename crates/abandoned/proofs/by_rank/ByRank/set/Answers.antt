@@ -1,83 +1,115 @@
-use Rattle.std.proofs.Common.{◌≡◌, ◌∙◌, ◌<◌, List, ℕ, Some, ap, length, length-set, set, slice_get, subst, sym, arith}
+use Rattle.std.proofs.Common.{◌≡◌, ◌∙◌, ◌<◌, List, None, Some, ap, arith, length, length-set, nat_eq, set, slice_get, subst, sym}
+use Rattle.std.specs.HashMap as hash
+use Rattle.span.specs.Ids.{rank}
 use Rattle.groups.specs.Group.{spans_of}
 use Rattle.groups.specs.Pages.{set_group}
 use Rattle.groups.specs.Sound.{IsSoundGroup}
 use Rattle.groups.proofs.Lists.{set-same, there_at}
-use Rattle.span.specs.Ids.{rank}
-use Rattle.abandoned.specs.Groups.{standing}
-use Rattle.abandoned.specs.Ranked.{RankedState, are_ranked}
+use Rattle.abandoned.specs.Groups.{GroupsState}
+use Rattle.abandoned.specs.Ranked.{AreOfOld, in_order}
 use Rattle.abandoned.specs.State.{PooledState}
 use Rattle.abandoned.proofs.Cases.{on_err, on_false, on_ok, on_true}
-use Rattle.abandoned.proofs.RankedGroups.{AreFound-change, count-change, ranked-change}
-use Rattle.abandoned.proofs.ReadGroup.{one_group, read_rank, read_there}
-use Rattle.abandoned.proofs.SetPlace.{head-set, with_group-change}
+use Rattle.abandoned.proofs.RankedGroups.{AreFound-set, AreOfOld-set, found_within, in_order-set, place-IsHeadOf}
+use Rattle.abandoned.proofs.ReadGroup.{head_inside, one_group, read_head, read_there}
+use Rattle.abandoned.proofs.SetPlace.{head-set, paged-set}
 use Rattle.abandoned.proofs.by_rank.ByRank.set.Goals as goal
+
+pub unreachable-requires : goal.unreachable-requires
+unreachable-requires g c =
+    let is = head_inside c.self.inside.groups.items (hash.get nat_eq c.self.inside.places) c.self.invariant.found c.args.head c.self.inside.room c.args.self.now c.self.view_is c.requires.1.0 c.requires.0 c.requires.1.1 in
+    let known = place-IsHeadOf c.self.inside.groups.items (hash.get nat_eq c.self.inside.places) c.self.invariant.found c.args.head c.requires.1.0 c.requires.0 is in
+    let none : hash.get nat_eq c.self.inside.places (rank c.args.head) ≡ None = ap (hash.get nat_eq c.self.inside.places) (sym c.rank.ensures.value) ∙ sym c.get.ensures.value ∙ sym c.copied.ensures ∙ c.in_default.is in
+    let e = sym none ∙ known.1 in
+    cc
+
+pub index_mut-requires : goal.index_mut-requires
+index_mut-requires g c =
+    let is_at : hash.get nat_eq c.self.inside.places (rank c.args.head) ≡ Some c.in-Some.at = ap (hash.get nat_eq c.self.inside.places) (sym c.rank.ensures.value) ∙ sym c.get.ensures.value ∙ sym c.copied.ensures ∙ c.in-Some.is in
+    omega (arith, found_within c.self.inside.groups.items (hash.get nat_eq c.self.inside.places) c.self.invariant.found (rank c.args.head) c.in-Some.at is_at, c.self.inside.groups.ok.0)
 
 pub set-requires-clause-place : goal.set-requires-clause-place
 set-requires-clause-place g c =
-    let one = one_group c.self.inside.groups.items c.as_slice.result.now c.self.inside.index.items c.as_slice-2.result.now c.as_slice.ensures.value c.as_slice-2.ensures.value c.args.rank c.in-Some.at c.in-Some.ensures c.index_mut.result.now c.index_mut.ensures.value c.self.inside.room c.args.self.now c.self.view_is c.requires.0 c.requires.1 in
+    let is_at : hash.get nat_eq c.self.inside.places (rank c.args.head) ≡ Some c.in-Some.at = ap (hash.get nat_eq c.self.inside.places) (sym c.rank.ensures.value) ∙ sym c.get.ensures.value ∙ sym c.copied.ensures ∙ c.in-Some.is in
+    let is = head_inside c.self.inside.groups.items (hash.get nat_eq c.self.inside.places) c.self.invariant.found c.args.head c.self.inside.room c.args.self.now c.self.view_is c.requires.1.0 c.requires.0 c.requires.1.1 in
+    let one = one_group c.self.inside.groups.items (hash.get nat_eq c.self.inside.places) c.self.invariant.found c.args.head c.in-Some.at is_at c.index_mut.result.now c.index_mut.ensures.value c.requires.1.0 c.requires.0 is in
     subst (λ (x : PooledState). c.args.place < length (spans_of x)) one c.requires.2
 
 pub set-requires-clause-sound : goal.set-requires-clause-sound
 set-requires-clause-sound g c =
-    let one = one_group c.self.inside.groups.items c.as_slice.result.now c.self.inside.index.items c.as_slice-2.result.now c.as_slice.ensures.value c.as_slice-2.ensures.value c.args.rank c.in-Some.at c.in-Some.ensures c.index_mut.result.now c.index_mut.ensures.value c.self.inside.room c.args.self.now c.self.view_is c.requires.0 c.requires.1 in
+    let is_at : hash.get nat_eq c.self.inside.places (rank c.args.head) ≡ Some c.in-Some.at = ap (hash.get nat_eq c.self.inside.places) (sym c.rank.ensures.value) ∙ sym c.get.ensures.value ∙ sym c.copied.ensures ∙ c.in-Some.is in
+    let is = head_inside c.self.inside.groups.items (hash.get nat_eq c.self.inside.places) c.self.invariant.found c.args.head c.self.inside.room c.args.self.now c.self.view_is c.requires.1.0 c.requires.0 c.requires.1.1 in
+    let one = one_group c.self.inside.groups.items (hash.get nat_eq c.self.inside.places) c.self.invariant.found c.args.head c.in-Some.at is_at c.index_mut.result.now c.index_mut.ensures.value c.requires.1.0 c.requires.0 is in
     subst IsSoundGroup one c.requires.3
 
 pub invariant_of-self : goal.invariant_of-self
 invariant_of-self g c =
-    let groups = c.self.inside.groups.items in
-    let index = c.self.inside.index.items in
-    let read = c.index_mut.result.now in
-    let now = c.set.new.self in
-    let one = one_group c.self.inside.groups.items c.as_slice.result.now c.self.inside.index.items c.as_slice-2.result.now c.as_slice.ensures.value c.as_slice-2.ensures.value c.args.rank c.in-Some.at c.in-Some.ensures c.index_mut.result.now c.index_mut.ensures.value c.self.inside.room c.args.self.now c.self.view_is c.requires.0 c.requires.1 in
-    let here = read_there c.self.inside.groups.items c.as_slice.result.now c.self.inside.index.items c.as_slice-2.result.now c.as_slice.ensures.value c.as_slice-2.ensures.value c.args.rank c.in-Some.at c.in-Some.ensures c.index_mut.result.now c.index_mut.ensures.value in
-    let span = there_at (spans_of read) c.args.place (subst (λ (x : PooledState). c.args.place < length (spans_of x)) one c.requires.2) in
-    let head = ap rank (head-set read c.args.place span.0 span.1 c.args.slot c.args.generation c.args.words.now c.set.result now (c.set.ensures.set span.0 span.1) c.set.ensures.unknown c.set.ensures.err) in
+    let is_at : hash.get nat_eq c.self.inside.places (rank c.args.head) ≡ Some c.in-Some.at = ap (hash.get nat_eq c.self.inside.places) (sym c.rank.ensures.value) ∙ sym c.get.ensures.value ∙ sym c.copied.ensures ∙ c.in-Some.is in
+    let is = head_inside c.self.inside.groups.items (hash.get nat_eq c.self.inside.places) c.self.invariant.found c.args.head c.self.inside.room c.args.self.now c.self.view_is c.requires.1.0 c.requires.0 c.requires.1.1 in
+    let one = one_group c.self.inside.groups.items (hash.get nat_eq c.self.inside.places) c.self.invariant.found c.args.head c.in-Some.at is_at c.index_mut.result.now c.index_mut.ensures.value c.requires.1.0 c.requires.0 is in
+    let here = read_there c.self.inside.groups.items (hash.get nat_eq c.self.inside.places) c.self.invariant.found c.args.head c.in-Some.at is_at c.index_mut.result.now c.index_mut.ensures.value in
+    let span = there_at (spans_of c.index_mut.result.now) c.args.place (subst (λ (x : PooledState). c.args.place < length (spans_of x)) one c.requires.2) in
+    let head = head-set c.index_mut.result.now c.args.place span.0 span.1 c.args.slot c.args.generation c.args.words.now c.set.result c.set.new.self (c.set.ensures.set span.0 span.1) c.set.ensures.unknown c.set.ensures.err in
     record {
-      found = AreFound-change groups index c.self.invariant.found c.in-Some.at read now here head;
-      count = count-change groups index c.self.invariant.found c.in-Some.at read now here head c.self.invariant.count
-          ∙ ap (λ places. length (standing places)) (sym (ranked-change groups index c.self.invariant.found c.in-Some.at read now here head));
-      size = c.self.invariant.size;
-      reserved = omega (arith, c.self.invariant.reserved, length-set groups c.in-Some.at now);
+      found = AreFound-set c.self.inside.groups.items (hash.get nat_eq c.self.inside.places) c.self.invariant.found c.in-Some.at c.index_mut.result.now c.set.new.self here head;
+      reserved = omega (arith, c.self.invariant.reserved, length-set c.self.inside.groups.items c.in-Some.at c.set.new.self);
+      spare = c.self.invariant.spare;
     }
 
 pub returns-clause-found : goal.returns-clause-found
-returns-clause-found g c group span there at_place =
-    let one = one_group c.self.inside.groups.items c.as_slice.result.now c.self.inside.index.items c.as_slice-2.result.now c.as_slice.ensures.value c.as_slice-2.ensures.value c.args.rank c.in-Some.at c.in-Some.ensures c.index_mut.result.now c.index_mut.ensures.value c.self.inside.room c.args.self.now c.self.view_is group there in
-    c.set.ensures.found span (subst (λ (x : PooledState). slice_get (spans_of x) c.args.place ≡ Some span) one at_place)
+returns-clause-found g c index group span is at_place =
+    let is_at : hash.get nat_eq c.self.inside.places (rank c.args.head) ≡ Some c.in-Some.at = ap (hash.get nat_eq c.self.inside.places) (sym c.rank.ensures.value) ∙ sym c.get.ensures.value ∙ sym c.copied.ensures ∙ c.in-Some.is in
+    let inside = head_inside c.self.inside.groups.items (hash.get nat_eq c.self.inside.places) c.self.invariant.found c.args.head c.self.inside.room c.args.self.now c.self.view_is index group is in
+    let one = one_group c.self.inside.groups.items (hash.get nat_eq c.self.inside.places) c.self.invariant.found c.args.head c.in-Some.at is_at c.index_mut.result.now c.index_mut.ensures.value index group inside in
+    let at_read = subst (λ (x : PooledState). slice_get (spans_of x) c.args.place ≡ Some span) one at_place in
+    c.set.ensures.found span at_read
 
 pub returns-clause-refused : goal.returns-clause-refused
-returns-clause-refused g c group span there at_place =
-    let one = one_group c.self.inside.groups.items c.as_slice.result.now c.self.inside.index.items c.as_slice-2.result.now c.as_slice.ensures.value c.as_slice-2.ensures.value c.args.rank c.in-Some.at c.in-Some.ensures c.index_mut.result.now c.index_mut.ensures.value c.self.inside.room c.args.self.now c.self.view_is group there in
-    c.set.ensures.refused span (subst (λ (x : PooledState). slice_get (spans_of x) c.args.place ≡ Some span) one at_place)
+returns-clause-refused g c index group span is at_place =
+    let is_at : hash.get nat_eq c.self.inside.places (rank c.args.head) ≡ Some c.in-Some.at = ap (hash.get nat_eq c.self.inside.places) (sym c.rank.ensures.value) ∙ sym c.get.ensures.value ∙ sym c.copied.ensures ∙ c.in-Some.is in
+    let inside = head_inside c.self.inside.groups.items (hash.get nat_eq c.self.inside.places) c.self.invariant.found c.args.head c.self.inside.room c.args.self.now c.self.view_is index group is in
+    let one = one_group c.self.inside.groups.items (hash.get nat_eq c.self.inside.places) c.self.invariant.found c.args.head c.in-Some.at is_at c.index_mut.result.now c.index_mut.ensures.value index group inside in
+    let at_read = subst (λ (x : PooledState). slice_get (spans_of x) c.args.place ≡ Some span) one at_place in
+    c.set.ensures.refused span at_read
 
 pub returns-clause-set : goal.returns-clause-set
-returns-clause-set g c group span there at_place =
-    let groups = c.self.inside.groups.items in
-    let index = c.self.inside.index.items in
-    let read = c.index_mut.result.now in
-    let now = c.set.new.self in
-    let one = one_group c.self.inside.groups.items c.as_slice.result.now c.self.inside.index.items c.as_slice-2.result.now c.as_slice.ensures.value c.as_slice-2.ensures.value c.args.rank c.in-Some.at c.in-Some.ensures c.index_mut.result.now c.index_mut.ensures.value c.self.inside.room c.args.self.now c.self.view_is group there in
-    let here = read_there c.self.inside.groups.items c.as_slice.result.now c.self.inside.index.items c.as_slice-2.result.now c.as_slice.ensures.value c.as_slice-2.ensures.value c.args.rank c.in-Some.at c.in-Some.ensures c.index_mut.result.now c.index_mut.ensures.value in
-    let number = read_rank c.self.inside.groups.items c.as_slice.result.now c.self.inside.index.items c.as_slice-2.result.now c.as_slice.ensures.value c.as_slice-2.ensures.value c.args.rank c.in-Some.at c.in-Some.ensures c.index_mut.result.now c.index_mut.ensures.value in
-    let span_here = subst (λ (x : PooledState). slice_get (spans_of x) c.args.place ≡ Some span) one at_place in
-    let head = head-set read c.args.place span span_here c.args.slot c.args.generation c.args.words.now c.set.result now (c.set.ensures.set span span_here) c.set.ensures.unknown c.set.ensures.err in
-    on_ok c.set.result (λ done. on_true done (λ is.
-    with_group-change groups index c.self.invariant.found c.in-Some.at read now here head c.args.rank number c.self.inside.room c.args.self.now c.self.view_is
-    ∙ ap (λ (x : PooledState). record c.args.self.now { by_rank = set c.args.self.now.by_rank c.args.rank (Some x) }) (is ∙ ap (λ (x : PooledState). set_group x c.args.place span c.args.slot c.args.generation c.args.words.now) (sym one))))
-    (c.set.ensures.set span span_here)
-
--- where the group stays, the row does
-stays : (groups : List PooledState) (index : List ℕ) (room at : ℕ) (read now : PooledState) → slice_get groups at ≡ Some read → now ≡ read → (old : RankedState) → record { by_rank = are_ranked groups 0 index; room = room } ≡ old
-    → ◌≡◌ {A = RankedState} (record { by_rank = are_ranked (set groups at now) 0 index; room = room }) old
-stays groups index room at read now here same old old_is = ap (λ (gs : List PooledState). record { by_rank = are_ranked gs 0 index; room = room }) (ap (set groups at) same ∙ set-same groups at read here) ∙ old_is
+returns-clause-set g c index group span is at_place =
+    let is_at : hash.get nat_eq c.self.inside.places (rank c.args.head) ≡ Some c.in-Some.at = ap (hash.get nat_eq c.self.inside.places) (sym c.rank.ensures.value) ∙ sym c.get.ensures.value ∙ sym c.copied.ensures ∙ c.in-Some.is in
+    let inside = head_inside c.self.inside.groups.items (hash.get nat_eq c.self.inside.places) c.self.invariant.found c.args.head c.self.inside.room c.args.self.now c.self.view_is index group is in
+    let one = one_group c.self.inside.groups.items (hash.get nat_eq c.self.inside.places) c.self.invariant.found c.args.head c.in-Some.at is_at c.index_mut.result.now c.index_mut.ensures.value index group inside in
+    let at_read = subst (λ (x : PooledState). slice_get (spans_of x) c.args.place ≡ Some span) one at_place in
+    let here = read_there c.self.inside.groups.items (hash.get nat_eq c.self.inside.places) c.self.invariant.found c.args.head c.in-Some.at is_at c.index_mut.result.now c.index_mut.ensures.value in
+    let head = head-set c.index_mut.result.now c.args.place span at_read c.args.slot c.args.generation c.args.words.now c.set.result c.set.new.self (c.set.ensures.set span at_read) c.set.ensures.unknown c.set.ensures.err in
+    on_ok c.set.result (λ done. on_true done (λ is_set.
+    ap (λ gs. record { groups = gs; room = c.self.inside.room })
+    (in_order-set c.self.inside.groups.items (hash.get nat_eq c.self.inside.places) c.self.invariant.found c.in-Some.at c.index_mut.result.now c.set.new.self here head c.args.head index (read_head c.self.inside.groups.items (hash.get nat_eq c.self.inside.places) c.self.invariant.found c.args.head c.in-Some.at is_at c.index_mut.result.now c.index_mut.ensures.value index group inside)
+    ∙ ap (set (in_order c.self.inside.groups.items) index) (is_set ∙ ap (λ (x : PooledState). set_group x c.args.place span c.args.slot c.args.generation c.args.words.now) (sym one)))
+    ∙ ap (λ (s : GroupsState). record { groups = set s.groups index (set_group group c.args.place span c.args.slot c.args.generation c.args.words.now); room = s.room }) c.self.view_is))
+    (c.set.ensures.set span at_read)
 
 pub returns-clause-unknown : goal.returns-clause-unknown
 returns-clause-unknown g c =
-    let here = read_there c.self.inside.groups.items c.as_slice.result.now c.self.inside.index.items c.as_slice-2.result.now c.as_slice.ensures.value c.as_slice-2.ensures.value c.args.rank c.in-Some.at c.in-Some.ensures c.index_mut.result.now c.index_mut.ensures.value in
-    on_ok c.set.result (λ done. on_false done (λ same. stays c.self.inside.groups.items c.self.inside.index.items c.self.inside.room c.in-Some.at c.index_mut.result.now c.set.new.self here same c.args.self.now c.self.view_is)) c.set.ensures.unknown
+    let is_at : hash.get nat_eq c.self.inside.places (rank c.args.head) ≡ Some c.in-Some.at = ap (hash.get nat_eq c.self.inside.places) (sym c.rank.ensures.value) ∙ sym c.get.ensures.value ∙ sym c.copied.ensures ∙ c.in-Some.is in
+    let here = read_there c.self.inside.groups.items (hash.get nat_eq c.self.inside.places) c.self.invariant.found c.args.head c.in-Some.at is_at c.index_mut.result.now c.index_mut.ensures.value in
+    on_ok c.set.result (λ done. on_false done (λ stays.
+    ap (λ (gs : List PooledState). record { groups = in_order gs; room = c.self.inside.room }) (ap (set c.self.inside.groups.items c.in-Some.at) stays ∙ set-same c.self.inside.groups.items c.in-Some.at c.index_mut.result.now here) ∙ c.self.view_is))
+    c.set.ensures.unknown
 
 pub returns-clause-err : goal.returns-clause-err
 returns-clause-err g c =
-    let here = read_there c.self.inside.groups.items c.as_slice.result.now c.self.inside.index.items c.as_slice-2.result.now c.as_slice.ensures.value c.as_slice-2.ensures.value c.args.rank c.in-Some.at c.in-Some.ensures c.index_mut.result.now c.index_mut.ensures.value in
-    on_err c.set.result (λ same. stays c.self.inside.groups.items c.self.inside.index.items c.self.inside.room c.in-Some.at c.index_mut.result.now c.set.new.self here same c.args.self.now c.self.view_is) c.set.ensures.err
+    let is_at : hash.get nat_eq c.self.inside.places (rank c.args.head) ≡ Some c.in-Some.at = ap (hash.get nat_eq c.self.inside.places) (sym c.rank.ensures.value) ∙ sym c.get.ensures.value ∙ sym c.copied.ensures ∙ c.in-Some.is in
+    let here = read_there c.self.inside.groups.items (hash.get nat_eq c.self.inside.places) c.self.invariant.found c.args.head c.in-Some.at is_at c.index_mut.result.now c.index_mut.ensures.value in
+    on_err c.set.result (λ stays.
+    ap (λ (gs : List PooledState). record { groups = in_order gs; room = c.self.inside.room }) (ap (set c.self.inside.groups.items c.in-Some.at) stays ∙ set-same c.self.inside.groups.items c.in-Some.at c.index_mut.result.now here) ∙ c.self.view_is)
+    c.set.ensures.err
+
+pub returns-clause-paged : goal.returns-clause-paged
+returns-clause-paged g c =
+    let is_at : hash.get nat_eq c.self.inside.places (rank c.args.head) ≡ Some c.in-Some.at = ap (hash.get nat_eq c.self.inside.places) (sym c.rank.ensures.value) ∙ sym c.get.ensures.value ∙ sym c.copied.ensures ∙ c.in-Some.is in
+    let is = head_inside c.self.inside.groups.items (hash.get nat_eq c.self.inside.places) c.self.invariant.found c.args.head c.self.inside.room c.args.self.now c.self.view_is c.requires.1.0 c.requires.0 c.requires.1.1 in
+    let one = one_group c.self.inside.groups.items (hash.get nat_eq c.self.inside.places) c.self.invariant.found c.args.head c.in-Some.at is_at c.index_mut.result.now c.index_mut.ensures.value c.requires.1.0 c.requires.0 is in
+    let here = read_there c.self.inside.groups.items (hash.get nat_eq c.self.inside.places) c.self.invariant.found c.args.head c.in-Some.at is_at c.index_mut.result.now c.index_mut.ensures.value in
+    let sound = subst IsSoundGroup one c.requires.3 in
+    let span = there_at (spans_of c.index_mut.result.now) c.args.place (subst (λ (x : PooledState). c.args.place < length (spans_of x)) one c.requires.2) in
+    let head = head-set c.index_mut.result.now c.args.place span.0 span.1 c.args.slot c.args.generation c.args.words.now c.set.result c.set.new.self (c.set.ensures.set span.0 span.1) c.set.ensures.unknown c.set.ensures.err in
+    subst (λ (s : GroupsState). AreOfOld s (record { groups = in_order (set c.self.inside.groups.items c.in-Some.at c.set.new.self); room = c.self.inside.room })) c.self.view_is
+    (AreOfOld-set c.self.inside.groups.items (hash.get nat_eq c.self.inside.places) c.self.invariant.found c.in-Some.at c.index_mut.result.now c.set.new.self here head (paged-set c.index_mut.result.now sound c.args.place span.0 span.1 c.args.slot c.args.generation c.args.words.now c.set.result c.set.new.self (c.set.ensures.found span.0 span.1) c.set.ensures.unknown c.set.ensures.err) c.self.inside.room)

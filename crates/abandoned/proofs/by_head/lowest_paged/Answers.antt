@@ -1,0 +1,25 @@
+use Rattle.std.proofs.Common.{◌∙◌, ◌∷◌, arith}
+use Rattle.std.proofs.lemmas.List.Sorted.{length_permutation}
+use Rattle.abandoned.proofs.NotedRanks.{AreNoted-dropped, HasNoPage-none, IsHeadOfFirstPaged-least}
+use Rattle.abandoned.proofs.by_head.lowest_paged.Goals as goal
+
+pub returns-in-Some-paged_head-clause-lowest : goal.returns-in-Some-paged_head-clause-lowest
+returns-in-Some-paged_head-clause-lowest g c =
+    IsHeadOfFirstPaged-least c.args.places.now.groups c.loop-rank.paged.ranks c.loop-rank.invariant.noted c.paged_head.ensures.ascending c.in-Some.rank c.in-Some.ensures c.in-Some-paged_head.head c.in-Some-paged_head.ensures.head
+
+pub loop-rank-smaller : goal.loop-rank-smaller
+loop-rank-smaller g c =
+    let moved = c.drop_least.ensures.dropped c.in-Some.rank c.in-Some.ensures in
+    omega (arith, length_permutation c.loop-rank.paged.ranks (c.in-Some.rank ∷ c.drop_least.new.self.ranks) moved)
+
+pub loop-rank-preserved : goal.loop-rank-preserved
+loop-rank-preserved g c =
+    let moved = c.drop_least.ensures.dropped c.in-Some.rank c.in-Some.ensures in
+    record {
+      noted = AreNoted-dropped c.args.places.now.groups c.loop-rank.paged.ranks c.loop-rank.invariant.noted c.in-Some.rank c.in_default-paged_head.ensures.head c.drop_least.new.self.ranks moved;
+      fewer = omega (arith, length_permutation c.loop-rank.paged.ranks (c.in-Some.rank ∷ c.drop_least.new.self.ranks) moved, c.loop-rank.invariant.fewer);
+      capacity = c.drop_least.ensures.capacity ∙ c.loop-rank.invariant.capacity;
+    }
+
+pub returns-clause-lowest : goal.returns-clause-lowest
+returns-clause-lowest g c = HasNoPage-none c.args.places.now.groups c.loop-rank.paged.ranks c.loop-rank.invariant.noted c.in_default.ensures

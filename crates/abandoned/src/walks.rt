@@ -1,0 +1,85 @@
+// What is counted and told of groups, one after another.
+ghost use Rattle.std.specs.Prelude.{◌≡◌, ◌≤◌, ◌+◌, ◌++◌, ◌*◌, IfOk, length, map};
+ghost use Rattle.span.specs.SpanLogs.{AreLegal, room_for_logs, span_of_log};
+ghost use Rattle.groups.specs.Group.{paged_in, spans_in, summary};
+ghost use Rattle.groups.specs.Spans.{live_count};
+ghost use Rattle.span.specs.declared.limits.TheConstants.{ALL_IDS};
+ghost use Rattle.bitmap.specs.declared.bits.TheConstants.{SLOTS};
+
+use crate::pooled::Pooled;
+use span::{Entry, Kept, Log, SpanLog};
+use std::alloc::{AllocError, Global};
+
+/// How many of them have a page.
+pub(crate) fn pages<L: Log>(groups: &[Pooled<L>]) -> usize
+    ensures { result ≡ length (paged_in groups.now) }
+{
+    let mut pages = 0;
+    for group in groups {
+        if group.is_paged() {
+            pages += 1;
+        }
+    }
+    pages
+}
+
+/// How many keys are live in those that have a page.
+pub(crate) fn live<L: Log>(groups: &[Pooled<L>]) -> usize
+    requires { length groups.now ≤ ALL_IDS }
+    ensures live { result ≡ live_count (spans_in (paged_in groups.now)) }
+    ensures at_most { result ≤ SLOTS * length groups.now }
+{
+    let mut live = 0;
+    for group in groups {
+        if group.is_paged() {
+            live += group.live();
+        }
+    }
+    live
+}
+
+/// How many spans they have, heads and guests.
+pub(crate) fn span_count<L: Log>(groups: &[Pooled<L>]) -> usize
+    requires { length (spans_in groups.now) ≤ ALL_IDS }
+    ensures { result ≡ length (spans_in groups.now) }
+{
+    let mut count = 0;
+    for group in groups {
+        count += group.len();
+    }
+    count
+}
+
+/// Each that has a page: its head, its class and the slots that are live in one of its spans.
+///
+/// # Errors
+///
+/// `AllocError` where the list could not grow.
+pub(crate) fn summaries<L: Log>(
+    groups: &[Pooled<L>],
+    alloc: Global,
+) -> Result<Vec<Entry>, AllocError>
+    ensures { IfOk result (λ list. list.items ≡ map summary (paged_in groups.now)) }
+{
+    let mut list = Vec::new(alloc);
+    for group in groups {
+        if group.is_paged() {
+            list.push(group.entry())?;
+        }
+    }
+    Ok(list)
+}
+
+/// Moves the log of each of their spans to the end of a list with room for them.
+pub(crate) fn into_logs(groups: Vec<Pooled<Kept>>, logs: &mut Vec<SpanLog>)
+    requires { length (spans_in groups.items) ≤ room_for_logs logs.old }
+    ensures logs { map span_of_log logs.new.items ≡ map span_of_log logs.old.items
+        ++ spans_in groups.items }
+    ensures legal { AreLegal logs.old.items → AreLegal logs.new.items }
+    ensures room { room_for_logs logs.old ≡ room_for_logs logs.new + length
+        (spans_in groups.items) }
+{
+    for group in groups {
+        group.into_spans().into_logs(logs);
+    }
+}
