@@ -89,3 +89,4 @@ pub use receipts::{Dropped, Receipts};
 pub use ring_table::RingTable;
 pub use seat::{Seat, Tended};
 pub use steward::Steward;
+pub use words::ARENA_SPANS;

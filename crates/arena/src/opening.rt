@@ -1,8 +1,9 @@
 // A new arena, with its seats and its steward.
-ghost use Rattle.std.specs.Prelude.{◌≡◌, ◌≤◌, ◌↔◌, All, IfOk, IsErrOf, None, map, vec_len};
+ghost use Rattle.std.specs.Prelude.{◌≡◌, ◌<◌, ◌≤◌, ◌↔◌, All, IfOk, IfSome, IsErrOf, IsSome, None, map, vec_len};
 ghost use Rattle.std.specs.List.{range_with_len};
 ghost use Rattle.marks.specs.Numbers.{AreWithin, limits_of};
 ghost use Rattle.remote_queue.specs.Rings.{AreFreshInboxes, AreFreshOutboxes, AreTransposed, inbox_rings, outbox_rings};
+ghost use Rattle.arena.specs.Numbers.{arena_limits};
 ghost use Rattle.arena.specs.Seats.{AreLinked, AreSeatsOf, IsTableOf, first_standing, standing};
 
 use crate::arena::Arena;
@@ -11,20 +12,20 @@ use crate::gate::Gate;
 use crate::ring_table::RingTable;
 use crate::seat::Seat;
 use crate::steward::Steward;
-use crate::words::Words;
+use crate::words::{ARENA_SPANS, Words};
 use abandoned::Pool;
 use latch::Latch;
 use marks::Limits;
 use remote_queue::{LinkError, Links, link};
-use shard::Shard;
+use shard::{Config, Shard};
 use span::{Kept, Log};
 use std::alloc::{AllocError, Global};
 use std::mem::replace;
 
 impl<G: Gate> Arena<G, Kept> {
     /// An arena of `shards` new shards and an empty pool, with a seat for each worker, by number, and its steward. A shard may
-    /// have `page_limit` pages of 256 slots, a ring holds `ring_capacity` keys, and a slot is given the generations from 1
-    /// to `gens`.
+    /// have `page_limit` pages of 256 slots, and opens [`ARENA_SPANS`] spans at most; a ring holds `ring_capacity` keys, and a slot
+    /// is given the generations from 1 to `gens`.
     ///
     /// # Errors
     ///
@@ -43,7 +44,7 @@ impl<G: Gate> Arena<G, Kept> {
         ensures memory { IsErrOf result OpenError.OutOfMemory
             → AreWithin (limits_of shards page_limit ring_capacity gens) }
         ensures numbers { IfOk result (λ opened. opened.0.limits
-            ≡ limits_of shards page_limit ring_capacity gens) }
+            ≡ arena_limits shards page_limit ring_capacity gens) }
         ensures standing { IfOk result (λ opened. map standing opened.1.items
             ≡ map (first_standing opened.0.limits) (range_with_len 0 shards)) }
         ensures seats { IfOk result (λ opened. AreSeatsOf opened.0.limits opened.0.table
@@ -77,7 +78,7 @@ impl<G: Gate, L: Log> Arena<G, L> {
         ensures memory { IsErrOf result OpenError.OutOfMemory
             → AreWithin (limits_of shards page_limit ring_capacity gens) }
         ensures numbers { IfOk result (λ opened. opened.0.limits
-            ≡ limits_of shards page_limit ring_capacity gens) }
+            ≡ arena_limits shards page_limit ring_capacity gens) }
         ensures standing { IfOk result (λ opened. map standing opened.1.items
             ≡ map (first_standing opened.0.limits) (range_with_len 0 shards)) }
         ensures seats { IfOk result (λ opened. AreSeatsOf opened.0.limits opened.0.table
@@ -91,7 +92,7 @@ impl<G: Gate, L: Log> Arena<G, L> {
           plan = None;
         }) }
     {
-        let Some(limits) = Limits::new(shards, page_limit, ring_capacity, gens) else {
+        let Some(limits) = arena_limits(shards, page_limit, ring_capacity, gens) else {
             return Err(OpenError::Config);
         };
         let links = links_of(alloc, limits)?;
@@ -101,6 +102,15 @@ impl<G: Gate, L: Log> Arena<G, L> {
         let arena = arena_of(alloc, limits, table, gate)?;
         Ok((arena, seats, steward))
     }
+}
+
+// The numbers of an arena, or `None` where one is out of its range.
+fn arena_limits(shards: u32, page_limit: usize, ring_capacity: usize, gens: u32) -> Option<Limits>
+    ensures in_range { IsSome result ↔ AreWithin (limits_of shards page_limit ring_capacity gens) }
+    ensures parts { IfSome result
+        (λ limits. limits ≡ arena_limits shards page_limit ring_capacity gens) }
+{
+    Limits::new(shards, page_limit, ring_capacity, gens)?.with_span_limit(ARENA_SPANS)
 }
 
 // A ring from each worker to each shard.
@@ -199,10 +209,19 @@ fn locked_shards<L: Log>(alloc: Global, limits: Limits) -> Result<Vec<Latch<Shar
 {
     let mut shards = Vec::with_capacity(alloc, limits.shards() as usize)?;
     for number in 0..limits.shards() {
-        let Ok(shard) = Shard::with_log(alloc, number, limits.page_limit(), limits.gens()) else {
-            unreachable!();
-        };
+        let shard = new_shard(alloc, number, limits);
         shards.push_reserved(Latch::new(alloc, shard)?);
     }
     Ok(shards)
+}
+
+// The new shard of this number.
+fn new_shard<L: Log>(alloc: Global, number: u32, limits: Limits) -> Shard<L>
+    requires { number < limits.shards }
+{
+    let (pages, spans, gens) = (limits.page_limit(), limits.span_limit(), limits.gens());
+    match Shard::with_log(alloc, number, pages, spans, gens) {
+        Ok(shard) => shard,
+        Err(Config) => unreachable!(),
+    }
 }

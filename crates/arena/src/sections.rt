@@ -23,8 +23,9 @@ use std::alloc::AllocError;
 ///
 /// # Errors
 ///
-/// As those of [`Shard::put`]: `Ended` exactly after the shard's end, `PagesSpent` exactly where it has not ended, needs a page
-/// and may have none, and `OutOfMemory` where an allocation was refused. The shard is then as it was, and there is no receipt.
+/// As those of [`Shard::put`]: `Ended` exactly after the shard's end, `PagesSpent` exactly where it has not ended, needs a new
+/// span, and has as many groups as it may have pages or has opened as many spans as it may, and `OutOfMemory` where an allocation
+/// was refused. The shard is then as it was, and there is no receipt.
 pub fn put_in<L: Log>(
     shard: &mut Shard<L>,
     worker: u32,

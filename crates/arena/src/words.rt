@@ -4,10 +4,13 @@ ghost use Rattle.arena.specs.Words.{IsPlace};
 ghost use Rattle.span.specs.declared.limits.TheConstants.{MOST_SHARDS};
 
 use shard::Shard;
-use span::{Log, MOST_SPANS, SpanId};
+use span::{Log, SpanId};
 use std::alloc::{AllocError, Global};
 use std::sync::atomic::Ordering::SeqCst;
 use std::sync::atomic::{AtomicIn, Rule};
+
+/// How many spans a shard of an arena opens at most. An arena has a word for each of them, made with it.
+pub const ARENA_SPANS: u32 = 1024;
 
 /// Where a span may be.
 #[derive(Clone, Copy, PartialEq, Eq, Debug)]
@@ -34,7 +37,7 @@ impl Rule for Whereabouts {
 /// never opened, which its first put unsays before its key is handed out.
 #[derive(Drop)]
 pub(crate) struct Words {
-    // By the rank of the span's id.
+    // By the span's shard and then by its serial, of each that is below `ARENA_SPANS`.
     words: Vec<AtomicIn<Whereabouts>>,
 }
 
@@ -43,7 +46,7 @@ impl Words {
     pub(crate) fn new(alloc: Global, shards: u32) -> Result<Words, AllocError>
         requires { shards ≤ MOST_SHARDS }
     {
-        let count = (MOST_SPANS * shards) as usize;
+        let count = (ARENA_SPANS * shards) as usize;
         let mut words = Vec::with_capacity(alloc, count)?;
         for _ in 0..count {
             words.push_reserved(AtomicIn::new(0));
@@ -55,7 +58,10 @@ impl Words {
     pub(crate) fn place_of(&self, id: SpanId) -> Place
         ensures { IsPlace result }
     {
-        match self.words.get(id.rank() as usize) {
+        let Some(index) = index_of(id) else {
+            return Place::Unopened;
+        };
+        match self.words.get(index) {
             None => Place::Unopened,
             Some(word) => place_from(word.load(SeqCst)),
         }
@@ -65,7 +71,10 @@ impl Words {
     pub(crate) fn set(&self, id: SpanId, place: Place)
         requires { IsPlace place }
     {
-        if let Some(word) = self.words.get(id.rank() as usize) {
+        let Some(index) = index_of(id) else {
+            return;
+        };
+        if let Some(word) = self.words.get(index) {
             word.store(word_from(place), SeqCst);
         }
     }
@@ -93,6 +102,16 @@ impl Words {
                 }
             }
         }
+    }
+}
+
+// Where the span's word stands, or `None` where the span has none, since no shard of an arena opens it.
+fn index_of(id: SpanId) -> Option<usize> {
+    let SpanId { shard, serial } = id;
+    if serial < ARENA_SPANS {
+        Some((ARENA_SPANS * shard + serial) as usize)
+    } else {
+        None
     }
 }
 

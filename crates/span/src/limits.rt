@@ -4,7 +4,7 @@
 pub const MOST_SHARDS: u32 = 64;
 
 /// How many spans one shard opens at most: the serial of an id is below this.
-pub const MOST_SPANS: u32 = 1024;
+pub const MOST_SPANS: u32 = u32::MAX;
 
 /// How many span ids there are: the rank of an id is below this.
 pub const ALL_IDS: u64 = MOST_SHARDS as u64 * MOST_SPANS as u64;

@@ -1,6 +1,7 @@
 // An arena from its beginning to its end, and the calls of its steward.
 ghost use Rattle.std.specs.Prelude.{◌≡◌, ◌↔◌, ◌≢◌, IfErr, IfOk, IsErrOf, IsSome, MatchBool, None, vec_len, MatchResult, Some};
 ghost use Rattle.std.specs.Arc.{arc_value};
+ghost use Rattle.arena.specs.Numbers.{arena_limits};
 ghost use Rattle.arena.specs.declared.error.OpenError.TheVariants as open_error;
 ghost use Rattle.teurlaks_c.specs.declared.share.SharedSeat.{SharedSeat};
 ghost use Rattle.teurlaks_c.specs.declared.share.Share.TheVariants as shares;
@@ -27,7 +28,7 @@ use std::sync::Arc;
 
 /// Leaves the steward of a new arena to the handle, which has nothing yet: of `shards` shards, 1 to 64, each of up to `page_limit` pages of
 /// 4,096 bytes, 1 to 1,024, with rings of `ring_capacity` keys, 1 to 1,024, each slot of which is given the generations from 1 to `gens`,
-/// at least 1. The steward has a seat for each shard, to be given to threads.
+/// at least 1. A shard opens 1,024 spans at most. The steward has a seat for each shard, to be given to threads.
 ///
 /// `HAS_CORE` comes exactly where the handle has a seat or a steward already. Where it has none, `CONFIG` comes exactly where a number is
 /// out of its range, and `OUT_OF_MEMORY` only where each is within it. Where the status is not `OK` the handle is as it was.
@@ -41,7 +42,7 @@ pub extern "C" fn teurlaks_arena_open(
     gens: u32,
 ) -> u32
     ensures ok { result ≡ 0
-        → HasNewArena (limits_of shards page_limit ring_capacity gens) out.new.share }
+        → HasNewArena (arena_limits shards page_limit ring_capacity gens) out.new.share }
     ensures refused { (result ≡ 0 → ⊥) → out.new.share ≡ out.old.share }
     ensures config { out.old.share ≡ None → (result ≡ config)
         ↔ (AreWithin (limits_of shards page_limit ring_capacity gens) → ⊥) }
@@ -80,7 +81,7 @@ fn opened(
     ensures config { IsErrOf result open_error.Config
         ↔ (AreWithin (limits_of shards page_limit ring_capacity gens) → ⊥) }
     ensures new { IfOk result (λ shared. (shared.steward ≡ record {
-      limits = limits_of shards page_limit ring_capacity gens;
+      limits = arena_limits shards page_limit ring_capacity gens;
       plan = None;
     }) × (shared.last ≡ None) × (vec_len shared.seats ≡ shards)) }
 {

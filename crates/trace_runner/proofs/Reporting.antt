@@ -11,14 +11,15 @@ use Rattle.trace_runner.specs.Recalls.{Serves}
 use Rattle.trace_runner.specs.Replay.{IsReportOf, ending_of, start_of}
 use Rattle.trace_runner.specs.Report.{end_line}
 use Rattle.trace_runner.specs.Runs.{IsRun}
+use Rattle.trace_runner.specs.declared.replay.TheConstants.{TRACE_SPANS}
 use Rattle.trace_runner.specs.declared.report.Ending.{Ending}
 use Rattle.trace_text.specs.declared.header.Header.{Header}
 use Rattle.trace_text.specs.declared.trace.Trace.{Trace}
 
 -- a new shard has not ended, whether or not there is one
-not_ended : (page_limit gens : ℕ) (o : Option ℕ) → option_map_or (λ (shard : ShardState). shard.ended) (option_map (new_shard page_limit gens) o) false ≡ false
-not_ended page_limit gens None = refl
-not_ended page_limit gens (Some number) = refl
+not_ended : (page_limit span_limit gens : ℕ) (o : Option ℕ) → option_map_or (λ (shard : ShardState). shard.ended) (option_map (new_shard page_limit span_limit gens) o) false ≡ false
+not_ended page_limit span_limit gens None = refl
+not_ended page_limit span_limit gens (Some number) = refl
 
 -- the core that a run starts with has the header's shards, and none has ended
 pub Serves-start : (header : Header) → Serves header.shards (start_of header)
@@ -26,8 +27,8 @@ Serves-start header = record {
   unplanned = refl;
   enough = omega arith;
   running = λ number below.
-      ap (λ o. option_map_or (λ (shard : ShardState). shard.ended) o false) (slice_get-map (new_shard header.pages header.gens) (range_with_len 0 header.shards) number)
-      ∙ not_ended header.pages header.gens (slice_get (range_with_len 0 header.shards) number);
+      ap (λ o. option_map_or (λ (shard : ShardState). shard.ended) o false) (slice_get-map (new_shard header.pages TRACE_SPANS header.gens) (range_with_len 0 header.shards) number)
+      ∙ not_ended header.pages TRACE_SPANS header.gens (slice_get (range_with_len 0 header.shards) number);
 }
 
 module _ (trace : Trace) (replies : Bool) (start last : CoreState) (ending : Ending) (news : News) where

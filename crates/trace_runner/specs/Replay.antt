@@ -3,7 +3,7 @@ use Rattle.std.specs.Prelude.{◌≡◌, ◌+◌, ◌++◌, ℕ, Bool, List, Opt
 use Rattle.std.specs.Io.KnownBytes.{Appends}
 use Rattle.span.specs.PlainMap.{empty_map}
 use Rattle.arena_core.specs.State.{CoreState, HasKeys, live_keys, new_core, pages, shown}
-use Rattle.marks.specs.Numbers.{limits_of}
+use Rattle.marks.specs.Numbers.{Limits, limits_of, with_span_limit}
 use Rattle.trace_runner.specs.News.{News}
 use Rattle.trace_runner.specs.Report.{end_line}
 use Rattle.trace_runner.specs.Runs.{IsRun}
@@ -11,13 +11,18 @@ use Rattle.trace_runner.specs.Sink.{AppendsFront}
 use Rattle.trace_text.specs.Trace.{IsFaultAt, IsTrace}
 use Rattle.trace_runner.specs.declared.fault.ReplayError.{ReplayError}
 use Rattle.trace_runner.specs.declared.fault.ReplayError.TheVariants.{OutOfMemory, BadTrace, SinkFailed}
+use Rattle.trace_runner.specs.declared.replay.TheConstants.{TRACE_SPANS}
 use Rattle.trace_runner.specs.declared.report.Ending.{Ending}
 use Rattle.trace_text.specs.declared.header.Header.{Header}
 use Rattle.trace_text.specs.declared.trace.Trace.{Trace}
 
+-- the numbers of the core that the header asks for: its shards open as many spans as those of a trace may
+abbrev pub limits_of_trace : Header → Limits
+limits_of_trace header = with_span_limit (limits_of header.shards header.pages header.ring header.gens) TRACE_SPANS
+
 -- the core that the header asks for, which has no key yet
 abbrev pub start_of : Header → CoreState
-start_of header = new_core (limits_of header.shards header.pages header.ring header.gens)
+start_of header = new_core (limits_of_trace header)
 
 -- the counts at the end of a run
 abbrev pub ending_of : CoreState → ℕ → Ending

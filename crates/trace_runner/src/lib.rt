@@ -38,7 +38,7 @@ mod writing;
 
 pub use checking::check_text;
 pub use fault::{CheckError, ReplayError};
-pub use replay::replay_serial;
+pub use replay::{TRACE_SPANS, replay_serial};
 pub use report::{
     Answer, CloseNews, Ending, Heads, LineAnswer, MarkNews, PlanNews, Steps, TakenStep,
 };

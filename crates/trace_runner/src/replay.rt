@@ -7,7 +7,7 @@ ghost use Rattle.trace_text.specs.Header.{IsWithinLimits};
 ghost use Rattle.trace_text.specs.Trace.{Spells};
 ghost use Rattle.trace_text.specs.declared.header.Header.{Header};
 ghost use Rattle.trace_text.specs.declared.line.Line.{Line};
-ghost use Rattle.trace_runner.specs.Replay.{IsNoFault, IsReportOf, Stops, WritesReport, start_of};
+ghost use Rattle.trace_runner.specs.Replay.{IsNoFault, IsReportOf, Stops, WritesReport, limits_of_trace, start_of};
 
 use crate::fault::ReplayError;
 use crate::report::Ending;
@@ -15,9 +15,14 @@ use crate::run::{Ran, run_lines};
 use crate::sink::{Sink, give};
 use crate::writing::push_ending;
 use arena_core::{Core, CoreError};
+use marks::Limits;
 use span::Counted;
 use std::alloc::{AllocError, Global};
 use trace_text::{Header, Trace, parse};
+
+/// How many spans a shard of a trace opens at most, in each version of the grammar that there is: what a report tells of a shard
+/// that may open no more rests on it.
+pub const TRACE_SPANS: u32 = 1024;
 
 /// Replays a trace: reads the text whole, runs its calls one after another on a core of its own, and gives the report to
 /// `out`, with a line for each call where `replies` asks for them. `cert` is then the text of the certificate of the last
@@ -88,17 +93,32 @@ fn replay(alloc: Global, trace: &Trace, replies: bool) -> Result<Replayed, Alloc
     })
 }
 
-/// The core that the header asks for. Its logs are only counted, since no report shows one.
+/// The core that the header asks for, whose shards open [`TRACE_SPANS`] spans at most. Its logs are only counted, since no report
+/// shows one.
 fn core_of(alloc: Global, header: &Header) -> Result<Core<Counted>, AllocError>
     requires { IsWithinLimits header.now }
     ensures core { IfOk result (λ core. core ≡ start_of header.now) }
     ensures empty { OnOk result (shown (start_of header.now) ≡ empty_map) }
 {
-    let pages = header.pages as usize;
-    let ring = header.ring as usize;
-    match Core::with_log(alloc, header.shards, pages, ring, header.gens) {
+    match Core::with_limits(alloc, limits_of(header)) {
         Ok(core) => Ok(core),
         Err(CoreError::OutOfMemory) => Err(AllocError),
         Err(CoreError::Config) => unreachable!(),
+    }
+}
+
+/// The numbers of a core that the header asks for.
+fn limits_of(header: &Header) -> Limits
+    requires { IsWithinLimits header.now }
+    ensures { result ≡ limits_of_trace header.now }
+{
+    let pages = header.pages as usize;
+    let ring = header.ring as usize;
+    let Some(limits) = Limits::new(header.shards, pages, ring, header.gens) else {
+        unreachable!();
+    };
+    match limits.with_span_limit(TRACE_SPANS) {
+        Some(limits) => limits,
+        None => unreachable!(),
     }
 }
