@@ -243,11 +243,9 @@ impl Seat {
         (done_in(&receipt), receipt)
     }
 
-    /// Whether the shard that opened the key's span is one of the arena's, as [`Seat::free_later`] asks. The seat has then an end of
-    /// the ring to it.
+    /// Whether the shard that opened the key's span is one of the arena's, as [`Seat::free_later`] asks.
     pub fn has_shard_of(&self, key: &Key) -> bool
-        ensures shard { IsTrue result ↔ (key.now.span.shard < self.now.limits.shards) }
-        ensures end { IsTrue result → key.now.span.shard < length self.now.outboxes }
+        ensures { IsTrue result ↔ (key.now.span.shard < self.now.limits.shards) }
     {
         key.span.shard < self.limits.shards()
     }

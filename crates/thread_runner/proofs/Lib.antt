@@ -5,8 +5,6 @@ mod Growing
 mod Taking
 mod Following
 mod Counting
-mod Carrying
-mod Delivering
 mod Each
 mod Knowing
 mod LiveSlots
