@@ -13,6 +13,7 @@ ghost use Rattle.span.specs.declared.limits.TheConstants.{MOST_PAGES, MOST_SHARD
 
 use crate::error::CoreError;
 use crate::event::Event;
+use crate::forgotten::Forgotten;
 use crate::reply::{Refusal, Reply};
 use crate::rings::Rings;
 use crate::whereabouts::Whereabouts;
@@ -25,6 +26,7 @@ use std::marker::Model;
 
 mod deferred;
 mod ends;
+mod forgetting;
 mod keys;
 mod plans;
 mod setting;
@@ -47,6 +49,7 @@ pub struct Core<L: Log = Kept> {
     plan: CurrentPlan,
     whereabouts: Whereabouts,
     rings: Rings,
+    forgotten: Forgotten,
 }
 
 impl<L: Log> Model for Core<L> {
@@ -117,6 +120,7 @@ impl<L: Log> Core<L> {
         let plan = CurrentPlan::new(alloc)?;
         let rings = Rings::new(alloc, shards, ring_capacity)?;
         let shards = new_shards(alloc, shards, page_limit, gens)?;
+        let forgotten = Forgotten::new();
         Ok(Core {
             alloc,
             page_limit,
@@ -127,6 +131,7 @@ impl<L: Log> Core<L> {
             plan,
             whereabouts,
             rings,
+            forgotten,
         })
     }
 

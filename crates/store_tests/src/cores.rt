@@ -6,6 +6,7 @@ use span::{Counted, Key, Log, Object, SpanId};
 use std::alloc::Global;
 
 mod classes;
+mod forgetting;
 mod plans;
 mod retiring;
 mod setting;
