@@ -15,6 +15,11 @@
 
 static const struct teurlaks_word one = {1, 2};
 
+_Static_assert(sizeof(struct teurlaks_key) == 12 && _Alignof(struct teurlaks_key) == 4, "a key has no padding");
+
+/* The key of the first object of a core. */
+static const struct teurlaks_key least = {.generation = 1};
+
 /* What each call says of a handle without a core. The key has numbers that some key has, or none that any has. */
 static void each_call(struct teurlaks_handle *none, struct teurlaks_key key) {
     struct teurlaks_word words[16] = {{7, 7}};
@@ -31,6 +36,7 @@ static void each_call(struct teurlaks_handle *none, struct teurlaks_key key) {
     WANT(teurlaks_next(none, key).status == TEURLAKS_NO_CORE);
     WANT(teurlaks_totals(none).pages == 0 && teurlaks_totals(none).live == 0);
     WANT(teurlaks_end(none, 0) == TEURLAKS_NO_CORE);
+    WANT(teurlaks_begin(none, 0) == TEURLAKS_NO_CORE);
     WANT(teurlaks_retire(none, 0, 9).status == TEURLAKS_NO_CORE && teurlaks_retire(none, 0, 9).count == 0);
     WANT(teurlaks_trim(none, 0).status == TEURLAKS_NO_CORE && teurlaks_trim(none, 0).count == 0);
     WANT(teurlaks_adopt(none, 0).status == TEURLAKS_NO_CORE);
@@ -46,9 +52,9 @@ static void each_call(struct teurlaks_handle *none, struct teurlaks_key key) {
 }
 
 static void each_key(struct teurlaks_handle *none) {
-    each_call(none, (struct teurlaks_key){0, 0, 0, 0});
-    each_call(none, (struct teurlaks_key){0, 0, 0, 1});
-    each_call(none, (struct teurlaks_key){255, 255, 65535, 4294967295u});
+    each_call(none, (struct teurlaks_key){0});
+    each_call(none, least);
+    each_call(none, (struct teurlaks_key){.serial = UINT32_MAX, .generation = UINT32_MAX, .shard = 255, .slot = 255, .reserved = 65535});
     WANT(!none || !none->at);
 }
 
@@ -66,6 +72,7 @@ static void each_call_of_a_seat(struct teurlaks_share_handle *none, struct teurl
     WANT(teurlaks_seat_hand_over(none) == TEURLAKS_NO_CORE);
     WANT(teurlaks_seat_tend(none).status == TEURLAKS_NO_CORE && teurlaks_seat_tend(none).count == 0);
     WANT(teurlaks_seat_end(none) == TEURLAKS_NO_CORE);
+    WANT(teurlaks_seat_begin(none) == TEURLAKS_NO_CORE);
     WANT(teurlaks_seat_retire(none, 9).status == TEURLAKS_NO_CORE && teurlaks_seat_retire(none, 9).count == 0);
     WANT(teurlaks_seat_trim(none).status == TEURLAKS_NO_CORE && teurlaks_seat_trim(none).count == 0);
     WANT(teurlaks_seat_adopt(none).status == TEURLAKS_NO_CORE);
@@ -93,7 +100,7 @@ static void each_call_of_a_share(struct teurlaks_share_handle *none, struct teur
  * nothing more. */
 static void shares(void) {
     struct teurlaks_share_handle steward = {0}, seat = {0};
-    each_call_of_a_share(&seat, (struct teurlaks_key){0, 0, 0, 1});
+    each_call_of_a_share(&seat, least);
     WANT(teurlaks_arena_open(&steward, 0, 4, 1, 9) == TEURLAKS_CONFIG && !steward.at);
     WANT(teurlaks_arena_open(&steward, 2, 4, 1, 9) == TEURLAKS_OK && teurlaks_arena_open(&steward, 0, 4, 1, 9) == TEURLAKS_HAS_CORE);
     WANT(teurlaks_steward_seat(&steward, &seat) == TEURLAKS_OK && teurlaks_steward_seat(&steward, &seat) == TEURLAKS_HAS_CORE);

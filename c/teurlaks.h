@@ -20,17 +20,17 @@
 #include <stddef.h>
 #include <stdint.h>
 
-#define TEURLAKS_VERSION "0.1.0"
+#define TEURLAKS_VERSION "0.2.0"
 #define TEURLAKS_VERSION_MAJOR 0
-#define TEURLAKS_VERSION_MINOR 1
+#define TEURLAKS_VERSION_MINOR 2
 #define TEURLAKS_VERSION_PATCH 0
 
 #ifdef __cplusplus
 extern "C" {
 #endif
 
-/* What a call answers; teurlaks_strerror has it in words. From TEURLAKS_OUT_OF_MEMORY to TEURLAKS_CONFIG it is refused, and so it is where
- * the handle is wrong (TEURLAKS_NO_CORE, TEURLAKS_HAS_CORE): nothing has changed then. */
+/* What a call answers; teurlaks_strerror has it in words. From TEURLAKS_OUT_OF_MEMORY to TEURLAKS_CONFIG it is refused, and so it is with
+ * TEURLAKS_RUNNING and where the handle is wrong (TEURLAKS_NO_CORE, TEURLAKS_HAS_CORE): nothing has changed then. */
 enum {
     TEURLAKS_OK = 0,               /* done, or found */
     TEURLAKS_NONE = 1,             /* the key is not live; there is no certificate yet */
@@ -48,7 +48,8 @@ enum {
     TEURLAKS_RING_FULL = 13,       /* a ring holds as many keys as it may: teurlaks_seat_free_later alone answers it */
     TEURLAKS_NO_CORE = 14,         /* the handle has not what the call is for: none was made, or it was dropped; or there is NULL in its place */
     TEURLAKS_HAS_CORE = 15,        /* a handle that is to be given a core, a seat or a steward has one */
-    TEURLAKS_BUSY = 16             /* another thread has a lock that the call needs: nothing has changed, try again */
+    TEURLAKS_BUSY = 16,            /* another thread has a lock that the call needs: nothing has changed, try again */
+    TEURLAKS_RUNNING = 17          /* the shard that is to begin again has not ended */
 };
 
 /* Where a core is. Begin with `struct teurlaks_handle core = {0};`. */
@@ -56,12 +57,14 @@ struct teurlaks_handle {
     uint8_t *at;
 };
 
-/* The name of one stored object, 8 bytes. Any numbers may be given: a key that is not live finds nothing. */
+/* The name of one stored object, 12 bytes, none of them padding: two keys are the same where memcmp finds their bytes the same. Any numbers may be
+ * given: a key that is not live finds nothing, and none is live whose last two bytes are not zeros. */
 struct teurlaks_key {
+    uint32_t serial;     /* of its span, among those that the shard has opened */
+    uint32_t generation; /* from 1 on: all zeros are no key */
     uint8_t shard;
     uint8_t slot;
-    uint16_t serial;
-    uint32_t generation;
+    uint16_t reserved; /* 0 */
 };
 
 /* The name of a span, and of the group that it heads. */
@@ -187,8 +190,12 @@ struct teurlaks_next_reply teurlaks_next(struct teurlaks_handle *handle, struct 
 /* How much is kept. */
 struct teurlaks_totals_reply teurlaks_totals(struct teurlaks_handle *handle);
 
-/* Ends the shard: its groups go to the pool, with their pages, and it takes no object again. */
+/* Ends the shard: its groups go to the pool, with their pages, and it takes no object until it begins again. */
 uint32_t teurlaks_end(struct teurlaks_handle *handle, uint32_t shard);
+
+/* Lets a shard that has ended run again, for a new thread. All keys stay what they are, and none is given out twice. TEURLAKS_RUNNING where it has
+ * not ended, TEURLAKS_CONFIG where there is no such shard, and no other refusal. Takes no memory. */
+uint32_t teurlaks_begin(struct teurlaks_handle *handle, uint32_t shard);
 
 /* Moves up to `most` groups of the shard to the pool, with their pages, and the shard goes on: those with the fewest live keys, of those
  * that have one. Fewer than `most` go only where no group with a live key is left. TEURLAKS_PLAN_OPEN where a group of the shard is in
@@ -245,7 +252,8 @@ struct teurlaks_arena_totals_reply {
     size_t live;
 };
 
-/* Leaves the steward of a new arena to a handle that has nothing, where it answers TEURLAKS_OK; the numbers are those of teurlaks_new. */
+/* Leaves the steward of a new arena to a handle that has nothing, where it answers TEURLAKS_OK; the numbers are those of teurlaks_new.
+ * A shard of an arena opens 1,024 pages at most in its life. */
 uint32_t teurlaks_arena_open(struct teurlaks_share_handle *out, uint32_t shards, uint32_t page_limit, uint32_t ring_capacity, uint32_t gens);
 
 /* Leaves a seat that no handle has had to `out`, which has nothing: TEURLAKS_NONE where the steward has no further one. */
@@ -280,6 +288,9 @@ struct teurlaks_tend_reply teurlaks_seat_tend(struct teurlaks_share_handle *hand
 
 /* As teurlaks_end, of the seat's shard. */
 uint32_t teurlaks_seat_end(struct teurlaks_share_handle *handle);
+
+/* As teurlaks_begin, of the seat's shard, which ended before the seat went to another thread. */
+uint32_t teurlaks_seat_begin(struct teurlaks_share_handle *handle);
 
 /* As teurlaks_retire, of the seat's shard. */
 struct teurlaks_retire_reply teurlaks_seat_retire(struct teurlaks_share_handle *handle, size_t most);

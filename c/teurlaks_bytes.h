@@ -22,7 +22,7 @@ static inline struct teurlaks_put_reply teurlaks_put_bytes(struct teurlaks_handl
     struct teurlaks_word words[16];
     size_t words_len = teurlaks_words_of(bytes, len, words);
     if (!words_len) {
-        struct teurlaks_put_reply refused = {TEURLAKS_CONFIG, {0, 0, 0, 0}};
+        struct teurlaks_put_reply refused = {TEURLAKS_CONFIG, {0, 0, 0, 0, 0}};
         return refused;
     }
     return teurlaks_put_words(handle, shard, words, words_len);

@@ -30,6 +30,7 @@ static inline const char *teurlaks_strerror(uint32_t status) {
     case TEURLAKS_NO_CORE: return "the handle has not what the call is for: none was made, or it was dropped";
     case TEURLAKS_HAS_CORE: return "the handle has something already: drop it first";
     case TEURLAKS_BUSY: return "another thread has a lock that the call needs: try again";
+    case TEURLAKS_RUNNING: return "the shard has not ended: end it before it begins again";
     default: return "no status of this library";
     }
 }
@@ -45,7 +46,7 @@ static inline void teurlaks_tested_drop(struct teurlaks_handle *handle) {
 }
 
 static inline struct teurlaks_put_reply teurlaks_tested_put(struct teurlaks_handle *handle, uint32_t shard, struct teurlaks_word value) {
-    struct teurlaks_put_reply none = {TEURLAKS_NO_CORE, {0, 0, 0, 0}};
+    struct teurlaks_put_reply none = {TEURLAKS_NO_CORE, {0, 0, 0, 0, 0}};
     return handle ? teurlaks_put(handle, shard, value) : none;
 }
 
@@ -55,7 +56,7 @@ static inline struct teurlaks_get_reply teurlaks_tested_get(struct teurlaks_hand
 }
 
 static inline struct teurlaks_put_reply teurlaks_tested_put_words(struct teurlaks_handle *handle, uint32_t shard, const struct teurlaks_word *words, size_t words_len) {
-    struct teurlaks_put_reply none = {TEURLAKS_NO_CORE, {0, 0, 0, 0}};
+    struct teurlaks_put_reply none = {TEURLAKS_NO_CORE, {0, 0, 0, 0, 0}};
     struct teurlaks_word no_word = {0, 0};
     return handle ? teurlaks_put_words(handle, shard, words ? words : &no_word, words ? words_len : 0) : none;
 }
@@ -80,7 +81,7 @@ static inline uint32_t teurlaks_tested_free(struct teurlaks_handle *handle, stru
 }
 
 static inline struct teurlaks_next_reply teurlaks_tested_next(struct teurlaks_handle *handle, struct teurlaks_key after) {
-    struct teurlaks_next_reply none = {TEURLAKS_NO_CORE, {0, 0, 0, 0}};
+    struct teurlaks_next_reply none = {TEURLAKS_NO_CORE, {0, 0, 0, 0, 0}};
     return handle ? teurlaks_next(handle, after) : none;
 }
 
@@ -91,6 +92,10 @@ static inline struct teurlaks_totals_reply teurlaks_tested_totals(struct teurlak
 
 static inline uint32_t teurlaks_tested_end(struct teurlaks_handle *handle, uint32_t shard) {
     return handle ? teurlaks_end(handle, shard) : (uint32_t)TEURLAKS_NO_CORE;
+}
+
+static inline uint32_t teurlaks_tested_begin(struct teurlaks_handle *handle, uint32_t shard) {
+    return handle ? teurlaks_begin(handle, shard) : (uint32_t)TEURLAKS_NO_CORE;
 }
 
 static inline struct teurlaks_retire_reply teurlaks_tested_retire(struct teurlaks_handle *handle, uint32_t shard, size_t most) {
@@ -146,7 +151,7 @@ static inline void teurlaks_tested_share_drop(struct teurlaks_share_handle *hand
 }
 
 static inline struct teurlaks_put_reply teurlaks_tested_seat_put_words(struct teurlaks_share_handle *handle, const struct teurlaks_word *words, size_t words_len) {
-    struct teurlaks_put_reply none = {TEURLAKS_NO_CORE, {0, 0, 0, 0}};
+    struct teurlaks_put_reply none = {TEURLAKS_NO_CORE, {0, 0, 0, 0, 0}};
     struct teurlaks_word no_word = {0, 0};
     return handle ? teurlaks_seat_put_words(handle, words ? words : &no_word, words ? words_len : 0) : none;
 }
@@ -181,6 +186,10 @@ static inline struct teurlaks_tend_reply teurlaks_tested_seat_tend(struct teurla
 
 static inline uint32_t teurlaks_tested_seat_end(struct teurlaks_share_handle *handle) {
     return handle ? teurlaks_seat_end(handle) : (uint32_t)TEURLAKS_NO_CORE;
+}
+
+static inline uint32_t teurlaks_tested_seat_begin(struct teurlaks_share_handle *handle) {
+    return handle ? teurlaks_seat_begin(handle) : (uint32_t)TEURLAKS_NO_CORE;
 }
 
 static inline struct teurlaks_retire_reply teurlaks_tested_seat_retire(struct teurlaks_share_handle *handle, size_t most) {
@@ -229,6 +238,7 @@ static inline struct teurlaks_arena_totals_reply teurlaks_tested_steward_totals(
 #define teurlaks_next teurlaks_tested_next
 #define teurlaks_totals teurlaks_tested_totals
 #define teurlaks_end teurlaks_tested_end
+#define teurlaks_begin teurlaks_tested_begin
 #define teurlaks_retire teurlaks_tested_retire
 #define teurlaks_trim teurlaks_tested_trim
 #define teurlaks_adopt teurlaks_tested_adopt
@@ -248,6 +258,7 @@ static inline struct teurlaks_arena_totals_reply teurlaks_tested_steward_totals(
 #define teurlaks_seat_hand_over teurlaks_tested_seat_hand_over
 #define teurlaks_seat_tend teurlaks_tested_seat_tend
 #define teurlaks_seat_end teurlaks_tested_seat_end
+#define teurlaks_seat_begin teurlaks_tested_seat_begin
 #define teurlaks_seat_retire teurlaks_tested_seat_retire
 #define teurlaks_seat_trim teurlaks_tested_seat_trim
 #define teurlaks_seat_adopt teurlaks_tested_seat_adopt

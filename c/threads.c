@@ -265,7 +265,9 @@ int main(void) {
     teurlaks_share_drop(&workers[0].seat);
     teurlaks_share_drop(&steward);
     for (int i = 1; i < THREADS; i++) {
+        WANT(teurlaks_seat_begin(&workers[i].seat) == TEURLAKS_RUNNING);
         WANT(teurlaks_seat_end(&workers[i].seat) == TEURLAKS_OK && teurlaks_seat_end(&workers[i].seat) == TEURLAKS_ENDED);
+        WANT(teurlaks_seat_begin(&workers[i].seat) == TEURLAKS_OK && teurlaks_seat_begin(&workers[i].seat) == TEURLAKS_RUNNING);
         teurlaks_share_drop(&workers[i].seat);
     }
     return 0;

@@ -44,8 +44,22 @@ static struct teurlaks_word word(uint64_t low) { return (struct teurlaks_word){l
 
 static void forged_keys(struct teurlaks_handle *core) {
     for (uint64_t i = 0; i < 100000; i++) {
-        struct teurlaks_key key = {(uint8_t)(i * 37), (uint8_t)i, (uint16_t)(i * 1009), (uint32_t)(i * 2654435761u)};
+        struct teurlaks_key key = {
+            .serial = (uint32_t)(i * 2246822519u), .generation = (uint32_t)(i * 2654435761u), .shard = (uint8_t)(i * 37), .slot = (uint8_t)i};
         WANT(teurlaks_get(core, key).status <= TEURLAKS_NONE);
+    }
+}
+
+/* A key of which one bit is another finds nothing, also where that is a bit that no number has. */
+static void each_bit(struct teurlaks_handle *core, struct teurlaks_key key) {
+    for (size_t bit = 0; bit < 8 * sizeof key; bit++) {
+        struct teurlaks_key other;
+        uint8_t bytes[sizeof key];
+        memcpy(bytes, &key, sizeof key);
+        bytes[bit / 8] ^= (uint8_t)(1 << bit % 8);
+        memcpy(&other, bytes, sizeof key);
+        WANT(teurlaks_get(core, other).status == TEURLAKS_NONE && teurlaks_free(core, other) == TEURLAKS_NONE);
+        WANT(teurlaks_set(core, other, word(1)) == TEURLAKS_NONE);
     }
 }
 
@@ -93,7 +107,7 @@ static void bytes_of_each_number(void) {
 /* Frees all live keys, and says how many there were. */
 static size_t free_all(struct teurlaks_handle *core) {
     size_t freed = 0;
-    struct teurlaks_next_reply next = {TEURLAKS_OK, {0, 0, 0, 0}};
+    struct teurlaks_next_reply next = {TEURLAKS_OK, {0, 0, 0, 0, 0}};
     while ((next = teurlaks_next(core, next.key)).status == TEURLAKS_OK) {
         WANT(teurlaks_free(core, next.key) == TEURLAKS_OK);
         freed++;
@@ -160,7 +174,7 @@ static void tour(void) {
     WANT(got.status == TEURLAKS_OK && got.value.low == 11 && got.value.high == ~11ull);
     WANT(teurlaks_get(&core, first.key).status == TEURLAKS_NONE);
     WANT(teurlaks_totals(&core).pages == 1 && teurlaks_totals(&core).live == 2);
-    if (!has_failed) forged_keys(&core);
+    if (!has_failed) forged_keys(&core), each_bit(&core, put.key);
     /* The first live key is that of the group that was folded, at its own slot. */
     struct teurlaks_next_reply next = teurlaks_next(&core, first.key);
     WANT(next.status == TEURLAKS_OK && !memcmp(&next.key, &put.key, sizeof put.key));
@@ -172,6 +186,12 @@ static void tour(void) {
     AGAIN(put, put.status, teurlaks_put(&core, 1, (struct teurlaks_word){3, 0}));
     WANT(put.status == TEURLAKS_OK && put.key.serial == 0 && teurlaks_totals(&core).pages == 1);
     WANT(teurlaks_get(&core, put.key).value.low == 3);
+    /* Shard 0, which ended, begins again: what it gives out was never given out. */
+    WANT(teurlaks_begin(&core, 2) == TEURLAKS_CONFIG && teurlaks_begin(&core, 1) == TEURLAKS_RUNNING);
+    WANT(teurlaks_begin(&core, 0) == TEURLAKS_OK && teurlaks_begin(&core, 0) == TEURLAKS_RUNNING);
+    AGAIN(other, other.status, teurlaks_put(&core, 0, word(4)));
+    WANT(other.status == TEURLAKS_OK && other.key.shard == 0 && other.key.serial == 1 && other.key.generation == 1);
+    WANT(teurlaks_get(&core, first.key).status == TEURLAKS_NONE && teurlaks_get(&core, other.key).value.low == 4);
     teurlaks_drop(&core);
     WANT(!core.at);
 }

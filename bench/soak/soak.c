@@ -181,7 +181,7 @@ static void use_stale(void) {
 
 /* A key of any numbers is found where the map has it, and nowhere else. */
 static void use_forged(void) {
-    struct teurlaks_key key = {(uint8_t)draw(256), (uint8_t)draw(256), (uint16_t)draw(4), (uint32_t)draw(4)};
+    struct teurlaks_key key = {.serial = (uint32_t)draw(4), .generation = (uint32_t)draw(4), .shard = (uint8_t)draw(256), .slot = (uint8_t)draw(256)};
     struct teurlaks_word words[MOST_WORDS];
     bool is_live = false;
     for (size_t at = 0; at < live_count && !is_live; at++) is_live = memcmp(&live[at].key, &key, sizeof key) == 0;
@@ -291,7 +291,7 @@ static int is_before(const void *a, const void *b) {
 
 /* The walk over the live keys gives those of the map, in order; then each is freed, and nothing is left. */
 static void settle(void) {
-    struct teurlaks_next_reply next = {TEURLAKS_OK, {0, 0, 0, 0}};
+    struct teurlaks_next_reply next = {TEURLAKS_OK, {0, 0, 0, 0, 0}};
     size_t at = 0;
     qsort(live, live_count, sizeof *live, is_before);
     WANT(teurlaks_totals(&core).live == live_count);

@@ -28,7 +28,7 @@ fn percents() -> impl Iterator<Item = u64> {
 
 fn measure<const BYTES: usize>(values: usize, kept: u64) -> Result<(), Refused> {
     // The keys are touched before, so that they are no part of what is measured.
-    let mut keys = black_box(vec![Key::from_bits(u64::MAX); values]);
+    let mut keys = black_box(vec![Key::from_bits(1); values]);
     let base = resident();
     let mut slab = Slab::new()?;
     for (number, key) in keys.iter_mut().enumerate() {

@@ -87,8 +87,9 @@ impl<T: Copy> Arena<T> {
         "a value of an arena has 1 to 256 bytes"
     );
 
-    /// An arena of these limits with no value, which has a seat for each shard. Between each two seats there is a ring of 256 keys for
-    /// [`Seat::free_later`], of 16 bytes each: 64 KB for four seats, and 16 MB for 64, which are resident once they are used.
+    /// An arena of these limits with no value, which has a seat for each shard. A shard opens 1,024 pages at most in its life.
+    /// Between each two seats there is a ring of 256 keys for [`Seat::free_later`], of 16 bytes each: 64 KB for four seats, and
+    /// 16 MB for 64, which are resident once they are used.
     ///
     /// # Errors
     ///

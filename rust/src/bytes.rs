@@ -81,7 +81,7 @@ impl fmt::Debug for Words {
     }
 }
 
-/// The name of bytes that a core keeps: their key, and how many they are. It is 12 bytes.
+/// The name of bytes that a core keeps: their key, and how many they are. It is 16 bytes.
 ///
 /// Their number stands here and nowhere else: the page has the bytes, and zeros up to the end of the object that holds them.
 #[derive(Clone, Copy, PartialEq, Eq, PartialOrd, Ord, Hash, Debug)]

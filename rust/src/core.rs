@@ -438,10 +438,11 @@ impl fmt::Debug for Core {
 
 // What stands for no key: a walk begins with it.
 pub(crate) const NO_KEY: raw::RawKey = raw::RawKey {
-    shard: 0,
-    slot: 0,
     serial: 0,
     generation: 0,
+    shard: 0,
+    slot: 0,
+    reserved: 0,
 };
 
 // Lends the words of the least object that holds the bytes, and how many they are.

@@ -11,6 +11,7 @@ mod raw;
 mod refused;
 pub mod shared;
 pub mod slab;
+mod spans;
 pub mod store;
 mod values;
 pub mod walk;

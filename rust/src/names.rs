@@ -4,14 +4,15 @@ use crate::raw::{RawKey, RawSpan};
 use std::error::Error;
 use std::fmt;
 use std::hash::{Hash, Hasher};
+use std::mem::{align_of, size_of};
 use std::num::NonZeroU32;
 use std::str::FromStr;
 
-/// The name of one stored value. It is 8 bytes, and no other value of the same slab ever has it.
+/// The name of one stored value. It is 12 bytes, and no other value of the same slab ever has it.
 ///
 /// A key is printed as `shard.serial/slot/generation`, as in the reports of `meshrun`, and read from such a text. Keys are ordered as the walks of
 /// a [`Core`](crate::Core) and a [`Store`](crate::Store) come to them: by shard, serial number, slot and generation. Since no generation is 0,
-/// an `Option<Key>` is 8 bytes too. A key of another slab finds nothing, or what has the same numbers here.
+/// an `Option<Key>` is 12 bytes too. A key of another slab finds nothing, or what has the same numbers here.
 ///
 /// ```
 /// # use teurlaks::{Key, Slab};
@@ -20,21 +21,26 @@ use std::str::FromStr;
 /// assert_eq!(key.to_string(), "0.0/0/1");
 /// assert_eq!("0.0/0/1".parse(), Ok(key));
 /// assert_eq!((key.shard(), key.serial(), key.slot(), key.generation()), (0, 0, 0, 1));
-/// assert_eq!(std::mem::size_of::<Option<Key>>(), 8);
+/// assert_eq!(std::mem::size_of::<Option<Key>>(), 12);
 /// # Ok::<(), teurlaks::Refused>(())
 /// ```
 #[derive(Clone, Copy, PartialEq, Eq)]
-#[repr(C)]
 pub struct Key {
+    serial: u32,
+    generation: NonZeroU32,
     shard: u8,
     slot: u8,
-    serial: u16,
-    generation: NonZeroU32,
 }
 
+const _: () = assert!(size_of::<Key>() == 12 && size_of::<Option<Key>>() == 12);
+const _: () = assert!(size_of::<RawKey>() == 12 && align_of::<RawKey>() == 4);
+
 impl Key {
-    /// The key as a number, as for a place that keeps numbers: the shard in its highest byte, then the slot, 16 bits of the serial number and
-    /// 32 of the generation.
+    /// How many bits of [`Key::to_bits`] a key has.
+    const BITS: u32 = 80;
+
+    /// The key as a number, as for a place that keeps numbers: from its 80th bit down 8 bits of the shard, 32 of the serial number, 8 of the slot
+    /// and 32 of the generation. So numbers are ordered as keys are.
     ///
     /// ```
     /// # use teurlaks::{Key, Slab};
@@ -45,24 +51,27 @@ impl Key {
     /// # Ok::<(), teurlaks::Refused>(())
     /// ```
     #[must_use]
-    pub fn to_bits(self) -> u64 {
-        u64::from(self.shard) << 56
-            | u64::from(self.slot) << 48
-            | u64::from(self.serial) << 32
-            | u64::from(self.generation.get())
+    pub fn to_bits(self) -> u128 {
+        u128::from(self.shard) << 72
+            | u128::from(self.serial) << 40
+            | u128::from(self.slot) << 32
+            | u128::from(self.generation.get())
     }
 
-    /// The key of a number, or `None` where the generation, which is its lower half, is 0: no key has that. Any number may be given: under a key that
-    /// is not live nothing is found.
+    /// The key of a number, or `None` where no key has it: where the generation, which is its lowest 32 bits, is 0, or the number has more than 80
+    /// bits. Any number may be given: under a key that is not live nothing is found.
     #[must_use]
     // Each part is cut out of the number.
     #[allow(clippy::cast_possible_truncation)]
-    pub fn from_bits(bits: u64) -> Option<Key> {
+    pub fn from_bits(bits: u128) -> Option<Key> {
+        if bits >> Self::BITS != 0 {
+            return None;
+        }
         Some(Key {
-            shard: (bits >> 56) as u8,
-            slot: (bits >> 48) as u8,
-            serial: (bits >> 32) as u16,
+            serial: (bits >> 40) as u32,
             generation: NonZeroU32::new(bits as u32)?,
+            shard: (bits >> 72) as u8,
+            slot: (bits >> 32) as u8,
         })
     }
 
@@ -78,10 +87,10 @@ impl Key {
         Key { shard, ..self }
     }
 
-    /// The serial number of its span among those that the shard has opened, below 1,024 for a key that was given out.
+    /// The serial number of its span among those that the shard has opened.
     #[must_use]
     pub fn serial(self) -> u32 {
-        self.serial.into()
+        self.serial
     }
 
     /// Its slot on the page, below 256. No fold changes it.
@@ -96,25 +105,22 @@ impl Key {
         self.generation.get()
     }
 
-    /// The key as a word, lowest byte first as it lies in memory, which is never 0.
+    /// The span that gave it out.
     #[inline]
-    pub(crate) fn to_word(self) -> u64 {
-        u64::from(self.shard)
-            | u64::from(self.slot) << 8
-            | u64::from(self.serial) << 16
-            | u64::from(self.generation.get()) << 32
+    pub(crate) fn span(self) -> Span {
+        Span::new(self.shard.into(), self.serial)
     }
 
-    /// The key of such a word, or `None` where it is no key's, as 0.
+    /// The key of the span, the slot and the generation, or `None` where that is 0.
     #[inline]
-    // Each part is cut out of the word.
+    // Each half is cut out of the number, and a key's shard has 8 bits.
     #[allow(clippy::cast_possible_truncation)]
-    pub(crate) fn of_word(word: u64) -> Option<Key> {
+    pub(crate) fn of_span(Span(span): Span, slot: u8, generation: u32) -> Option<Key> {
         Some(Key {
-            shard: word as u8,
-            slot: (word >> 8) as u8,
-            serial: (word >> 16) as u16,
-            generation: NonZeroU32::new((word >> 32) as u32)?,
+            serial: span as u32,
+            generation: NonZeroU32::new(generation)?,
+            shard: (span >> 32) as u8,
+            slot,
         })
     }
 
@@ -122,10 +128,11 @@ impl Key {
     #[inline]
     pub(crate) fn raw(self) -> RawKey {
         RawKey {
-            shard: self.shard,
-            slot: self.slot,
             serial: self.serial,
             generation: self.generation.get(),
+            shard: self.shard,
+            slot: self.slot,
+            reserved: 0,
         }
     }
 
@@ -133,16 +140,11 @@ impl Key {
     #[inline]
     pub(crate) fn of(raw: RawKey) -> Option<Key> {
         Some(Key {
-            shard: raw.shard,
-            slot: raw.slot,
             serial: raw.serial,
             generation: NonZeroU32::new(raw.generation)?,
+            shard: raw.shard,
+            slot: raw.slot,
         })
-    }
-
-    /// What orders keys.
-    fn rank(self) -> (u8, u16, u8, NonZeroU32) {
-        (self.shard, self.serial, self.slot, self.generation)
     }
 }
 
@@ -154,23 +156,24 @@ impl PartialOrd for Key {
 
 impl Ord for Key {
     fn cmp(&self, other: &Key) -> std::cmp::Ordering {
-        self.rank().cmp(&other.rank())
+        self.to_bits().cmp(&other.to_bits())
     }
 }
 
 impl Hash for Key {
     fn hash<H: Hasher>(&self, state: &mut H) {
-        state.write_u64(self.to_word());
+        state.write_u64(u64::from(self.serial) << 32 | u64::from(self.generation.get()));
+        state.write_u16(u16::from(self.shard) << 8 | u16::from(self.slot));
     }
 }
 
 impl fmt::Display for Key {
     fn fmt(&self, f: &mut fmt::Formatter<'_>) -> fmt::Result {
         let Key {
-            shard,
-            slot,
             serial,
             generation,
+            shard,
+            slot,
         } = self;
         write!(f, "{shard}.{serial}/{slot}/{generation}")
     }
@@ -198,10 +201,10 @@ impl FromStr for Key {
             return Err(ParseKeyError::Form);
         }
         Ok(Key {
-            shard: in_range(shard)?,
-            slot: in_range(slot)?,
             serial: in_range(serial)?,
             generation: in_range(generation)?,
+            shard: in_range(shard)?,
+            slot: in_range(slot)?,
         })
     }
 }
@@ -222,7 +225,7 @@ fn in_range<N: FromStr>(digits: &str) -> Result<N, ParseKeyError> {
 pub enum ParseKeyError {
     /// It is not of the form `shard.serial/slot/generation`, in decimal digits with no sign and no leading zero.
     Form,
-    /// A shard or a slot is above 255, a serial number above 65,535, or a generation 0 or above 4,294,967,295.
+    /// A shard or a slot is above 255, a serial number above 4,294,967,295, or a generation 0 or above that.
     Range,
 }
 
@@ -237,12 +240,36 @@ impl fmt::Display for ParseKeyError {
 
 impl Error for ParseKeyError {}
 
+/// The name of a span: the shard that opened it, and its serial number there, in one number.
+#[derive(Clone, Copy, PartialEq, Eq)]
+pub(crate) struct Span(u64);
+
+impl Span {
+    /// The name before all others.
+    pub const LEAST: Span = Span(0);
+
+    #[inline]
+    pub fn new(shard: u32, serial: u32) -> Span {
+        Span(u64::from(shard) << 32 | u64::from(serial))
+    }
+
+    #[inline]
+    pub fn number(self) -> u64 {
+        self.0
+    }
+}
+
 /// The name of a group of spans on one page: the shard that opened its head, and the head's serial number there. It is printed
 /// as `shard.serial`, as in certificates.
 #[derive(Clone, Copy, PartialEq, Eq, PartialOrd, Ord, Hash)]
 pub struct Group(pub(crate) RawSpan);
 
 impl Group {
+    /// Its head.
+    pub(crate) fn head(self) -> Span {
+        Span::new(self.0.shard, self.0.serial)
+    }
+
     /// The shard that opened its head.
     #[must_use]
     pub fn shard(self) -> u32 {

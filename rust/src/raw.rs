@@ -9,10 +9,11 @@ pub struct Handle {
 #[repr(C)]
 #[derive(Clone, Copy, PartialEq, Eq, PartialOrd, Ord, Hash)]
 pub struct RawKey {
+    pub serial: u32,
+    pub generation: u32,
     pub shard: u8,
     pub slot: u8,
-    pub serial: u16,
-    pub generation: u32,
+    pub reserved: u16,
 }
 
 #[repr(C)]
@@ -144,6 +145,7 @@ extern "C" {
     pub fn teurlaks_next(handle: *mut Handle, after: RawKey) -> NextReply;
     pub fn teurlaks_totals(handle: *mut Handle) -> TotalsReply;
     pub fn teurlaks_end(handle: *mut Handle, shard: u32) -> u32;
+    pub fn teurlaks_begin(handle: *mut Handle, shard: u32) -> u32;
     pub fn teurlaks_retire(handle: *mut Handle, shard: u32, most: usize) -> RetireReply;
     pub fn teurlaks_trim(handle: *mut Handle, shard: u32) -> TrimReply;
     pub fn teurlaks_adopt(handle: *mut Handle, shard: u32) -> AdoptReply;
@@ -179,6 +181,7 @@ extern "C" {
     pub fn teurlaks_seat_hand_over(handle: *mut ShareHandle) -> u32;
     pub fn teurlaks_seat_tend(handle: *mut ShareHandle) -> TendReply;
     pub fn teurlaks_seat_end(handle: *mut ShareHandle) -> u32;
+    pub fn teurlaks_seat_begin(handle: *mut ShareHandle) -> u32;
     pub fn teurlaks_seat_retire(handle: *mut ShareHandle, most: usize) -> RetireReply;
     pub fn teurlaks_seat_trim(handle: *mut ShareHandle) -> TrimReply;
     pub fn teurlaks_seat_adopt(handle: *mut ShareHandle) -> AdoptReply;
@@ -208,3 +211,4 @@ pub const NO_CORE: u32 = 14;
 #[allow(dead_code)]
 pub const HAS_CORE: u32 = 15;
 pub const BUSY: u32 = 16;
+pub const RUNNING: u32 = 17;

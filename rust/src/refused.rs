@@ -14,6 +14,8 @@ pub enum Refused {
     PagesSpent,
     /// The shard has ended, and takes no value.
     Ended,
+    /// The shard that is to begin again has not ended.
+    Running,
     /// A plan is open: a mark and an adoption wait for its close, and so do the end and the retirements of a shard that has a group
     /// of the plan.
     PlanOpen,
@@ -40,6 +42,7 @@ impl Refused {
             raw::OUT_OF_MEMORY => Refused::OutOfMemory,
             raw::PAGES_SPENT => Refused::PagesSpent,
             raw::ENDED => Refused::Ended,
+            raw::RUNNING => Refused::Running,
             raw::PLAN_OPEN => Refused::PlanOpen,
             raw::TOO_MANY => Refused::TooMany,
             raw::NOTHING_TO_ADOPT => Refused::NothingToAdopt,
@@ -57,6 +60,7 @@ impl fmt::Display for Refused {
             Refused::OutOfMemory => "out of memory: free some and try again",
             Refused::PagesSpent => "the shard may have no further page: free keys, or ask another shard",
             Refused::Ended => "the shard has ended: ask another shard",
+            Refused::Running => "the shard has not ended: end it before it begins again",
             Refused::PlanOpen => "a plan is open: close it first",
             Refused::TooMany => "a side has more than 4096 groups, too many for a plan",
             Refused::NothingToAdopt => "no group of the pool has a page: there is nothing to adopt",

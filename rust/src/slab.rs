@@ -22,10 +22,10 @@ const NO_WORDS: [u128; 4] = [0; 4];
 ///
 /// The values stand in pages of their own, one beside each page of the core, and move with its folds: so any type will do, what is found is a
 /// reference, each value is dropped once, and a fold gives the memory of a page of values back to the system. [`Slab::compact`] folds as much
-/// as can be. A page has 256 slots, and 64 where a value has more than 128 bytes; beside a value there are its key and the core's object, 24
-/// bytes or 72. A value of more than 4,096 bytes stands in a block of the global allocator.
+/// as can be. A page has 256 slots, and 64 where a value has more than 128 bytes; beside a value there are 8 bytes of its key and the core's
+/// object, 24 bytes or 72 in all. A value of more than 4,096 bytes stands in a block of the global allocator.
 ///
-/// A look-up compares the key with the one that stands beside the value, and does not ask the core, which is proved never to give a key out
+/// A look-up compares the key with what stands of one beside the value, and does not ask the core, which is proved never to give a key out
 /// twice. Values that are copied and have up to 256 bytes stand in the core's pages themselves in a [`Store`](crate::Store).
 ///
 /// It is `Send` and `Sync` where its values are: many threads may look values up at once, as by an [`RwLock`](std::sync::RwLock), and one at a
@@ -143,7 +143,7 @@ impl<T> Slab<T> {
         if values > self.capacity() {
             return Err(Refused::PagesSpent);
         }
-        self.values.reserve_pages(self.core.shards() - 1, additional)
+        self.values.reserve_pages(additional)
     }
 
     /// Gives back the pages on which no value is, and says how many went. No value moves: [`Slab::compact`] does more. It takes no memory.
@@ -356,7 +356,7 @@ impl<T> Slab<T> {
     /// A key of the shard's, for whose value there is room.
     #[inline]
     fn insert_key_in(&mut self, shard: u32) -> Result<Key, Refused> {
-        self.values.reserve(shard)?;
+        self.values.reserve()?;
         if values::Values::<T>::SLOTS == 256 {
             self.core.insert(shard, NO_WORDS[0])
         } else {
@@ -552,11 +552,7 @@ impl<T> Slab<T> {
     ///
     /// As of [`Core::step`].
     pub fn step(&mut self) -> Result<Stepped, Refused> {
-        let stepped = self.core.step()?;
-        if let Stepped::Folded(abandoned, owned) = stepped {
-            self.values.fold(abandoned, owned);
-        }
-        Ok(stepped)
+        self.values.step(&mut self.core)
     }
 
     /// Closes the plan, as [`Core::close`].
@@ -576,7 +572,7 @@ impl<T> Slab<T> {
     /// As of [`Core::mesh`].
     pub fn mesh(&mut self) -> Result<usize, Refused> {
         let values = &mut self.values;
-        let meshed = self.core.mesh_with(|abandoned, owned| values.fold(abandoned, owned));
+        let meshed = self.core.mesh_with(|core| values.step(core));
         self.first = 0;
         meshed
     }
@@ -621,9 +617,7 @@ impl<T> Compact for Slab<T> {
     }
 
     fn sparse_pages(&self) -> Result<[usize; MOST_SHARDS], Refused> {
-        let mut pages = Vec::new();
-        pages.try_reserve(self.pages()).map_err(|_| Refused::OutOfMemory)?;
-        pages.extend(self.values.pages());
+        let mut pages = self.values.pages()?;
         pages.sort_unstable();
         let mut counts = [0; MOST_SHARDS];
         for (_, shard) in &pages[..pages.len() / 2] {

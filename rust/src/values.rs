@@ -1,47 +1,46 @@
 //! Values beside the pages of a core, which move with its folds.
 
-// What is cut to fewer bits has a bound: 64 shards, 1,024 spans in each, and the blocks of no more pages.
+// What is cut to fewer bits has a bound: 64 shards, the blocks of their pages, and 256 slots in each.
 #![allow(clippy::cast_possible_truncation)]
-// A block lies as its keys and values must, which `BLOCK_BYTES` sees to.
+// A block lies as its marks and values must, which `BLOCK_BYTES` sees to.
 #![allow(clippy::cast_ptr_alignment)]
 
 use crate::blocks::Blocks;
-use crate::names::{Group, Key};
+use crate::core::{Core, Stepped};
+use crate::names::{Group, Key, Span};
 use crate::refused::Refused;
+use crate::spans::{Home, Spans};
 use std::alloc::{alloc, dealloc, Layout};
 use std::marker::PhantomData;
 use std::mem::{align_of, needs_drop, size_of};
 use std::ptr::NonNull;
 
-/// How many spans a shard opens at most, and how many shards there are at most.
-const SPANS: usize = 1024;
-const SHARDS: usize = 64;
-
 /// How many bytes a value has at most, and to how many it is aligned, if it is to stand in a page.
 const MOST_BYTES: usize = 4096;
 const MOST_ALIGN: usize = 64;
 
-/// What stands for the key of a slot that has no value: no key's word is 0.
+/// What stands for the mark of a slot that has no value: no generation is 0.
 const VACANT: u64 = 0;
 
 /// The values of live keys, each at the slot of its key in a page of values. There is such a page for each page of the core with a live key,
 /// and a fold moves the values as the core moves its objects: to the same slots of the other page.
 ///
 /// ```text
-///   at, by span:  0.0 ──► page 3 ◄── 1.7      next, by span: 0.0 ──► 1.7, the other span on this page
-///                           │
-///   block:        | key | key | .. | value | value | ..       a key of zeros says that the slot has no value
+///   homes, by span:  0.0 ──► page 3 ◄── 1.7      1.7 is the head of the page's group, 0.0 was folded there
+///                              │
+///   block:           | mark | mark | .. | value | value | ..       a mark of zeros says that the slot has no value
 /// ```
+///
+/// A mark is the number that its span has here, and the generation: with the slot that is all of a key, in 8 bytes. A span has a home as long as
+/// it has a value, or is the head of a page that has one. So what all this takes goes by the values that there are, and not by the spans that there
+/// were.
 ///
 /// Values that are large stand in blocks of the global allocator, and their addresses in the page.
 ///
-/// What is `unsafe` here rests on this module and its keys alone: were the core wrong, a look-up would fail or panic, and no memory be misused.
+/// What is `unsafe` here rests on this module and its marks alone: were the core wrong, a look-up would fail or panic, and no memory be misused.
 pub(crate) struct Values<T> {
-    // By the rank of a span: one more than the number of the page with its values, or 0.
-    at: Vec<u32>,
-    // By the rank of a span on a page that is not the last there: the span after it.
-    next: Vec<u16>,
-    // By the number of their block. Those of blocks that are not taken have no live value.
+    spans: Spans,
+    // By the number of their block.
     pages: Vec<Page>,
     blocks: Blocks,
     // Memory for one value that does not stand in a page.
@@ -49,14 +48,18 @@ pub(crate) struct Values<T> {
     owned: PhantomData<T>,
 }
 
+/// Where a page of values is.
+#[derive(Clone, Copy)]
+pub(crate) struct Block(NonNull<u8>);
+
 /// A page of values.
 #[derive(Clone, Copy)]
 struct Page {
-    block: NonNull<u8>,
-    live: u32,
-    // The ranks of the spans whose values are here, as a list through `next`.
-    first: u16,
-    last: u16,
+    block: Block,
+    // How many spans have values here: none where the block is not taken.
+    spans: u32,
+    // The head of its group, into which the next values come.
+    head: Span,
     // The shard that has its page of the core, or had it when that was last known.
     shard: u8,
 }
@@ -94,7 +97,7 @@ impl<T> Values<T> {
     /// How many slots a page has. The fewer there are, the more pages fit each other, and the more the core's object beside a value takes.
     pub const SLOTS: usize = if Self::STORED.size() <= 128 { 256 } else { 64 };
 
-    /// Where the values begin, a multiple of each alignment that there is: the keys are before them.
+    /// Where the values begin, a multiple of each alignment that there is: the marks are before them.
     const VALUES_AT: usize = Self::SLOTS * size_of::<u64>();
 
     const BLOCK_BYTES: usize = {
@@ -109,8 +112,7 @@ impl<T> Values<T> {
     /// No values.
     pub fn new() -> Values<T> {
         Values {
-            at: Vec::new(),
-            next: Vec::new(),
+            spans: Spans::new(),
             pages: Vec::new(),
             blocks: Blocks::new(Self::BLOCK_BYTES),
             room: None,
@@ -118,13 +120,12 @@ impl<T> Values<T> {
         }
     }
 
-    /// Makes room for one value, wherever the shard puts it, so that `put` needs no memory. A refusal changes nothing that is seen.
+    /// Makes room for one value, wherever a shard puts it, so that `put` needs no memory. A refusal changes nothing that is seen.
     #[inline]
-    pub fn reserve(&mut self, shard: u32) -> Result<(), Refused> {
+    pub fn reserve(&mut self) -> Result<(), Refused> {
         self.blocks.reserve()?;
-        let ranks = ranks_of(shard);
-        if self.pages.len() < self.blocks.len() || self.at.len() < ranks {
-            self.grow(ranks)?;
+        if self.pages.len() < self.blocks.len() || self.spans.is_full() {
+            self.grow(1)?;
         }
         if Self::APART && self.room.is_none() {
             // SAFETY: such a value has bytes.
@@ -134,79 +135,82 @@ impl<T> Values<T> {
         Ok(())
     }
 
-    /// Makes room for so many full pages of values, in shards up to this one. A refusal changes nothing that is seen.
-    pub fn reserve_pages(&mut self, shard: u32, values: usize) -> Result<(), Refused> {
-        self.blocks
-            .reserve_all(values / Self::SLOTS + usize::from(values % Self::SLOTS != 0))?;
-        self.grow(ranks_of(shard))
+    /// Makes room for so many full pages of values. A refusal changes nothing that is seen.
+    pub fn reserve_pages(&mut self, values: usize) -> Result<(), Refused> {
+        let pages = values / Self::SLOTS + usize::from(values % Self::SLOTS != 0);
+        self.blocks.reserve_all(pages)?;
+        self.grow(pages)
     }
 
+    /// Makes room for each block to be a page, and for so many further spans.
     #[cold]
-    fn grow(&mut self, ranks: usize) -> Result<(), Refused> {
-        let ranks = ranks.max(self.at.len());
-        resize(&mut self.pages, self.blocks.len(), Page::NONE)?;
-        resize(&mut self.next, ranks, 0)?;
-        resize(&mut self.at, ranks, 0)
+    fn grow(&mut self, spans: usize) -> Result<(), Refused> {
+        let more = self.blocks.len() - self.pages.len();
+        self.pages.try_reserve(more).map_err(|_| Refused::OutOfMemory)?;
+        self.pages.resize(self.blocks.len(), Page::NONE);
+        self.spans.reserve(spans)
     }
 
     /// Keeps the value of a key that the shard has just put, for which there is room.
     #[inline]
     pub fn put(&mut self, shard: u32, key: Key, value: T) {
-        let rank = rank_of(key);
-        if self.at[rank] == 0 {
-            self.open(shard, rank);
+        let home = match self.spans.find_mut(key.span()) {
+            Some(home) => home,
+            None => self.open(shard, key.span()),
+        };
+        let (block, slot) = (home.block, slot_of(key));
+        assert!(slot < Self::SLOTS && block.mark(slot) == VACANT, "the slot is free");
+        let (mark, number) = (mark_of(home, key), home.page);
+        home.live += 1;
+        if home.live == 1 {
+            self.pages[number as usize].spans += 1;
         }
-        let page = &mut self.pages[self.at[rank] as usize - 1];
-        let slot = slot_of(key);
-        assert!(slot < Self::SLOTS && page.key(slot) == VACANT, "the slot is free");
-        page.live += 1;
         if Self::APART {
             let room = self.room.take().expect("room was reserved");
             // SAFETY: the slot has no value, so an address may be written there.
-            unsafe { page.stored::<T>(slot).cast::<NonNull<T>>().write(room) };
+            unsafe { block.stored::<T>(slot).cast::<NonNull<T>>().write(room) };
         }
         // SAFETY: the slot is one of the page's and has no value, so one may be written where it stands, or to the room that is there.
-        unsafe { page.value::<T>(slot).as_ptr().write(value) };
-        page.set_key(slot, key.to_word());
+        unsafe { block.value::<T>(slot).as_ptr().write(value) };
+        block.set_mark(slot, mark);
     }
 
     /// A page for the values of the span, which has none.
     #[cold]
-    fn open(&mut self, shard: u32, rank: usize) {
+    fn open(&mut self, shard: u32, head: Span) -> &mut Home {
         let (number, block) = self.blocks.take();
+        let block = Block(block);
         self.pages[number as usize] = Page {
             block,
-            live: 0,
-            first: rank as u16,
-            last: rank as u16,
+            spans: 0,
+            head,
             shard: shard as u8,
         };
-        self.at[rank] = number + 1;
+        self.spans.insert(head, number, block)
     }
 
-    /// The page with the value of the key, and its slot, where there is such a value.
+    /// The home of the value of the key, and its slot, where there is such a value.
     #[inline]
-    fn find(&self, key: Key) -> Option<(&Page, usize)> {
-        let number = self.at.get(rank_of(key))?;
-        let page = self.pages.get((*number as usize).wrapping_sub(1))?;
+    fn find(&self, key: Key) -> Option<(&Home, usize)> {
+        let home = self.spans.find(key.span())?;
         let slot = slot_of(key);
-        (slot < Self::SLOTS && page.key(slot) == key.to_word()).then_some((page, slot))
+        (slot < Self::SLOTS && home.block.mark(slot) == mark_of(home, key)).then_some((home, slot))
     }
 
     /// The value of the key, where there is one.
     #[inline]
     pub fn get(&self, key: Key) -> Option<&T> {
-        let (page, slot) = self.find(key)?;
-        // SAFETY: the slot has its key, so its value is there, and it is lent as long as the values are.
-        Some(unsafe { page.value::<T>(slot).as_ref() })
+        let (home, slot) = self.find(key)?;
+        // SAFETY: the slot has its mark, so its value is there, and it is lent as long as the values are.
+        Some(unsafe { home.block.value::<T>(slot).as_ref() })
     }
 
     /// The value of the key, to be changed, where there is one.
     #[inline]
     pub fn get_mut(&mut self, key: Key) -> Option<&mut T> {
-        let (page, slot) = self.find(key)?;
+        let (home, slot) = self.find(key)?;
         // SAFETY: as in `get`, and nothing else is lent meanwhile.
-        Some(unsafe { page.value::<T>(slot).as_mut() })
+        Some(unsafe { home.block.value::<T>(slot).as_mut() })
     }
 
     /// The values of the keys, to be changed, where each has one and no two are the same.
@@ -216,8 +220,8 @@ impl<T> Values<T> {
             if keys[..place].contains(key) {
                 return None;
             }
-            let (page, slot) = self.find(*key)?;
-            found[place] = page.value::<T>(slot);
+            let (home, slot) = self.find(*key)?;
+            found[place] = home.block.value::<T>(slot);
         }
         // SAFETY: as in `get_mut`, of each: a slot has one key, so these are values at as many slots.
         Some(found.map(|mut value| unsafe { value.as_mut() }))
@@ -232,13 +236,16 @@ impl<T> Values<T> {
     /// Takes the value of the key out, where there is one, and says which shard has its page. It needs no memory.
     #[inline]
     pub fn take(&mut self, key: Key) -> Option<(T, u32)> {
-        let slot = self.find(key)?.1;
-        let number = self.at[rank_of(key)] - 1;
-        let page = &mut self.pages[number as usize];
-        page.set_key(slot, VACANT);
-        page.live -= 1;
-        let at = page.value::<T>(slot);
-        // SAFETY: the slot had its key, so its value was there, and from now on nobody finds it. A value that stood apart is in a block of
+        let home = self.spans.find_mut(key.span())?;
+        let (block, slot) = (home.block, slot_of(key));
+        if slot >= Self::SLOTS || block.mark(slot) != mark_of(home, key) {
+            return None;
+        }
+        block.set_mark(slot, VACANT);
+        home.live -= 1;
+        let (left, number) = (home.live, home.page);
+        let at = block.value::<T>(slot);
+        // SAFETY: the slot had its mark, so its value was there, and from now on nobody finds it. A value that stood apart is in a block of
         // `reserve`, which nothing names any more.
         let value = unsafe {
             let value = at.as_ptr().read();
@@ -247,87 +254,93 @@ impl<T> Values<T> {
             }
             value
         };
-        let shard = u32::from(page.shard);
-        if page.live == 0 {
-            self.close(number);
+        let shard = u32::from(self.pages[number as usize].shard);
+        if left == 0 {
+            self.forget(key.span(), number);
         }
         Some((value, shard))
     }
 
-    /// Gives the block of a page back that has no value: no span has values there.
+    /// Forgets a span that has no value any more, unless it is the head of a page that has one; and gives the page back where that has none.
     #[cold]
-    fn close(&mut self, number: u32) {
-        self.send_spans(number, 0);
-        self.blocks.give(number);
-    }
-
-    /// Says of each span on the page that its values are at the other one.
-    fn send_spans(&mut self, number: u32, at: u32) {
-        let Page { first, last, .. } = self.pages[number as usize];
-        let mut rank = first;
-        while rank != last {
-            self.at[usize::from(rank)] = at;
-            rank = self.next[usize::from(rank)];
+    fn forget(&mut self, span: Span, number: u32) {
+        let page = &mut self.pages[number as usize];
+        page.spans -= 1;
+        let (is_empty, head) = (page.spans == 0, page.head);
+        if is_empty || span != head {
+            self.spans.remove(span);
         }
-        self.at[usize::from(last)] = at;
+        if is_empty {
+            self.spans.remove(head);
+            self.blocks.give(number);
+        }
     }
 
-    /// Follows a fold of the core: the values of the first group move to the page of the second, each to the slot where it is.
-    pub fn fold(&mut self, abandoned: Group, owned: Group) {
-        let (head, host) = (rank_of_group(abandoned), rank_of_group(owned));
-        let (Some(&from), Some(&to)) = (self.at.get(head), self.at.get(host)) else {
+    /// Has the core carry out the next fold, and follows it.
+    pub fn step(&mut self, core: &mut Core) -> Result<Stepped, Refused> {
+        // A fold may bring one more span here, and takes no memory then.
+        self.spans.reserve(1)?;
+        let stepped = core.step()?;
+        if let Stepped::Folded(abandoned, owned) = stepped {
+            self.fold(abandoned, owned);
+        }
+        Ok(stepped)
+    }
+
+    /// Follows a fold: the values of the first group move to the page of the second, each to the slot where it is.
+    fn fold(&mut self, abandoned: Group, owned: Group) {
+        let (head, host) = (abandoned.head(), owned.head());
+        let Some(&from) = self.spans.find(head) else {
             return;
         };
-        if from == 0 || from == to {
-            return;
+        match self.spans.find(host).copied() {
+            Some(to) if to.page == from.page => return,
+            Some(to) => self.move_values(&from, &to),
+            None => {
+                // The second group has no value, so its head comes to the page of the first.
+                self.spans.insert(host, from.page, from.block);
+                let page = &mut self.pages[from.page as usize];
+                page.head = host;
+                page.shard = owned.shard() as u8;
+            }
         }
-        let from = from - 1;
-        if to == 0 {
-            // The second group has no value, so its head comes to the page of the first.
-            let page = &mut self.pages[from as usize];
-            self.next[usize::from(page.last)] = host as u16;
-            page.last = host as u16;
-            page.shard = owned.shard() as u8;
-            self.at[host] = from + 1;
-            return;
+        // It is a head no more.
+        if from.live == 0 {
+            self.spans.remove(head);
         }
-        let to = to - 1;
-        self.move_values(from, to);
-        self.send_spans(from, to + 1);
-        let left = self.pages[from as usize];
-        let page = &mut self.pages[to as usize];
-        self.next[usize::from(page.last)] = left.first;
-        page.last = left.last;
-        self.blocks.give(from);
     }
 
-    /// Moves each value of a page to the same slot of another one.
-    fn move_values(&mut self, from: u32, to: u32) {
-        let (mut left, mut page) = (self.pages[from as usize], self.pages[to as usize]);
+    /// Moves each value of a page to the same slot of another one, with the homes of their spans, and gives its block back.
+    fn move_values(&mut self, from: &Home, to: &Home) {
+        let mut last = None;
         for slot in 0..Self::SLOTS {
-            let word = left.key(slot);
-            if word == VACANT {
+            let mark = from.block.mark(slot);
+            if mark == VACANT {
                 continue;
             }
-            assert!(page.key(slot) == VACANT, "the library folds what fits");
+            assert!(to.block.mark(slot) == VACANT, "the library folds what fits");
             // SAFETY: two pages are two blocks. The slot has a value on the one, where nobody finds it from now on, and none on the other.
             unsafe {
                 let bytes = Self::STORED.size();
-                page.stored::<T>(slot)
-                    .copy_from_nonoverlapping(left.stored::<T>(slot), bytes);
+                to.block
+                    .stored::<T>(slot)
+                    .copy_from_nonoverlapping(from.block.stored::<T>(slot), bytes);
             }
-            left.set_key(slot, VACANT);
-            page.set_key(slot, word);
-            self.pages[from as usize].live -= 1;
-            self.pages[to as usize].live += 1;
+            from.block.set_mark(slot, VACANT);
+            to.block.set_mark(slot, mark);
+            let number = number_of(mark);
+            if last.replace(number) != Some(number) && self.spans.move_home(number, to) {
+                self.pages[from.page as usize].spans -= 1;
+                self.pages[to.page as usize].spans += 1;
+            }
         }
+        self.blocks.give(from.page);
     }
 
     /// Notes that the shard has the group, with its page.
     pub fn note_adopted(&mut self, group: Group, shard: u32) {
-        let number = self.at.get(rank_of_group(group)).copied().unwrap_or(0) as usize;
-        if let Some(page) = self.pages.get_mut(number.wrapping_sub(1)) {
-            page.shard = shard as u8;
+        if let Some(home) = self.spans.find(group.head()) {
+            self.pages[home.page as usize].shard = shard as u8;
         }
     }
 
@@ -337,14 +350,26 @@ impl<T> Values<T> {
     }
 
     /// For each page with a value, how many it has, and its shard as far as that is known.
-    pub fn pages(&self) -> impl Iterator<Item = (u32, u8)> + '_ {
-        let live = self.pages.iter().filter(|page| page.live > 0);
-        live.map(|page| (page.live, page.shard))
+    ///
+    /// # Errors
+    ///
+    /// [`Refused::OutOfMemory`] where memory was refused.
+    pub fn pages(&self) -> Result<Vec<(u32, u8)>, Refused> {
+        let mut pages = Vec::new();
+        pages
+            .try_reserve_exact(self.pages.len())
+            .map_err(|_| Refused::OutOfMemory)?;
+        pages.extend(self.pages.iter().map(|page| (0, page.shard)));
+        for home in self.spans.iter() {
+            pages[home.page as usize].0 += home.live;
+        }
+        pages.retain(|(live, _)| *live > 0);
+        Ok(pages)
     }
 
-    /// How many values there are. It asks each page.
+    /// How many values there are. It asks each span.
     fn count(&self) -> usize {
-        self.pages().map(|(live, _)| live as usize).sum()
+        self.spans.iter().map(|home| home.live as usize).sum()
     }
 
     /// The beginning of a walk over the values, of which there are so many, by pages and slots.
@@ -358,24 +383,33 @@ impl<T> Values<T> {
     }
 
     /// The key that comes next in a walk, and where its value is. Values may be taken out on the way: a page that goes with the last one
-    /// has no key left, and its block stays.
+    /// has no mark left, and its block stays.
     #[inline]
     fn next(&self, walk: &mut Walk) -> Option<(Key, NonNull<T>)> {
         loop {
             while walk.slot < Self::SLOTS {
                 let slot = walk.slot;
                 walk.slot += 1;
-                if let Some(key) = Key::of_word(walk.page.key(slot)) {
+                if let Some(key) = self.key_of(walk.page.block.mark(slot), slot) {
                     walk.left = walk.left.saturating_sub(1);
-                    return Some((key, walk.page.value(slot)));
+                    return Some((key, walk.page.block.value(slot)));
                 }
             }
             let page = *self.pages.get(walk.next)?;
             walk.next += 1;
-            if page.live > 0 {
+            if page.spans > 0 {
                 (walk.page, walk.slot) = (page, 0);
             }
         }
+    }
+
+    /// The key of the value with this mark, at this slot, or `None` where there is none.
+    #[inline]
+    fn key_of(&self, mark: u64, slot: usize) -> Option<Key> {
+        if mark == VACANT {
+            return None;
+        }
+        Key::of_span(self.spans.name(number_of(mark)), slot as u8, mark as u32)
     }
 
     /// The key that comes next in a walk, with its value.
@@ -463,10 +497,10 @@ impl<T> Drop for Values<T> {
     }
 }
 
-// SAFETY: a page is an address and numbers, and who reads or writes there has the values, or a part of them, lent.
-unsafe impl Send for Page {}
+// SAFETY: a block is an address, and who reads or writes there has the values, or a part of them, lent.
+unsafe impl Send for Block {}
 // SAFETY: as above.
-unsafe impl Sync for Page {}
+unsafe impl Sync for Block {}
 // SAFETY: the values are owned, and nobody else has the blocks.
 unsafe impl<T: Send> Send for Values<T> {}
 // SAFETY: through `&Values` only `&T` is lent.
@@ -475,31 +509,35 @@ unsafe impl<T: Sync> Sync for Values<T> {}
 impl Page {
     /// The page of a block that is not taken.
     const NONE: Page = Page {
-        block: NonNull::dangling(),
-        live: 0,
-        first: 0,
-        last: 0,
+        block: Block::NOWHERE,
+        spans: 0,
+        head: Span::LEAST,
         shard: 0,
     };
+}
 
-    // SAFETY, of all below: a page that a span is led to, or that has a live value, has a block of `BLOCK_BYTES` bytes, of zeros at first, and a slot is one
+impl Block {
+    /// Of a page that there is not.
+    pub(crate) const NOWHERE: Block = Block(NonNull::dangling());
+
+    // SAFETY, of all below: the block of a home, and of a page on which spans have values, has `BLOCK_BYTES` bytes, of zeros at first, and a slot is one
     // below `SLOTS`.
 
     #[inline]
-    fn key(&self, slot: usize) -> u64 {
-        unsafe { self.block.as_ptr().cast::<u64>().add(slot).read() }
+    fn mark(self, slot: usize) -> u64 {
+        unsafe { self.0.as_ptr().cast::<u64>().add(slot).read() }
     }
 
     #[inline]
-    fn set_key(&mut self, slot: usize, word: u64) {
-        unsafe { self.block.as_ptr().cast::<u64>().add(slot).write(word) }
+    fn set_mark(self, slot: usize, mark: u64) {
+        unsafe { self.0.as_ptr().cast::<u64>().add(slot).write(mark) }
     }
 
     /// Where the value of the slot stands, or its address.
     #[inline]
-    fn stored<T>(&self, slot: usize) -> *mut u8 {
+    fn stored<T>(self, slot: usize) -> *mut u8 {
         unsafe {
-            self.block
+            self.0
                 .as_ptr()
                 .add(Values::<T>::VALUES_AT + slot * Values::<T>::STORED.size())
         }
@@ -507,7 +545,7 @@ impl Page {
 
     /// Where the value of the slot is, or, where it stands apart, what was written of that.
     #[inline]
-    fn value<T>(&self, slot: usize) -> NonNull<T> {
+    fn value<T>(self, slot: usize) -> NonNull<T> {
         let stored = self.stored::<T>(slot);
         if size_of::<T>() == 0 {
             NonNull::dangling()
@@ -519,35 +557,19 @@ impl Page {
     }
 }
 
-/// The number of a span among all that 64 shards open.
-fn rank(shard: usize, serial: usize) -> usize {
-    shard * SPANS + serial
-}
-
+/// The mark of a key that has a value, whose span has this home.
 #[inline]
-fn rank_of(key: Key) -> usize {
-    rank(key.shard() as usize, key.serial() as usize)
+fn mark_of(home: &Home, key: Key) -> u64 {
+    u64::from(home.number) << 32 | u64::from(key.generation())
 }
 
-fn rank_of_group(group: Group) -> usize {
-    rank(group.shard() as usize, group.serial() as usize)
-}
-
-/// How many spans the shards up to this one open.
+/// The number of the span in a mark.
 #[inline]
-fn ranks_of(shard: u32) -> usize {
-    (shard as usize + 1).min(SHARDS) * SPANS
+fn number_of(mark: u64) -> u32 {
+    (mark >> 32) as u32
 }
 
 #[inline]
 fn slot_of(key: Key) -> usize {
     key.slot() as usize
-}
-
-/// Makes the list as long as that, if it is shorter.
-fn resize<E: Copy>(list: &mut Vec<E>, len: usize, entry: E) -> Result<(), Refused> {
-    let more = len.saturating_sub(list.len());
-    list.try_reserve(more).map_err(|_| Refused::OutOfMemory)?;
-    list.resize(list.len() + more, entry);
-    Ok(())
 }

@@ -312,6 +312,38 @@ fn pages_fold_beside_those_who_look_up_and_change() -> Result<(), Refused> {
     Ok(())
 }
 
+/// The shard of a thread that is gone goes on in another one, which frees what was left to it meanwhile.
+#[test]
+fn a_shard_begins_again_in_another_thread() -> Result<(), Refused> {
+    let mut arena = Arena::open(limits(2, 64))?;
+    let (mut ends, mut stays) = (arena.seat()?, arena.seat()?);
+    let gone = thread::spawn(move || {
+        assert_eq!(ends.begin(), Err(Refused::Running));
+        let keys: Vec<_> = (0..600_u64).map(|n| ends.insert(n)).collect::<Result<_, _>>()?;
+        ends.end()?;
+        Ok::<_, Refused>((ends, keys))
+    });
+    let (mut seat, before) = gone.join().unwrap()?;
+    stays.free_later(before[0])?;
+    stays.hand_over();
+    let begun = thread::spawn(move || {
+        assert_eq!(seat.insert(0), Err(Refused::Ended));
+        assert_eq!((seat.begin(), seat.begin()), (Ok(()), Err(Refused::Running)));
+        let keys: Vec<_> = (0..600_u64).map(|n| seat.insert(n)).collect::<Result<_, _>>()?;
+        assert_eq!(
+            (seat.tend(), seat.get(before[0]), seat.get(before[599])),
+            (Ok(1), None, Some(599))
+        );
+        Ok::<_, Refused>((before, keys))
+    });
+    let (before, after) = begun.join().unwrap()?;
+    assert!(after
+        .iter()
+        .all(|key| !before.contains(key) && key.shard() == before[0].shard()));
+    assert_eq!((stays.get(after[7]), stays.get(before[7])), (Some(7), Some(7)));
+    Ok(())
+}
+
 #[test]
 fn a_thread_ends_while_others_hold_its_keys() -> Result<(), Refused> {
     let mut arena = Arena::open(limits(3, 64))?;
@@ -362,7 +394,7 @@ fn frees_come_later() -> Result<(), Refused> {
     assert_eq!(arena.totals().live, 12);
     assert_eq!(thread::spawn(move || there.tend()).join().unwrap(), Ok(8));
     assert_eq!(keys.iter().filter(|key| here.contains(**key)).count(), 4);
-    let elsewhere = Key::from_bits(9 << 56 | 1).unwrap();
+    let elsewhere = Key::from_bits(9 << 72 | 1).unwrap();
     assert_eq!(here.free_later(elsewhere), Err(Refused::Config));
     assert!(!here.free(elsewhere) && here.get(elsewhere).is_none());
     Ok(())

@@ -265,6 +265,12 @@ fn what_a_core_was_made_with() -> Result<(), Refused> {
         [false, false, true, false]
     );
     assert!(core.end(3).is_err() && !core.is_ended(3) && !core.is_ended(u32::MAX));
+    assert_eq!(
+        (core.begin(3), core.begin(0)),
+        (Err(Refused::Config), Err(Refused::Running))
+    );
+    assert_eq!((slab.begin(2), slab.is_ended(2)), (Ok(()), false));
+    assert_eq!(slab.begin(2), Err(Refused::Running));
     for word in 0..300 {
         core.insert(0, word)?;
     }
@@ -339,6 +345,11 @@ fn a_store_puts_where_there_is_room() -> Result<(), Refused> {
     }
     assert_eq!(store.insert([1; 200]), Err(Refused::Ended));
     assert_eq!((store.len(), store.get(keys[47])), (48, Some([47; 200])));
+    // A shard that begins again has its page to give.
+    store.begin(1)?;
+    let again = store.insert([5; 200])?;
+    assert!(again.shard() == 1 && !keys.contains(&again));
+    assert_eq!((store.capacity(), store.get(again)), (16, Some([5; 200])));
     Ok(())
 }
 

@@ -9,26 +9,45 @@ use teurlaks::{BytesKey, Core, Key, Limits, ParseKeyError, Refused, Slab};
 
 #[test]
 fn no_key_takes_no_room_of_its_own() {
-    assert_eq!((size_of::<Key>(), size_of::<Option<Key>>()), (8, 8));
-    assert_eq!((size_of::<BytesKey>(), size_of::<Option<BytesKey>>()), (12, 12));
+    assert_eq!((size_of::<Key>(), size_of::<Option<Key>>()), (12, 12));
+    assert_eq!((size_of::<BytesKey>(), size_of::<Option<BytesKey>>()), (16, 16));
 }
 
 #[test]
 fn parts_numbers_and_texts_of_any_key() {
     let mut random = Random(5);
     for _ in 0..100_000 {
-        let bits = random.next() & random.next();
+        let bits = random.bits();
         let Some(key) = Key::from_bits(bits) else {
-            assert_eq!(bits << 32, 0);
+            assert_eq!(bits << 96, 0);
             continue;
         };
         assert_eq!(key.to_bits(), bits);
         let text = format!("{}.{}/{}/{}", key.shard(), key.serial(), key.slot(), key.generation());
         assert_eq!((key.to_string(), format!("{key:?}")), (text.clone(), text.clone()));
         assert_eq!(text.parse(), Ok(key));
-        let parts = [key.shard(), key.slot(), key.serial(), key.generation()].map(u64::from);
-        assert_eq!(bits, parts[0] << 56 | parts[1] << 48 | parts[2] << 32 | parts[3]);
+        let parts = [key.shard(), key.serial(), key.slot(), key.generation()].map(u128::from);
+        assert_eq!(bits, parts[0] << 72 | parts[1] << 40 | parts[2] << 32 | parts[3]);
     }
+}
+
+/// A serial number has 32 bits in texts and numbers, and a key that no slab gave out finds nothing, however large that is.
+#[test]
+fn serial_numbers_of_32_bits() -> Result<(), Refused> {
+    let mut slab = Slab::new()?;
+    let mut core = Core::new(Limits::default())?;
+    let live = (slab.insert("a")?, core.insert(0, 7)?);
+    for serial in [1, 1023, 1024, 65_535, 65_536, 16_777_216, u32::MAX - 1, u32::MAX] {
+        let text = format!("0.{serial}/0/1");
+        let key: Key = text.parse().expect("a serial number has 32 bits");
+        assert_eq!((key.serial(), key.to_string()), (serial, text));
+        assert_eq!(Key::from_bits(key.to_bits()), Some(key));
+        assert!(slab.get(key).is_none() && slab.remove(key).is_none());
+        assert!(core.get(key).is_none() && !core.free(key));
+        assert!(!core.set(key, 8)? && key > live.0);
+    }
+    assert_eq!((slab.get(live.0), core.get(live.1)), (Some(&"a"), Some(7)));
+    Ok(())
 }
 
 #[test]
@@ -66,7 +85,7 @@ fn texts_of_another_form() {
 fn numbers_that_no_key_has() {
     for text in [
         "256.0/0/1",
-        "0.65536/0/1",
+        "0.4294967296/0/1",
         "0.0/256/1",
         "0.0/0/0",
         "0.0/0/4294967296",
@@ -74,8 +93,12 @@ fn numbers_that_no_key_has() {
     ] {
         assert_eq!(text.parse::<Key>(), Err(ParseKeyError::Range), "{text}");
     }
-    let greatest = "255.65535/255/4294967295".parse::<Key>();
-    assert_eq!(greatest.map(Key::to_bits), Ok(u64::MAX));
+    let greatest = "255.4294967295/255/4294967295".parse::<Key>();
+    assert_eq!(greatest.map(Key::to_bits), Ok(u128::MAX >> 48));
+    assert_eq!(
+        (Key::from_bits(1 << 80 | 1), Key::from_bits(u128::MAX << 32)),
+        (None, None)
+    );
     assert!(ParseKeyError::Form.to_string().contains("shard.serial/slot/generation"));
     assert!(ParseKeyError::Range.to_string().contains("generation is 0"));
 }

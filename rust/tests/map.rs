@@ -62,7 +62,7 @@ fn a_million_calls_as_a_map() -> Result<(), Refused> {
             }
             (11..=14, Some(key)) => assert_eq!(core.free(key), map.remove(&key).is_some()),
             (_, Some(key)) => {
-                if let Some(key) = Key::from_bits(key.to_bits() ^ 1 << random.below(64)) {
+                if let Some(key) = Key::from_bits(key.to_bits() ^ 1 << random.below(80)) {
                     assert!(finds(&core, key, map.get(&key)), "{key}");
                 }
             }
@@ -145,7 +145,7 @@ fn a_hundred_thousand_forged_keys() -> Result<(), Refused> {
         .map(|i| Ok((slab.insert(i)?, i)))
         .collect::<Result<_, Refused>>()?;
     for _ in 0..100_000 {
-        let Some(key) = Key::from_bits(random.next() & random.next()) else {
+        let Some(key) = Key::from_bits(random.bits()) else {
             continue;
         };
         assert_eq!(slab.get(key), live.get(&key));

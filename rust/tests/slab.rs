@@ -113,7 +113,7 @@ fn double_remove_finds_nothing() -> Result<(), Refused> {
 fn invalid_key_finds_nothing() -> Result<(), Refused> {
     let mut slab = Slab::new()?;
     slab.insert(1)?;
-    let key = Key::from_bits(0x0001_0000_0000_0001).expect("its generation is 1");
+    let key = Key::from_bits(0x0001_0000_0001).expect("its generation is 1");
     assert_eq!(slab.get(key), None);
     assert_eq!(slab.remove(key), None);
     assert_eq!(slab.len(), 1);

@@ -83,7 +83,7 @@ struct Pair<T> {
 const SHARDS: u32 = 12;
 
 /// The key of a number, or of one that has a generation.
-fn made_up(bits: u64) -> Key {
+fn made_up(bits: u128) -> Key {
     Key::from_bits(bits)
         .or(Key::from_bits(bits | 1))
         .expect("its generation is not 0")
@@ -169,8 +169,8 @@ impl<T: Made> Pair<T> {
         let place = self.random.below(self.keys.len().max(1));
         let key = self.keys.get(place).copied().unwrap_or(made_up(1));
         match self.random.below(12) {
-            0 => made_up(key.to_bits() ^ 1 << self.random.below(64)),
-            1 => made_up(self.random.next() & self.random.next()),
+            0 => made_up(key.to_bits() ^ 1 << self.random.below(80)),
+            1 => made_up(self.random.bits()),
             _ => key,
         }
     }
@@ -401,7 +401,7 @@ fn values_that_take_no_bytes() -> Result<(), Refused> {
 /// The least of all keys finds nothing where no value was yet or where one is gone; there is none of zeros.
 #[test]
 fn the_least_key_finds_nothing() -> Result<(), Refused> {
-    assert_eq!((Key::from_bits(0), Key::from_bits(u64::MAX << 32)), (None, None));
+    assert_eq!((Key::from_bits(0), Key::from_bits(u128::MAX << 32)), (None, None));
     let least = made_up(1);
     let mut slab = Slab::new()?;
     assert!(slab.get(least).is_none() && slab.remove(least).is_none());

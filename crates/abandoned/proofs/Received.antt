@@ -42,6 +42,7 @@ ended_after old new is =
     λ i. record {
       number = is.number i;
       page_limit = is.page_limit i;
+      span_limit = is.span_limit i;
       gens = is.gens i;
       opened = is.opened i;
       ended = true;

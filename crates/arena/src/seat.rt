@@ -243,9 +243,11 @@ impl Seat {
         (done_in(&receipt), receipt)
     }
 
-    /// Whether the shard that opened the key's span is one of the arena's, as [`Seat::free_later`] asks.
+    /// Whether the shard that opened the key's span is one of the arena's, as [`Seat::free_later`] asks. The seat has then an end of
+    /// the ring to it.
     pub fn has_shard_of(&self, key: &Key) -> bool
-        ensures { IsTrue result ↔ (key.now.span.shard < self.now.limits.shards) }
+        ensures shard { IsTrue result ↔ (key.now.span.shard < self.now.limits.shards) }
+        ensures end { IsTrue result → key.now.span.shard < length self.now.outboxes }
     {
         key.span.shard < self.limits.shards()
     }
@@ -351,6 +353,18 @@ impl Seat {
     {
         let Ok(ended) = self.end_within(&Waits { rt }, arena);
         ended
+    }
+
+    /// Begins the worker's shard again, where it has ended, under the shard's lock, as [`Shard::begin`](shard::Shard::begin) does: it
+    /// takes puts and adopts as before, and issues no key twice. It answers whether it had ended; a shard that runs stays as it was.
+    /// Whether it had no clause here can say, since none names what the lock guarded. So a seat can go to a new thread once its shard
+    /// has ended: what waits on its rings waits for that thread. It takes no memory.
+    pub fn begin<G: Gate, L: Log, R: Wait>(&mut self, rt: &R, arena: &Arena<G, L>) -> bool
+        requires { self.old.limits ≡ arena.now.limits }
+        ensures seat { CountsCall self.old self.new }
+    {
+        let Ok(had_ended) = self.begin_within(&Waits { rt }, arena);
+        had_ended
     }
 
     /// Retires up to `most` groups of the worker's shard, under the pool's lock and the shard's: those with the fewest live keys,
@@ -460,6 +474,23 @@ impl Seat {
         // Where it was refused, the spans are still in the shard.
         arena.words.set_all(&*shard, Place::Shard(self.worker));
         Ok(received)
+    }
+
+    // Begins the worker's shard again, where it has ended.
+    fn begin_within<G: Gate, L: Log, P: Patience>(
+        &mut self,
+        patience: &P,
+        arena: &Arena<G, L>,
+    ) -> Result<bool, P::Busy>
+        requires { self.old.limits ≡ arena.now.limits }
+        ensures seat { OnOk result (CountsCall self.old self.new) }
+        ensures busy { OnErr result (self.new ≡ self.old) }
+    {
+        let worker = self.worker;
+        let mut shard = patience.lock(&arena.shards[worker as usize])?;
+        arena.gate.inside(worker);
+        self.count_call();
+        Ok(shard.begin())
     }
 
     // Retires up to that many groups of the worker's shard.

@@ -83,6 +83,7 @@ module _ (old : CoreState) (sound : HasSoundGroups old) (number : ℕ) (before a
         (record {
           number_is = call.number_is ∙ was.number_is;
           page_limit_is = call.page_limit_is ∙ was.page_limit_is;
+          span_limit_is = call.span_limit_is ∙ was.span_limit_is;
           gens_is = call.gens_is ∙ was.gens_is;
           sound = sound_after;
         })
@@ -139,6 +140,7 @@ module _ (old : CoreState) (sound : HasSoundGroups old) (number : ℕ) (before a
         (record {
           number_is = move.number_is ∙ was_there.number_is;
           page_limit_is = move.page_limit_is ∙ was_there.page_limit_is;
+          span_limit_is = move.span_limit_is ∙ was_there.span_limit_is;
           gens_is = move.gens_is ∙ was_there.gens_is;
           sound = sound_after;
         })

@@ -1,5 +1,5 @@
 -- The steps of a core, said of its fields.
-use Rattle.std.proofs.Common.{◌≡◌, ◌≢◌, ℕ, true, false, cond, List, None, Option, Some, ap, ◌∙◌, is_some, length, set, subst, sym}
+use Rattle.std.proofs.Common.{◌≡◌, ◌≢◌, ℕ, true, false, cond, None, Some, ap, ◌∙◌, is_some, length, set, subst, sym}
 use Rattle.std.specs.Prelude.{Err, Result, ◌↔◌}
 use Rattle.std.proofs.lemmas.Bool.{false_from_ne_true}
 use Rattle.std.proofs.option.Match.{None-if_not_some}
@@ -33,7 +33,7 @@ use Rattle.arena_core.specs.declared.reply.Refusal.{Refusal}
 use Rattle.arena_core.specs.declared.reply.Refusal.TheVariants.{OutOfMemory}
 use Rattle.arena_core.specs.declared.reply.Reply.TheVariants as reply
 use Rattle.arena_core.specs.Kept.{state_of}
-use Rattle.arena_core.specs.Moved.{StandsIn, StandsInNoOther}
+use Rattle.arena_core.specs.Moved.{StandsIn, StandsInNoOther, WhereaboutsState}
 use Rattle.arena_core.specs.Plain.{PlainStep}
 use Rattle.arena_core.specs.Refusals.{refusal_of, refusal_of_adoption, refusal_of_end}
 use Rattle.arena_core.specs.Sound.{IsSound}
@@ -52,13 +52,13 @@ use Rattle.arena_core.proofs.Steps.{CoreStep-refused, has_span-may_set, may_set-
 pub state_of-same : {L : Type 0} (c : Inside L) (number : ℕ) (before after : ShardState) → IsRead c number before → after ≡ before → state_of (with_shard_at c number after) ≡ state_of c
 state_of-same c number before after read same =
     let shards : set c.shards.items number after ≡ c.shards.items = ap (set c.shards.items number) same ∙ set-same c.shards.items number before (shard-read c number before read) in
-    λ i. record { limits = record { shards = length (shards i); page_limit = c.page_limit; ring_capacity = c.ring_capacity; gens = c.gens }; shards = shards i; pool = c.pool; plan = c.plan; rings = c.rings; forgotten = c.forgotten.spans }
+    λ i. record { limits = record { shards = length (shards i); page_limit = c.page_limit; span_limit = c.span_limit; ring_capacity = c.ring_capacity; gens = c.gens }; shards = shards i; pool = c.pool; plan = c.plan; rings = c.rings; forgotten = c.forgotten.spans }
 
 -- a shard and a pool that are as they were leave the fields as they were
-pub state_of-both_same : {L : Type 0} (c : Inside L) (number : ℕ) (before after : ShardState) (pool : PoolState) (whereabouts : List (Option ℕ)) → IsRead c number before → after ≡ before → pool ≡ c.pool → state_of (with_both_at c number after pool whereabouts) ≡ state_of c
+pub state_of-both_same : {L : Type 0} (c : Inside L) (number : ℕ) (before after : ShardState) (pool : PoolState) (whereabouts : WhereaboutsState) → IsRead c number before → after ≡ before → pool ≡ c.pool → state_of (with_both_at c number after pool whereabouts) ≡ state_of c
 state_of-both_same c number before after pool whereabouts read same pool_is =
     let shards : set c.shards.items number after ≡ c.shards.items = ap (set c.shards.items number) same ∙ set-same c.shards.items number before (shard-read c number before read) in
-    λ i. record { limits = record { shards = length (shards i); page_limit = c.page_limit; ring_capacity = c.ring_capacity; gens = c.gens }; shards = shards i; pool = pool_is i; plan = c.plan; rings = c.rings; forgotten = c.forgotten.spans }
+    λ i. record { limits = record { shards = length (shards i); page_limit = c.page_limit; span_limit = c.span_limit; ring_capacity = c.ring_capacity; gens = c.gens }; shards = shards i; pool = pool_is i; plan = c.plan; rings = c.rings; forgotten = c.forgotten.spans }
 
 pub IsStep-put_fields : {L : Type 0} (c : Inside L) (number : ℕ) (value : Value) (key : Key) (at : ℕ) (before after : ShardState) → IsSound (state_of c) → IsRead c number before → Puts before (class_of value) value key at after
     → (shown_by before).is_issued key ≡ false → shown_by after ≡ with_put (shown_by before) key value → IsSoundShard after
@@ -133,14 +133,14 @@ IsStep-free_fields c number key before after answer kept read has frees found pl
     subst (IsSoundStep (state_of c) (Free key) (reply.Freed (was_freed answer))) (sym (state_of-with_shard_at c number after))
     (IsSoundStep-Frees (state_of c) key number before after answer kept (shard-read c number before read) has frees found plain sound)
 
-pub IsStep-end_fields : {L : Type 0} (c : Inside L) (number : ℕ) (before after : ShardState) (pool : PoolState) (whereabouts : List (Option ℕ)) → IsSound (state_of c) → IsRead c number before → (HasClosed before.groups → ⊥) → Receives c.pool before pool after → IsSoundShard after → IsSoundPool pool
+pub IsStep-end_fields : {L : Type 0} (c : Inside L) (number : ℕ) (before after : ShardState) (pool : PoolState) (whereabouts : WhereaboutsState) → IsSound (state_of c) → IsRead c number before → (HasClosed before.groups → ⊥) → Receives c.pool before pool after → IsSoundShard after → IsSoundPool pool
     → IsSoundStep (state_of c) (End number) reply.ShardEnded (state_of (with_both_at c number after pool whereabouts))
 IsStep-end_fields c number before after pool whereabouts kept read unclosed receives sound sound_pool =
     subst (IsSoundStep (state_of c) (End number) reply.ShardEnded) (sym (state_of-with_both_at c number after pool whereabouts))
     (IsSoundStep-Receives (state_of c) number before after pool kept (shard-read c number before read) unclosed receives sound sound_pool)
 
 -- an end that the pool refuses leaves the fields as they were
-pub CoreStep-end_refused_fields : {L : Type 0} (c : Inside L) (number : ℕ) (before after : ShardState) (pool : PoolState) (whereabouts : List (Option ℕ)) (error : ReceiveError) (cause : Refusal) → IsSound (state_of c) → IsRead c number before → refusal_of_end error ≡ Some cause
+pub CoreStep-end_refused_fields : {L : Type 0} (c : Inside L) (number : ℕ) (before after : ShardState) (pool : PoolState) (whereabouts : WhereaboutsState) (error : ReceiveError) (cause : Refusal) → IsSound (state_of c) → IsRead c number before → refusal_of_end error ≡ Some cause
     → (◌≡◌ {A = Result (Unit {0}) ReceiveError} (Err error) (Err receive_error.Ended) ↔ (before.ended ≡ true))
     → (◌≡◌ {A = Result (Unit {0}) ReceiveError} (Err error) (Err receive_error.PlanOpen) ↔ ((before.ended ≡ false) × (IsInPool c.pool before → ⊥) × HasClosed before.groups))
     → after ≡ before → pool ≡ c.pool
@@ -150,14 +150,14 @@ CoreStep-end_refused_fields c number before after pool whereabouts error cause k
     (CoreStep-end_refused (state_of c) number before error cause (shard-read c number before read) gives (not_in_pool (state_of c) kept.groups number before (shard-read c number before read)) (kept.plan.closed number before (shard-read c number before read))
     (λ e. ended.0 (ap Err e), λ p. let e = ended.1 p in cc) (λ e. plan_open.0 (ap Err e), λ p. let e = plan_open.1 p in cc))
 
-pub IsStep-retire_fields : {L : Type 0} (c : Inside L) (number most count : ℕ) (before after : ShardState) (pool : PoolState) (whereabouts : List (Option ℕ)) → IsSound (state_of c) → IsRead c number before → (HasClosed before.groups → ⊥) → Retires c.pool before most count pool after → HasRetired c.pool before count pool after → IsSoundShard after → IsSoundPool pool
+pub IsStep-retire_fields : {L : Type 0} (c : Inside L) (number most count : ℕ) (before after : ShardState) (pool : PoolState) (whereabouts : WhereaboutsState) → IsSound (state_of c) → IsRead c number before → (HasClosed before.groups → ⊥) → Retires c.pool before most count pool after → HasRetired c.pool before count pool after → IsSoundShard after → IsSoundPool pool
     → IsSoundStep (state_of c) (Retire number most) (reply.Retired count) (state_of (with_both_at c number after pool whereabouts))
 IsStep-retire_fields c number most count before after pool whereabouts kept read unclosed retires whole sound sound_pool =
     subst (IsSoundStep (state_of c) (Retire number most) (reply.Retired count)) (sym (state_of-with_both_at c number after pool whereabouts))
     (IsSoundStep-Retires (state_of c) number most count before after pool kept (shard-read c number before read) unclosed retires whole sound sound_pool)
 
 -- a retirement that the pool refuses leaves the fields as they were
-pub CoreStep-retire_refused_fields : {L : Type 0} (c : Inside L) (number most : ℕ) (before after : ShardState) (pool : PoolState) (whereabouts : List (Option ℕ)) (error : ReceiveError) (cause : Refusal) → IsSound (state_of c) → IsRead c number before → refusal_of_end error ≡ Some cause
+pub CoreStep-retire_refused_fields : {L : Type 0} (c : Inside L) (number most : ℕ) (before after : ShardState) (pool : PoolState) (whereabouts : WhereaboutsState) (error : ReceiveError) (cause : Refusal) → IsSound (state_of c) → IsRead c number before → refusal_of_end error ≡ Some cause
     → (◌≡◌ {A = Result ℕ ReceiveError} (Err error) (Err receive_error.Ended) ↔ (before.ended ≡ true))
     → (◌≡◌ {A = Result ℕ ReceiveError} (Err error) (Err receive_error.PlanOpen) ↔ ((before.ended ≡ false) × (IsInPool c.pool before → ⊥) × HasClosed before.groups))
     → after ≡ before → pool ≡ c.pool
@@ -167,7 +167,7 @@ CoreStep-retire_refused_fields c number most before after pool whereabouts error
     (CoreStep-retire_refused (state_of c) number most before error cause (shard-read c number before read) gives (not_in_pool (state_of c) kept.groups number before (shard-read c number before read)) (kept.plan.closed number before (shard-read c number before read))
     (λ e. ended.0 (ap Err e), λ p. let e = ended.1 p in cc) (λ e. plan_open.0 (ap Err e), λ p. let e = plan_open.1 p in cc))
 
-pub IsStep-adopt_fields : {L : Type 0} (c : Inside L) (number : ℕ) (head : SpanId) (before after : ShardState) (pool : PoolState) (whereabouts : List (Option ℕ)) → IsSound (state_of c) → c.plan ≡ None → IsRead c number before → before.ended ≡ false → Adopts c.pool before head pool after → IsSoundShard after → IsSoundPool pool
+pub IsStep-adopt_fields : {L : Type 0} (c : Inside L) (number : ℕ) (head : SpanId) (before after : ShardState) (pool : PoolState) (whereabouts : WhereaboutsState) → IsSound (state_of c) → c.plan ≡ None → IsRead c number before → before.ended ≡ false → Adopts c.pool before head pool after → IsSoundShard after → IsSoundPool pool
     → IsSoundStep (state_of c) (Adopt number) (reply.Adopted head) (state_of (with_both_at c number after pool whereabouts))
 IsStep-adopt_fields c number head before after pool whereabouts kept no_plan read running adopts sound sound_pool =
     subst (IsSoundStep (state_of c) (Adopt number) (reply.Adopted head)) (sym (state_of-with_both_at c number after pool whereabouts))
@@ -184,7 +184,7 @@ pub no_plan_if_adopted : {L : Type 0} (c : Inside L) → IsSound (state_of c) �
 no_plan_if_adopted c kept never = None-if_not_some c.plan (sym kept.plan.told ∙ false_from_ne_true c.pool.has_plan never)
 
 -- an adoption that the pool refuses leaves the fields as they were
-pub CoreStep-adopt_refused_fields : {L : Type 0} (c : Inside L) (number : ℕ) (before after : ShardState) (pool : PoolState) (whereabouts : List (Option ℕ)) (error : AdoptError) (cause : Refusal) → IsSound (state_of c) → IsRead c number before → refusal_of_adoption error ≡ Some cause
+pub CoreStep-adopt_refused_fields : {L : Type 0} (c : Inside L) (number : ℕ) (before after : ShardState) (pool : PoolState) (whereabouts : WhereaboutsState) (error : AdoptError) (cause : Refusal) → IsSound (state_of c) → IsRead c number before → refusal_of_adoption error ≡ Some cause
     → (◌≡◌ {A = Result SpanId AdoptError} (Err error) (Err adopt_error.PagesSpent) ↔ (before.page_limit ≡ length before.groups))
     → (◌≡◌ {A = Result SpanId AdoptError} (Err error) (Err adopt_error.Ended) ↔ ((before.page_limit ≢ length before.groups) × (before.ended ≡ true)))
     → (◌≡◌ {A = Result SpanId AdoptError} (Err error) (Err adopt_error.PlanOpen) ↔ ((before.page_limit ≢ length before.groups) × (before.ended ≡ false) × (IsDoubled c.pool before → ⊥) × (c.pool.has_plan ≡ true)))

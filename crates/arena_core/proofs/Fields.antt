@@ -1,29 +1,32 @@
 -- The steps of a core whose shards and pool stand in its fields.
-use Rattle.std.proofs.Common.{◌≡◌, ℕ, ◌<◌, true, false, ◌⊎◌, inl, inr, arith, List, Option, Some, ◌≤◌, Bor, get_or, ap, ◌∙◌, length, refl, set, slice_get, sym}
+use Rattle.std.proofs.Common.{◌≡◌, ℕ, ◌<◌, true, false, ◌⊎◌, inl, inr, arith, List, Some, ◌≤◌, Bor, get_or, ap, ◌∙◌, length, refl, set, slice_get, sym}
 use Rattle.std.specs.Prelude.{vec_len}
 use Rattle.std.proofs.Math.ListN.{length-set}
 use Rattle.std.proofs.lemmas.Bool.{cases_lt}
 use Rattle.std.proofs.lemmas.Option.{slice_get_read}
 use Rattle.std.specs.Slice.{IsItemAt}
 use Rattle.std.specs.Vec.{with_item}
+use Rattle.span.specs.declared.limits.TheConstants.{MOST_PAGES, MOST_SHARDS}
 use Rattle.shard.specs.State.{ShardState}
 use Rattle.abandoned.specs.State.{PoolState}
 use Rattle.arena_core.specs.declared.machine.Core.TheInside.{Inside}
 use Rattle.arena_core.specs.Kept.{state_of}
+use Rattle.arena_core.specs.Moved.{WhereaboutsState}
 use Rattle.arena_core.specs.Sound.{HasSoundGroups, IsSoundAt}
 use Rattle.arena_core.specs.State.{with_pool, with_shard}
+use Rattle.span.specs.declared.limits.TheConstants.{MOST_PAGES, MOST_SHARDS}
 
 -- the fields with another shard at this number
 abbrev pub with_shard_at : {L : Type 0} → Inside L → ℕ → ShardState → Inside L
 with_shard_at c number after = record c { shards = with_item c.shards number after }
 
 -- the fields with another shard at this number, another pool and other whereabouts
-abbrev pub with_both_at : {L : Type 0} → Inside L → ℕ → ShardState → PoolState → List (Option ℕ) → Inside L
+abbrev pub with_both_at : {L : Type 0} → Inside L → ℕ → ShardState → PoolState → WhereaboutsState → Inside L
 with_both_at c number after pool whereabouts = record c { shards = with_item c.shards number after; pool = pool; whereabouts = whereabouts }
 
 pub state_of-with_shard_at : {L : Type 0} (c : Inside L) (number : ℕ) (after : ShardState) → state_of (with_shard_at c number after) ≡ with_shard (state_of c) number after
 state_of-with_shard_at c number after = λ i. record {
-  limits = record { shards = length-set c.shards.items number after i; page_limit = c.page_limit; ring_capacity = c.ring_capacity; gens = c.gens };
+  limits = record { shards = length-set c.shards.items number after i; page_limit = c.page_limit; span_limit = c.span_limit; ring_capacity = c.ring_capacity; gens = c.gens };
   shards = set c.shards.items number after;
   pool = c.pool;
   plan = c.plan;
@@ -31,9 +34,9 @@ state_of-with_shard_at c number after = λ i. record {
   forgotten = c.forgotten.spans;
 }
 
-pub state_of-with_both_at : {L : Type 0} (c : Inside L) (number : ℕ) (after : ShardState) (pool : PoolState) (whereabouts : List (Option ℕ)) → state_of (with_both_at c number after pool whereabouts) ≡ with_pool (with_shard (state_of c) number after) pool
+pub state_of-with_both_at : {L : Type 0} (c : Inside L) (number : ℕ) (after : ShardState) (pool : PoolState) (whereabouts : WhereaboutsState) → state_of (with_both_at c number after pool whereabouts) ≡ with_pool (with_shard (state_of c) number after) pool
 state_of-with_both_at c number after pool whereabouts = λ i. record {
-  limits = record { shards = length-set c.shards.items number after i; page_limit = c.page_limit; ring_capacity = c.ring_capacity; gens = c.gens };
+  limits = record { shards = length-set c.shards.items number after i; page_limit = c.page_limit; span_limit = c.span_limit; ring_capacity = c.ring_capacity; gens = c.gens };
   shards = set c.shards.items number after;
   pool = pool;
   plan = c.plan;
@@ -61,10 +64,10 @@ no_read c number none = by_order (cases_lt number (vec_len c.shards))
     by_order (inl below) = absurd (let e = none below in cc)
     by_order (inr past) = omega (arith, c.shards.ok.0)
 
--- a shard has 1,024 pages at most, and 64 shards at most come
+-- as many pages as a shard has at most, and as many shards as come at most
 pub record IsFew (index : ℕ) (shard : ShardState) : Type 0 where
-  pub shards : index < 64
-  pub pages : length shard.groups ≤ 1024
+  pub shards : index < MOST_SHARDS
+  pub pages : length shard.groups ≤ MOST_PAGES
 
 pub IsFew-fields : {L : Type 0} (c : Inside L) (shards : List ShardState) (index : ℕ) (shard : ShardState) → HasSoundGroups (state_of c) → shards ≡ c.shards.items → index < length shards → shard ≡ get_or shards index shard → IsFew index shard
 IsFew-fields c shards index shard kept are within read =

@@ -1,7 +1,5 @@
 -- What the fields of a core keep, where a shard, the pool and the whereabouts change.
-use Rattle.std.proofs.Common.{◌≡◌, ◌≢◌, ◌*◌, ℕ, Bool, List, Option, Some, true, false, cond, ap, arith, is_some, length, map, refl, slice_get, subst, sym, ◌∙◌}
-use Rattle.std.proofs.Math.ListN.{length-set}
-use Rattle.std.proofs.lemmas.List.{length-map}
+use Rattle.std.proofs.Common.{◌≡◌, ◌≢◌, ℕ, Bool, Option, Some, true, false, cond, ap, arith, is_some, length, map, refl, set, slice_get, subst, sym, ◌∙◌}
 use Rattle.std.proofs.lemmas.Option.{get_or_from_slice_get, slice_get_within}
 use Rattle.span.specs.declared.id.SpanId.{SpanId}
 use Rattle.span.specs.declared.key.Key.{Key}
@@ -21,7 +19,7 @@ use Rattle.abandoned.specs.Calls.{Receives}
 use Rattle.abandoned.specs.State.{PoolState}
 use Rattle.arena_core.specs.declared.machine.Core.TheInside.{Inside}
 use Rattle.arena_core.specs.Kept.{IsKept, state_of}
-use Rattle.arena_core.specs.Moved.{KnowsMoved, Notes}
+use Rattle.arena_core.specs.Moved.{Entries, KnowsMoved, Notes, WhereaboutsState}
 use Rattle.arena_core.specs.Sound.{IsSound}
 use Rattle.marks.specs.Numbers.{Limits}
 use Rattle.marks.specs.Plans.{OpenPlan}
@@ -84,20 +82,25 @@ module _ {L : Type 0} (c : Inside L) (kept : IsKept c) (number : ℕ) (before : 
   pub IsKept-with_both_at : (after : ShardState) (pool : PoolState) → GetsNone number before after → IsSound (state_of (with_both_at c number after pool c.whereabouts)) → IsKept (with_both_at c number after pool c.whereabouts)
   IsKept-with_both_at after pool none sound = record {
     sound = sound;
-    entries = kept.entries ∙ ap (λ n. 1024 * n) (sym (length-set c.shards.items number after));
-    moved = KnowsMoved-set c.shards.items c.whereabouts kept.moved number before after (shard-read c number before read) none;
+    moved = KnowsMoved-set c.shards.items c.whereabouts.entries kept.moved number before after (shard-read c number before read) none;
   }
 
   pub IsKept-with_shard_at : (after : ShardState) → GetsNone number before after → IsSound (state_of (with_shard_at c number after)) → IsKept (with_shard_at c number after)
   IsKept-with_shard_at after none sound = record {
     sound = sound;
-    entries = kept.entries ∙ ap (λ n. 1024 * n) (sym (length-set c.shards.items number after));
-    moved = KnowsMoved-set c.shards.items c.whereabouts kept.moved number before after (shard-read c number before read) none;
+    moved = KnowsMoved-set c.shards.items c.whereabouts.entries kept.moved number before after (shard-read c number before read) none;
   }
 
   -- a shard and a pool that are as they were
   pub IsKept-both_same : (after : ShardState) (pool : PoolState) → after ≡ before → pool ≡ c.pool → IsKept (with_both_at c number after pool c.whereabouts)
   IsKept-both_same after pool same pool_is = IsKept-with_both_at after pool (GetsNone-same after same) (subst IsSound (sym (state_of-both_same c number before after pool c.whereabouts read same pool_is)) kept.sound)
+
+  -- the same, where only the room of the whereabouts is another
+  pub IsKept-room_made : (after : ShardState) (pool : PoolState) (roomy : WhereaboutsState) → after ≡ before → pool ≡ c.pool → roomy.entries ≡ c.whereabouts.entries → IsKept (with_both_at c number after pool roomy)
+  IsKept-room_made after pool roomy same pool_is entries = record {
+    sound = subst IsSound (sym (state_of-both_same c number before after pool roomy read same pool_is)) kept.sound;
+    moved = subst (KnowsMoved (set c.shards.items number after)) (sym entries) (IsKept-both_same after pool same pool_is).moved;
+  }
 
   pub IsKept-same : (after : ShardState) → after ≡ before → IsKept (with_shard_at c number after)
   IsKept-same after same = IsKept-with_shard_at after (GetsNone-same after same) (subst IsSound (sym (state_of-same c number before after read same)) kept.sound)
@@ -121,29 +124,31 @@ module _ {L : Type 0} (c : Inside L) (kept : IsKept c) (number : ℕ) (before : 
   IsKept-set key value replaced.NotHere after sets found plain sound = IsKept-same after sets.1
 
   -- spans come in, and are noted
-  pub IsKept-noted : (after : ShardState) (pool : PoolState) (plan : Option OpenPlan) (noted : List (Option ℕ)) (head : SpanId) (first : ℕ) → Comes before after head first → Notes c.whereabouts noted after.groups head first number
+  pub IsKept-noted : (after : ShardState) (pool : PoolState) (plan : Option OpenPlan) (noted : WhereaboutsState) (head : SpanId) (first : ℕ) → Comes before after head first → Notes c.whereabouts.entries noted.entries after.groups head first number
       → IsSound (state_of (with_step_at c number after pool plan noted)) → IsKept (with_step_at c number after pool plan noted)
   IsKept-noted after pool plan noted head first comes notes sound = record {
     sound = sound;
-    entries = notes.same_length ∙ kept.entries ∙ ap (λ n. 1024 * n) (sym (length-set c.shards.items number after));
-    moved = KnowsMoved-noted (state_of c) (state_of (with_step_at c number after pool plan noted)) sound.groups number before after (shard-read c number before read) refl c.whereabouts noted head first kept.entries kept.moved comes notes;
+    moved = KnowsMoved-noted (state_of c) (state_of (with_step_at c number after pool plan noted)) sound.groups number before after (shard-read c number before read) refl c.whereabouts.entries noted.entries head first kept.moved comes notes;
   }
+
+-- only the room of the whereabouts is another
+pub IsKept-roomy : {L : Type 0} (c : Inside L) (roomy : WhereaboutsState) → IsKept c → roomy.entries ≡ c.whereabouts.entries → IsKept (record c { whereabouts = roomy })
+IsKept-roomy c roomy kept entries = record { sound = kept.sound; moved = subst (KnowsMoved c.shards.items) (sym entries) kept.moved }
 
 -- each shard has the spans that it had
 pub IsKept-mapped : {L : Type 0} (c now : Inside L) → IsKept c → now.whereabouts ≡ c.whereabouts → (closed : GroupState → Bool) → now.shards.items ≡ map (with_flags closed) c.shards.items → IsSound (state_of now) → IsKept now
 IsKept-mapped c now kept whereabouts closed items sound = record {
   sound = sound;
-  entries = ap length whereabouts ∙ kept.entries ∙ ap (λ n. 1024 * n) (sym (ap length items ∙ length-map c.shards.items (with_flags closed)));
   moved =
-      subst (KnowsMoved now.shards.items) (sym whereabouts)
-      (subst (λ shards. KnowsMoved shards c.whereabouts) (sym items) (KnowsMoved-map c.shards.items c.whereabouts kept.moved (with_flags closed) (has_span-flagged closed)));
+      subst (KnowsMoved now.shards.items) (sym (ap (λ (w : WhereaboutsState). w.entries) whereabouts))
+      (subst (λ shards. KnowsMoved shards c.whereabouts.entries) (sym items) (KnowsMoved-map c.shards.items c.whereabouts.entries kept.moved (with_flags closed) (has_span-flagged closed)));
 }
 
 -- fields that are as they were
-pub IsKept-unchanged : {L : Type 0} (c now : Inside L) → IsKept c → now.page_limit ≡ c.page_limit → now.ring_capacity ≡ c.ring_capacity → now.gens ≡ c.gens → now.plan ≡ c.plan → now.whereabouts ≡ c.whereabouts → now.rings ≡ c.rings → now.forgotten.spans ≡ c.forgotten.spans → now.shards.items ≡ c.shards.items → now.pool ≡ c.pool → IsKept now
-IsKept-unchanged c now kept pages ring gens plan whereabouts rings gone items pool =
+pub IsKept-unchanged : {L : Type 0} (c now : Inside L) → IsKept c → now.page_limit ≡ c.page_limit → now.span_limit ≡ c.span_limit → now.ring_capacity ≡ c.ring_capacity → now.gens ≡ c.gens → now.plan ≡ c.plan → now.whereabouts ≡ c.whereabouts → now.rings ≡ c.rings → now.forgotten.spans ≡ c.forgotten.spans → now.shards.items ≡ c.shards.items → now.pool ≡ c.pool → IsKept now
+IsKept-unchanged c now kept pages spans ring gens plan whereabouts rings gone items pool =
     let same : state_of now ≡ state_of c = λ i. record {
-      limits = record { shards = length (items i); page_limit = pages i; ring_capacity = ring i; gens = gens i };
+      limits = record { shards = length (items i); page_limit = pages i; span_limit = spans i; ring_capacity = ring i; gens = gens i };
       shards = items i;
       pool = pool i;
       plan = plan i;
@@ -152,12 +157,11 @@ IsKept-unchanged c now kept pages ring gens plan whereabouts rings gone items po
     } in
     record {
       sound = subst IsSound (sym same) kept.sound;
-      entries = ap length whereabouts ∙ kept.entries ∙ ap (λ n. 1024 * n) (sym (ap length items));
-      moved = subst (KnowsMoved now.shards.items) (sym whereabouts) (subst (λ shards. KnowsMoved shards c.whereabouts) (sym items) kept.moved);
+      moved = subst (KnowsMoved now.shards.items) (sym (ap (λ (w : WhereaboutsState). w.entries) whereabouts)) (subst (λ shards. KnowsMoved shards c.whereabouts.entries) (sym items) kept.moved);
     }
 
 -- no shard has a span
-pub KnowsMoved-new : (limits : Limits) (entries : List (Option ℕ)) → KnowsMoved (new_core limits).shards entries
+pub KnowsMoved-new : (limits : Limits) (entries : Entries) → KnowsMoved (new_core limits).shards entries
 KnowsMoved-new limits entries id number foreign (shard, at, has) =
     let is = slice_get-range limits 0 limits.shards number shard at in
     absurd (let never : false ≡ true = ap (has_span id) is.1 ∙ has in cc)

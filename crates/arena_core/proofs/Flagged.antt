@@ -41,6 +41,7 @@ module _ (closed : GroupState → Bool) where
           subst (IsSoundAt core.limits number) is (record {
             number_is = fine.number_is;
             page_limit_is = fine.page_limit_is;
+            span_limit_is = fine.span_limit_is;
             gens_is = fine.gens_is;
             sound = IsSoundShard-flagged closed was fine.sound;
           });

@@ -1,5 +1,5 @@
 -- A core that forgets spans which can never be live again stays sound, and shows the same.
-use Rattle.std.proofs.Common.{zero, suc, ◌≡◌, ℕ, ◌+◌, ◌*◌, length, Bool, true, false, not, cond, List, [], ◌∷◌, ◌++◌, None, Some, map, slice_get, is_some, refl, sym, ap, subst, ◌∙◌, arith, inl, inr}
+use Rattle.std.proofs.Common.{zero, suc, ◌≡◌, ℕ, ◌+◌, length, Bool, true, false, not, cond, List, [], ◌∷◌, ◌++◌, None, Some, map, slice_get, is_some, refl, sym, ap, subst, ◌∙◌, arith, inl, inr}
 use Rattle.std.specs.Prelude.{sum_by}
 use Rattle.std.proofs.lemmas.List.{length-map}
 use Rattle.std.proofs.lemmas.List.Sums.{sum_by-append, sum_by-cons}
@@ -15,10 +15,9 @@ use Rattle.shard.specs.State.{ShardState}
 use Rattle.shard.proofs.Forgotten.{IsSound-without_dead}
 use Rattle.marks.proofs.Flagged.{map_back}
 use Rattle.arena_core.specs.Forgets.{dead_owned, with_forgotten, without_dead_guests}
-use Rattle.span.specs.declared.limits.TheConstants.{MOST_SPANS}
 use Rattle.arena_core.specs.Kept.{IsKept, state_of}
 use Rattle.arena_core.specs.declared.machine.Core.TheInside.{Inside}
-use Rattle.arena_core.specs.Moved.{KnowsMoved}
+use Rattle.arena_core.specs.Moved.{Entries, KnowsMoved, WhereaboutsState}
 use Rattle.arena_core.specs.Sound.{HasSoundGroups, IsForgotten, IsSound, IsSoundAt}
 use Rattle.arena_core.specs.State.{CoreState, all_spans, has_span, opened_of, shown}
 use Rattle.arena_core.proofs.Changes.{indicator, no_strays}
@@ -108,7 +107,7 @@ module _ (core : CoreState) (sound : IsSound core) where
         let (was, here, is) = map_back without_dead_guests core.shards number shard at in
         let fine = sound.groups.shards number was here in
         subst (IsSoundAt core.limits number) is
-        (record { number_is = fine.number_is; page_limit_is = fine.page_limit_is; gens_is = fine.gens_is; sound = IsSound-without_dead was fine.sound });
+        (record { number_is = fine.number_is; page_limit_is = fine.page_limit_is; span_limit_is = fine.span_limit_is; gens_is = fine.gens_is; sound = IsSound-without_dead was fine.sound });
     pool = sound.groups.pool;
     gens = strays-each core.limits.gens (all_spans (with_forgotten core)) (sum_all-forgotten (strays core.limits.gens) core ∙ no_strays core sound.groups);
     once = λ id. sum_all-forgotten (named id) core ∙ sound.groups.once id ∙ ap (indicator id.serial) (sym (opened_of-forgotten core.shards id.shard));
@@ -136,20 +135,20 @@ module _ (core : CoreState) (sound : IsSound core) where
 has_span-forgotten : (shard : ShardState) (id : SpanId) → has_span id (without_dead_guests shard) ≡ true → has_span id shard ≡ true
 has_span-forgotten shard id has = has_span-counted id shard (omega (arith, times_in-found id (without_dead_guests shard) has, sum-without_dead (named id) shard.groups))
 
-pub KnowsMoved-forgotten : (shards : List ShardState) (entries : _) → KnowsMoved shards entries → KnowsMoved (map without_dead_guests shards) entries
+pub KnowsMoved-forgotten : (shards : List ShardState) (entries : Entries) → KnowsMoved shards entries → KnowsMoved (map without_dead_guests shards) entries
 KnowsMoved-forgotten shards entries knows id number foreign (shard, at, has) =
     let (was, there, is) = map_back without_dead_guests shards number shard at in
     knows id number foreign (was, there, has_span-forgotten was id (ap (has_span id) is ∙ has))
 
 -- the fields
-module _ {L : Type 0} (c now : Inside L) (kept : IsKept c) (pages : now.page_limit ≡ c.page_limit) (ring : now.ring_capacity ≡ c.ring_capacity) (gens : now.gens ≡ c.gens) (pool : now.pool ≡ c.pool) (plan : now.plan ≡ c.plan) (whereabouts : now.whereabouts ≡ c.whereabouts) (rings : now.rings ≡ c.rings)
+module _ {L : Type 0} (c now : Inside L) (kept : IsKept c) (pages : now.page_limit ≡ c.page_limit) (spans : now.span_limit ≡ c.span_limit) (ring : now.ring_capacity ≡ c.ring_capacity) (gens : now.gens ≡ c.gens) (pool : now.pool ≡ c.pool) (plan : now.plan ≡ c.plan) (whereabouts : now.whereabouts ≡ c.whereabouts) (rings : now.rings ≡ c.rings)
     (items : now.shards.items ≡ map without_dead_guests c.shards.items) (gone : now.forgotten.spans ≡ c.forgotten.spans ++ dead_owned c.shards.items) where
   count_is : length now.shards.items ≡ length c.shards.items
   count_is = ap length items ∙ length-map c.shards.items without_dead_guests
 
   pub state_of-forgotten : state_of now ≡ with_forgotten (state_of c)
   state_of-forgotten = λ i. record {
-    limits = record { shards = count_is i; page_limit = pages i; ring_capacity = ring i; gens = gens i };
+    limits = record { shards = count_is i; page_limit = pages i; span_limit = spans i; ring_capacity = ring i; gens = gens i };
     shards = items i;
     pool = pool i;
     plan = plan i;
@@ -160,8 +159,7 @@ module _ {L : Type 0} (c now : Inside L) (kept : IsKept c) (pages : now.page_lim
   pub IsKept-forgotten : c.plan ≡ None → IsKept now
   IsKept-forgotten none = record {
     sound = subst IsSound (sym state_of-forgotten) (IsSound-forgotten (state_of c) kept.sound none);
-    entries = ap length whereabouts ∙ subst (λ n. length c.whereabouts ≡ MOST_SPANS * n) (sym count_is) kept.entries;
     moved =
-        subst (KnowsMoved now.shards.items) (sym whereabouts)
-        (subst (λ shards. KnowsMoved shards c.whereabouts) (sym items) (KnowsMoved-forgotten c.shards.items c.whereabouts kept.moved));
+        subst (KnowsMoved now.shards.items) (sym (ap (λ (w : WhereaboutsState). w.entries) whereabouts))
+        (subst (λ shards. KnowsMoved shards c.whereabouts.entries) (sym items) (KnowsMoved-forgotten c.shards.items c.whereabouts.entries kept.moved));
   }

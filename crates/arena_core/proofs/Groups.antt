@@ -56,8 +56,8 @@ strays-each gens (first ∷ spans) none (suc place) span here = strays-each gens
 pub record IsCall (before after : ShardState) : Type 0 where
   pub number_is : after.number ≡ before.number
   pub page_limit_is : after.page_limit ≡ before.page_limit
+  pub span_limit_is : after.span_limit ≡ before.span_limit
   pub gens_is : after.gens ≡ before.gens
-  pub ended_is : after.ended ≡ before.ended
   pub opened_more : before.opened ≤ after.opened
   pub spans : (id : SpanId) → times_in id after + own id before ≡ times_in id before + own id after
   pub strays_are : sum_in (strays before.gens) after ≡ sum_in (strays before.gens) before
@@ -108,8 +108,8 @@ pub IsCall-Puts : (before after : ShardState) (value : Value) (key : Key) (at : 
 IsCall-Puts before after value key at (running, inl (index, group, room, span_is, generation_is, at_is, after_is)) = record {
   number_is = ap (λ (s : ShardState). s.number) after_is;
   page_limit_is = ap (λ (s : ShardState). s.page_limit) after_is;
+  span_limit_is = ap (λ (s : ShardState). s.span_limit) after_is;
   gens_is = ap (λ (s : ShardState). s.gens) after_is;
-  ended_is = ap (λ (s : ShardState). s.ended) after_is;
   opened_more = omega (arith, ap (λ (s : ShardState). s.opened) after_is);
   spans = λ id.
       let same = sum_in-with_head (named id) before after index group (with_put group.head key.slot value) (with_object group.page (class_of value) key.slot value) room.here refl (ap (λ (s : ShardState). s.groups) after_is) in
@@ -120,8 +120,8 @@ IsCall-Puts before after value key at (running, inl (index, group, room, span_is
 IsCall-Puts before after value key at (running, inr (full, pages, spans, (shard_is, serial_is, slot_is, generation_is, at_is, (index, place, after_is)))) = record {
   number_is = ap (λ (s : ShardState). s.number) after_is;
   page_limit_is = ap (λ (s : ShardState). s.page_limit) after_is;
+  span_limit_is = ap (λ (s : ShardState). s.span_limit) after_is;
   gens_is = ap (λ (s : ShardState). s.gens) after_is;
-  ended_is = ap (λ (s : ShardState). s.ended) after_is;
   opened_more = omega (arith, ap (λ (s : ShardState). s.opened) after_is);
   spans = λ id.
       let one : sum_by (named id) (spans_of opened) ≡ cond {A = ℕ} (eqb before.number id.shard && eqb before.opened id.serial) 1 0 =
@@ -145,8 +145,8 @@ pub IsCall-ChangesSpan : (before after : ShardState) → ChangesSpan before afte
 IsCall-ChangesSpan before after changes = record {
   number_is = ap (λ (s : ShardState). s.number) changes.after_is;
   page_limit_is = ap (λ (s : ShardState). s.page_limit) changes.after_is;
+  span_limit_is = ap (λ (s : ShardState). s.span_limit) changes.after_is;
   gens_is = ap (λ (s : ShardState). s.gens) changes.after_is;
-  ended_is = ap (λ (s : ShardState). s.ended) changes.after_is;
   opened_more = omega (arith, ap (λ (s : ShardState). s.opened) changes.after_is);
   spans = λ id. omega (arith, ap (own id) changes.after_is, named_still id);
   strays_are = kept (strays before.gens) (ap (λ n. cond {A = ℕ} (eqb n before.gens) 0 1) changes.same.gens_is);
@@ -197,6 +197,7 @@ sum_by-whole_of w (group ∷ groups) =
 pub record IsMove (before after : ShardState) (pool_before pool_after : PoolState) : Type 0 where
   pub number_is : after.number ≡ before.number
   pub page_limit_is : after.page_limit ≡ before.page_limit
+  pub span_limit_is : after.span_limit ≡ before.span_limit
   pub gens_is : after.gens ≡ before.gens
   pub opened_is : after.opened ≡ before.opened
   pub running : before.ended ≡ false
@@ -206,6 +207,7 @@ pub IsMove-Receives : (before after : ShardState) (pool_before pool_after : Pool
 IsMove-Receives before after pool_before pool_after receives = record {
   number_is = ap (λ (s : ShardState). s.number) receives.after;
   page_limit_is = ap (λ (s : ShardState). s.page_limit) receives.after;
+  span_limit_is = ap (λ (s : ShardState). s.span_limit) receives.after;
   gens_is = ap (λ (s : ShardState). s.gens) receives.after;
   opened_is = ap (λ (s : ShardState). s.opened) receives.after;
   running = receives.running;
@@ -218,6 +220,7 @@ pub IsMove-Adopts : (before after : ShardState) (pool_before pool_after : PoolSt
 IsMove-Adopts before after pool_before pool_after head running adopts = record {
   number_is = ap (λ (s : ShardState). s.number) adopts.takes_in.after;
   page_limit_is = ap (λ (s : ShardState). s.page_limit) adopts.takes_in.after;
+  span_limit_is = ap (λ (s : ShardState). s.span_limit) adopts.takes_in.after;
   gens_is = ap (λ (s : ShardState). s.gens) adopts.takes_in.after;
   opened_is = ap (λ (s : ShardState). s.opened) adopts.takes_in.after;
   running = running;

@@ -1,6 +1,8 @@
+pub mod Begun
 pub mod Changes
 pub mod Codes
 pub mod Distinct
+pub mod Entries
 pub mod FieldSteps
 pub mod Fields
 pub mod FieldsKept
@@ -28,6 +30,7 @@ pub mod Retired
 pub mod RingEvents
 pub mod RingSteps
 pub mod RingsKept
+pub mod Rooms
 pub mod Runs
 pub mod Shown
 pub mod Spans

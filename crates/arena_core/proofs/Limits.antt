@@ -4,10 +4,10 @@ use Rattle.span.specs.declared.key.Key.{Key}
 use Rattle.span.specs.Log.{Value}
 use Rattle.fold.specs.declared.step.Step.TheVariants.{Absent, Emptied, Clash, Folded}
 use Rattle.arena_core.specs.declared.event.Event.{Event}
-use Rattle.arena_core.specs.declared.event.Event.TheVariants.{Put, Get, Set, Free, Later, Settle, End, Retire, Trim, Adopt, Mark, MarkSome, Step, Close}
+use Rattle.arena_core.specs.declared.event.Event.TheVariants.{Put, Get, Set, Free, Later, Settle, End, Begin, Retire, Trim, Adopt, Mark, MarkSome, Step, Close}
 use Rattle.arena_core.specs.declared.reply.Reply.{Reply}
-use Rattle.arena_core.specs.declared.reply.Reply.TheVariants.{Issued, Found, Replaced, Freed, Sent, Settled, ShardEnded, Retired, Trimmed, Adopted, Marked, Stepped, NoPairLeft, Closed, NoPlan, Refused}
-use Rattle.arena_core.specs.declared.reply.Refusal.TheVariants.{OutOfMemory, PagesSpent, Ended, PlanOpen, TooMany, NothingToAdopt, RingFull, Config}
+use Rattle.arena_core.specs.declared.reply.Reply.TheVariants.{Issued, Found, Replaced, Freed, Sent, Settled, ShardEnded, ShardBegun, Retired, Trimmed, Adopted, Marked, Stepped, NoPairLeft, Closed, NoPlan, Refused}
+use Rattle.arena_core.specs.declared.reply.Refusal.TheVariants.{OutOfMemory, PagesSpent, Ended, Running, PlanOpen, TooMany, NothingToAdopt, RingFull, Config}
 use Rattle.arena_core.specs.Rings.{with_keys, with_ring_at}
 use Rattle.arena_core.specs.State.{CoreState, with_rings}
 use Rattle.arena_core.specs.Step.{CoreRun, CoreStep, FreesKey, SetsKey}
@@ -47,6 +47,9 @@ limits-CoreStep old new (End shard) (Refused Ended) step = limits-same old new s
 limits-CoreStep old new (End shard) (Refused PlanOpen) (has, closed, same) = limits-same old new same
 limits-CoreStep old new (End shard) (Refused Config) step = limits-same old new step.1
 limits-CoreStep old new (End shard) (Refused OutOfMemory) step = limits-same old new step.1
+limits-CoreStep old new (Begin shard) ShardBegun step = ap (λ (c : CoreState). c.limits) step.rest
+limits-CoreStep old new (Begin shard) (Refused Running) step = limits-same old new step.1
+limits-CoreStep old new (Begin shard) (Refused Config) step = limits-same old new step.1
 limits-CoreStep old new (Retire shard most) (Retired count) step = ap (λ (c : CoreState). c.limits) step.rest
 limits-CoreStep old new (Retire shard most) (Refused Ended) step = limits-same old new step.1
 limits-CoreStep old new (Retire shard most) (Refused PlanOpen) (has, closed, same) = limits-same old new same

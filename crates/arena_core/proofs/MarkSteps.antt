@@ -1,5 +1,5 @@
 -- What a mark and a close leave: a sound core, which shows the same map.
-use Rattle.std.proofs.Common.{◌≡◌, ℕ, ◌<◌, ◌≤◌, ◌&&◌, is_some, Bool, true, false, refl, sym, ap, subst, ◌∙◌, arith, List, Option, Some, None, slice_get, set, length, map, get_or}
+use Rattle.std.proofs.Common.{◌≡◌, ℕ, ◌<◌, ◌≤◌, ◌&&◌, is_some, Bool, true, false, refl, sym, ap, subst, ◌∙◌, arith, Option, Some, None, slice_get, set, length, map, get_or}
 use Rattle.std.proofs.Math.ListN.{length-set}
 use Rattle.std.proofs.lemmas.Option.{get_or_from_slice_get, slice_get_within}
 use Rattle.std.specs.Prelude.{option_map}
@@ -7,6 +7,7 @@ use Rattle.std.proofs.lemmas.Bool.{true≢false}
 use Rattle.std.specs.Vec.{with_item}
 use Rattle.std.proofs.lemmas.List.{length-map}
 use Rattle.span.specs.declared.id.SpanId.{SpanId}
+use Rattle.span.specs.declared.limits.TheConstants.{MOST_SHARDS}
 use Rattle.shard.specs.Closes.{opened_group}
 use Rattle.shard.specs.Group.{GroupState}
 use Rattle.groups.specs.Group.{IsHeadOf, occupied}
@@ -23,7 +24,7 @@ use Rattle.marks.specs.Closings.{AreOpen, closed_as_planned, closed_onto, reopen
 use Rattle.arena_core.specs.Kept.{state_of}
 use Rattle.marks.specs.Seen.{IsLargestInPart, with_plan_told}
 use Rattle.marks.specs.Plans.{next_pair, plans_onto, with_next_done, OpenPlan}
-use Rattle.arena_core.specs.Moved.{StandsIn}
+use Rattle.arena_core.specs.Moved.{StandsIn, WhereaboutsState}
 use Rattle.arena_core.specs.Plan.{IsNext, IsOwned, IsUnderWay}
 use Rattle.arena_core.specs.Sound.{HasSoundGroups, IsSound}
 use Rattle.arena_core.specs.State.{CoreState, has_span, shown, with_plan, with_pool, with_shard}
@@ -153,10 +154,10 @@ module _ (old : CoreState) (sound : IsSound old) where
 
 -- the fields
 
-pub state_of-mapped : {L : Type 0} (c now : Inside L) (change : ShardState → ShardState) → now.page_limit ≡ c.page_limit → now.ring_capacity ≡ c.ring_capacity → now.gens ≡ c.gens → now.rings ≡ c.rings → now.forgotten.spans ≡ c.forgotten.spans → now.shards.items ≡ map change c.shards.items
+pub state_of-mapped : {L : Type 0} (c now : Inside L) (change : ShardState → ShardState) → now.page_limit ≡ c.page_limit → now.span_limit ≡ c.span_limit → now.ring_capacity ≡ c.ring_capacity → now.gens ≡ c.gens → now.rings ≡ c.rings → now.forgotten.spans ≡ c.forgotten.spans → now.shards.items ≡ map change c.shards.items
     → state_of now ≡ record (state_of c) { shards = map change c.shards.items; pool = now.pool; plan = now.plan }
-state_of-mapped c now change pages ring gens rings gone items = λ i. record {
-  limits = record { shards = (ap length items ∙ length-map c.shards.items change) i; page_limit = pages i; ring_capacity = ring i; gens = gens i };
+state_of-mapped c now change pages spans ring gens rings gone items = λ i. record {
+  limits = record { shards = (ap length items ∙ length-map c.shards.items change) i; page_limit = pages i; span_limit = spans i; ring_capacity = ring i; gens = gens i };
   shards = items i;
   pool = now.pool;
   plan = now.plan;
@@ -180,8 +181,8 @@ shard-named core id number shard (other, here, has) read =
     let same : other ≡ shard = sym (get_or_from_slice_get core.shards number other shard here) ∙ sym read in
     subst (λ s. (slice_get core.shards number ≡ Some s) × (has_span id s ≡ true)) same (here, has)
 
--- it is one of 64
-pub number-named : (core : CoreState) (id : SpanId) (number : ℕ) → HasSoundGroups core → StandsIn core.shards id number → number < 64
+-- it is below the most that there may be
+pub number-named : (core : CoreState) (id : SpanId) (number : ℕ) → HasSoundGroups core → StandsIn core.shards id number → number < MOST_SHARDS
 number-named core id number sound (other, here, has) = let within = slice_get_within core.shards number other here in omega (arith, sound.within.shards.1, sound.count)
 
 -- the next pair's owned group is in a shard
@@ -192,12 +193,12 @@ owned-stands core sound plan pair next =
     (there.number, (there.shard, there.shard_is, has_span-here there.shard pair.1 there.index 0 (waits core sound plan pair next).owned (waits core sound plan pair next).owned.head fine.sound (record { group_is = there.head_of.here; span_is = refl; id_is = there.head_of.head_is })))
 
 -- the fields after a step
-abbrev pub with_step_at : {L : Type 0} → Inside L → ℕ → ShardState → PoolState → Option OpenPlan → List (Option ℕ) → Inside L
+abbrev pub with_step_at : {L : Type 0} → Inside L → ℕ → ShardState → PoolState → Option OpenPlan → WhereaboutsState → Inside L
 with_step_at c number after pool plan whereabouts = record c { shards = with_item c.shards number after; pool = pool; plan = plan; whereabouts = whereabouts }
 
-state_of-with_step_at : {L : Type 0} (c : Inside L) (number : ℕ) (after : ShardState) (pool : PoolState) (plan : Option OpenPlan) (whereabouts : List (Option ℕ)) → state_of (with_step_at c number after pool plan whereabouts) ≡ with_plan (with_pool (with_shard (state_of c) number after) pool) plan
+state_of-with_step_at : {L : Type 0} (c : Inside L) (number : ℕ) (after : ShardState) (pool : PoolState) (plan : Option OpenPlan) (whereabouts : WhereaboutsState) → state_of (with_step_at c number after pool plan whereabouts) ≡ with_plan (with_pool (with_shard (state_of c) number after) pool) plan
 state_of-with_step_at c number after pool plan whereabouts = λ i. record {
-  limits = record { shards = length-set c.shards.items number after i; page_limit = c.page_limit; ring_capacity = c.ring_capacity; gens = c.gens };
+  limits = record { shards = length-set c.shards.items number after i; page_limit = c.page_limit; span_limit = c.span_limit; ring_capacity = c.ring_capacity; gens = c.gens };
   shards = set c.shards.items number after;
   pool = pool;
   plan = plan;
@@ -205,7 +206,7 @@ state_of-with_step_at c number after pool plan whereabouts = λ i. record {
   forgotten = c.forgotten.spans;
 }
 
-pub IsSoundStep-fold_fields : {L : Type 0} (c : Inside L) (plan : OpenPlan) (pair : SpanId × SpanId) (number : ℕ) (before after : ShardState) (pool : PoolState) (current : Option OpenPlan) (whereabouts : List (Option ℕ)) (step : Outcome) → IsSound (state_of c) → IsNext (state_of c) plan pair
+pub IsSoundStep-fold_fields : {L : Type 0} (c : Inside L) (plan : OpenPlan) (pair : SpanId × SpanId) (number : ℕ) (before after : ShardState) (pool : PoolState) (current : Option OpenPlan) (whereabouts : WhereaboutsState) (step : Outcome) → IsSound (state_of c) → IsNext (state_of c) plan pair
     → StandsIn c.shards.items pair.1 number → before ≡ get_or c.shards.items number before → Steps c.pool before pair.0 pair.1 step pool after → IsSoundShard after → IsSoundPool pool → current ≡ option_map with_next_done c.plan
     → IsSoundStep (state_of c) Step (Stepped pair.0 pair.1 step) (state_of (with_step_at c number after pool current whereabouts))
 IsSoundStep-fold_fields c plan pair number before after pool current whereabouts step sound next there read steps sound_after sound_pool current_is =
@@ -215,9 +216,9 @@ IsSoundStep-fold_fields c plan pair number before after pool current whereabouts
     (IsSoundStep-Steps (state_of c) sound plan pair next number before named.0 named.1 step after pool steps sound_after sound_pool))
 
 -- a step that wants memory leaves the fields as they were
-pub state_of-refused : {L : Type 0} (c : Inside L) (id : SpanId) (number : ℕ) (before after : ShardState) (pool : PoolState) → StandsIn c.shards.items id number → before ≡ get_or c.shards.items number before → after ≡ before → pool ≡ c.pool
-    → state_of (with_step_at c number after pool c.plan c.whereabouts) ≡ state_of c
-state_of-refused c id number before after pool there read same pool_is =
+pub state_of-refused : {L : Type 0} (c : Inside L) (id : SpanId) (number : ℕ) (before after : ShardState) (pool : PoolState) (whereabouts : WhereaboutsState) → StandsIn c.shards.items id number → before ≡ get_or c.shards.items number before → after ≡ before → pool ≡ c.pool
+    → state_of (with_step_at c number after pool c.plan whereabouts) ≡ state_of c
+state_of-refused c id number before after pool whereabouts there read same pool_is =
     let named = shard-named (state_of c) id number before there read in
     let shards : set c.shards.items number after ≡ c.shards.items = ap (set c.shards.items number) same ∙ set-same c.shards.items number before named.0 in
-    λ i. record { limits = record { shards = length (shards i); page_limit = c.page_limit; ring_capacity = c.ring_capacity; gens = c.gens }; shards = shards i; pool = pool_is i; plan = c.plan; rings = c.rings; forgotten = c.forgotten.spans }
+    λ i. record { limits = record { shards = length (shards i); page_limit = c.page_limit; span_limit = c.span_limit; ring_capacity = c.ring_capacity; gens = c.gens }; shards = shards i; pool = pool_is i; plan = c.plan; rings = c.rings; forgotten = c.forgotten.spans }

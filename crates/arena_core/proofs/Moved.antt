@@ -1,10 +1,9 @@
 -- Where spans stand that left the shard which opened them.
-use Rattle.std.proofs.Common.{◌≡◌, ◌≢◌, ◌⊎◌, ◌<◌, ◌∷◌, [], ℕ, zero, suc, Bool, true, false, List, Option, None, Some, inl, inr, refl, sym, ap, subst, ◌∙◌, arith, length, set, slice_get}
+use Rattle.std.proofs.Common.{◌≡◌, ◌≢◌, ◌⊎◌, ℕ, Bool, true, false, List, None, Some, inl, inr, refl, sym, ap, subst, ◌∙◌, slice_get}
 use Rattle.std.proofs.lemmas.Bool.{cases_eq}
 use Rattle.std.proofs.lemmas.Option.{none-some}
 use Rattle.span.specs.declared.id.SpanId.{SpanId}
 use Rattle.span.specs.declared.key.Key.{Key}
-use Rattle.span.specs.Ids.{rank}
 use Rattle.span.specs.Log.{Value}
 use Rattle.shard.specs.Calls.{Frees, Gets, Sets, value_found}
 use Rattle.shard.specs.Shown.{shown as shown_by}
@@ -18,9 +17,8 @@ use Rattle.shard.specs.declared.shard.Freed.TheVariants as freed
 use Rattle.shard.specs.declared.shard.replacing.Replaced.{Replaced}
 use Rattle.shard.specs.declared.shard.replacing.Replaced.TheVariants as replaced
 use Rattle.groups.proofs.Lists.{count-none, find-none, same_some}
-use Rattle.groups.proofs.Ranks.{id_from_rank}
 use Rattle.abandoned.specs.Shown.{shown as shown_by_pool}
-use Rattle.arena_core.specs.Moved.{KnowsMoved, StandsIn, StandsInNoOther, named, named_by}
+use Rattle.arena_core.specs.Moved.{Entries, KnowsMoved, StandsIn, StandsInNoOther, named}
 use Rattle.arena_core.specs.Sound.{HasSoundGroups}
 use Rattle.arena_core.specs.State.{CoreState, has_span, shard_with, shown, shown_at}
 use Rattle.arena_core.proofs.Steps.{has_span-elsewhere, has_span-here, has_span-not, value-shard}
@@ -77,7 +75,7 @@ module _ (core : CoreState) (key : Key) (not_home : StandsIn core.shards key.spa
 
 -- what the entries say of a span
 
-module _ (shards : List ShardState) (entries : List (Option ℕ)) (knows : KnowsMoved shards entries) (id : SpanId) where
+module _ (shards : List ShardState) (entries : Entries) (knows : KnowsMoved shards entries) (id : SpanId) where
   pub no_other-unnamed : named entries id ≡ None → StandsInNoOther shards id
   no_other-unnamed none number foreign stands = none-some _ (sym none ∙ knows id number foreign stands)
 
@@ -85,29 +83,3 @@ module _ (shards : List ShardState) (entries : List (Option ℕ)) (knows : Knows
   no_other-named number is never other foreign stands =
       let same : other ≡ number = same_some (sym (knows id other foreign stands) ∙ is) in
       never (subst (StandsIn shards id) same stands)
-
--- entries that are set
-
-set_or_same : {X : Type 0} (xs : List X) (i j : ℕ) (y : X) → (slice_get (set xs i y) j ≡ slice_get xs j) ⊎ ((slice_get (set xs i y) j ≡ Some y) × (j ≡ i))
-set_or_same [] i j y = inl refl
-set_or_same (x ∷ xs) zero zero y = inr (refl, refl)
-set_or_same (x ∷ xs) zero (suc j) y = inl refl
-set_or_same (x ∷ xs) (suc i) zero y = inl refl
-set_or_same (x ∷ xs) (suc i) (suc j) y = elim (set_or_same xs i j y) [
-  | inl same ↦ inl same
-  | inr here ↦ inr (here.0, ap suc here.1)
-]
-
-set_here : {X : Type 0} (xs : List X) (i : ℕ) (y : X) → i < length xs → slice_get (set xs i y) i ≡ Some y
-set_here [] i y within = absurd (omega arith)
-set_here (x ∷ xs) zero y within = refl
-set_here (x ∷ xs) (suc i) y within = set_here xs i y (omega arith)
-
-pub named-set : (entries : List (Option ℕ)) (id other : SpanId) (number : ℕ) → (named (set entries (rank id) (Some number)) other ≡ named entries other) ⊎ ((named (set entries (rank id) (Some number)) other ≡ Some number) × (other ≡ id))
-named-set entries id other number = elim (set_or_same entries (rank id) (rank other) (Some number)) [
-  | inl same ↦ inl (ap named_by same)
-  | inr here ↦ inr (ap named_by here.0, id_from_rank other id here.1)
-]
-
-pub named-set_here : (entries : List (Option ℕ)) (id : SpanId) (number : ℕ) → rank id < length entries → named (set entries (rank id) (Some number)) id ≡ Some number
-named-set_here entries id number within = ap named_by (set_here entries (rank id) (Some number) within)

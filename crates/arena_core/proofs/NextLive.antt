@@ -5,6 +5,7 @@ use Rattle.std.proofs.lemmas.Bool.{cases_eq, cases_lt}
 use Rattle.std.proofs.lemmas.Option.{none-some}
 use Rattle.span.specs.declared.id.SpanId.{SpanId}
 use Rattle.span.specs.declared.key.Key.{Key}
+use Rattle.span.specs.declared.limits.TheConstants.{ALL_IDS, MOST_SPANS}
 use Rattle.span.specs.Ids.{rank}
 use Rattle.span.specs.Log.{Value}
 use Rattle.span.specs.Order.{HasNoneBeyond, HasNoneFrom, IsAfter, IsFirstFrom, IsNextLive}
@@ -14,7 +15,7 @@ use Rattle.shard.specs.State.{ShardState}
 use Rattle.groups.proofs.Lists.{found_at, same_some}
 use Rattle.groups.proofs.Ranks.{id_from_rank}
 use Rattle.abandoned.specs.Shown.{shown as shown_by_pool}
-use Rattle.arena_core.specs.Moved.{KnowsMoved, named}
+use Rattle.arena_core.specs.Moved.{Entries, KnowsMoved, named}
 use Rattle.arena_core.specs.NextLive.{HasNoneBetween, HasNoneIn, IsFirstLive}
 use Rattle.arena_core.specs.Sound.{HasSoundGroups}
 use Rattle.arena_core.specs.State.{CoreState, has_span, opened_by, shard_with, shown, shown_at}
@@ -22,6 +23,7 @@ use Rattle.arena_core.proofs.Changes.{at_most_once, past-indicator}
 use Rattle.arena_core.proofs.Owners.{value-missed, value-unpooled}
 use Rattle.arena_core.proofs.Spans.{shard_with-nowhere, times, times-parts, times_in-missed, times_pooled}
 use Rattle.arena_core.proofs.Steps.{value-shard}
+use Rattle.span.specs.declared.limits.TheConstants.{ALL_IDS, MOST_SPANS}
 
 abbrev has_value : PlainMap → Key → Bool
 has_value map key = is_some (map.value_of key)
@@ -77,7 +79,7 @@ module _ (map : PlainMap) where
 
   -- what comes next, at the beginning and after a key
 
-  pub next-first : (o : Option Key) → MatchOption o (HasNoneBetween map 0 65536) (IsFirstLive map 0) → MatchOption o (HasNoneBeyond map None) (IsNextLive map None)
+  pub next-first : (o : Option Key) → MatchOption o (HasNoneBetween map 0 ALL_IDS) (IsFirstLive map 0) → MatchOption o (HasNoneBeyond map None) (IsNextLive map None)
   next-first None none = λ key beyond. none key (omega arith) (omega (arith, key.span.shard_in_range, key.span.serial_in_range))
   next-first (Some key) first = record { live = first.live; beyond = tt; first = λ other beyond some. first.first other (omega arith) some }
 
@@ -108,7 +110,7 @@ module _ (map : PlainMap) where
           by_place other (inl later) some = first.first other (omega (arith, later)) some
           by_place other (inr (same, above)) some = absurd (has-none map other some (none other same (omega (arith, above))))
 
-      pub next-later : (o : Option Key) → MatchOption o (HasNoneBetween map (rank after.span + 1) 65536) (IsFirstLive map (rank after.span + 1)) → MatchOption o (HasNoneBeyond map (Some after)) (IsNextLive map (Some after))
+      pub next-later : (o : Option Key) → MatchOption o (HasNoneBetween map (rank after.span + 1) ALL_IDS) (IsFirstLive map (rank after.span + 1)) → MatchOption o (HasNoneBeyond map (Some after)) (IsNextLive map (Some after))
       next-later None rest = λ key beyond. by_place key beyond
         where
           by_place : (key : Key) → IsAfter after key → map.value_of key ≡ None
@@ -134,7 +136,7 @@ module _ (core : CoreState) (sound : HasSoundGroups core) where
       ∙ value-unpooled core.pool key (omega (arith, unopened, times-parts key.span core))
 
   -- beyond the spans that a shard has opened there is none of its number
-  pub HasNoneBetween-opened : (number opened : ℕ) → opened_by core.shards number ≤ opened → HasNoneBetween (shown core) (1024 * number + opened) (1024 * (number + 1))
+  pub HasNoneBetween-opened : (number opened : ℕ) → opened_by core.shards number ≤ opened → HasNoneBetween (shown core) (MOST_SPANS * number + opened) (MOST_SPANS * (number + 1))
   HasNoneBetween-opened number opened past key above below =
       let same : key.span.shard ≡ number = omega (arith, above, below, key.span.serial_in_range) in
       value-unopened key (omega (arith, above, below, same, past, ap (opened_by core.shards) same))
@@ -178,7 +180,7 @@ module _ (core : CoreState) (sound : HasSoundGroups core) where
   first-pool id slot (Some key) owned its = IsFirstFrom-pool id slot key its
 
 -- a span stands in the shard that opened it, in the one that is named, or in none
-module _ (shards : List ShardState) (entries : List (Option ℕ)) (knows : KnowsMoved shards entries) (id : SpanId) (slot : ℕ) (home : HasNoneIn shards id.shard id slot) where
+module _ (shards : List ShardState) (entries : Entries) (knows : KnowsMoved shards entries) (id : SpanId) (slot : ℕ) (home : HasNoneIn shards id.shard id slot) where
   foreign : (number : ℕ) → ((named entries id ≡ Some number) → HasNoneIn shards number id slot) → HasNoneIn shards number id slot
   foreign number moved shard here key of above = elim (cases_eq number id.shard) [
     | inl same ↦ home shard (ap (slice_get shards) (sym same) ∙ here) key of above

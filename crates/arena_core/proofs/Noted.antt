@@ -1,11 +1,9 @@
 -- What the core keeps of the whereabouts where a shard gets or loses spans.
-use Rattle.std.proofs.Common.{◌≡◌, ◌≢◌, ◌⊎◌, ◌+◌, ◌*◌, ◌<◌, ◌≤◌, ◌++◌, ◌∷◌, [], ℕ, zero, suc, Bool, true, false, List, Option, None, Some, inl, inr, refl, sym, ap, subst, ◌∙◌, arith, eqb, is_some, length, map, set, slice_get}
+use Rattle.std.proofs.Common.{◌≡◌, ◌≢◌, ◌⊎◌, ◌+◌, ◌<◌, ◌≤◌, ◌++◌, ◌∷◌, [], ℕ, zero, suc, Bool, true, false, List, Option, None, Some, inl, inr, refl, sym, ap, subst, ◌∙◌, arith, eqb, is_some, length, map, set, slice_get}
 use Rattle.std.specs.Prelude.{count_by, find}
-use Rattle.std.proofs.Math.ListN.{length-set}
 use Rattle.std.proofs.lemmas.Bool.{cases_eq, cases_lt, ne_eqb}
 use Rattle.std.proofs.lemmas.Option.{slice_get_past, slice_get_within}
 use Rattle.span.specs.declared.id.SpanId.{SpanId}
-use Rattle.span.specs.Ids.{rank}
 use Rattle.span.specs.State.{SpanState}
 use Rattle.span.proofs.Ids.{same_id_from_test}
 use Rattle.groups.specs.Group.{Ascend, HasNoHead, HasNoMember, IsHeadOf, IsMemberAt, spans_in, spans_of}
@@ -24,7 +22,7 @@ use Rattle.fold.specs.Folds.{Folds, Steps}
 use Rattle.fold.specs.declared.step.Step.{Step as Outcome}
 use Rattle.fold.specs.declared.step.Step.TheVariants.{Absent, Clash, Emptied, Folded}
 use Rattle.fold.proofs.Sums.{sum_by-Folds_shard}
-use Rattle.arena_core.specs.Moved.{KnowsMoved, Notes, StandsIn, named}
+use Rattle.arena_core.specs.Moved.{Entries, HasAtMost, KnowsMoved, Notes, StandsIn, WhereaboutsState, named, taken_by, with_taken}
 use Rattle.arena_core.specs.Sound.{HasSoundGroups}
 use Rattle.arena_core.specs.State.{CoreState, has_span, opened_by, opened_of}
 use Rattle.arena_core.proofs.Changes.{at_most_once, opened-somewhere}
@@ -32,7 +30,7 @@ use Rattle.marks.proofs.Flagged.{map_back, spans_in-flagged, with_flags}
 use Rattle.arena_core.proofs.Groups.{IsCall, own, sum_in-TakesIn}
 use Rattle.arena_core.proofs.Lists.{find-counted}
 use Rattle.marks.proofs.Lists.{slice_get-set_other, slice_get-set_same}
-use Rattle.arena_core.proofs.Moved.{named-set, named-set_here}
+use Rattle.arena_core.proofs.Entries.{named-with_taken, named-with_taken_here, taken_by-abroad}
 use Rattle.arena_core.proofs.Spans.{has_span-counted, is_named, named as count_named, shard_with-here, times-parts, times_in, times_in-found, times_in-le, times_owned}
 use Rattle.arena_core.proofs.Retired.{IsPartOf}
 use Rattle.shard.specs.Sound.{IsSound as IsSoundShard}
@@ -41,10 +39,14 @@ use Rattle.arena_core.proofs.Steps.{has_span-elsewhere, has_span-here, has_span-
 -- the spans of a group, noted one after another
 
 -- the entries after the spans of the head's group at these places were noted
-pub record NotesBelow (old new : List (Option ℕ)) (groups : List GroupState) (head : SpanId) (first past number : ℕ) : Type 0 where
-  pub same_length : length new ≡ length old
-  pub noted : (place : ℕ) (id : SpanId) → first ≤ place → place < past → IsMemberAt groups head place id → rank id < length old → named new id ≡ Some number
-  pub others : (id : SpanId) → (named new id ≡ named old id) ⊎ ((named new id ≡ Some number) × (place : ℕ) × IsMemberAt groups head place id)
+pub record NotesBelow (old new : Entries) (groups : List GroupState) (head : SpanId) (first past number : ℕ) : Type 0 where
+  pub noted : (place : ℕ) (id : SpanId) → first ≤ place → place < past → IsMemberAt groups head place id → named new id ≡ taken_by number id
+  pub others : (id : SpanId) → (named new id ≡ named old id) ⊎ ((named new id ≡ taken_by number id) × (place : ℕ) × IsMemberAt groups head place id)
+
+-- the same, with the room that is left
+pub record IsNoting (old new : WhereaboutsState) (groups : List GroupState) (head : SpanId) (first past number : ℕ) : Type 0 where
+  pub notes : NotesBelow old.entries new.entries groups head first past number
+  pub room : old.room + first ≤ new.room + past
 
 module _ (groups : List GroupState) (ascend : Ascend groups) (head : SpanId) where
   -- one span stands at a place
@@ -57,18 +59,16 @@ module _ (groups : List GroupState) (ascend : Ascend groups) (head : SpanId) whe
   no_member : (place : ℕ) (id : SpanId) → HasNoMember groups head place → IsMemberAt groups head place id → ⊥
   no_member place id past (index, group, here, (span, at, is)) = omega (arith, past index group here, slice_get_within (spans_of group) place span at)
 
-  pub NotesBelow-none : (old : List (Option ℕ)) (first number : ℕ) → NotesBelow old old groups head first first number
-  NotesBelow-none old first number = record {
-    same_length = refl;
-    noted = λ place id from below member within. absurd (omega arith);
-    others = λ id. inl refl;
+  pub IsNoting-none : (old : WhereaboutsState) (first number : ℕ) → IsNoting old old groups head first first number
+  IsNoting-none old first number = record {
+    notes = record { noted = λ place id from below member. absurd (omega arith); others = λ id. inl refl };
+    room = omega arith;
   }
 
-  pub NotesBelow-set : (old now new : List (Option ℕ)) (first past number : ℕ) (id : SpanId) → IsMemberAt groups head past id → new ≡ set now (rank id) (Some number) → NotesBelow old now groups head first past number → NotesBelow old new groups head first (past + 1) number
-  NotesBelow-set old now new first past number id member is before = record {
-    same_length = ap length is ∙ length-set now (rank id) (Some number) ∙ before.same_length;
-    noted = λ place other from below its within. by_order place other from below its within (cases_lt place past);
-    others = λ other. elim (named-set now id other number) [
+  NotesBelow-taken : (old now new : Entries) (first past number : ℕ) (id : SpanId) → IsMemberAt groups head past id → new ≡ with_taken now id number → NotesBelow old now groups head first past number → NotesBelow old new groups head first (past + 1) number
+  NotesBelow-taken old now new first past number id member is before = record {
+    noted = λ place other from below its. by_order place other from below its (cases_lt place past);
+    others = λ other. elim (named-with_taken now id other number) [
       | inl same ↦ elim (before.others other) [
         | inl still ↦ inl (ap (λ xs. named xs other) is ∙ same ∙ still)
         | inr noted ↦ inr (ap (λ xs. named xs other) is ∙ same ∙ noted.0, noted.1, noted.2)
@@ -77,34 +77,48 @@ module _ (groups : List GroupState) (ascend : Ascend groups) (head : SpanId) whe
     ];
   }
     where
-      by_order : (place : ℕ) (other : SpanId) → first ≤ place → place < past + 1 → IsMemberAt groups head place other → rank other < length old → (place < past) ⊎ (past ≤ place) → named new other ≡ Some number
-      by_order place other from below its within (inl earlier) = elim (named-set now id other number) [
-        | inl same ↦ ap (λ xs. named xs other) is ∙ same ∙ before.noted place other from earlier its within
+      by_order : (place : ℕ) (other : SpanId) → first ≤ place → place < past + 1 → IsMemberAt groups head place other → (place < past) ⊎ (past ≤ place) → named new other ≡ taken_by number other
+      by_order place other from below its (inl earlier) = elim (named-with_taken now id other number) [
+        | inl same ↦ ap (λ xs. named xs other) is ∙ same ∙ before.noted place other from earlier its
         | inr here ↦ ap (λ xs. named xs other) is ∙ here.0
       ]
-      by_order place other from below its within (inr last) =
+      by_order place other from below its (inr last) =
           let at : place ≡ past = omega arith in
           let one : other ≡ id = same_member past other id (subst (λ k. IsMemberAt groups head k other) at its) member in
-          ap (λ xs. named xs other) is ∙ ap (named (set now (rank id) (Some number))) one
-          ∙ named-set_here now id number (subst (λ (i : SpanId). rank i < length now) one (subst (λ n. rank other < n) (sym before.same_length) within))
+          ap (λ xs. named xs other) is ∙ subst (λ (i : SpanId). named (with_taken now id number) i ≡ taken_by number i) (sym one) (named-with_taken_here now id number)
 
-  pub NotesBelow-past : (old now : List (Option ℕ)) (first past number : ℕ) → HasNoMember groups head past → NotesBelow old now groups head first past number → NotesBelow old now groups head first (past + 1) number
+  NotesBelow-past : (old now : Entries) (first past number : ℕ) → HasNoMember groups head past → NotesBelow old now groups head first past number → NotesBelow old now groups head first (past + 1) number
   NotesBelow-past old now first past number none before = record {
-    same_length = before.same_length;
-    noted = λ place other from below its within. by_order place other from below its within (cases_lt place past);
+    noted = λ place other from below its. by_order place other from below its (cases_lt place past);
     others = before.others;
   }
     where
-      by_order : (place : ℕ) (other : SpanId) → first ≤ place → place < past + 1 → IsMemberAt groups head place other → rank other < length old → (place < past) ⊎ (past ≤ place) → named now other ≡ Some number
-      by_order place other from below its within (inl earlier) = before.noted place other from earlier its within
-      by_order place other from below its within (inr last) =
+      by_order : (place : ℕ) (other : SpanId) → first ≤ place → place < past + 1 → IsMemberAt groups head place other → (place < past) ⊎ (past ≤ place) → named now other ≡ taken_by number other
+      by_order place other from below its (inl earlier) = before.noted place other from earlier its
+      by_order place other from below its (inr last) =
           let at : place ≡ past = omega arith in
           absurd (no_member past other none (subst (λ k. IsMemberAt groups head k other) at its))
 
-  pub Notes-all : (old new : List (Option ℕ)) (first past number : ℕ) (brief : Brief) → IsBriefHere groups head brief → brief.spans ≤ past → NotesBelow old new groups head first past number → Notes old new groups head first number
+  pub IsNoting-taken : (old now new : WhereaboutsState) (first past number : ℕ) (id : SpanId) → IsMemberAt groups head past id → new.entries ≡ with_taken now.entries id number → now.room ≤ new.room + 1
+      → IsNoting old now groups head first past number → IsNoting old new groups head first (past + 1) number
+  IsNoting-taken old now new first past number id member is room before = record {
+    notes = NotesBelow-taken old.entries now.entries new.entries first past number id member is before.notes;
+    room = omega (arith, room, before.room);
+  }
+
+  pub IsNoting-past : (old now : WhereaboutsState) (first past number : ℕ) → HasNoMember groups head past → IsNoting old now groups head first past number → IsNoting old now groups head first (past + 1) number
+  IsNoting-past old now first past number none before = record {
+    notes = NotesBelow-past old.entries now.entries first past number none before.notes;
+    room = omega (arith, before.room);
+  }
+
+  -- while a span is left to note, there is room for it
+  pub IsNoting-room : (old now : WhereaboutsState) (first past number : ℕ) (brief : Brief) → IsBriefHere groups head brief → HasAtMost groups head first old.room → past < brief.spans → IsNoting old now groups head first past number → 1 ≤ now.room
+  IsNoting-room old now first past number brief (index, group, here, told) most below noting = omega (arith, below, most index group here, told.spans_is, noting.room)
+
+  pub Notes-all : (old new : Entries) (first past number : ℕ) (brief : Brief) → IsBriefHere groups head brief → brief.spans ≤ past → NotesBelow old new groups head first past number → Notes old new groups head first number
   Notes-all old new first past number brief (index, group, here, told) all below = record {
-    same_length = below.same_length;
-    noted = λ place id from member within. below.noted place id from (last place id member) member within;
+    noted = λ place id from member. below.noted place id from (last place id member) member;
     others = below.others;
   }
     where
@@ -117,16 +131,15 @@ module _ (groups : List GroupState) (ascend : Ascend groups) (head : SpanId) whe
   span_count-brief brief (other, its, there, told) index group here =
       told.spans_is ∙ ap (λ (g : GroupState). length (spans_of g)) (same_group groups ascend head other index its group there here)
 
-pub Notes-nowhere : (entries : List (Option ℕ)) (groups : List GroupState) (head : SpanId) (first number : ℕ) → HasNoHead groups head → Notes entries entries groups head first number
+pub Notes-nowhere : (entries : Entries) (groups : List GroupState) (head : SpanId) (first number : ℕ) → HasNoHead groups head → Notes entries entries groups head first number
 Notes-nowhere entries groups head first number none = record {
-  same_length = refl;
-  noted = λ place id from member within. let (index, group, here, its) = member in absurd (none index group here);
+  noted = λ place id from member. let (index, group, here, its) = member in absurd (none index group here);
   others = λ id. inl refl;
 }
 
 -- a shard changes
 
-module _ (shards : List ShardState) (entries : List (Option ℕ)) (knows : KnowsMoved shards entries) where
+module _ (shards : List ShardState) (entries : Entries) (knows : KnowsMoved shards entries) where
   -- it gets no span that it did not open
   pub KnowsMoved-set : (number : ℕ) (before after : ShardState) → slice_get shards number ≡ Some before → ((id : SpanId) → number ≢ id.shard → has_span id after ≡ true → has_span id before ≡ true) → KnowsMoved (set shards number after) entries
   KnowsMoved-set number before after here kept id k foreign (shard, at, has) = elim (cases-set shards number after k shard at) [
@@ -192,28 +205,37 @@ came_or_was id before after spans came has = by_count (times_in id before) refl
     by_count zero e = inr (counted_at id spans (omega (arith, times_in-found id after has)))
     by_count (suc n) e = inl (has_span-counted id before (omega arith))
 
+-- the group that an adoption brings
+abbrev pub adopted : WholeState → GroupState
+adopted whole = record { head = whole.head; guests = whole.guests; page = whole.words; closed = false }
+
+pub adopted-here : (before after : ShardState) (pool_before pool_after : PoolState) (head : SpanId) (adopts : Adopts pool_before before head pool_after after) → IsHeadOf after.groups head adopts.takes_in.index (adopted adopts.whole)
+adopted-here before after pool_before pool_after head adopts = record {
+  here = ap (λ (s : ShardState). slice_get s.groups adopts.takes_in.index) adopts.takes_in.after ∙ get-insert before.groups adopts.takes_in.index (adopted adopts.whole) adopts.takes_in.place.within;
+  head_is = let (index, group, head_of, whole_is, after_is) = adopts.lifts in ap (λ (m : WholeState). m.head.id) whole_is ∙ head_of.head_is;
+}
+
 pub Comes-Adopts : (before after : ShardState) (pool_before pool_after : PoolState) (head : SpanId) → Adopts pool_before before head pool_after after → Comes before after head 0
 Comes-Adopts before after pool_before pool_after head adopts id has = elim (came_or_was id before after (spans_moved adopts.whole) came has) [
   | inl was ↦ inl was
-  | inr new ↦ inr (new.0, omega arith, (adopts.takes_in.index, _, record { here = here; head_is = head_is }, new.1))
+  | inr new ↦ inr (new.0, omega arith, (adopts.takes_in.index, adopted adopts.whole, adopted-here before after pool_before pool_after head adopts, new.1))
 ]
   where
     came : times_in id after ≡ times_in id before + count_by (is_named id) (spans_moved adopts.whole)
     came = sum_in-TakesIn (count_named id) (with_room before None (length (spans_moved adopts.whole))) after adopts.whole adopts.takes_in
 
-    adopted : GroupState
-    adopted = record { head = adopts.whole.head; guests = adopts.whole.guests; page = adopts.whole.words; closed = false }
-
-    here : slice_get after.groups adopts.takes_in.index ≡ Some adopted
-    here = ap (λ (s : ShardState). slice_get s.groups adopts.takes_in.index) adopts.takes_in.after ∙ get-insert before.groups adopts.takes_in.index adopted adopts.takes_in.place.within
-
-    head_is : adopts.whole.head.id ≡ head
-    head_is = let (index, group, head_of, whole_is, after_is) = adopts.lifts in ap (λ (m : WholeState). m.head.id) whole_is ∙ head_of.head_is
-
 -- a place of the second list in both
 in_second : {X : Type 0} (xs ys : List X) (at : ℕ) (y : X) → slice_get ys at ≡ Some y → (there : ℕ) × (length xs ≤ there) × (slice_get (xs ++ ys) there ≡ Some y)
 in_second [] ys at y here = (at, omega arith, here)
 in_second (x ∷ xs) ys at y here = let (there, past, is) = in_second xs ys at y here in (suc there, omega arith, is)
+
+-- the group that a fold brings spans to
+pub grafted-here : (pool : PoolState) (before : ShardState) (a b : SpanId) (pool_after : PoolState) (after : ShardState) (folds : Folds pool before a b pool_after after)
+    → IsHeadOf after.groups b folds.grafts.index (with_guests folds.grafts.group (spans_moved folds.whole) folds.grafts.words)
+grafted-here pool before a b pool_after after folds = record {
+  here = ap (λ (s : ShardState). slice_get s.groups folds.grafts.index) folds.grafts.after ∙ get-set before.groups folds.grafts.index folds.grafts.group (with_guests folds.grafts.group (spans_moved folds.whole) folds.grafts.words) folds.grafts.here.here;
+  head_is = folds.grafts.here.head_is;
+}
 
 pub Comes-Folds : (pool : PoolState) (before : ShardState) (a b : SpanId) (pool_after : PoolState) (after : ShardState) (first : ℕ) → Folds pool before a b pool_after after
     → ((index : ℕ) (group : GroupState) → IsHeadOf before.groups b index group → first ≡ length (spans_of group)) → Comes before after b first
@@ -222,11 +244,8 @@ Comes-Folds pool before a b pool_after after first folds count id has = elim (ca
   | inr new ↦
       let (place, (span, at, is)) = new in
       let (there, past, stands) = in_second folds.grafts.group.guests (spans_moved folds.whole) place span at in
-      inr (suc there, omega (arith, count folds.grafts.index folds.grafts.group (record { here = folds.grafts.here.here; head_is = folds.grafts.here.head_is })), (folds.grafts.index, with_guests folds.grafts.group (spans_moved folds.whole) folds.grafts.words, record { here = here; head_is = folds.grafts.here.head_is }, (span, stands, is)))
+      inr (suc there, omega (arith, count folds.grafts.index folds.grafts.group (record { here = folds.grafts.here.here; head_is = folds.grafts.here.head_is })), (folds.grafts.index, with_guests folds.grafts.group (spans_moved folds.whole) folds.grafts.words, grafted-here pool before a b pool_after after folds, (span, stands, is)))
 ]
-  where
-    here : slice_get after.groups folds.grafts.index ≡ Some (with_guests folds.grafts.group (spans_moved folds.whole) folds.grafts.words)
-    here = ap (λ (s : ShardState). slice_get s.groups folds.grafts.index) folds.grafts.after ∙ get-set before.groups folds.grafts.index folds.grafts.group (with_guests folds.grafts.group (spans_moved folds.whole) folds.grafts.words) folds.grafts.here.here
 
 pub Comes-Steps : (pool : PoolState) (before : ShardState) (a b : SpanId) (pool_after : PoolState) (after : ShardState) (first : ℕ) (step : Outcome) → Steps pool before a b step pool_after after
     → ((index : ℕ) (group : GroupState) → IsHeadOf before.groups b index group → first ≡ length (spans_of group)) → Comes before after b first
@@ -237,7 +256,7 @@ Comes-Steps pool before a b pool_after after first Folded steps count id has = C
 
 -- the shard of this number gets spans, which are noted
 
--- a span that stands in a shard was opened, so that it has an entry
+-- a span that stands in a shard was opened by one of the core's
 pub home-within : (core : CoreState) → HasSoundGroups core → (id : SpanId) (number : ℕ) → StandsIn core.shards id number → id.shard < length core.shards
 home-within core sound id number (shard, at, has) = by_order (cases_lt id.shard (length core.shards))
   where
@@ -261,22 +280,17 @@ module _ (core : CoreState) (sound : HasSoundGroups core) where
       (shard, at, has_span-here shard id index place group span (sound.shards number shard at).sound (record { group_is = here.here; span_is = there; id_is = is }))
 
 pub KnowsMoved-noted : (old core : CoreState) → HasSoundGroups core → (number : ℕ) (before after : ShardState) → slice_get old.shards number ≡ Some before → core.shards ≡ set old.shards number after
-    → (entries noted : List (Option ℕ)) (head : SpanId) (first : ℕ) → length entries ≡ 1024 * length old.shards → KnowsMoved old.shards entries → Comes before after head first → Notes entries noted after.groups head first number → KnowsMoved core.shards noted
-KnowsMoved-noted old core sound number before after here shards_are entries noted head first room knows comes notes id k foreign stands = by_number (cases_eq k number)
+    → (entries noted : Entries) (head : SpanId) (first : ℕ) → KnowsMoved old.shards entries → Comes before after head first → Notes entries noted after.groups head first number → KnowsMoved core.shards noted
+KnowsMoved-noted old core sound number before after here shards_are entries noted head first knows comes notes id k foreign stands = by_number (cases_eq k number)
   where
     there : slice_get core.shards number ≡ Some after
     there = ap (λ shards. slice_get shards number) shards_are ∙ slice_get-set_same old.shards number before after here
 
-    within : rank id < length entries
-    within =
-        let low : id.shard < length core.shards = home-within core sound id k stands in
-        omega (arith, room, ap length shards_are, length-set old.shards number after, id.serial_in_range)
-
     -- what was named before is named still
-    still : named entries id ≡ Some number → named noted id ≡ Some number
-    still was = elim (notes.others id) [
+    still : number ≢ id.shard → named entries id ≡ Some number → named noted id ≡ Some number
+    still abroad was = elim (notes.others id) [
       | inl same ↦ same ∙ was
-      | inr new ↦ new.0
+      | inr new ↦ new.0 ∙ taken_by-abroad number id abroad
     ]
 
     by_number : (k ≡ number) ⊎ (k ≢ number) → named noted id ≡ Some k
@@ -285,8 +299,8 @@ KnowsMoved-noted old core sound number before after here shards_are entries note
         let is : after ≡ shard = same_some (sym there ∙ ap (slice_get core.shards) (sym same) ∙ at) in
         let abroad : number ≢ id.shard = λ e. foreign (same ∙ e) in
         subst (λ n. named noted id ≡ Some n) (sym same) (elim (comes id (ap (has_span id) is ∙ has)) [
-          | inl was ↦ still (knows id number abroad (before, here, was))
-          | inr new ↦ notes.noted new.0 id new.1 new.2 within
+          | inl was ↦ still abroad (knows id number abroad (before, here, was))
+          | inr new ↦ notes.noted new.0 id new.1 new.2 ∙ taken_by-abroad number id abroad
         ])
     by_number (inr other) =
         let (shard, at, has) = stands in

@@ -87,7 +87,7 @@ KeepsClosed old new = (index : ℕ) (group : GroupState) → slice_get old index
 abbrev pub KeepsAllClosed : List ShardState → List ShardState → Type 0
 KeepsAllClosed old new = (number : ℕ) (shard : ShardState) → slice_get old number ≡ Some shard → (now : ShardState) × (slice_get new number ≡ Some now) × KeepsClosed shard.groups now.groups
 
-KeepsClosed-same : (groups : List GroupState) → KeepsClosed groups groups
+pub KeepsClosed-same : (groups : List GroupState) → KeepsClosed groups groups
 KeepsClosed-same groups index group here closed = (index, group, here, IsFewer-same group)
 
 pub KeepsAllClosed-same : (shards : List ShardState) → KeepsAllClosed shards shards

@@ -23,6 +23,7 @@ IsPartOf left groups = (index : ℕ) (group : GroupState) → slice_get left ind
 pub record HasGone (pool_before : PoolState) (before : ShardState) (pool_after : PoolState) (after : ShardState) : Type 0 where
   pub number_is : after.number ≡ before.number
   pub page_limit_is : after.page_limit ≡ before.page_limit
+  pub span_limit_is : after.span_limit ≡ before.span_limit
   pub gens_is : after.gens ≡ before.gens
   pub opened_is : after.opened ≡ before.opened
   pub sums : (w : SpanState → ℕ) → sum_in w after + sum_pooled w pool_after ≡ sum_in w before + sum_pooled w pool_before
@@ -34,6 +35,7 @@ HasGone-one : (old : PoolState) (shard : ShardState) (new : PoolState) (left : S
 HasGone-one old shard new left moves = record {
   number_is = ap (λ (s : ShardState). s.number) moves.after;
   page_limit_is = ap (λ (s : ShardState). s.page_limit) moves.after;
+  span_limit_is = ap (λ (s : ShardState). s.span_limit) moves.after;
   gens_is = ap (λ (s : ShardState). s.gens) moves.after;
   opened_is = ap (λ (s : ShardState). s.opened) moves.after;
   sums = λ w.
@@ -61,6 +63,7 @@ HasGone-sparse : (count : ℕ) (old : PoolState) (shard : ShardState) (new : Poo
 HasGone-sparse zero old shard new left (new_is, left_is) = record {
   number_is = ap (λ (s : ShardState). s.number) left_is;
   page_limit_is = ap (λ (s : ShardState). s.page_limit) left_is;
+  span_limit_is = ap (λ (s : ShardState). s.span_limit) left_is;
   gens_is = ap (λ (s : ShardState). s.gens) left_is;
   opened_is = ap (λ (s : ShardState). s.opened) left_is;
   sums = λ w. omega (arith, ap (λ (s : ShardState). sum_in w s) left_is, ap (λ (p : PoolState). sum_pooled w p) new_is);
@@ -74,6 +77,7 @@ HasGone-sparse (suc count) old shard new left (mid, others, rest, last) =
     record {
       number_is = then.number_is ∙ first.number_is;
       page_limit_is = then.page_limit_is ∙ first.page_limit_is;
+      span_limit_is = then.span_limit_is ∙ first.span_limit_is;
       gens_is = then.gens_is ∙ first.gens_is;
       opened_is = then.opened_is ∙ first.opened_is;
       sums = λ w. then.sums w ∙ first.sums w;
@@ -88,6 +92,7 @@ HasGone-Retires old shard most count new left retires =
     record {
       number_is = gone.number_is;
       page_limit_is = gone.page_limit_is;
+      span_limit_is = gone.span_limit_is;
       gens_is = gone.gens_is;
       opened_is = gone.opened_is;
       sums = gone.sums;
@@ -102,6 +107,7 @@ IsMove-Retires before after pool_before pool_after most count retires =
     record {
       number_is = gone.number_is;
       page_limit_is = gone.page_limit_is;
+      span_limit_is = gone.span_limit_is;
       gens_is = gone.gens_is;
       opened_is = gone.opened_is;
       running = retires.running;

@@ -3,7 +3,7 @@ use Rattle.std.proofs.Common.{◌≡◌, ℕ, ◌+◌, ◌<◌, Bool, true, fals
 use Rattle.std.proofs.lemmas.List.{length_push, take_more}
 use Rattle.span.specs.PlainMap.{PlainMap}
 use Rattle.arena_core.specs.declared.event.Event.{Event}
-use Rattle.arena_core.specs.declared.event.Event.TheVariants.{Put, Get, Set, Free, Later, Settle, End, Retire, Trim, Adopt, Mark, MarkSome, Step, Close}
+use Rattle.arena_core.specs.declared.event.Event.TheVariants.{Put, Get, Set, Free, Later, Settle, End, Begin, Retire, Trim, Adopt, Mark, MarkSome, Step, Close}
 use Rattle.arena_core.specs.declared.reply.Reply.{Reply}
 use Rattle.arena_core.specs.Plain.{ErasedStep, PlainRun, PlainStep, erased, is_plain}
 use Rattle.arena_core.specs.Sound.{IsSound}
@@ -31,6 +31,7 @@ PlainRun-added limits old mid new steps (Free key) reply run step = PlainRun-pus
 PlainRun-added limits old mid new steps (Later worker key) reply run step = PlainRun-push limits old mid new steps (Later worker key) reply run step
 PlainRun-added limits old mid new steps (Settle worker shard) reply run step = PlainRun-push limits old mid new steps (Settle worker shard) reply run step
 PlainRun-added limits old mid new steps (End shard) reply run step = PlainRun-stay limits old mid new steps run step
+PlainRun-added limits old mid new steps (Begin shard) reply run step = PlainRun-stay limits old mid new steps run step
 PlainRun-added limits old mid new steps (Retire shard most) reply run step = PlainRun-stay limits old mid new steps run step
 PlainRun-added limits old mid new steps (Trim shard) reply run step = PlainRun-stay limits old mid new steps run step
 PlainRun-added limits old mid new steps (Adopt shard) reply run step = PlainRun-stay limits old mid new steps run step

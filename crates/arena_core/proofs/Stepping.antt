@@ -19,7 +19,7 @@ use Rattle.abandoned.specs.State.{PoolState, PooledState}
 use Rattle.abandoned.proofs.Adopted.{one_head}
 use Rattle.fold.specs.Folds as fold
 use Rattle.fold.specs.Folds.{Folds, Steps}
-use Rattle.fold.proofs.Sums.{gens-Folds, length_paged-Folds, length_shard_pages-Folds, number-Folds, opened-Folds, page_limit-Folds, sum_by-Folds}
+use Rattle.fold.proofs.Sums.{gens-Folds, length_paged-Folds, length_shard_pages-Folds, number-Folds, opened-Folds, page_limit-Folds, span_limit-Folds, sum_by-Folds}
 use Rattle.fold.specs.declared.step.Step.{Step as Outcome}
 use Rattle.fold.specs.declared.step.Step.TheVariants.{Absent, Emptied, Clash, Folded}
 use Rattle.arena_core.specs.Plan.{IsEmptyInPool, IsNext, IsUnderWay, IsWaiting}
@@ -43,6 +43,7 @@ pub IsMove-Folds : (pool_before pool_after : PoolState) (before after : ShardSta
 IsMove-Folds pool_before pool_after before after a b running folds = record {
   number_is = number-Folds pool_before before a b pool_after after folds;
   page_limit_is = page_limit-Folds pool_before before a b pool_after after folds;
+  span_limit_is = span_limit-Folds pool_before before a b pool_after after folds;
   gens_is = gens-Folds pool_before before a b pool_after after folds;
   opened_is = opened-Folds pool_before before a b pool_after after folds;
   running = running;

@@ -44,8 +44,8 @@ pub IsCall-Trims : (before after : ShardState) (count : ℕ) → Trims before co
 IsCall-Trims before after count trims = record {
   number_is = ap (λ (s : ShardState). s.number) trims.after;
   page_limit_is = ap (λ (s : ShardState). s.page_limit) trims.after;
+  span_limit_is = ap (λ (s : ShardState). s.span_limit) trims.after;
   gens_is = ap (λ (s : ShardState). s.gens) trims.after;
-  ended_is = ap (λ (s : ShardState). s.ended) trims.after;
   opened_more = omega (arith, ap (λ (s : ShardState). s.opened) trims.after);
   spans = λ id. omega (arith, ap (own id) trims.after, named_still id);
   strays_are = sum_in-Trims (strays before.gens) before after count trims;

@@ -3,7 +3,7 @@ use Rattle.std.specs.Prelude.{◌≡◌, ◌⊎◌, ◌<◌, ◌≤◌, ℕ, Boo
 use Rattle.span.specs.declared.key.Key.{Key}
 use Rattle.span.specs.PlainMap.{PlainMap, may_set, with_pending, with_put, with_value, without}
 use Rattle.arena_core.specs.declared.event.Event.{Event}
-use Rattle.arena_core.specs.declared.event.Event.TheVariants.{Put, Get, Set, Free, Later, Settle, End, Retire, Trim, Adopt, Mark, MarkSome, Step, Close}
+use Rattle.arena_core.specs.declared.event.Event.TheVariants.{Put, Get, Set, Free, Later, Settle, End, Begin, Retire, Trim, Adopt, Mark, MarkSome, Step, Close}
 use Rattle.arena_core.specs.declared.reply.Reply.{Reply}
 use Rattle.arena_core.specs.declared.reply.Reply.TheVariants.{Issued, Found, Replaced, Freed, Sent, Settled, Refused}
 use Rattle.arena_core.specs.declared.reply.Refusal.TheVariants.{OutOfMemory, PagesSpent, Ended, RingFull, Config}
@@ -43,9 +43,10 @@ PlainStep limits old (Settle worker shard) (Refused Config) new = IsOutside limi
 -- no other pair comes
 PlainStep limits old event reply new = ⊥
 
--- the plain map knows the event: it has no shards that end, retire groups, give pages back or adopt, and no plans
+-- the plain map knows the event: it has no shards that end, begin again, retire groups, give pages back or adopt, and no plans
 abbrev pub is_plain : Event → Bool
 is_plain (End shard) = false
+is_plain (Begin shard) = false
 is_plain (Retire shard most) = false
 is_plain (Trim shard) = false
 is_plain (Adopt shard) = false
@@ -55,7 +56,7 @@ is_plain Step = false
 is_plain Close = false
 is_plain event = true
 
--- the events and their replies, with every end, retirement, trim, adoption, mark, step and close, and their replies, taken out
+-- the events and their replies, with every end, begin, retirement, trim, adoption, mark, step and close, and their replies, taken out
 abbrev pub erased : List Event → List Reply → List (Event × Reply)
 erased (event ∷ events) (reply ∷ replies) = if is_plain event then (event, reply) ∷ erased events replies else erased events replies
 erased events replies = []
@@ -63,6 +64,7 @@ erased events replies = []
 -- a step of the plain map, or where it does not know the event, none
 abbrev pub ErasedStep : Limits → PlainMap → Event → Reply → PlainMap → Type 0
 ErasedStep limits old (End shard) reply new = new ≡ old
+ErasedStep limits old (Begin shard) reply new = new ≡ old
 ErasedStep limits old (Retire shard most) reply new = new ≡ old
 ErasedStep limits old (Trim shard) reply new = new ≡ old
 ErasedStep limits old (Adopt shard) reply new = new ≡ old

@@ -22,6 +22,7 @@ pub record IsForgotten (span : SpanState) : Type 0 where
 pub record IsSoundAt (limits : Limits) (number : ℕ) (shard : ShardState) : Type 0 where
   pub number_is : shard.number ≡ number
   pub page_limit_is : shard.page_limit ≡ limits.page_limit
+  pub span_limit_is : shard.span_limit ≡ limits.span_limit
   pub gens_is : shard.gens ≡ limits.gens
   pub sound : IsSoundShard shard
 

@@ -25,8 +25,8 @@ pub record CoreState : Type 0 where
   pub forgotten : List SpanState
 
 -- a shard that has opened no span
-abbrev pub new_shard : ℕ → ℕ → ℕ → ShardState
-new_shard page_limit gens number = record { number = number; page_limit = page_limit; gens = gens; opened = 0; ended = false; groups = []; group_room = 0; span_room = 0; onto = None }
+abbrev pub new_shard : ℕ → ℕ → ℕ → ℕ → ShardState
+new_shard page_limit span_limit gens number = record { number = number; page_limit = page_limit; span_limit = span_limit; gens = gens; opened = 0; ended = false; groups = []; group_room = 0; span_room = 0; onto = None }
 
 -- a pool with no group
 abbrev pub new_pool : PoolState
@@ -34,7 +34,7 @@ new_pool = record { groups = []; group_room = 0; span_room = 0; has_plan = false
 
 -- a core of new shards, one for each number, an empty pool, no plan, and empty rings, in which nothing was forgotten
 abbrev pub new_core : Limits → CoreState
-new_core limits = record { limits = limits; shards = map (new_shard limits.page_limit limits.gens) (range_with_len 0 limits.shards); pool = new_pool; plan = None; rings = new_rings limits.shards limits.ring_capacity; forgotten = [] }
+new_core limits = record { limits = limits; shards = map (new_shard limits.page_limit limits.span_limit limits.gens) (range_with_len 0 limits.shards); pool = new_pool; plan = None; rings = new_rings limits.shards limits.ring_capacity; forgotten = [] }
 
 -- the core with another shard at this number
 abbrev pub with_shard : CoreState → ℕ → ShardState → CoreState

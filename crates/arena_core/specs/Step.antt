@@ -9,7 +9,7 @@ use Rattle.span.specs.PlainMap.{may_set}
 use Rattle.span.specs.declared.class.Class.{Class}
 use Rattle.shard.specs.Calls.{Puts, Frees, IsSpent, Sets}
 use Rattle.shard.specs.Group.{GroupState}
-use Rattle.shard.specs.State.{ShardState}
+use Rattle.shard.specs.State.{ShardState, begun}
 use Rattle.shard.specs.Trims.{Trims}
 use Rattle.shard.specs.declared.shard.Freed.TheVariants.{Yes}
 use Rattle.shard.specs.declared.shard.replacing.Replaced.TheVariants as replaced
@@ -21,10 +21,10 @@ use Rattle.fold.specs.Folds.{Folds}
 use Rattle.fold.specs.declared.step.Step.{Step as Outcome}
 use Rattle.fold.specs.declared.step.Step.TheVariants.{Absent, Emptied, Clash, Folded}
 use Rattle.arena_core.specs.declared.event.Event.{Event}
-use Rattle.arena_core.specs.declared.event.Event.TheVariants.{Put, Get, Set, Free, Later, Settle, End, Retire, Trim, Adopt, Mark, MarkSome, Step, Close}
+use Rattle.arena_core.specs.declared.event.Event.TheVariants.{Put, Get, Set, Free, Later, Settle, End, Begin, Retire, Trim, Adopt, Mark, MarkSome, Step, Close}
 use Rattle.arena_core.specs.declared.reply.Reply.{Reply}
-use Rattle.arena_core.specs.declared.reply.Reply.TheVariants.{Issued, Found, Replaced, Freed, Sent, Settled, ShardEnded, Retired, Trimmed, Adopted, Marked, Stepped, NoPairLeft, Closed, NoPlan, Refused}
-use Rattle.arena_core.specs.declared.reply.Refusal.TheVariants.{OutOfMemory, PagesSpent, Ended, PlanOpen, TooMany, NothingToAdopt, RingFull, Config}
+use Rattle.arena_core.specs.declared.reply.Reply.TheVariants.{Issued, Found, Replaced, Freed, Sent, Settled, ShardEnded, ShardBegun, Retired, Trimmed, Adopted, Marked, Stepped, NoPairLeft, Closed, NoPlan, Refused}
+use Rattle.arena_core.specs.declared.reply.Refusal.TheVariants.{OutOfMemory, PagesSpent, Ended, Running, PlanOpen, TooMany, NothingToAdopt, RingFull, Config}
 use Rattle.arena_core.specs.Sound.{IsSound}
 use Rattle.marks.specs.Closings.{closed_onto, reopened}
 use Rattle.marks.specs.Seen.{AreTooMany, IsLargest, IsLargestInPart, with_plan_told}
@@ -42,6 +42,10 @@ pub record IsRunning (core : CoreState) (number : ℕ) (shard : ShardState) : Ty
 -- the shard of this number has ended
 abbrev pub HasEnded : CoreState → ℕ → Type 0
 HasEnded core number = (shard : ShardState) × (slice_get core.shards number ≡ Some shard) × (shard.ended ≡ true)
+
+-- there is a shard of this number, which has not ended
+abbrev pub HasNotEnded : CoreState → ℕ → Type 0
+HasNotEnded core number = (shard : ShardState) × IsRunning core number shard
 
 -- the shard of this number has not ended, and a put of an object of the class there needs a page that it may not have
 abbrev pub NeedsPage : Class → CoreState → ℕ → Type 0
@@ -174,6 +178,13 @@ pub record Ends (old : CoreState) (number : ℕ) (new : CoreState) : Type 0 wher
   pub receives : Receives old.pool before pool after
   pub rest : new ≡ with_pool (with_shard old number after) pool
 
+-- the shard of this number, which has ended, runs again and goes on to count the spans that it opens, and all else is as it was
+pub record BeginsShard (old : CoreState) (number : ℕ) (new : CoreState) : Type 0 where
+  pub before : ShardState
+  pub here : slice_get old.shards number ≡ Some before
+  pub ended : before.ended ≡ true
+  pub rest : new ≡ with_shard old number (begun before)
+
 -- so many groups of the shard of this number, which has no closed group and has not ended, go to the pool, and all other shards are as they were
 pub record RetiresFrom (old : CoreState) (number most count : ℕ) (new : CoreState) : Type 0 where
   pub before : ShardState
@@ -286,6 +297,9 @@ CoreStep old (End shard) (Refused Ended) new = HasEnded old shard × (new ≡ ol
 CoreStep old (End shard) (Refused PlanOpen) new = HasPlan old × HasClosedGroup old shard × (new ≡ old)
 CoreStep old (End shard) (Refused Config) new = (old.limits.shards ≤ shard) × (new ≡ old)
 CoreStep old (End shard) (Refused OutOfMemory) new = MayEnd old shard × (new ≡ old)
+CoreStep old (Begin shard) ShardBegun new = BeginsShard old shard new
+CoreStep old (Begin shard) (Refused Running) new = HasNotEnded old shard × (new ≡ old)
+CoreStep old (Begin shard) (Refused Config) new = (old.limits.shards ≤ shard) × (new ≡ old)
 CoreStep old (Retire shard most) (Retired count) new = RetiresFrom old shard most count new
 CoreStep old (Retire shard most) (Refused Ended) new = HasEnded old shard × (new ≡ old)
 CoreStep old (Retire shard most) (Refused PlanOpen) new = HasPlan old × HasClosedGroup old shard × (new ≡ old)

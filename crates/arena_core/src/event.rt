@@ -16,8 +16,10 @@ pub enum Event {
     Later { worker: u32, key: Key },
     /// Take the oldest key from the ring from the worker to the shard of these numbers, and free it wherever its span is.
     Settle { worker: u32, shard: u32 },
-    /// End the shard of this number: its groups go to the pool, and it takes no further put.
+    /// End the shard of this number: its groups go to the pool, and it takes no put until it begins again.
     End { shard: u32 },
+    /// Let the shard of this number, which has ended, run again, for a new thread: its serials go on from where they stood.
+    Begin { shard: u32 },
     /// Move up to `most` groups with a live key of the shard of this number to the pool, those with the fewest first, and let
     /// the shard go on.
     Retire { shard: u32, most: usize },

@@ -2,8 +2,8 @@
 //!
 //! A [`Core`] takes [`Event`]s one after another, and answers each with one [`Reply`]. A put goes to the shard of the number
 //! that it names, and keeps there an object of 16, 64 or 256 bytes, on a page of objects of that size; a look-up, a set and a free
-//! go to whoever has the span of the key. The end of a shard brings its groups to the pool, a retirement brings those with the fewest
-//! live keys there while the shard goes on, and an adoption moves one of them, whole, to a shard. A mark plans folds of the pool's
+//! go to whoever has the span of the key. The end of a shard brings its groups to the pool, after which the
+//! shard may begin again, a retirement brings those with the fewest live keys there while the shard goes on, and an adoption moves one of them, whole, to a shard. A mark plans folds of the pool's
 //! groups onto those of the shards, as many as can be; a step carries the next of them out, and a close ends the plan. Nothing is
 //! lost where an event is refused: the core is as it was before.
 //!
@@ -23,7 +23,7 @@
 //! A key can also be freed later: it goes on a ring from its worker to the shard that opened its span, and is freed once it is
 //! settled, wherever its span then is.
 //!
-//! The public facts: without ends, retirements, trims, adoptions, marks, steps and closes, the replies are those of a
+//! The public facts: without ends, begins, retirements, trims, adoptions, marks, steps and closes, the replies are those of a
 //! plain map of keys, which knows what is pending, and no pages, groups or plans (`specs/Plain.antt`), and those events
 //! change nothing of the map that the core shows. A mark that is not refused plans as many folds as
 //! any plan, shown by the short set, and the whole can be written as a certificate (`specs/Seen.antt` of the crate `marks`);

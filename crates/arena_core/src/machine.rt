@@ -1,5 +1,5 @@
 // The core: all shards as one value that takes events. What it does with each kind of them stands in the files below.
-ghost use Rattle.std.specs.Prelude.{◌≡◌, ◌↔◌, ◌<◌, ◌≤◌, ℕ, IfOk, IfSome, OnOk, OnErr, IsErrOf, IsTrue, map, option_map};
+ghost use Rattle.std.specs.Prelude.{◌≡◌, ◌↔◌, ◌<◌, ◌≤◌, ℕ, IfOk, IfSome, OnOk, OnErr, IsErrOf, IsOkUnless, map, option_map};
 ghost use Rattle.std.specs.List.{range_with_len};
 ghost use Rattle.shard.specs.Sound.{IsSound as IsSoundShard};
 ghost use Rattle.span.specs.Classes.{IsObject};
@@ -9,7 +9,6 @@ ghost use Rattle.marks.specs.Numbers.{AreWithin, limits_of};
 ghost use Rattle.arena_core.specs.State.{HasKeys, live_keys, new_core, new_shard, pages, shown};
 ghost use Rattle.arena_core.specs.Step.{Answers, CoreStep};
 ghost use Rattle.arena_core.specs.Plain.{ErasedStep};
-ghost use Rattle.span.specs.declared.limits.TheConstants.{MOST_PAGES, MOST_SHARDS};
 
 use crate::error::CoreError;
 use crate::event::Event;
@@ -42,6 +41,7 @@ mod walk;
 pub struct Core<L: Log = Kept> {
     alloc: Global,
     page_limit: usize,
+    span_limit: u32,
     ring_capacity: usize,
     gens: u32,
     shards: Vec<Shard<L>>,
@@ -69,8 +69,9 @@ impl<L: Log> Model for Core<L> {
 
 impl Core<Kept> {
     /// A core of `shards` new shards, numbered from 0 on, and an empty pool. A shard may have `page_limit` pages of
-    /// 4,096 bytes, and a slot is given the generations from 1 to `gens`. From each of as many workers as shards there is a
-    /// ring to each shard, which holds `ring_capacity` keys of deferred frees; its room is made here.
+    /// 4,096 bytes, and may open as many spans as there are serials; [`Core::with_limits`] takes another number. A slot is given
+    /// the generations from 1 to `gens`. From each of as many workers as shards there is a ring to each shard, which holds
+    /// `ring_capacity` keys of deferred frees; its room is made here.
     ///
     /// [`CoreError::Config`] comes exactly where a number is out of its range, which is 1 to 64
     /// shards, 1 to 1,024 pages, 1 to 1,024 entries, and from 1 generation on;
@@ -113,44 +114,60 @@ impl<L: Log> Core<L> {
         ensures empty { IfOk result (λ core. shown core ≡ empty_map) }
         ensures sound { IfOk result IsSound }
     {
-        if !are_within(shards, page_limit, ring_capacity, gens) {
+        let Some(limits) = Limits::new(shards, page_limit, ring_capacity, gens) else {
             return Err(CoreError::Config);
-        }
-        let whereabouts = Whereabouts::new(alloc, shards)?;
+        };
+        Core::with_limits(alloc, limits)
+    }
+
+    /// A core of new shards by all of its numbers, how many spans a shard may open among them, whose logs are kept or counted as
+    /// its type says.
+    ///
+    /// It is refused with [`CoreError::OutOfMemory`] alone, since each number of [`Limits`] is within its range.
+    pub fn with_limits(alloc: Global, limits: Limits) -> Result<Core<L>, CoreError>
+        ensures ok { IfOk result (λ core. core ≡ new_core limits) }
+        ensures only { IsOkUnless result CoreError.OutOfMemory }
+        ensures empty { IfOk result (λ core. shown core ≡ empty_map) }
+        ensures sound { IfOk result IsSound }
+    {
+        let count = limits.shards();
+        let ring_capacity = limits.ring_capacity();
         let plan = CurrentPlan::new(alloc)?;
-        let rings = Rings::new(alloc, shards, ring_capacity)?;
-        let shards = new_shards(alloc, shards, page_limit, gens)?;
+        let rings = Rings::new(alloc, count, ring_capacity)?;
+        let shards = new_shards(alloc, limits)?;
         let forgotten = Forgotten::new();
         Ok(Core {
             alloc,
-            page_limit,
+            page_limit: limits.page_limit(),
+            span_limit: limits.span_limit(),
             ring_capacity,
-            gens,
+            gens: limits.gens(),
             shards,
             pool: Pool::with_log(alloc),
             plan,
-            whereabouts,
+            whereabouts: Whereabouts::new(alloc),
             rings,
             forgotten,
         })
     }
 
     /// Takes the event and answers it. The replies to puts, look-ups, sets, frees, deferred frees and settlings are those of
-    /// a plain map of keys; ends, retirements, trims, adoptions, marks, steps and closes leave the map that the core shows as it is.
+    /// a plain map of keys; ends, begins, retirements, trims, adoptions, marks, steps and closes leave the map that the core shows as it is.
     ///
     /// A refused event changes nothing. Of several causes that hold, the first of these is answered:
     ///
-    /// | Refusal | Put | Set | End | Retire | Trim | Adopt | Mark | Step |
-    /// |---|---|---|---|---|---|---|---|---|
-    /// | [`Refusal::PagesSpent`] | the shard needs a page that it may not have | | | | | the shard has as many groups as it may have pages | | |
-    /// | [`Refusal::Ended`] | the shard has ended | | the shard has ended | the shard has ended | | the shard has ended | | |
-    /// | [`Refusal::PlanOpen`] | | | the shard has a closed group | the shard has a closed group | | a plan is open | a plan is open | |
-    /// | [`Refusal::TooMany`] | | | | | | | a side has more than 4,096 groups | |
-    /// | [`Refusal::NothingToAdopt`] | | | | | | no group of the pool has a page | | |
-    /// | [`Refusal::Config`] | there is no such shard | | there is no such shard | there is no such shard | there is no such shard | there is no such shard | | |
-    /// | [`Refusal::OutOfMemory`] | an allocation was refused | an allocation was refused | an allocation was refused | an allocation was refused | | an allocation was refused | an allocation was refused | an allocation was refused; the pair stays next |
+    /// | Refusal | Put | Set | End | Begin | Retire | Trim | Adopt | Mark | Step |
+    /// |---|---|---|---|---|---|---|---|---|---|
+    /// | [`Refusal::PagesSpent`] | the shard needs a new span, and has as many groups as it may have pages, or has opened as many spans as it may | | | | | | the shard has as many groups as it may have pages | | |
+    /// | [`Refusal::Ended`] | the shard has ended | | the shard has ended | | the shard has ended | | the shard has ended | | |
+    /// | [`Refusal::Running`] | | | | the shard has not ended | | | | | |
+    /// | [`Refusal::PlanOpen`] | | | the shard has a closed group | | the shard has a closed group | | a plan is open | a plan is open | |
+    /// | [`Refusal::TooMany`] | | | | | | | | a side has more than 4,096 groups | |
+    /// | [`Refusal::NothingToAdopt`] | | | | | | | no group of the pool has a page | | |
+    /// | [`Refusal::Config`] | there is no such shard | | there is no such shard | there is no such shard | there is no such shard | there is no such shard | there is no such shard | | |
+    /// | [`Refusal::OutOfMemory`] | an allocation was refused | an allocation was refused | an allocation was refused | | an allocation was refused | | an allocation was refused | an allocation was refused | an allocation was refused; the pair stays next |
     ///
-    /// A look-up, a free and a close are never refused, and take no memory. A set is refused only in place of a yes. A deferred
+    /// A look-up, a free and a close are never refused, and take no memory. A set is refused only in place of a yes. A begin, a deferred
     /// free and a settling take no memory either: [`Refusal::RingFull`] comes exactly where the ring of the deferred free holds
     /// as many keys as it may, and [`Refusal::Config`] exactly where there is no such worker or shard.
     ///
@@ -187,6 +204,10 @@ impl<L: Log> Core<L> {
             },
             Event::End { shard } => match self.end(shard) {
                 Ok(()) => Reply::ShardEnded,
+                Err(refusal) => Reply::Refused(refusal),
+            },
+            Event::Begin { shard } => match self.begin(shard) {
+                Ok(()) => Reply::ShardBegun,
                 Err(refusal) => Reply::Refused(refusal),
             },
             Event::Retire { shard, most } => match self.retire(shard, most) {
@@ -265,31 +286,25 @@ fn object_of(found: Option<&[u128]>) -> Option<Object>
     }
 }
 
-// Whether each number of the product is within its range.
-fn are_within(shards: u32, page_limit: usize, ring_capacity: usize, gens: u32) -> bool
-    ensures { IsTrue result ↔ AreWithin (limits_of shards page_limit ring_capacity gens) }
+// The new shards of a core of these numbers, each by its own.
+fn new_shards<L: Log>(alloc: Global, limits: Limits) -> Result<Vec<Shard<L>>, AllocError>
+    ensures shards { IfOk result (λ shards. shards.items
+        ≡ map (new_shard limits.page_limit limits.span_limit limits.gens)
+        (range_with_len 0 limits.shards)) }
+    ensures sound { OnOk result ((number : ℕ) → number < limits.shards
+        → IsSoundShard (new_shard limits.page_limit limits.span_limit limits.gens number)) }
 {
-    Limits::new(shards, page_limit, ring_capacity, gens).is_some()
-}
-
-// That many new shards, by their numbers.
-fn new_shards<L: Log>(
-    alloc: Global,
-    count: u32,
-    page_limit: usize,
-    gens: u32,
-) -> Result<Vec<Shard<L>>, AllocError>
-    requires count { count ≤ MOST_SHARDS }
-    requires pages { (1 ≤ page_limit) × (page_limit ≤ MOST_PAGES) }
-    requires gens { 1 ≤ gens }
-    ensures shards { IfOk result
-        (λ shards. shards.items ≡ map (new_shard page_limit gens) (range_with_len 0 count)) }
-    ensures sound { OnOk result
-        ((number : ℕ) → number < count → IsSoundShard (new_shard page_limit gens number)) }
-{
+    let count = limits.shards();
     let mut shards = Vec::with_capacity(alloc, count as usize)?;
     for number in 0..count {
-        let Ok(shard) = Shard::with_log(alloc, number, page_limit, gens) else {
+        let made = Shard::with_log(
+            alloc,
+            number,
+            limits.page_limit(),
+            limits.span_limit(),
+            limits.gens(),
+        );
+        let Ok(shard) = made else {
             unreachable!();
         };
         shards.push_reserved(shard);

@@ -29,6 +29,8 @@ pub enum Reply {
     Settled(Option<Key>),
     /// The shard has ended, and its groups are the pool's.
     ShardEnded,
+    /// The shard runs again, and no key that it issues was issued before.
+    ShardBegun,
     /// How many groups of the shard have gone to the pool: as many as were asked for, or all that have a live key.
     Retired(usize),
     /// How many pages the shard has given back.
@@ -57,12 +59,15 @@ pub enum Refusal {
     #[error("out of memory: free some and try again")]
     OutOfMemory,
     /// A put or an adoption needs a further group, and the shard has as many as it may have pages; or a put needs a new span,
-    /// and the shard has opened all its 1,024.
+    /// and the shard has opened as many as it may.
     #[error("the shard may have no further page: free keys, or ask another shard")]
     PagesSpent,
     /// The shard has ended.
     #[error("the shard has ended: ask another shard")]
     Ended,
+    /// The shard has not ended, so it can't begin again.
+    #[error("the shard has not ended: end it before it begins again")]
+    Running,
     /// A plan is open: a mark and an adoption wait for its close, and so do the end and the retirements of a shard that has a
     /// closed group.
     #[error("a plan is open: close it first")]

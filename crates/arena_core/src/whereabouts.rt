@@ -1,67 +1,95 @@
 // Where the spans are that left the shard which opened them.
-ghost use Rattle.std.specs.Prelude.{◌≡◌, ◌≤◌, ◌*◌, IfOk, None, Some, replicate, slice_set};
+ghost use Rattle.std.specs.Prelude.{◌≡◌, ◌≤◌, ◌<◌, ◌+◌, OnOk, Some, nat_eq};
+ghost use Rattle.std.specs.FinMap as map;
+ghost use Rattle.std.specs.HashMap as hash;
 ghost use Rattle.shard.specs.Sound.{IsSound};
 ghost use Rattle.span.specs.Ids.{rank};
-ghost use Rattle.arena_core.specs.Moved.{Notes, named};
-ghost use Rattle.span.specs.declared.limits.TheConstants.{MOST_SHARDS, MOST_SPANS};
+ghost use Rattle.arena_core.specs.Moved.{HasAtMost, Notes, entries_of, named, with_taken};
 
 use shard::Shard;
-use span::{Log, MOST_SPANS, SpanId};
+use span::{Log, SpanId};
 use std::alloc::{AllocError, Global};
+use std::collections::HashMap;
 use std::marker::Model;
 
-/// For each span that the core's shards may open, the number of the shard that took it in last, if one ever did.
+/// For spans that a shard took in which did not open them, the number of the one that took each in last.
 ///
 /// A span that stands in a shard which did not open it stands in the one that is named here: the core notes each span that
-/// a shard takes in. It need not note that one leaves, so a span that is named here may be in the pool.
+/// a shard takes in. It need not note that one leaves, so a span that is named here may be in the pool. A span that comes
+/// back to the shard which opened it is named no more.
+///
+/// An entry goes into room that was made before, so that nothing is noted by halves.
 #[derive(Drop)]
 pub struct Whereabouts {
     // By the rank of the span.
-    shards: Vec<Option<u8>>,
+    shards: HashMap<u64, u8>,
 }
 
 impl Model for Whereabouts {
-    ghost use Rattle.std.specs.Prelude.{List, Option, ℕ};
+    ghost use Rattle.arena_core.specs.Moved.{WhereaboutsState, whereabouts_code};
+    ghost use Rattle.std.specs.HashMap as hash;
 
-    ghost Value = { List (Option ℕ) };
+    ghost Value = { WhereaboutsState };
 
-    ghost view = { λ w. w.shards.items };
+    ghost coded = { whereabouts_code };
+
+    ghost use Rattle.arena_core.specs.Moved.{entries_of};
+
+    ghost view = { λ w. record { entries = entries_of w.shards; room = hash.spare w.shards } };
 }
 
 impl Whereabouts {
-    /// Names no shard, for any of the spans of that many shards. All memory is taken here.
-    pub fn new(alloc: Global, shards: u32) -> Result<Whereabouts, AllocError>
-        requires { shards ≤ MOST_SHARDS }
-        ensures { IfOk result (λ whereabouts. whereabouts ≡ replicate (MOST_SPANS * shards) None) }
+    /// Names no shard. Takes no memory.
+    pub fn new(alloc: Global) -> Whereabouts
+        ensures { result.entries ≡ map.empty }
     {
-        Ok(Whereabouts {
-            shards: vec![in alloc; None; (MOST_SPANS * shards) as usize]?,
-        })
+        Whereabouts {
+            shards: HashMap::new(alloc),
+        }
     }
 
-    /// The number of the shard that took the span in last.
+    /// The number of the shard that took the span in last, if it did not open it.
     pub fn shard_of(&self, id: SpanId) -> Option<usize>
-        ensures { result ≡ named self.now id }
+        ensures { result ≡ named self.now.entries id }
     {
-        match self.shards.get(id.rank() as usize) {
-            Some(Some(shard)) => Some(usize::from(*shard)),
-            Some(None) | None => None,
+        match self.shards.get(&id.rank()) {
+            Some(shard) => Some(usize::from(*shard)),
+            None => None,
         }
     }
 
-    // Names the shard of this number for the span.
-    fn set(&mut self, id: SpanId, shard: u8)
-        ensures { self.new ≡ slice_set self.old (rank id) (Some shard) }
+    /// Makes room for that many spans more.
+    ///
+    /// # Errors
+    ///
+    /// `AllocError` where memory is refused.
+    pub fn reserve(&mut self, spans: usize) -> Result<(), AllocError>
+        ensures room { OnOk result (spans ≤ self.new.room) }
+        ensures entries { self.new.entries ≡ self.old.entries }
     {
-        if let Some(entry) = self.shards.get_mut(id.rank() as usize) {
-            *entry = Some(shard);
+        self.shards.reserve(spans)?;
+        Ok(())
+    }
+
+    // Notes that the span is in the shard of this number, in room that was made.
+    fn set(&mut self, id: SpanId, number: u8)
+        requires { 0 < self.old.room }
+        ensures entries { self.new.entries ≡ with_taken self.old.entries id number }
+        ensures room { self.old.room ≤ self.new.room + 1 }
+    {
+        if id.shard == u32::from(number) {
+            self.shards.remove(&id.rank());
+        } else {
+            insert_reserved(&mut self.shards, id.rank(), number);
         }
     }
 
-    /// Notes that the spans of the head's group, from the place `first` on, are in the shard of this number.
+    /// Notes that the spans of the head's group, from the place `first` on, are in the shard of this number. Room for them
+    /// was made.
     pub fn note<L: Log>(&mut self, number: u8, shard: &Shard<L>, head: SpanId, first: usize)
-        requires { IsSound shard.now }
-        ensures { Notes self.old self.new shard.now.groups head first number }
+        requires sound { IsSound shard.now }
+        requires room { HasAtMost shard.now.groups head first self.old.room }
+        ensures { Notes self.old.entries self.new.entries shard.now.groups head first number }
     {
         let Some(brief) = shard.brief(head) else {
             return;
@@ -71,5 +99,17 @@ impl Whereabouts {
                 self.set(id, number);
             }
         }
+    }
+}
+
+// Inserts where there is room, which needs no memory.
+fn insert_reserved(shards: &mut HashMap<u64, u8>, span: u64, number: u8)
+    requires { 0 < hash.spare shards.old }
+    ensures updates { hash.Updates nat_eq shards.old shards.new span (Some number) }
+    ensures spare { hash.spare shards.old ≤ hash.spare shards.new + 1 }
+{
+    match shards.insert(span, number) {
+        Ok(_) => {}
+        Err(_) => unreachable!(),
     }
 }

@@ -64,7 +64,8 @@ HasChanges-all changes n found are long small = record {
   ];
 }
 
-moved : {X : Type 0} (xs ys : List X) (k : ℕ) (x : X) → IsPermutation xs ys → slice_get xs k ≡ Some x → (l : ℕ) × (slice_get ys l ≡ Some x)
+-- what stands in a list stands in one of the same elements in another order
+pub moved : {X : Type 0} (xs ys : List X) (k : ℕ) (x : X) → IsPermutation xs ys → slice_get xs k ≡ Some x → (l : ℕ) × (slice_get ys l ≡ Some x)
 moved xs ys k x permutation at =
     let there = Contains-permutation xs ys x permutation (k, slice_get_within xs k x at, get_or_from_slice_get xs k x x at) in
     (there.0, slice_get_read ys (length ys) there.0 x refl there.1 (sym there.2))

@@ -14,3 +14,4 @@ pub mod Sorting
 pub mod Entered
 pub mod Between
 pub mod Judging
+pub mod LogSearch

@@ -1,13 +1,14 @@
 -- A table of spans beside the calls that were passed: for each span the most changes that one of them left.
-use Rattle.std.proofs.Common.{◌≡◌, ℕ, ◌+◌, ◌-◌, ◌<◌, ◌≤◌, true, false, cond, List, length, set, get_or, Some, slice_get, sym, ap, subst, ◌∙◌, inl, inr, arith, get_or-set_same, get_or-set_other}
-use Rattle.std.proofs.lemmas.Bool.{cases_lt, cases_eq}
+use Rattle.std.proofs.Common.{◌≡◌, ℕ, ◌+◌, ◌-◌, ◌<◌, ◌≤◌, true, false, cond, List, [], length, set, get_or, Some, slice_get, sym, ap, subst, ◌∙◌, inl, inr, arith, get_or-set_same, get_or-set_other}
+use Rattle.std.proofs.lemmas.Bool.{cases_Bool, cases_lt, cases_eq}
 use Rattle.std.proofs.lemmas.Option.{same_Some, slice_get_cases, slice_get_within}
 use Rattle.span.specs.declared.receipt.Receipt.{Receipt}
-use Rattle.audit.proofs.LogTable.{same_rank}
-use Rattle.span.specs.Ids.{rank}
-use Rattle.audit.specs.Receipts.{changes_after, makes_change}
-use Rattle.audit.specs.Agreement.{IsInOrder}
-use Rattle.audit.specs.Order.{GoesBack, IsClear, IsLeftBelow, IsLeftFrom}
+use Rattle.span.specs.declared.span_log.SpanLog.{SpanLog}
+use Rattle.audit.proofs.LogTable.{log_of-past, place_in-le, place_in-same}
+use Rattle.audit.specs.Receipts.{changes_after, log_of, makes_change}
+use Rattle.audit.specs.Agreement.{ChangesHaveReceipts, IsInOrder, IsRightReply, RepliesAreRight}
+use Rattle.audit.specs.Order.{GoesBack, IsClear, IsLeftBelow, IsLeftFrom, LeaveNothing}
+use Rattle.audit.specs.Tables.{IsKnown, place_in}
 
 -- the calls before an index are in order
 abbrev pub IsInOrderBelow : List Receipt → ℕ → Type 0
@@ -23,17 +24,43 @@ changes_after-low r = elim (makes_change r) as (λ b. r.at ≤ cond b (r.at + 1)
 pub goes_back : (list : List Receipt) (i : ℕ) → GoesBack list i → IsInOrder list → ⊥
 goes_back list i back order = let p = (order back.0 i back.1 back.2 back.4 back.5 (omega (arith, back.3))).0 in omega (arith, back.6)
 
-pub too_early : (list : List Receipt) (n : ℕ) (left : List ℕ) (r : Receipt) → IsLeftBelow list n left → slice_get list n ≡ Some r
-    → r.at < get_or left (rank r.key.span) 0 → IsInOrder list → ⊥
-too_early list n left r is_left at early order = elim (is_left.from (rank r.key.span)) [
+-- two calls that the table has at one place are on one span: those on spans without a log leave nothing
+pub too_early : (logs : List SpanLog) (list : List Receipt) (n : ℕ) (left : List ℕ) (r : Receipt) → LeaveNothing logs list → IsLeftBelow logs list n left → slice_get list n ≡ Some r
+    → r.at < get_or left (place_in logs r.key.span) 0 → IsInOrder list → ⊥
+too_early logs list n left r nothing is_left at early order = elim (is_left.from (place_in logs r.key.span)) [
   | inl none ↦ omega arith
-  | inr w ↦
-      let p = (order w.0 n w.1 r w.3 at w.2).1 (same_rank w.1.key.span r.key.span w.4) in
-      omega (arith, w.5)
+  | inr w ↦ elim (cases_lt (place_in logs w.1.key.span) (length logs)) [
+    | inl has ↦
+        let p = (order w.0 n w.1 r w.3 at w.2).1 (place_in-same logs w.1.key.span r.key.span w.4 has) in
+        omega (arith, w.5)
+    | inr past ↦
+        let most = place_in-le logs w.1.key.span in
+        let none = nothing w.0 w.1 w.3 (log_of-past logs w.1.key.span (omega arith)) in
+        omega (arith, w.5)
+  ]
 ]
 
-module _ (list : List Receipt) (n : ℕ) (left : List ℕ) (r : Receipt) (is_left : IsLeftBelow list n left) (at : slice_get list n ≡ Some r)
-    (late : get_or left (rank r.key.span) 0 ≤ r.at) where
+-- a call that was answered right, and that makes the change of its place if it makes one, leaves nothing where there are no changes
+pub LeaveNothing-from : (logs : List SpanLog) (list : List Receipt) → ((i : ℕ) (r : Receipt) → slice_get list i ≡ Some r → IsRightReply logs r) → ((i : ℕ) (r : Receipt) → slice_get list i ≡ Some r → IsKnown logs r) → LeaveNothing logs list
+LeaveNothing-from logs list right known i r at none = elim (cases_Bool (makes_change r)) [
+  | inl makes ↦
+      let made = known i r at makes in
+      let within = slice_get_within (log_of logs r.key.span) r.at made.0 made.1 in
+      let empty : length (log_of logs r.key.span) ≡ 0 = ap length none in
+      absurd (omega arith)
+  | inr quiet ↦
+      let low = (right i r at).0 in
+      let empty : length (log_of logs r.key.span) ≡ 0 = ap length none in
+      let first : r.at ≡ 0 = omega arith in
+      ap (λ b. cond b (r.at + 1) r.at) quiet ∙ first
+]
+
+-- the same of the calls of each worker
+pub LeaveNothing-all : (logs : List SpanLog) (lists : List (List Receipt)) → ChangesHaveReceipts logs lists → RepliesAreRight logs lists → (w : ℕ) → LeaveNothing logs (get_or lists w [])
+LeaveNothing-all logs lists changes replies w = LeaveNothing-from logs (get_or lists w []) (λ i r at. replies w i r at) (λ i r at makes. changes.known w i r at makes)
+
+module _ (logs : List SpanLog) (list : List Receipt) (n : ℕ) (left : List ℕ) (r : Receipt) (is_left : IsLeftBelow logs list n left) (at : slice_get list n ≡ Some r)
+    (late : get_or left (place_in logs r.key.span) 0 ≤ r.at) where
   pub IsInOrderBelow-more : IsInOrderBelow list n → (GoesBack list n → ⊥) → IsInOrderBelow list (n + 1)
   IsInOrderBelow-more below forward i j a b at_i at_j less fits = elim (cases_lt j n) [
     | inl before ↦ below i j a b at_i at_j less before
@@ -50,7 +77,7 @@ module _ (list : List Receipt) (n : ℕ) (left : List ℕ) (r : Receipt) (is_lef
           | inr farther ↦ before_previous i a at_i (omega arith) below previous
         ] in
         subst (λ (c : Receipt). (a.section ≤ c.section) × (a.key.span ≡ c.key.span → changes_after a ≤ c.at)) same
-        (sections, λ spans. omega (arith, most, ap rank spans, ap (λ s. get_or left (rank s) 0) spans))
+        (sections, λ spans. omega (arith, most, ap (place_in logs) spans, ap (λ s. get_or left (place_in logs s) 0) spans))
   ]
     where
       before_previous : (i : ℕ) (a : Receipt) → slice_get list i ≡ Some a → i + 1 < n → IsInOrderBelow list n
@@ -63,32 +90,32 @@ module _ (list : List Receipt) (n : ℕ) (left : List ℕ) (r : Receipt) (is_lef
         | inr past ↦ absurd (let within = slice_get_within list n r at in omega (arith, past.0))
       ]
 
-module _ (list : List Receipt) (n : ℕ) (left : List ℕ) (r : Receipt) (is_left : IsLeftBelow list n left) (at : slice_get list n ≡ Some r) where
-  pub IsLeftBelow-more : rank r.key.span < length left → (after : ℕ) → after ≡ changes_after r → get_or left (rank r.key.span) 0 ≤ after → IsLeftBelow list (n + 1) (set left (rank r.key.span) after)
+module _ (logs : List SpanLog) (list : List Receipt) (n : ℕ) (left : List ℕ) (r : Receipt) (is_left : IsLeftBelow logs list n left) (at : slice_get list n ≡ Some r) where
+  pub IsLeftBelow-more : place_in logs r.key.span < length left → (after : ℕ) → after ≡ changes_after r → get_or left (place_in logs r.key.span) 0 ≤ after → IsLeftBelow logs list (n + 1) (set left (place_in logs r.key.span) after)
   IsLeftBelow-more inside after is rises = record {
     most = λ k a fits at_k. elim (cases_lt k n) [
-      | inl before ↦ elim (cases_eq (rank a.key.span) (rank r.key.span)) [
+      | inl before ↦ elim (cases_eq (place_in logs a.key.span) (place_in logs r.key.span)) [
         | inl same ↦
             let old = is_left.most k a before at_k in
-            let new : get_or (set left (rank r.key.span) after) (rank a.key.span) 0 ≡ after = rw same (get_or-set_same left (rank r.key.span) after 0 inside) in
-            let there : get_or left (rank a.key.span) 0 ≡ get_or left (rank r.key.span) 0 = ap (λ q. get_or left q 0) same in
+            let new : get_or (set left (place_in logs r.key.span) after) (place_in logs a.key.span) 0 ≡ after = rw same (get_or-set_same left (place_in logs r.key.span) after 0 inside) in
+            let there : get_or left (place_in logs a.key.span) 0 ≡ get_or left (place_in logs r.key.span) 0 = ap (λ q. get_or left q 0) same in
             omega arith
         | inr other ↦
             let old = is_left.most k a before at_k in
-            let new : get_or (set left (rank r.key.span) after) (rank a.key.span) 0 ≡ get_or left (rank a.key.span) 0 =
-            get_or-set_other left (rank r.key.span) (rank a.key.span) after 0 other in
+            let new : get_or (set left (place_in logs r.key.span) after) (place_in logs a.key.span) 0 ≡ get_or left (place_in logs a.key.span) 0 =
+            get_or-set_other left (place_in logs r.key.span) (place_in logs a.key.span) after 0 other in
             omega arith
       ]
       | inr high ↦
           let last : k ≡ n = omega arith in
           let same : r ≡ a = same_Some r a (sym at ∙ sym (ap (λ k. slice_get list k) last) ∙ at_k) in
-          subst (λ (c : Receipt). changes_after c ≤ get_or (set left (rank r.key.span) after) (rank c.key.span) 0) same
-          (let new = get_or-set_same left (rank r.key.span) after 0 inside in omega arith)
+          subst (λ (c : Receipt). changes_after c ≤ get_or (set left (place_in logs r.key.span) after) (place_in logs c.key.span) 0) same
+          (let new = get_or-set_same left (place_in logs r.key.span) after 0 inside in omega arith)
     ];
-    from = λ q. elim (cases_eq q (rank r.key.span)) [
-      | inl same ↦ inr (n, r, omega arith, at, sym same, sym is ∙ sym (ap (λ p. get_or (set left (rank r.key.span) after) p 0) same ∙ get_or-set_same left (rank r.key.span) after 0 inside))
+    from = λ q. elim (cases_eq q (place_in logs r.key.span)) [
+      | inl same ↦ inr (n, r, omega arith, at, sym same, sym is ∙ sym (ap (λ p. get_or (set left (place_in logs r.key.span) after) p 0) same ∙ get_or-set_same left (place_in logs r.key.span) after 0 inside))
       | inr other ↦
-          let new : get_or (set left (rank r.key.span) after) q 0 ≡ get_or left q 0 = get_or-set_other left (rank r.key.span) q after 0 other in
+          let new : get_or (set left (place_in logs r.key.span) after) q 0 ≡ get_or left q 0 = get_or-set_other left (place_in logs r.key.span) q after 0 other in
           elim (is_left.from q) [
             | inl none ↦ inl (new ∙ none)
             | inr w ↦ inr (w.0, w.1, omega (arith, w.2), w.3, w.4, w.5 ∙ sym new)
@@ -96,35 +123,35 @@ module _ (list : List Receipt) (n : ℕ) (left : List ℕ) (r : Receipt) (is_lef
     ];
   }
 
-pub none_passed : (list : List Receipt) (left : List ℕ) → ((q : ℕ) → get_or left q 0 ≡ 0) → IsLeftBelow list 0 left
-none_passed list left none = record { most = λ k r fits at. absurd (omega arith); from = λ q. inl (none q) }
+pub none_passed : (logs : List SpanLog) (list : List Receipt) (left : List ℕ) → ((q : ℕ) → get_or left q 0 ≡ 0) → IsLeftBelow logs list 0 left
+none_passed logs list left none = record { most = λ k r fits at. absurd (omega arith); from = λ q. inl (none q) }
 
 -- what the calls left is taken out of the table, call by call
-pub IsLeftFrom-all : (list : List Receipt) (n : ℕ) (left : List ℕ) → IsLeftBelow list n left → IsLeftFrom list 0 left
-IsLeftFrom-all list n left is q = elim (is.from q) [
+pub IsLeftFrom-all : (logs : List SpanLog) (list : List Receipt) (n : ℕ) (left : List ℕ) → IsLeftBelow logs list n left → IsLeftFrom logs list 0 left
+IsLeftFrom-all logs list n left is q = elim (is.from q) [
   | inl none ↦ inl none
   | inr w ↦ inr (w.0, w.1, omega arith, w.3, w.4)
 ]
 
-pub IsLeftFrom-more : (list : List Receipt) (n : ℕ) (left : List ℕ) (r : Receipt) → IsLeftFrom list n left → slice_get list n ≡ Some r → rank r.key.span < length left
-    → IsLeftFrom list (n + 1) (set left (rank r.key.span) 0)
-IsLeftFrom-more list n left r is at inside q = elim (cases_eq q (rank r.key.span)) [
-  | inl same ↦ inl (ap (λ p. get_or (set left (rank r.key.span) 0) p 0) same ∙ get_or-set_same left (rank r.key.span) 0 0 inside)
+pub IsLeftFrom-more : (logs : List SpanLog) (list : List Receipt) (n : ℕ) (left : List ℕ) (r : Receipt) → IsLeftFrom logs list n left → slice_get list n ≡ Some r → place_in logs r.key.span < length left
+    → IsLeftFrom logs list (n + 1) (set left (place_in logs r.key.span) 0)
+IsLeftFrom-more logs list n left r is at inside q = elim (cases_eq q (place_in logs r.key.span)) [
+  | inl same ↦ inl (ap (λ p. get_or (set left (place_in logs r.key.span) 0) p 0) same ∙ get_or-set_same left (place_in logs r.key.span) 0 0 inside)
   | inr other ↦
-      let stays : get_or (set left (rank r.key.span) 0) q 0 ≡ get_or left q 0 = get_or-set_other left (rank r.key.span) q 0 0 other in
+      let stays : get_or (set left (place_in logs r.key.span) 0) q 0 ≡ get_or left q 0 = get_or-set_other left (place_in logs r.key.span) q 0 0 other in
       elim (is q) [
         | inl none ↦ inl (stays ∙ none)
         | inr w ↦ elim (cases_eq w.0 n) [
           | inl last ↦
               let same : r ≡ w.1 = same_Some r w.1 (sym at ∙ sym (ap (λ k. slice_get list k) last) ∙ w.3) in
-              absurd (other (sym w.4 ∙ sym (ap (λ (x : Receipt). rank x.key.span) same)))
+              absurd (other (sym w.4 ∙ sym (ap (λ (x : Receipt). place_in logs x.key.span) same)))
           | inr later ↦ inr (w.0, w.1, omega (arith, w.2), w.3, w.4)
         ]
       ]
 ]
 
-pub IsClear-all : (list : List Receipt) (n : ℕ) (left : List ℕ) → IsLeftFrom list n left → length list ≤ n → IsClear left
-IsClear-all list n left is past q = elim (is q) [
+pub IsClear-all : (logs : List SpanLog) (list : List Receipt) (n : ℕ) (left : List ℕ) → IsLeftFrom logs list n left → length list ≤ n → IsClear left
+IsClear-all logs list n left is past q = elim (is q) [
   | inl none ↦ none
   | inr w ↦ let within = slice_get_within list w.0 w.1 w.3 in absurd (omega (arith, w.2))
 ]

@@ -8,7 +8,8 @@ use Rattle.audit.specs.declared.verdict.Verdict.{Verdict}
 use Rattle.audit.specs.declared.verdict.Verdict.TheVariants as verdict
 use Rattle.audit.specs.Agreement.{IsInOrder, IsRightReply}
 use Rattle.audit.specs.Slots.{AreBySlot}
-use Rattle.audit.specs.Tables.{IsTable, StandsBetween}
+use Rattle.audit.specs.Tables.{IsKnown, IsTable, StandsBetween}
+use Rattle.audit.specs.declared.log.LogPlaces.{LogPlaces}
 use Rattle.audit.specs.declared.slot.SlotChange.{SlotChange}
 
 -- each call of a worker was answered as its span's log says
@@ -19,8 +20,12 @@ IsRightList logs list = (i : ℕ) (receipt : Receipt) → slice_get list i ≡ S
 abbrev pub StandBetween : List SpanLog → List (List (Option ℕ)) → List Receipt → Type 0
 StandBetween logs rows list = (i : ℕ) (receipt : Receipt) → slice_get list i ≡ Some receipt → StandsBetween logs rows receipt
 
+-- each call of a worker that makes a change makes that of its place
+abbrev pub AreKnown : List SpanLog → List Receipt → Type 0
+AreKnown logs list = (i : ℕ) (receipt : Receipt) → slice_get list i ≡ Some receipt → IsKnown logs receipt
+
 -- the tables are those of the logs, with a row for each
-pub record AreRecords (logs : List SpanLog) (table : List (Option ℕ)) (rows : List (List (Option ℕ))) (orders : List (List SlotChange)) : Type 0 where
+pub record AreRecords (logs : List SpanLog) (table : LogPlaces) (rows : List (List (Option ℕ))) (orders : List (List SlotChange)) : Type 0 where
   pub table_is : IsTable logs table
   pub rows_len : length rows ≡ length logs
   pub orders_len : length orders ≡ length logs

@@ -1,24 +1,45 @@
 -- The tables of an audit: where each span's log stands, and which section made each change. No public clause cites this module.
-use Rattle.std.specs.Prelude.{◌≡◌, ℕ, ◌-◌, ◌<◌, ◌≤◌, Bool, true, false, Option, Some, None, List, [], length, slice_get, slice_index_or}
+use Rattle.std.specs.Prelude.{◌≡◌, ℕ, ◌+◌, ◌-◌, ◌<◌, ◌≤◌, Bool, true, false, Option, Some, None, List, [], ◌∷◌, length, suc, if◌then◌else◌, slice_get, slice_index_or}
 use Rattle.span.specs.declared.change.Change.{Change}
 use Rattle.span.specs.declared.id.SpanId.{SpanId}
 use Rattle.span.specs.declared.receipt.Receipt.{Receipt}
-use Rattle.span.specs.Ids.{rank}
+use Rattle.span.specs.Ids.{rank, same_span}
+use Rattle.std.specs.List.Sorted.{IsNonDecreasingBy, IsPermutation}
 use Rattle.span.specs.KeptLogs.{kept_changes}
 use Rattle.span.specs.declared.span_log.SpanLog.{SpanLog}
 use Rattle.audit.specs.Receipts.{log_of, makes_change}
 use Rattle.audit.specs.Agreement.{CallMakes}
-use Rattle.span.specs.declared.limits.TheConstants.{ALL_IDS}
+use Rattle.audit.specs.declared.log.LogPlace.{LogPlace}
+use Rattle.audit.specs.declared.log.LogPlaces.{LogPlaces}
 
--- of the first logs, at the rank of each span the index of its log, and nothing at the rank of a span without one
-pub record IsTableBelow (logs : List SpanLog) (n : ℕ) (table : List (Option ℕ)) : Type 0 where
-  pub len : length table ≡ ALL_IDS
-  pub here : (span : SpanId) (j : ℕ) → slice_index_or table (rank span) None ≡ Some j → (j < n) × (log : SpanLog) × (slice_get logs j ≡ Some log) × (log.span ≡ span)
-  pub all : (j : ℕ) (log : SpanLog) → j < n → slice_get logs j ≡ Some log → slice_index_or table (rank log.span) None ≡ Some j
+-- each place is that of a span's log, and each log has its place
+pub record ArePlaces (logs : List SpanLog) (places : List LogPlace) : Type 0 where
+  pub only : (k : ℕ) (place : LogPlace) → slice_get places k ≡ Some place → (log : SpanLog) × (slice_get logs place.log ≡ Some log) × (log.span ≡ place.span)
+  pub all : (j : ℕ) (log : SpanLog) → slice_get logs j ≡ Some log → (k : ℕ) × (place : LogPlace) × (slice_get places k ≡ Some place) × (place.log ≡ j)
+  pub once : (i j : ℕ) (d : LogPlace) → i < j → j < length places → (slice_index_or places i d).log ≡ (slice_index_or places j d).log → ⊥
 
--- the same of all logs
-abbrev pub IsTable : List SpanLog → List (Option ℕ) → Type 0
-IsTable logs table = IsTableBelow logs (length logs) table
+-- the same places, by the ranks of their spans
+pub record AreSortedFrom (old new : List LogPlace) : Type 0 where
+  pub permutation : IsPermutation old new
+  pub sorted : IsNonDecreasingBy (λ place. rank place.span) new
+
+-- each span comes after the one before it
+abbrev pub AreByRank : List LogPlace → Type 0
+AreByRank places = (i j : ℕ) (d : LogPlace) → i < j → j < length places → rank (slice_index_or places i d).span < rank (slice_index_or places j d).span
+
+-- a span stands at two places, one behind the other
+abbrev pub HasTwice : List LogPlace → Type 0
+HasTwice places = (k : ℕ) × (k + 1 < length places) × ((d : LogPlace) → same_span (slice_index_or places k d).span (slice_index_or places (k + 1) d).span ≡ true)
+
+-- the places of all logs, by the ranks of their spans
+pub record IsTable (logs : List SpanLog) (table : LogPlaces) : Type 0 where
+  pub places_are : ArePlaces logs table.by_rank.items
+  pub sorted : AreByRank table.by_rank.items
+
+-- where the span's log stands, or how many logs there are, if it has none
+abbrev pub place_in : List SpanLog → SpanId → ℕ
+place_in [] span = 0
+place_in (log ∷ logs) span = if same_span log.span span then 0 else suc (place_in logs span)
 
 -- no log is the span's
 abbrev pub HasNoLog : List SpanLog → SpanId → Type 0

@@ -6,14 +6,14 @@ ghost use Rattle.span.specs.declared.receipt.Receipt.{Receipt};
 ghost use Rattle.audit.specs.Agreement.{RepliesAreRight, SectionsAreInOrder};
 ghost use Rattle.audit.specs.Tables.{AreEntered, AreFull, IsTable, StandsBetween};
 
-use crate::log::index_of;
+use crate::log::{LogPlaces, index_of};
 use crate::section::is_between;
 use span::{ReceiptList, ReceiptView, SpanLog};
 
 // Whether the call's section stands between those of the changes at its place.
 fn stands_between(
     logs: &[SpanLog],
-    table: &[Option<usize>],
+    table: &LogPlaces,
     rows: &[Vec<Option<u64>>],
     receipt: &ReceiptView<'_>,
 ) -> bool
@@ -31,7 +31,7 @@ fn stands_between(
 /// The same of each call of a worker.
 pub fn stand_between(
     logs: &[SpanLog],
-    table: &[Option<usize>],
+    table: &LogPlaces,
     rows: &[Vec<Option<u64>>],
     list: &ReceiptList,
 ) -> bool
@@ -53,7 +53,7 @@ pub fn stand_between(
 /// that of the change at its place.
 pub fn sections_are_in_order(
     logs: &[SpanLog],
-    table: &[Option<usize>],
+    table: &LogPlaces,
     rows: &[Vec<Option<u64>>],
     lists: &[ReceiptList],
 ) -> bool

@@ -1,7 +1,7 @@
 // The audit by threads.
 ghost use Rattle.std.specs.Prelude.{◌<◌, IfErr, IfOk, MatchOption, OnOk, [], length, map, slice_index_or, vec_items};
 ghost use Rattle.span.specs.ReceiptLists.{kept_receipts};
-ghost use Rattle.audit.specs.Agreement.{Agreement};
+ghost use Rattle.audit.specs.Agreement.{Agreement, ChangesHaveReceipts};
 ghost use Rattle.audit.specs.Faults.{FailsFirst, IsAuditError};
 ghost use Rattle.audit.specs.History.{HaveHistories};
 ghost use Rattle.audit.specs.Judged.{AreRecords, AreVerdicts, IsVerdict};
@@ -23,6 +23,7 @@ fn verdict_at(alloc: Global, records: &Records, lists: &[ReceiptList], w: usize)
     requires records { AreRecords records.now.logs.now records.now.table.now
         (map vec_items records.now.sections.now) (map vec_items records.now.orders.now) }
     requires inside { w < length lists.now }
+    requires changes { ChangesHaveReceipts records.now.logs.now (map kept_receipts lists.now) }
     ensures { IsVerdict records.now.logs.now (map vec_items records.now.sections.now)
         (slice_index_or (map kept_receipts lists.now) w []) result }
 {
@@ -36,8 +37,9 @@ fn verdicts_of<R: Threads + Sync>(
     records: &Records,
     lists: &[ReceiptList],
 ) -> Result<Vec<Verdict>, AllocError>
-    requires { AreRecords records.now.logs.now records.now.table.now
+    requires records { AreRecords records.now.logs.now records.now.table.now
         (map vec_items records.now.sections.now) (map vec_items records.now.orders.now) }
+    requires changes { ChangesHaveReceipts records.now.logs.now (map kept_receipts lists.now) }
     ensures { IfOk result (λ verdicts. AreVerdicts records.now.logs.now
         (map vec_items records.now.sections.now) (map kept_receipts lists.now) verdicts.items) }
 {
@@ -48,7 +50,8 @@ fn verdicts_of<R: Threads + Sync>(
         &|w: usize| -> Verdict
             requires { (w < length lists.now) × AreRecords records.now.logs.now
                 records.now.table.now (map vec_items records.now.sections.now)
-                (map vec_items records.now.orders.now) }
+                (map vec_items records.now.orders.now)
+                × ChangesHaveReceipts records.now.logs.now (map kept_receipts lists.now) }
             ensures { IsVerdict records.entry.now.logs.now
                 (map vec_items records.entry.now.sections.now)
                 (slice_index_or (map kept_receipts lists.entry.now) w []) result }
@@ -71,8 +74,7 @@ fn first_fault<R: Threads + Sync>(
     let Some(table) = table_of_legal(alloc, logs)? else {
         return Ok(Some(AuditCause::Log));
     };
-    let table = table.as_slice();
-    let Some(sections) = sections_of_changes(alloc, logs, table, receipts)? else {
+    let Some(sections) = sections_of_changes(alloc, logs, &table, receipts)? else {
         return Ok(Some(AuditCause::Change));
     };
     let sections = sections.as_slice();
@@ -81,7 +83,7 @@ fn first_fault<R: Threads + Sync>(
     let firsts = Firsts::of(alloc, orders)?;
     let records = Records {
         logs,
-        table,
+        table: &table,
         sections,
         orders,
         firsts: &firsts,

@@ -1,25 +1,12 @@
 // What a receipt says of its call, as numbers and tests.
 ghost use Rattle.std.specs.Prelude.{◌≡◌, ◌↔◌, ◌<◌, IsTrue, option_map};
-ghost use Rattle.span.specs.Ids.{rank};
 ghost use Rattle.span.specs.ReceiptViews.{call_viewed, receipt_viewed};
 ghost use Rattle.span.specs.Views.{viewed};
 ghost use Rattle.audit.specs.Receipts.{changes_after, makes_change};
 ghost use Rattle.audit.specs.Agreement.{CallMakes};
 ghost use Rattle.audit.specs.Changes.{slot_of, left_by, generation_of, issued_by};
-ghost use Rattle.span.specs.declared.limits.TheConstants.{ALL_IDS};
 
-use span::{ALL_IDS, CallView, ChangeView, Key, ReceiptView, SpanId};
-
-/// How many spans there can be.
-pub const SPANS: usize = ALL_IDS as usize;
-
-/// The place of a span in a table of all spans.
-pub fn place_of(span: SpanId) -> usize
-    ensures place { result ≡ rank span }
-    ensures in_range { result < ALL_IDS }
-{
-    span.rank() as usize
-}
+use span::{CallView, ChangeView, Key, ReceiptView};
 
 /// Whether the call makes a change: a put does, and a set and a free that were done.
 pub fn makes_change(receipt: &ReceiptView<'_>) -> bool

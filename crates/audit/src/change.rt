@@ -9,7 +9,7 @@ ghost use Rattle.audit.specs.Agreement.{ChangesHaveReceipts};
 ghost use Rattle.audit.specs.Tables.{AreEntered, AreFull, HasMade, IsKnown, IsLogAt, IsTable, WereEntered};
 
 use crate::calls::{call_makes, makes_change};
-use crate::log::index_of;
+use crate::log::{LogPlaces, index_of};
 use crate::section::{are_full, empty_rows, mark};
 use span::{Kept, Log, ReceiptList, ReceiptView, SpanLog};
 use std::alloc::{AllocError, Global};
@@ -25,11 +25,7 @@ fn makes_at(log: &Kept, receipt: &ReceiptView<'_>) -> bool
 }
 
 // The index of the log that has the call's change, if one has.
-fn log_with_change(
-    logs: &[SpanLog],
-    table: &[Option<usize>],
-    receipt: &ReceiptView<'_>,
-) -> Option<usize>
+fn log_with_change(logs: &[SpanLog], table: &LogPlaces, receipt: &ReceiptView<'_>) -> Option<usize>
     requires table { IsTable logs.now table.now }
     requires makes { makes_change (receipt_viewed receipt.now) ≡ true }
     ensures within { IfSome result (λ j. j < length logs.now) }
@@ -49,7 +45,7 @@ fn log_with_change(
 // of its place.
 fn enter(
     logs: &[SpanLog],
-    table: &[Option<usize>],
+    table: &LogPlaces,
     rows: &mut Vec<Vec<Option<u64>>>,
     receipt: &ReceiptView<'_>,
 ) -> bool
@@ -73,7 +69,7 @@ fn enter(
 // The same of the receipts of a worker.
 fn enter_list(
     logs: &[SpanLog],
-    table: &[Option<usize>],
+    table: &LogPlaces,
     rows: &mut Vec<Vec<Option<u64>>>,
     list: &ReceiptList,
 ) -> bool
@@ -96,7 +92,7 @@ fn enter_list(
 // The same of the receipts of all workers.
 fn enter_lists(
     logs: &[SpanLog],
-    table: &[Option<usize>],
+    table: &LogPlaces,
     rows: &mut Vec<Vec<Option<u64>>>,
     lists: &[ReceiptList],
 ) -> bool
@@ -120,7 +116,7 @@ fn enter_lists(
 pub fn sections_of_changes(
     alloc: Global,
     logs: &[SpanLog],
-    table: &[Option<usize>],
+    table: &LogPlaces,
     lists: &[ReceiptList],
 ) -> Result<Option<Vec<Vec<Option<u64>>>>, AllocError>
     requires { IsTable logs.now table.now }

@@ -71,17 +71,16 @@ fn first_fault(
     let Some(table) = table_of_legal(alloc, logs)? else {
         return Ok(Some(AuditCause::Log));
     };
-    let table = table.as_slice();
-    let Some(sections) = sections_of_changes(alloc, logs, table, receipts)? else {
+    let Some(sections) = sections_of_changes(alloc, logs, &table, receipts)? else {
         return Ok(Some(AuditCause::Change));
     };
-    if !replies_are_right(alloc, logs, table, receipts)? {
+    if !replies_are_right(alloc, logs, &table, receipts)? {
         return Ok(Some(AuditCause::Reply));
     }
-    if !workers_are_in_order(alloc, receipts)? {
+    if !workers_are_in_order(alloc, logs, &table, receipts)? {
         return Ok(Some(AuditCause::Order));
     }
-    if !sections_are_in_order(logs, table, sections.as_slice(), receipts) {
+    if !sections_are_in_order(logs, &table, sections.as_slice(), receipts) {
         return Ok(Some(AuditCause::Barrier));
     }
     Ok(None)

@@ -11,7 +11,7 @@ ghost use Rattle.audit.specs.Changes.{AreAfter, AreIssued};
 ghost use Rattle.audit.specs.Tables.{IsTable};
 
 use crate::calls::{generation_left_by, issued_by, slot_of};
-use crate::log::table_of;
+use crate::log::{LogPlaces, table_of};
 use bitmap::SLOTS;
 use span::{ChangeView, Class, Kept, Log, SpanLog};
 use std::alloc::{AllocError, Global};
@@ -124,12 +124,9 @@ fn logs_are_legal(logs: &[SpanLog]) -> bool
 }
 
 /// The table of the logs, where no span has two logs and each is legal.
-pub fn table_of_legal(
-    alloc: Global,
-    logs: &[SpanLog],
-) -> Result<Option<Vec<Option<usize>>>, AllocError>
+pub fn table_of_legal(alloc: Global, logs: &[SpanLog]) -> Result<Option<LogPlaces>, AllocError>
     ensures { IfOk result (λ table. MatchOption table (LogsAreLegal logs.now → ⊥)
-        (λ table. LogsAreLegal logs.now × IsTable logs.now table.items)) }
+        (λ table. LogsAreLegal logs.now × IsTable logs.now table)) }
 {
     let Some(table) = table_of(alloc, logs)? else {
         return Ok(None);

@@ -1,5 +1,6 @@
 // What the calls of a worker are held against.
 use crate::first::Firsts;
+use crate::log::LogPlaces;
 use crate::slot::SlotChange;
 use span::SpanLog;
 
@@ -9,7 +10,7 @@ use span::SpanLog;
 pub struct Records<'a> {
     pub logs: &'a [SpanLog],
     /// Where each span's log stands.
-    pub table: &'a [Option<usize>],
+    pub table: &'a LogPlaces,
     /// The section of each change of each log.
     pub sections: &'a [Vec<Option<u64>>],
     /// The changes of each log by slot.

@@ -13,7 +13,7 @@ ghost use Rattle.audit.specs.Slots.{AreBySlot, IsBySlot};
 ghost use Rattle.audit.specs.Tables.{IsTable};
 
 use crate::first::Firsts;
-use crate::log::index_of;
+use crate::log::{LogPlaces, index_of};
 use crate::slot::{SlotChange, all_by_slot, last_before};
 use span::{CallView, ChangeView, Kept, Key, Log, ReceiptList, ReceiptView, SpanLog};
 use std::alloc::{AllocError, Global};
@@ -108,7 +108,7 @@ fn is_answered_after(
 // Whether the call stands at a place of its span's log and was answered as the changes before it say.
 fn is_right_reply(
     logs: &[SpanLog],
-    table: &[Option<usize>],
+    table: &LogPlaces,
     orders: &[Vec<SlotChange>],
     firsts: &Firsts,
     receipt: &ReceiptView<'_>,
@@ -138,7 +138,7 @@ fn is_right_reply(
 /// Whether each call of a worker was answered as its span's log says.
 pub fn list_is_right(
     logs: &[SpanLog],
-    table: &[Option<usize>],
+    table: &LogPlaces,
     orders: &[Vec<SlotChange>],
     firsts: &Firsts,
     list: &ReceiptList,
@@ -160,7 +160,7 @@ pub fn list_is_right(
 // The same of each worker.
 fn lists_are_right(
     logs: &[SpanLog],
-    table: &[Option<usize>],
+    table: &LogPlaces,
     orders: &[Vec<SlotChange>],
     firsts: &Firsts,
     lists: &[ReceiptList],
@@ -182,7 +182,7 @@ fn lists_are_right(
 pub fn replies_are_right(
     alloc: Global,
     logs: &[SpanLog],
-    table: &[Option<usize>],
+    table: &LogPlaces,
     lists: &[ReceiptList],
 ) -> Result<bool, AllocError>
     requires { IsTable logs.now table.now }

@@ -1,7 +1,7 @@
 // What comes of the calls of one worker, where logs and changes are right.
 ghost use Rattle.std.specs.Prelude.{◌≡◌, ◌<◌, IfOk, IsTrue, ℕ, false, length, map, vec_items};
 ghost use Rattle.span.specs.ReceiptLists.{kept_receipts};
-ghost use Rattle.audit.specs.Judged.{AreRecords, HasVerdict, IsFirstCause, IsVerdict};
+ghost use Rattle.audit.specs.Judged.{AreKnown, AreRecords, HasVerdict, IsFirstCause, IsVerdict};
 ghost use Rattle.audit.specs.declared.fault.AuditCause.{AuditCause};
 
 use crate::barrier::stand_between;
@@ -24,8 +24,9 @@ pub enum Verdict {
 
 /// What comes of the calls of one worker. It needs no other list.
 pub fn verdict_of(alloc: Global, records: &Records, list: &ReceiptList) -> Verdict
-    requires { AreRecords records.now.logs.now records.now.table.now
+    requires records { AreRecords records.now.logs.now records.now.table.now
         (map vec_items records.now.sections.now) (map vec_items records.now.orders.now) }
+    requires known { AreKnown records.now.logs.now (kept_receipts list.now) }
     ensures { IsVerdict records.now.logs.now (map vec_items records.now.sections.now)
         (kept_receipts list.now) result }
 {
@@ -33,7 +34,7 @@ pub fn verdict_of(alloc: Global, records: &Records, list: &ReceiptList) -> Verdi
     if !list_is_right(logs, table, records.orders, records.firsts, list) {
         return Verdict::Reply;
     }
-    let Ok(in_order) = list_is_in_order(alloc, list) else {
+    let Ok(in_order) = list_is_in_order(alloc, logs, table, list) else {
         return Verdict::OutOfMemory;
     };
     if !in_order {

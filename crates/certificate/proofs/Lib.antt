@@ -1,13 +1,14 @@
 pub mod Digits
 pub mod Duality
-pub mod IdSets
 pub mod Items
 pub mod LinesLeft
 pub mod Members
 pub mod PartnersFilter
+pub mod Places
 pub mod ReadAgain
 pub mod Rereading
 pub mod Spelling
 pub mod Split
 pub mod Verdicts
 pub mod Written
+pub mod Within

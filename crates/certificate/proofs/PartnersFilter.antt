@@ -1,57 +1,37 @@
 -- The partners of a short set, group by group.
 use Rattle.std.proofs.Common.{◌≡◌, ℕ, ◌+◌, ◌<◌, ◌==◌, ◌&&◌, ◌||◌, Bool, true, false, cond, List, [], ◌∷◌, ◌++◌, length, map, take, count_by, get_or, ap, refl, sym, ◌∙◌, zero, suc, inl, inr, arith}
-use Rattle.std.specs.List.{filter, list_any}
-use Rattle.std.proofs.lemmas.Bool.{cases_Bool}
+use Rattle.std.specs.List.{filter, flat_map, list_any}
+use Rattle.std.proofs.Math.Numerals.{add-one}
+use Rattle.std.proofs.Math.Seq.{take-suc}
+use Rattle.std.proofs.lemmas.Bool.{cases_Bool, or_parts}
+use Rattle.std.proofs.lemmas.Grind.{flat_map-append}
 use Rattle.std.proofs.lemmas.List.{append-nil, length-map, map-append}
+use Rattle.std.proofs.lemmas.List.Concat.{flat_map-cons}
 use Rattle.std.proofs.lemmas.List.Elements.{filter_more}
+use Rattle.std.proofs.lemmas.List.Folds.{list_any-append, list_any_none}
 use Rattle.std.proofs.lemmas.List.Sums.{sum_by-cons}
 use Rattle.span.specs.declared.id.SpanId.{SpanId}
-use Rattle.bitmap.specs.Slots.{has_bit}
 use Rattle.span.specs.Classes.{width_of}
-use Rattle.span.specs.Ids.{rank, same_span}
+use Rattle.span.specs.Ids.{same_span}
 use Rattle.span.specs.declared.class.Class.{Class}
-use Rattle.certificate.specs.Chosen.{fits_some, has_chosen, is_member, members_in}
+use Rattle.certificate.specs.Chosen.{fits_any, fits_some, fits_with, is_member, members_in, sets_of}
 use Rattle.certificate.specs.declared.partner.Members.{Members}
 use Rattle.span.specs.declared.entry.Entry.{Entry}
-use Rattle.mesh_graph.specs.Groups.{Groups, IsAscending, any_compatible, ids}
+use Rattle.mesh_graph.specs.Groups.{Groups, IsAscending, any_compatible, has_id, ids}
 use Rattle.span.specs.Entries.{are_compatible}
 use Rattle.lane_kernels.specs.Disjoint.{are_disjoint}
 use Rattle.mesh_graph.proofs.Entries.{any_at}
 use Rattle.certificate.specs.Plans.{partners_of, sides_of}
+use Rattle.certificate.proofs.Places.{IsAscending-drop, place-same}
 use Rattle.certificate.proofs.Verdicts.{tells_span}
-
-none-at-all : {X : Type 0} (q : X → Bool) (xs : List X) → list_any (λ x. false && q x) xs ≡ false
-none-at-all q [] = refl
-none-at-all q (x ∷ xs) = none-at-all q xs
-
-any-or : {X : Type 0} (p r q : X → Bool) (xs : List X) → (list_any (λ x. p x && q x) xs || list_any (λ x. r x && q x) xs) ≡ list_any (λ x. (p x || r x) && q x) xs
-any-or p r q [] = refl
-any-or p r q (x ∷ xs) = swap (p x) (r x) (q x) (list_any (λ y. p y && q y) xs) (list_any (λ y. r y && q y) xs) ∙ ap (λ b. (p x || r x) && q x || b) (any-or p r q xs)
-  where
-    swap : (a b c m n : Bool) → ((a && c || m) || (b && c || n)) ≡ ((a || b) && c || (m || n))
-    swap true true true m n = refl
-    swap true false true m n = refl
-    swap false true true true n = refl
-    swap false true true false n = refl
-    swap false false true m n = refl
-    swap true true false m n = refl
-    swap true false false m n = refl
-    swap false true false m n = refl
-    swap false false false m n = refl
-
--- some member of the one list with some member of the other, in either order
-any-turned : {X K : Type 0} (p : X → K → Bool) (q : X → Bool) (xs : List X) (ks : List K) → list_any (λ k. list_any (λ x. p x k && q x) xs) ks ≡ list_any (λ x. list_any (p x) ks && q x) xs
-any-turned p q xs [] = sym (none-at-all q xs)
-any-turned p q xs (k ∷ ks) = ap (λ b. list_any (λ x. p x k && q x) xs || b) (any-turned p q xs ks) ∙ any-or (λ x. p x k) (λ x. list_any (p x) ks) q xs
 
 -- whether an owned group is a partner: some abandoned group of the short set is compatible with it
 pub is_partner-at : (s : Groups) (short : List SpanId) (j : ℕ) (y : Entry) → IsAscending (ids s.owned) → j < length s.owned → y ≡ get_or s.owned j y
-    → list_any (λ a. any_compatible s a y.id) short ≡ list_any (λ x. list_any (same_span x.id) short && are_compatible x y) s.abandoned
+    → list_any (λ a. any_compatible s a y.id) short ≡ fits_any s.abandoned short y
 is_partner-at s short j y up l is =
     let itself : same_span (get_or s.owned j y).id y.id ≡ true = ap (λ (z : Entry). same_span z.id y.id) (sym is) ∙ tells_span.itself y.id in
     let inner : (x : Entry) → list_any (λ z. same_span z.id y.id && are_compatible x z) s.owned ≡ are_compatible x y = λ x. any_at s.owned y.id (are_compatible x) j y up l itself ∙ ap (are_compatible x) (sym is) in
     (λ k. list_any (λ a. list_any (λ x. same_span x.id a && inner x k) s.abandoned) short)
-    ∙ any-turned (λ x a. same_span x.id a) (λ x. are_compatible x y) s.abandoned short
 
 -- a filter of what a list is mapped to, where the tests agree on its members
 filter-map : {X K : Type 0} (test : K → Bool) (f : X → K) (own : X → Bool) (xs : List X) → ((j : ℕ) (x : X) → j < length xs → x ≡ get_or xs j x → test (f x) ≡ own x) → filter test (map f xs) ≡ map f (filter own xs)
@@ -84,24 +64,77 @@ any-map : {X Y : Type 0} (test : Y → Bool) (f : X → Y) (xs : List X) → lis
 any-map test f [] = refl
 any-map test f (x ∷ xs) = ap (λ b. test (f x) || b) (any-map test f xs)
 
--- whether a group is compatible with some group whose id is in the set, by the sets of those of its class
-fits_some-members : (members : Members) (words : List ℕ) (abandoned : List Entry) → ((class : Class) → members_in members class ≡ map (λ x. x.occupied) (filter (is_member words class) abandoned))
-    → (y : Entry) → fits_some members y ≡ has_chosen words abandoned y
-fits_some-members members words abandoned are y =
+any-flat_map : {X Y : Type 0} (test : Y → Bool) (f : X → List Y) (xs : List X) → list_any test (flat_map f xs) ≡ list_any (λ x. list_any test (f x)) xs
+any-flat_map test f [] = refl
+any-flat_map test f (x ∷ xs) =
+    ap (list_any test) (flat_map-cons f x xs) ∙ list_any-append test (f x) (flat_map f xs)
+    ∙ ap (λ b. list_any test (f x) || b) (any-flat_map test f xs)
+
+-- whether a group is compatible with a group of one of the ids, by the sets of those of its class
+pub fits_some-members : (members : Members) (abandoned : List Entry) (chosen : List SpanId) → ((class : Class) → members_in members class ≡ flat_map (sets_of abandoned class) chosen)
+    → (y : Entry) → fits_some members y ≡ fits_any abandoned chosen y
+fits_some-members members abandoned chosen are y =
     ap (list_any (λ x. are_disjoint x y.occupied)) (are y.class)
-    ∙ any-map (λ x. are_disjoint x y.occupied) (λ (x : Entry). x.occupied) (filter (is_member words y.class) abandoned)
-    ∙ any-filter (is_member words y.class) (λ x. are_disjoint x.occupied y.occupied) abandoned
-    ∙ (λ k. list_any (λ x. turned (width_of x.class == width_of y.class) (has_bit words (rank x.id)) (are_disjoint x.occupied y.occupied) k) abandoned)
+    ∙ any-flat_map (λ x. are_disjoint x y.occupied) (sets_of abandoned y.class) chosen
+    ∙ (λ k. list_any (λ id. of_id id k) chosen)
   where
-    turned : (a b c : Bool) → ((a && b) && c) ≡ (b && (a && c))
-    turned true b c = refl
-    turned false true c = refl
-    turned false false c = refl
+    grouped : (a b c : Bool) → ((a && b) && c) ≡ (a && (b && c))
+    grouped true b c = refl
+    grouped false b c = refl
+
+    of_id : (id : SpanId) → list_any (λ x. are_disjoint x y.occupied) (sets_of abandoned y.class id) ≡ fits_with abandoned id y
+    of_id id =
+        any-map (λ x. are_disjoint x y.occupied) (λ (x : Entry). x.occupied) (filter (is_member y.class id) abandoned)
+        ∙ any-filter (is_member y.class id) (λ x. are_disjoint x.occupied y.occupied) abandoned
+        ∙ (λ k. list_any (λ x. grouped (same_span x.id id) (width_of x.class == width_of y.class) (are_disjoint x.occupied y.occupied) k) abandoned)
 
 -- the groups that are
-pub filter-members : (members : Members) (words : List ℕ) (abandoned owned : List Entry) → ((class : Class) → members_in members class ≡ map (λ x. x.occupied) (filter (is_member words class) abandoned))
-    → filter (fits_some members) owned ≡ filter (λ y. has_chosen words abandoned y) owned
-filter-members members words abandoned owned are k = filter (λ y. fits_some-members members words abandoned are y k) owned
+pub filter-members : (members : Members) (abandoned owned : List Entry) (chosen : List SpanId) → ((class : Class) → members_in members class ≡ flat_map (sets_of abandoned class) chosen)
+    → filter (fits_some members) owned ≡ filter (λ y. fits_any abandoned chosen y) owned
+filter-members members abandoned owned chosen are k = filter (λ y. fits_some-members members abandoned chosen are y k) owned
+
+-- the sets of the class of a group's id: none where no group has it
+pub sets_of-none : (abandoned : List Entry) (class : Class) (id : SpanId) → has_id abandoned id ≡ false → sets_of abandoned class id ≡ []
+sets_of-none [] class id none = refl
+sets_of-none (x ∷ xs) class id none =
+    let p : (same_span x.id id ≡ false) × (has_id xs id ≡ false) = or_parts (same_span x.id id) (list_any (λ (y : Entry). same_span y.id id) xs) none in
+    rw p.0 (sets_of-none xs class id p.1)
+
+-- and that of the one that has it, where that is of the class
+pub sets_of-at : (abandoned : List Entry) (class : Class) (id : SpanId) (p : ℕ) (x : Entry) → IsAscending (ids abandoned) → p < length abandoned → x ≡ get_or abandoned p x → same_span x.id id ≡ true
+    → sets_of abandoned class id ≡ cond (width_of x.class == width_of class) (x.occupied ∷ []) []
+sets_of-at [] class id p x up within is same = absurd (omega arith)
+sets_of-at (y ∷ ys) class id zero x up within is same =
+    let here : x ≡ y = is in
+    let first : same_span y.id id ≡ true = ap (λ (z : Entry). same_span z.id id) (sym here) ∙ same in
+    let others : has_id ys id ≡ false = list_any_none (λ (z : Entry). same_span z.id id) ys (λ k d low. later k d low first) in
+    let whole : sets_of (y ∷ ys) class id ≡ cond (width_of y.class == width_of class) (y.occupied ∷ []) [] = rw first (by_class (width_of y.class == width_of class) (sets_of-none ys class id others)) in
+    whole ∙ (λ t. cond (width_of (sym here t).class == width_of class) ((sym here t).occupied ∷ []) [])
+  where
+    later : (k : ℕ) (d : Entry) → k < length ys → same_span y.id id ≡ true → same_span (get_or ys k d).id id ≡ false
+    later k d low first = elim (cases_Bool (same_span (get_or ys k d).id id)) [
+      | inl one ↦ absurd (let e : 0 ≡ suc k = place-same (y ∷ ys) id 0 (suc k) y d up (omega arith) (omega arith) first one in omega arith)
+      | inr other ↦ other
+    ]
+
+    by_class : (b : Bool) → map (λ (z : Entry). z.occupied) (filter (is_member class id) ys) ≡ [] → map (λ (z : Entry). z.occupied) (cond b (y ∷ filter (is_member class id) ys) (filter (is_member class id) ys)) ≡ cond b (y.occupied ∷ []) []
+    by_class true none = ap (λ l. y.occupied ∷ l) none
+    by_class false none = none
+sets_of-at (y ∷ ys) class id (suc p) x up within is same =
+    let apart : same_span y.id id ≡ false = elim (cases_Bool (same_span y.id id)) [
+      | inl one ↦ absurd (let e : 0 ≡ suc p = place-same (y ∷ ys) id 0 (suc p) y x up (omega arith) within one (ap (λ (z : Entry). same_span z.id id) (sym is) ∙ same) in omega arith)
+      | inr other ↦ other
+    ] in
+    rw apart (sets_of-at ys class id p x (IsAscending-drop 1 (y ∷ ys) up) (omega arith) is same)
+
+-- one more id
+pub sets_of-next : (abandoned : List Entry) (class : Class) (chosen : List SpanId) (k : ℕ) (id : SpanId) → k < length chosen → id ≡ get_or chosen k id
+    → flat_map (sets_of abandoned class) (take k chosen) ++ sets_of abandoned class id ≡ flat_map (sets_of abandoned class) (take (k + 1) chosen)
+sets_of-next abandoned class chosen k id low is =
+    sym (
+    ap (flat_map (sets_of abandoned class)) (ap (λ n. take n chosen) (add-one k) ∙ take-suc chosen k id low ∙ ap (λ y. take k chosen ++ y ∷ []) (sym is))
+    ∙ flat_map-append (sets_of abandoned class) (take k chosen) (id ∷ [])
+    ∙ ap (λ l. flat_map (sets_of abandoned class) (take k chosen) ++ l) (flat_map-cons (sets_of abandoned class) id [] ∙ append-nil (sets_of abandoned class id)))
 
 -- the ids of the groups that pass a test, of one more group
 module _ (test : Entry → Bool) (owned : List Entry) (n : ℕ) (y : Entry) (found : List SpanId) (low : n < length owned) (read : y ≡ get_or owned n y) (is : found ≡ map (λ (y : Entry). y.id) (filter test (take n owned))) where
@@ -118,16 +151,13 @@ module _ (test : Entry → Bool) (owned : List Entry) (n : ℕ) (y : Entry) (fou
   passing-same fails = sym (more ∙ ap (λ b. found ++ map (λ (y : Entry). y.id) (cond b (y ∷ []) [])) fails ∙ append-nil found)
 
 -- the partners, as a filter of the owned groups
-pub partners_of-filter : (s : Groups) (short : List SpanId) (words : List ℕ) → IsAscending (ids s.owned) → ((id : SpanId) → has_bit words (rank id) ≡ list_any (same_span id) short)
-    → partners_of s short ≡ map (λ (y : Entry). y.id) (filter (λ y. has_chosen words s.abandoned y) s.owned)
+pub partners_of-filter : (s : Groups) (short : List SpanId) → IsAscending (ids s.owned) → partners_of s short ≡ map (λ (y : Entry). y.id) (filter (λ y. fits_any s.abandoned short y) s.owned)
 unfolding sides_of
-partners_of-filter s short words up has =
-    filter-map (λ b. list_any (λ a. any_compatible s a b) short) (λ (y : Entry). y.id) (λ y. has_chosen words s.abandoned y) s.owned
-    (λ j y l at. is_partner-at s short j y up l at ∙ (λ k. list_any (λ x. sym (has x.id) k && are_compatible x y) s.abandoned))
+partners_of-filter s short up =
+    filter-map (λ b. list_any (λ a. any_compatible s a b) short) (λ (y : Entry). y.id) (λ y. fits_any s.abandoned short y) s.owned (λ j y l at. is_partner-at s short j y up l at)
 
-pub partners_of-count : (s : Groups) (short : List SpanId) (words : List ℕ) → IsAscending (ids s.owned) → ((id : SpanId) → has_bit words (rank id) ≡ list_any (same_span id) short)
-    → count_by (λ y. has_chosen words s.abandoned y) s.owned ≡ length (partners_of s short)
-partners_of-count s short words up has =
-    count-filter (λ y. has_chosen words s.abandoned y) s.owned
-    ∙ sym (length-map (filter (λ y. has_chosen words s.abandoned y) s.owned) (λ (y : Entry). y.id))
-    ∙ ap length (sym (partners_of-filter s short words up has))
+pub partners_of-count : (s : Groups) (short : List SpanId) → IsAscending (ids s.owned) → count_by (λ y. fits_any s.abandoned short y) s.owned ≡ length (partners_of s short)
+partners_of-count s short up =
+    count-filter (λ y. fits_any s.abandoned short y) s.owned
+    ∙ sym (length-map (filter (λ y. fits_any s.abandoned short y) s.owned) (λ (y : Entry). y.id))
+    ∙ ap length (sym (partners_of-filter s short up))

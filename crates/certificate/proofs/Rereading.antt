@@ -14,7 +14,7 @@ use Rattle.certificate.specs.declared.certificate.Certificate.{Certificate}
 use Rattle.certificate.specs.declared.text.cause.Cause.{Cause}
 use Rattle.certificate.specs.declared.text.version.Version.TheVariants.{Two}
 use Rattle.certificate.specs.Grammar.{◌>>=◌, Follows, Id, at_line, body_in, certificate_in, count_in, end_in, entry_in, entry_parts, fixed_in, id_in, id_parts, item_in, items_in, line_in, list_in, order_of, outline_of, pair_in, pair_parts, version_in}
-use Rattle.certificate.specs.Text.{FitsClass, IsReadable, IsWritable, certificate_text, class_text, classless_line, classless_text, entry_line, id_line, lines_text, list_text, pair_line, text_with}
+use Rattle.certificate.specs.Text.{FitsClass, HasTextSerial, IsWithinText, IsReadable, IsWritable, certificate_text, class_text, classless_line, classless_text, entry_line, id_line, lines_text, list_text, pair_line, text_with}
 use Rattle.certificate.specs.Words.{parts_of}
 use Rattle.certificate.proofs.Items.{body_in-lists}
 use Rattle.certificate.proofs.ReadAgain.{classless_body, count_in-body, entry_body, entry_in-body, id_in-text, lacks-classless_body, lacks-entry_body, lacks-id_text, lacks-pair_body, lacks-title_body, pair_body, pair_in-body, title_body}
@@ -159,19 +159,19 @@ module _ {X Y : Type 0} (parse : List ℕ → Result X Cause) (id_of : X → Id)
 
 -- ---- the certificate
 
-each : {Y : Type 0} {P : Y → Type 0} → ((y : Y) → P y) → (ys : List Y) → AllByRecursion P ys
-each h [] = tt
-each h (y ∷ ys) = (h y, each h ys)
+each : {Y : Type 0} {P Q : Y → Type 0} → ((y : Y) → P y → Q y) → (ys : List Y) → AllByRecursion P ys → AllByRecursion Q ys
+each h [] all = tt
+each h (y ∷ ys) all = (h y all.0, each h ys all.1)
 
-each_entry : (xs : List Entry) → AllByRecursion IsReadable xs → AllByRecursion FitsClass xs → AllByRecursion (λ x. entry_in Two (entry_body x) ≡ Ok (entry_parts x)) xs
-each_entry [] back fit = tt
-each_entry (x ∷ xs) back fit = (entry_in-body x back.0 fit.0, each_entry xs back.1 fit.1)
+each_entry : (xs : List Entry) → AllByRecursion (λ x. HasTextSerial x.id) xs → AllByRecursion IsReadable xs → AllByRecursion FitsClass xs → AllByRecursion (λ x. entry_in Two (entry_body x) ≡ Ok (entry_parts x)) xs
+each_entry [] within back fit = tt
+each_entry (x ∷ xs) within back fit = (entry_in-body x within.0 back.0 fit.0, each_entry xs within.1 back.1 fit.1)
 
 -- what is written is read again
-pub certificate_in-text : (c : Certificate) → IsWritable c → IsAscending (ids c.snapshot.abandoned) → IsAscending (ids c.snapshot.owned) → AllByRecursion IsReadable c.snapshot.abandoned → AllByRecursion IsReadable c.snapshot.owned
+pub certificate_in-text : (c : Certificate) → IsWritable c → IsWithinText c → IsAscending (ids c.snapshot.abandoned) → IsAscending (ids c.snapshot.owned) → AllByRecursion IsReadable c.snapshot.abandoned → AllByRecursion IsReadable c.snapshot.owned
     → certificate_in (certificate_text c) ≡ Ok (outline_of c)
 unfolding certificate_in
-certificate_in-text c w up_a up_o sets_a sets_o =
+certificate_in-text c w within up_a up_o sets_a sets_o =
     let A = c.snapshot.abandoned in
     let O = c.snapshot.owned in
     let front1 : List (List ℕ) = codes "meshcert 2" ∷ [] in
@@ -201,10 +201,10 @@ certificate_in-text c w up_a up_o sets_a sets_o =
     let n5 : length front5 ≡ length front4 + length head_s = length-append front4 head_s in
     let n6 : length (front5 ++ codes "end" ∷ []) ≡ length front5 + 1 = length-append front5 (codes "end" ∷ []) in
     let n7 : length ((front5 ++ codes "end" ∷ []) ++ ([] ∷ [])) ≡ length (front5 ++ codes "end" ∷ []) + 1 = length-append (front5 ++ codes "end" ∷ []) ([] ∷ []) in
-    let read_a : list_in (codes "abandoned") (entry_in Two) (λ x. x.id) (all_lines c) 1 ≡ Ok (map entry_parts A) = list_in-at (entry_in Two) (λ x. x.id) entry_parts (λ x. x.id) (λ y. refl) entry_body (codes "abandoned") A front1 (owned_lines c) refl w.abandoned (each_entry A sets_a (recursion_from_All FitsClass A w.abandoned_fit)) up_a (omega arith) in
-    let read_o : list_in (codes "owned") (entry_in Two) (λ x. x.id) (all_lines c) (length front2) ≡ Ok (map entry_parts O) = ap (λ ps. list_in (codes "owned") (entry_in Two) (λ x. x.id) ps (length front2)) whole2 ∙ list_in-at (entry_in Two) (λ x. x.id) entry_parts (λ x. x.id) (λ y. refl) entry_body (codes "owned") O front2 (fold_lines c) refl w.owned (each_entry O sets_o (recursion_from_All FitsClass O w.owned_fit)) up_o (omega arith) in
-    let read_f : list_in (codes "folds") pair_in (λ p. p.0) (all_lines c) (length front3) ≡ Ok (map pair_parts c.plan) = ap (λ ps. list_in (codes "folds") pair_in (λ p. p.0) ps (length front3)) whole3 ∙ list_in-at pair_in (λ p. p.0) pair_parts (λ p. p.0) (λ y. refl) pair_body (codes "folds") c.plan front3 (short_lines c) refl w.folds (each pair_in-body c.plan) w.folds_ascending (omega arith) in
-    let read_s : list_in (codes "short") id_in (λ id. id) (all_lines c) (length front4) ≡ Ok (map id_parts c.short) = ap (λ ps. list_in (codes "short") id_in (λ id. id) ps (length front4)) whole4 ∙ list_in-at id_in (λ id. id) id_parts (λ id. id) (λ y. refl) id_text (codes "short") c.short front4 (codes "end" ∷ [] ∷ []) refl w.short (each id_in-text c.short) (subst IsAscending (sym (map-id c.short)) w.short_ascending) (omega arith) in
+    let read_a : list_in (codes "abandoned") (entry_in Two) (λ x. x.id) (all_lines c) 1 ≡ Ok (map entry_parts A) = list_in-at (entry_in Two) (λ x. x.id) entry_parts (λ x. x.id) (λ y. refl) entry_body (codes "abandoned") A front1 (owned_lines c) refl w.abandoned (each_entry A (recursion_from_All (λ x. HasTextSerial x.id) A within.abandoned) sets_a (recursion_from_All FitsClass A w.abandoned_fit)) up_a (omega arith) in
+    let read_o : list_in (codes "owned") (entry_in Two) (λ x. x.id) (all_lines c) (length front2) ≡ Ok (map entry_parts O) = ap (λ ps. list_in (codes "owned") (entry_in Two) (λ x. x.id) ps (length front2)) whole2 ∙ list_in-at (entry_in Two) (λ x. x.id) entry_parts (λ x. x.id) (λ y. refl) entry_body (codes "owned") O front2 (fold_lines c) refl w.owned (each_entry O (recursion_from_All (λ x. HasTextSerial x.id) O within.owned) sets_o (recursion_from_All FitsClass O w.owned_fit)) up_o (omega arith) in
+    let read_f : list_in (codes "folds") pair_in (λ p. p.0) (all_lines c) (length front3) ≡ Ok (map pair_parts c.plan) = ap (λ ps. list_in (codes "folds") pair_in (λ p. p.0) ps (length front3)) whole3 ∙ list_in-at pair_in (λ p. p.0) pair_parts (λ p. p.0) (λ y. refl) pair_body (codes "folds") c.plan front3 (short_lines c) refl w.folds (each pair_in-body c.plan (recursion_from_All (λ p. HasTextSerial p.0 × HasTextSerial p.1) c.plan within.folds)) w.folds_ascending (omega arith) in
+    let read_s : list_in (codes "short") id_in (λ id. id) (all_lines c) (length front4) ≡ Ok (map id_parts c.short) = ap (λ ps. list_in (codes "short") id_in (λ id. id) ps (length front4)) whole4 ∙ list_in-at id_in (λ id. id) id_parts (λ id. id) (λ y. refl) id_text (codes "short") c.short front4 (codes "end" ∷ [] ∷ []) refl w.short (each id_in-text c.short (recursion_from_All HasTextSerial c.short within.short)) (subst IsAscending (sym (map-id c.short)) w.short_ascending) (omega arith) in
     let read_end : line_in (fixed_in (codes "end")) (all_lines c) (length front5) ≡ Ok tt = ap (λ ps. line_in (fixed_in (codes "end")) ps (length front5)) whole5 ∙ line_in-at (fixed_in (codes "end")) front5 (codes "end") ([] ∷ []) (omega arith) in
     let size : length (all_lines c) ≡ length front5 + 1 + 1 = ap length whole6 ∙ n7 ∙ ap (λ n. n + 1) n6 in
     let empty : get_or (all_lines c) (length front5 + 1) [] ≡ [] = (λ i. get_or (whole6 i) (sym n6 i) []) ∙ at-front (front5 ++ codes "end" ∷ []) [] [] [] in

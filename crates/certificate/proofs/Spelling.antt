@@ -20,6 +20,7 @@ use Rattle.span.specs.Texts.{id_text}
 use Rattle.span.specs.declared.class.Class.{Class}
 use Rattle.span.specs.declared.class.Class.TheVariants.{C16, C64, C256}
 use Rattle.span.specs.declared.entry.Entry.{Entry}
+use Rattle.span.specs.declared.limits.TheConstants.{MOST_SHARDS}
 use Rattle.certificate.specs.declared.certificate.Certificate.{Certificate}
 use Rattle.certificate.specs.declared.text.cause.Cause.{Cause}
 use Rattle.certificate.specs.declared.text.cause.Cause.TheVariants.{Cut, Form, Limit, Set, Tail}
@@ -27,6 +28,7 @@ use Rattle.certificate.specs.declared.text.cause.ReadError.{ReadError}
 use Rattle.certificate.specs.declared.text.cause.ReadError.TheVariants.{BadCertificate, OutOfMemory}
 use Rattle.certificate.specs.declared.text.version.Version.{Version}
 use Rattle.certificate.specs.declared.text.version.Version.TheVariants.{One, Two}
+use Rattle.certificate.specs.declared.text.words.TheConstants.{TEXT_SPANS}
 use Rattle.certificate.specs.Grammar.{◌>>=◌, Id, Listed, Outline, Reads, at_line, body_in, both, certificate_in, class_in, class_of_number, count_in, count_of_number, count_of_words, end_in, entry_in, entry_of, entry_of_words, entry_parts, fixed_in, id_in, id_of_numbers, id_of_parts, id_parts, is_on_page, item_in, items_in, line_in, list_in, order_of, outline_of, pair_in, pair_of_words, pair_parts, set_in, version_in}
 use Rattle.certificate.specs.Number.{is_numeral, number_in}
 use Rattle.certificate.specs.Text.{IsTextOf, IsWritable, certificate_text, class_text, classless_text}
@@ -37,12 +39,12 @@ use Rattle.certificate.proofs.Rereading.{lines_with, parts_of-classless_text, pa
 
 -- ---- steps that were taken
 
->>=-ok : {A B E : Type 0} (r : Result A E) (next : A → Result B E) (b : B) → (r >>= next) ≡ Ok b → (a : A) × (r ≡ Ok a) × (next a ≡ Ok b)
+pub >>=-ok : {A B E : Type 0} (r : Result A E) (next : A → Result B E) (b : B) → (r >>= next) ≡ Ok b → (a : A) × (r ≡ Ok a) × (next a ≡ Ok b)
 >>=-ok (Ok a) next b h = (a, refl, h)
 >>=-ok (Err e) next b h = cc
 
 -- one answer is one value
-said-once : {A E : Type 0} (r : Result A E) (a b : A) → Ok a ≡ r → r ≡ Ok b → a ≡ b
+pub said-once : {A E : Type 0} (r : Result A E) (a b : A) → Ok a ≡ r → r ≡ Ok b → a ≡ b
 said-once r a b first second = cc
 
 at_line-ok : {X : Type 0} (at : ℕ) (r : Result X Cause) (x : X) → at_line at r ≡ Ok x → r ≡ Ok x
@@ -81,14 +83,14 @@ word-number word n h fits =
 abbrev id_word : Id → List ℕ
 id_word i = decimal i.0 ++ codes "." ++ decimal i.1
 
-id_of_numbers-ok : (a b : Option ℕ) (i : Id) → id_of_numbers a b ≡ Ok i → (a ≡ Some i.0) × (b ≡ Some i.1) × (i.0 < 64) × (i.1 < 1024)
+pub id_of_numbers-ok : (a b : Option ℕ) (i : Id) → id_of_numbers a b ≡ Ok i → (a ≡ Some i.0) × (b ≡ Some i.1) × (i.0 < MOST_SHARDS) × (i.1 < TEXT_SPANS)
 id_of_numbers-ok (Some a) (Some b) i h =
-    let p = if-ok (nat_lt a 64 && nat_lt b 1024) (a, b) i Limit h in
-    let both = and_parts (nat_lt a 64) (nat_lt b 1024) p.0 in
+    let p = if-ok (nat_lt a MOST_SHARDS && nat_lt b TEXT_SPANS) (a, b) i Limit h in
+    let both = and_parts (nat_lt a MOST_SHARDS) (nat_lt b TEXT_SPANS) p.0 in
     let shard : a ≡ i.0 = ap (λ (x : Id). x.0) p.1 in
     let serial : b ≡ i.1 = ap (λ (x : Id). x.1) p.1 in
-    let low : a < 64 = ltb-true a 64 both.0 in
-    let few : b < 1024 = ltb-true b 1024 both.1 in
+    let low : a < MOST_SHARDS = ltb-true a MOST_SHARDS both.0 in
+    let few : b < TEXT_SPANS = ltb-true b TEXT_SPANS both.1 in
     (ap Some shard, ap Some serial, omega arith, omega arith)
 id_of_numbers-ok (Some a) None i h = cc
 id_of_numbers-ok None b i h = cc
@@ -157,7 +159,7 @@ entry_words Two x = id_word x.id ++ (codes " " ++ (class_text x.class ++ (codes 
 three_words : (line first second third : List ℕ) → parts_of 32 line ≡ first ∷ second ∷ third ∷ [] → line ≡ first ++ (codes " " ++ (second ++ (codes " " ++ third)))
 three_words line first second third h = sym (join_with_byte-slice_split 32 line) ∙ ap (join_with_byte 32) h
 
-both-ok : {A B : Type 0} (a : Result A Cause) (b : Result B Cause) (p : A × B) → both a b ≡ Ok p → (a ≡ Ok p.0) × (b ≡ Ok p.1)
+pub both-ok : {A B : Type 0} (a : Result A Cause) (b : Result B Cause) (p : A × B) → both a b ≡ Ok p → (a ≡ Ok p.0) × (b ≡ Ok p.1)
 both-ok {A} {B} (Ok a) (Ok b) p h =
     let same : (a, b) ≡ p = cc h in
     (ap (λ (y : A × B). Ok y.0) same, ap (λ (y : A × B). Ok y.1) same)
@@ -166,7 +168,7 @@ both-ok a (Err Form) p h = cc
 both-ok a b p h = cc
 
 -- the words of a group
-entry_of-ok : (id : Result Id Cause) (class : Result Class Cause) (set : List ℕ) (x : Listed) → entry_of id class set ≡ Ok x → (id ≡ Ok x.id) × (class ≡ Ok x.class) × (set ≡ set_text x.occupied)
+pub entry_of-ok : (id : Result Id Cause) (class : Result Class Cause) (set : List ℕ) (x : Listed) → entry_of id class set ≡ Ok x → (id ≡ Ok x.id) × (class ≡ Ok x.class) × (set ≡ set_text x.occupied)
 entry_of-ok id class set x h =
     let p = >>=-ok (both id class) (λ named. set_in named.1 set >>= (λ slots. Ok (record { id = named.0; class = named.1; occupied = slots }))) x h in
     let q = >>=-ok (set_in p.0.1 set) (λ slots. Ok (record { id = p.0.0; class = p.0.1; occupied = slots })) x p.2 in
@@ -323,7 +325,7 @@ module _ {X : Type 0} (parse : List ℕ → Result X Cause) (id_of : X → Id) (
       let line = line_in-ok (item_in parse id_of last) parts at p.0 (at_line-ok at (line_in (item_in parse id_of last) parts at) p.0 p.1) in
       subst (AllByRecursion P) same (item_in-has last (get_or parts at []) p.0 line.1, items_in-have (Some (id_of p.0)) (at + 1) n q.0 q.1)
 
-  list_in-have : (title : List ℕ) (at : ℕ) (xs : List X) → list_in title parse id_of parts at ≡ Ok xs → AllByRecursion P xs
+  pub list_in-have : (title : List ℕ) (at : ℕ) (xs : List X) → list_in title parse id_of parts at ≡ Ok xs → AllByRecursion P xs
   unfolding list_in
   list_in-have title at xs h =
       let p = >>=-ok (at_line at (line_in (count_in title) parts at)) (items_in parse id_of parts None (at + 1)) xs h in

@@ -1,9 +1,9 @@
 -- What the tests of the checker mean
-use Rattle.std.proofs.Common.{◌+◌, ◌≡◌, Bool, true, false, ◌&&◌, ◌||◌, List, [], ◌∷◌, length, map, refl, sym, ◌∙◌, ap, inl, inr}
+use Rattle.std.proofs.Common.{ℕ, ◌+◌, ◌<◌, ◌≡◌, Bool, true, false, ◌&&◌, ◌||◌, List, [], ◌∷◌, length, map, get_or, refl, sym, ◌∙◌, ap, inl, inr, arith, zero, suc}
 use Rattle.std.specs.List.{All, AllByRecursion, IsDistinct, list_all, list_any}
 use Rattle.std.proofs.lemmas.Bool.{cases_Bool, both_ways, or_cases, or_left, or_right, and_parts, and_from}
 use Rattle.std.proofs.lemmas.List.Elements.{All-from_recursion, recursion_from_All}
-use Rattle.std.proofs.lemmas.List.{length-map, map-id}
+use Rattle.std.proofs.lemmas.List.{length-map}
 use Rattle.span.specs.declared.id.SpanId.{SpanId}
 use Rattle.span.specs.Ids.{same_span}
 use Rattle.span.proofs.Ids.{same_id_from_test, test_from_same_id}
@@ -54,10 +54,6 @@ among_right s a b h = sym (among-ids s.owned b) ∙
     any_elim (λ x. same_span x.id a && list_any (λ y. same_span y.id b && are_compatible x y) s.owned) (has_id s.owned b) s.abandoned
     (λ x e. any_less (λ y. same_span y.id b) (are_compatible x) s.owned (and_parts (same_span x.id a) _ e).1) h
 
--- a list is distinct exactly where its members are
-pub IsDistinct-map-id : {K : Type 0} (same : K → K → Bool) (xs : List K) → IsDistinct same (map (λ x. x) xs) ≡ IsDistinct same xs
-IsDistinct-map-id same xs = ap (IsDistinct same) (map-id xs)
-
 -- a list in which each passes
 module _ {X : Type 0} (test : X → Bool) (P : X → Type 0) where
   pub All-from_list_all : (xs : List X) → ((x : X) → test x ≡ true → P x) → list_all test xs ≡ true → All P xs
@@ -85,6 +81,12 @@ pub tests-from_choice : (entries : List Entry) (chosen : List SpanId) → IsChoi
 tests-from_choice entries chosen c =
     list_all-from_All (λ id. has_id entries id) (λ id. among same_span id (ids entries) ≡ true) chosen (λ id h. among-ids entries id ∙ h) c.within
 
+-- each id of a list of which all are those of groups
+pub each_has_id : (entries : List Entry) (ids : List SpanId) → list_all (λ id. has_id entries id) ids ≡ true → (i : ℕ) (d : SpanId) → i < length ids → has_id entries (get_or ids i d) ≡ true
+each_has_id entries [] all i d within = absurd (omega arith)
+each_has_id entries (id ∷ ids) all zero d within = (and_parts (has_id entries id) (list_all (λ id. has_id entries id) ids) all).0
+each_has_id entries (id ∷ ids) all (suc i) d within = each_has_id entries ids (and_parts (has_id entries id) (list_all (λ id. has_id entries id) ids) all).1 i d (omega arith)
+
 -- the test whether each pair is compatible
 abbrev pub all_compatible : Groups → List (SpanId × SpanId) → Bool
 all_compatible s pairs = list_all (λ p. any_compatible s p.0 p.1) pairs
@@ -95,6 +97,20 @@ each_side P f (p ∷ pairs) h = (h.0, each_side P f pairs h.1)
 
 all_side : {K : Type 0} (P : K → Type 0) (f : SpanId × SpanId → K) (pairs : List (SpanId × SpanId)) → All (λ p. P (f p)) pairs → All P (map f pairs)
 all_side P f pairs h = All-from_recursion P (map f pairs) (each_side P f pairs (recursion_from_All (λ p. P (f p)) pairs h))
+
+-- of compatible pairs each has its groups
+module _ (s : Groups) where
+  pub left_have_ids : (pairs : List (SpanId × SpanId)) → all_compatible s pairs ≡ true → list_all (λ id. has_id s.abandoned id) (map (λ p. p.0) pairs) ≡ true
+  left_have_ids [] all = refl
+  left_have_ids (p ∷ pairs) all =
+      let both = and_parts (any_compatible s p.0 p.1) (all_compatible s pairs) all in
+      and_from (has_id s.abandoned p.0) _ (any_less (λ x. same_span x.id p.0) (λ x. list_any (λ y. same_span y.id p.1 && are_compatible x y) s.owned) s.abandoned both.0) (left_have_ids pairs both.1)
+
+  pub right_have_ids : (pairs : List (SpanId × SpanId)) → all_compatible s pairs ≡ true → list_all (λ id. has_id s.owned id) (map (λ p. p.1) pairs) ≡ true
+  right_have_ids [] all = refl
+  right_have_ids (p ∷ pairs) all =
+      let both = and_parts (any_compatible s p.0 p.1) (all_compatible s pairs) all in
+      and_from (has_id s.owned p.1) _ (among-ids s.owned p.1 ∙ among_right s p.0 p.1 both.0) (right_have_ids pairs both.1)
 
 pub plan-from_tests : (s : Groups) (pairs : List (SpanId × SpanId)) → all_compatible s pairs ≡ true → IsDistinct same_span (map (λ p. p.0) pairs) → IsDistinct same_span (map (λ p. p.1) pairs) → IsPlanOf s pairs
 unfolding sides_of

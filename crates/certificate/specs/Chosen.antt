@@ -1,23 +1,53 @@
--- Groups whose ids are in a set of words. No public clause cites this module.
-use Rattle.std.specs.Prelude.{ℕ, ◌==◌, ◌&&◌, Bool, List, [], Option, Some, None}
-use Rattle.std.specs.List.{list_any}
+-- What a list of ids says of the groups of a side. No public clause cites this module.
+use Rattle.std.specs.Prelude.{ℕ, ◌≡◌, ◌<◌, ◌==◌, ◌&&◌, Bool, true, false, List, [], map, length, Option, Some, None, slice_index_or}
+use Rattle.std.specs.List.{filter, list_any}
 use Rattle.bitmap.specs.Slots.{SlotSet, has_bit}
 use Rattle.lane_kernels.specs.Disjoint.{are_disjoint}
+use Rattle.mesh_graph.specs.Groups.{has_id}
 use Rattle.span.specs.Classes.{width_of}
-use Rattle.span.specs.Ids.{rank}
+use Rattle.span.specs.Ids.{same_span}
+use Rattle.span.specs.declared.id.SpanId.{SpanId}
 use Rattle.span.specs.declared.class.Class.{Class}
 use Rattle.span.specs.declared.class.Class.TheVariants.{C16, C64, C256}
 use Rattle.span.specs.declared.entry.Entry.{Entry}
 use Rattle.span.specs.Entries.{are_compatible}
+use Rattle.certificate.specs.declared.distinct.IdList.{IdList}
+use Rattle.certificate.specs.declared.distinct.IdList.TheVariants.{Abandoned, Owned, Short}
 use Rattle.certificate.specs.declared.partner.Members.{Members}
 
--- whether some group whose id is in the set is compatible with the group y
-abbrev pub has_chosen : List ℕ → List Entry → Entry → Bool
-has_chosen words abandoned y = list_any (λ x. has_bit words (rank x.id) && are_compatible x y) abandoned
+-- the ids of the list
+abbrev pub ids_in : IdList → List SpanId
+ids_in (Abandoned pairs) = map (λ p. p.0) pairs.now
+ids_in (Owned pairs) = map (λ p. p.1) pairs.now
+ids_in (Short ids) = ids.now
 
--- whether the group is of the class, and its id is in the set
-abbrev pub is_member : List ℕ → Class → Entry → Bool
-is_member words class x = (width_of x.class == width_of class) && has_bit words (rank x.id)
+-- no id of the groups stands twice
+abbrev pub AreOnce : List Entry → List SpanId → Type 0
+AreOnce entries ids = (i j : ℕ) (d : SpanId) → i < j → j < length ids → has_id entries (slice_index_or ids i d) ≡ true → same_span (slice_index_or ids i d) (slice_index_or ids j d) ≡ false
+
+-- the bits of the groups whose ids stand among these
+abbrev pub HasSeen : List Entry → List SpanId → List ℕ → Type 0
+HasSeen entries ids words = (place : ℕ) (d : Entry) → place < length entries → has_bit words place ≡ list_any (λ id. same_span (slice_index_or entries place d).id id) ids
+
+-- whether a group with the id is compatible with the group y
+abbrev pub fits_with : List Entry → SpanId → Entry → Bool
+fits_with abandoned id y = list_any (λ x. same_span x.id id && are_compatible x y) abandoned
+
+-- whether a group with one of the ids is compatible with the group y
+abbrev pub fits_any : List Entry → List SpanId → Entry → Bool
+fits_any abandoned ids y = list_any (λ id. fits_with abandoned id y) ids
+
+-- the bits of the groups that are compatible with a group of one of the ids
+abbrev pub HasFitting : List Entry → List SpanId → List Entry → List ℕ → Type 0
+HasFitting abandoned ids owned words = (place : ℕ) (d : Entry) → place < length owned → has_bit words place ≡ fits_any abandoned ids (slice_index_or owned place d)
+
+-- whether the group has the id and is of the class
+abbrev pub is_member : Class → SpanId → Entry → Bool
+is_member class id x = same_span x.id id && (width_of x.class == width_of class)
+
+-- the sets of the groups with the id that are of the class
+abbrev pub sets_of : List Entry → Class → SpanId → List SlotSet
+sets_of abandoned class id = map (λ x. x.occupied) (filter (is_member class id) abandoned)
 
 -- the sets, where there are rows of them
 abbrev pub sets_in : Option (List SlotSet) → List SlotSet

@@ -19,6 +19,7 @@ use Rattle.certificate.specs.declared.text.cause.ReadError.{ReadError}
 use Rattle.certificate.specs.declared.text.cause.ReadError.TheVariants.{BadCertificate, OutOfMemory}
 use Rattle.certificate.specs.declared.text.version.Version.{Version}
 use Rattle.certificate.specs.declared.text.version.Version.TheVariants.{One, Two}
+use Rattle.certificate.specs.declared.text.words.TheConstants.{TEXT_SPANS}
 use Rattle.certificate.specs.declared.certificate.Certificate.{Certificate}
 use Rattle.mesh_graph.specs.declared.build.TheConstants.{MOST_GROUPS}
 use Rattle.span.specs.declared.limits.TheConstants.{MOST_SHARDS, MOST_SPANS}
@@ -39,9 +40,9 @@ Id = ℕ × ℕ
 abbrev pub comes_before : Id → Id → Bool
 comes_before a b = nat_lt (MOST_SPANS * a.0 + a.1) (MOST_SPANS * b.0 + b.1)
 
--- two numbers as an id
+-- two numbers as an id; a text names few serials, whatever serials there are
 abbrev pub id_of_numbers : Option ℕ → Option ℕ → Result Id Cause
-id_of_numbers (Some shard) (Some serial) = if nat_lt shard MOST_SHARDS && nat_lt serial MOST_SPANS then Ok (shard, serial) else Err Limit
+id_of_numbers (Some shard) (Some serial) = if nat_lt shard MOST_SHARDS && nat_lt serial TEXT_SPANS then Ok (shard, serial) else Err Limit
 id_of_numbers (Some shard) None = Err Form
 id_of_numbers None serial = Err Form
 

@@ -1,5 +1,5 @@
 -- A certificate as text: the one that is written, and the one of version 1.
-use Rattle.std.specs.Prelude.{ℕ, ◌≡◌, ◌≤◌, ◌⊎◌, List, [], ◌∷◌, ◌++◌, length, map, codes, decimal}
+use Rattle.std.specs.Prelude.{ℕ, ◌≡◌, ◌<◌, ◌≤◌, ◌⊎◌, List, [], ◌∷◌, ◌++◌, length, map, codes, decimal}
 use Rattle.std.specs.List.{All}
 use Rattle.bitmap.specs.Slots.{IsBelow, set_text, slots_of_text}
 use Rattle.span.specs.Classes.{slots_in}
@@ -11,6 +11,7 @@ use Rattle.span.specs.declared.entry.Entry.{Entry}
 use Rattle.mesh_graph.specs.Groups.{IsAscending}
 use Rattle.certificate.specs.declared.certificate.Certificate.{Certificate}
 use Rattle.mesh_graph.specs.declared.build.TheConstants.{MOST_GROUPS}
+use Rattle.certificate.specs.declared.text.words.TheConstants.{TEXT_SPANS}
 
 -- the bytes of a slot of the class, in digits
 abbrev pub class_text : Class → List ℕ
@@ -82,3 +83,14 @@ pub record IsWritable (c : Certificate) : Type 0 where
   pub owned_fit : All FitsClass c.snapshot.owned
   pub folds_ascending : IsAscending (map (λ p. p.0) c.plan)
   pub short_ascending : IsAscending c.short
+
+-- a text can name the serial of the id
+abbrev pub HasTextSerial : SpanId → Type 0
+HasTextSerial id = id.serial < TEXT_SPANS
+
+-- a text can name the serial of each id, so that what is written is read again; spans of a trace have no others
+pub record IsWithinText (c : Certificate) : Type 0 where
+  pub abandoned : All (λ x. HasTextSerial x.id) c.snapshot.abandoned
+  pub owned : All (λ x. HasTextSerial x.id) c.snapshot.owned
+  pub folds : All (λ p. HasTextSerial p.0 × HasTextSerial p.1) c.plan
+  pub short : All HasTextSerial c.short

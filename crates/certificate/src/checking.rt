@@ -6,7 +6,7 @@ ghost use Rattle.mesh_graph.specs.Groups.{any_compatible, has_id, ids};
 ghost use Rattle.certificate.specs.Plans.{IsBestPlanOf, IsCertificateOf, IsPlanOf};
 ghost use Rattle.certificate.specs.Sides.{IsChoice};
 
-use crate::distinct::{are_distinct, has_distinct_abandoned, has_distinct_owned};
+use crate::distinct::{IdList, are_once};
 use crate::partner::partner_count;
 use crate::plan::{Plan, Short};
 use mesh_graph::Snapshot;
@@ -38,10 +38,10 @@ fn is_plan(snapshot: &Snapshot, pairs: &[(SpanId, SpanId)]) -> bool
     if !are_compatible(snapshot, pairs) {
         return false;
     }
-    if !has_distinct_abandoned(pairs) {
+    if !are_once(snapshot.abandoned(), &IdList::Abandoned(pairs)) {
         return false;
     }
-    has_distinct_owned(pairs)
+    are_once(snapshot.owned(), &IdList::Owned(pairs))
 }
 
 /// Whether each pair is of an abandoned and an owned group of the snapshot that are compatible.
@@ -60,7 +60,7 @@ fn is_choice(snapshot: &Snapshot, chosen: &[SpanId]) -> bool
     if !are_abandoned(snapshot, chosen) {
         return false;
     }
-    are_distinct(chosen)
+    are_once(snapshot.abandoned(), &IdList::Short(chosen))
 }
 
 /// Whether each id is that of an abandoned group.

@@ -38,8 +38,8 @@
 mod certificate;
 mod checking;
 mod distinct;
-mod id_set;
 mod partner;
+mod place_set;
 mod plan;
 mod text;
 
@@ -47,4 +47,4 @@ pub use certificate::Certificate;
 pub use checking::check;
 pub use partner::{partner_count, partners};
 pub use plan::{Plan, Short};
-pub use text::{Cause, ReadError, read, write};
+pub use text::{Cause, ReadError, TEXT_SPANS, read, write};

@@ -12,4 +12,5 @@ mod writing;
 
 pub use cause::{Cause, ReadError};
 pub use reading::read;
+pub use words::TEXT_SPANS;
 pub use writing::write;

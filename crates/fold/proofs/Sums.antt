@@ -80,6 +80,9 @@ module _ (pool : PoolState) (shard : ShardState) (a b : SpanId) (pool_new : Pool
   pub page_limit-Folds : shard_new.page_limit ≡ shard.page_limit
   page_limit-Folds = ap (λ (s : ShardState). s.page_limit) folds.grafts.after
 
+  pub span_limit-Folds : shard_new.span_limit ≡ shard.span_limit
+  span_limit-Folds = ap (λ (s : ShardState). s.span_limit) folds.grafts.after
+
   pub gens-Folds : shard_new.gens ≡ shard.gens
   gens-Folds = ap (λ (s : ShardState). s.gens) folds.grafts.after
 

@@ -4,12 +4,13 @@ use Rattle.std.proofs.lemmas.Bool.{and_parts}
 use Rattle.span.proofs.Ids.{same_id}
 use Rattle.span.specs.Ids.{rank, same_span}
 use Rattle.span.specs.declared.id.SpanId.{SpanId}
+use Rattle.span.specs.declared.limits.TheConstants.{MOST_SPANS}
 
 -- ids of one rank are one
 pub same_rank : (a b : SpanId) → rank a ≡ rank b → (a.shard ≡ b.shard) × (a.serial ≡ b.serial)
 same_rank a b same =
-    let low : a.serial < 1024 = a.serial_in_range in
-    let low' : b.serial < 1024 = b.serial_in_range in
+    let low : a.serial < MOST_SPANS = a.serial_in_range in
+    let low' : b.serial < MOST_SPANS = b.serial_in_range in
     (omega arith, omega arith)
 
 pub id_from_rank : (a b : SpanId) → rank a ≡ rank b → a ≡ b

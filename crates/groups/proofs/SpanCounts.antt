@@ -8,6 +8,7 @@ use Rattle.std.proofs.lemmas.Map.Steps.{length-le_from_distinct_below}
 use Rattle.span.specs.Ids.{rank, same_span}
 use Rattle.span.specs.State.{SpanState}
 use Rattle.span.specs.declared.id.SpanId.{SpanId}
+use Rattle.span.specs.declared.limits.TheConstants.{ALL_IDS, MOST_SHARDS, MOST_SPANS}
 use Rattle.span.proofs.Ids.{test_from_same_id}
 use Rattle.groups.proofs.Lists.{count-two}
 use Rattle.groups.proofs.Ranks.{id_from_rank}
@@ -25,25 +26,25 @@ ranked_at [] at d low = absurd (omega arith)
 ranked_at (span ∷ spans) zero d low = (span, refl, refl)
 ranked_at (span ∷ spans) (suc at) d low = ranked_at spans at d (omega arith)
 
-ranks_below : (spans : List SpanState) (number : ℕ) → list_any (eqb number) (map span_rank spans) ≡ true → number < 65536
+ranks_below : (spans : List SpanState) (number : ℕ) → list_any (eqb number) (map span_rank spans) ≡ true → number < ALL_IDS
 ranks_below [] number among = absurd cc
 ranks_below (span ∷ spans) number among = by_test (eqb number (rank span.id)) refl (ranks_below spans number) among
   where
-    rank_fits : rank span.id < 65536
+    rank_fits : rank span.id < ALL_IDS
     rank_fits =
-        let shard : span.id.shard < 64 = span.id.shard_in_range in
-        let serial : span.id.serial < 1024 = span.id.serial_in_range in
+        let shard : span.id.shard < MOST_SHARDS = span.id.shard_in_range in
+        let serial : span.id.serial < MOST_SPANS = span.id.serial_in_range in
         omega arith
 
-    by_test : (b : Bool) → eqb number (rank span.id) ≡ b → (list_any (eqb number) (map span_rank spans) ≡ true → number < 65536)
-        → (b || list_any (eqb number) (map span_rank spans)) ≡ true → number < 65536
-    by_test true e rest any = subst (λ n. n < 65536) (sym (eqb-true number (rank span.id) e)) rank_fits
+    by_test : (b : Bool) → eqb number (rank span.id) ≡ b → (list_any (eqb number) (map span_rank spans) ≡ true → number < ALL_IDS)
+        → (b || list_any (eqb number) (map span_rank spans)) ≡ true → number < ALL_IDS
+    by_test true e rest any = subst (λ n. n < ALL_IDS) (sym (eqb-true number (rank span.id) e)) rank_fits
     by_test false e rest any = rest any
 
 -- spans of which none stands twice are at most as many as there are ids
-pub at_most_ids : (spans : List SpanState) → ((id : SpanId) → count_by (λ span. same_span span.id id) spans ≤ 1) → length spans ≤ 65536
+pub at_most_ids : (spans : List SpanState) → ((id : SpanId) → count_by (λ span. same_span span.id id) spans ≤ 1) → length spans ≤ ALL_IDS
 at_most_ids spans once =
-    let fewer = length-le_from_distinct_below (map span_rank spans) 65536 (IsDistinct-from_apart eqb (map span_rank spans) apart) (ranks_below spans) in
+    let fewer = length-le_from_distinct_below (map span_rank spans) ALL_IDS (IsDistinct-from_apart eqb (map span_rank spans) apart) (ranks_below spans) in
     omega (arith, length_ranks spans)
   where
     apart : (low high d : ℕ) → low < high → high < length (map span_rank spans) → eqb (get_or (map span_rank spans) low d) (get_or (map span_rank spans) high d) ≡ false

@@ -56,6 +56,7 @@ module _ (closed : GroupState → Bool) where
         let (was, here, is) = map_back (with_flag closed) shard.groups index group stands.0 in
         sound.serials index place was span (here, subst (λ (g : GroupState). slice_get (spans_of g) place ≡ Some span) (sym is) stands.1) named_so;
     opened = sound.opened;
+    span_limit = sound.span_limit;
     gens = sound.gens;
     none_left = λ ended. ap (flagged closed) (sound.none_left ended);
   }

@@ -1,16 +1,14 @@
 // Values that lend a shard.
 ghost use Rattle.std.specs.Prelude.{◌≡◌};
-ghost use Rattle.std.specs.Sync.Mutex.{mutex_guard_value};
 ghost use Rattle.shard.specs.Closes.{Closes};
 ghost use Rattle.shard.specs.Sound.{IsSound};
 ghost use Rattle.shard.specs.State.{ShardState};
 
 use shard::Shard;
 use span::{Log, SpanId};
-use std::sync::MutexGuard;
 
-/// A value that lends a shard: the shard itself, or the guard of a lock that holds one. A mark of shards behind locks is
-/// so the same code as one of shards alone.
+/// A value that lends a shard: the shard itself, or, as in `arena`, the guard of a lock that holds one. A mark of shards behind locks
+/// is so the same code as one of shards alone.
 pub trait LendsShard {
     /// How the spans of the shard keep their logs.
     type Log: Log;
@@ -42,21 +40,5 @@ impl<L: Log> LendsShard for Shard<L> {
     #[inline]
     fn close(&mut self, head: SpanId) -> bool {
         Shard::close(self, head)
-    }
-}
-
-impl<L: Log> LendsShard for MutexGuard<'_, Shard<L>> {
-    type Log = L;
-
-    ghost lent = { λ guard. mutex_guard_value guard };
-
-    #[inline]
-    fn shard(&self) -> &Shard<L> {
-        &**self
-    }
-
-    #[inline]
-    fn close(&mut self, head: SpanId) -> bool {
-        (**self).close(head)
     }
 }

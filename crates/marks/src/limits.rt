@@ -1,8 +1,9 @@
-// The four numbers of a core or an arena.
-ghost use Rattle.std.specs.Prelude.{◌≡◌, ◌↔◌, IfSome, IsSome};
-ghost use Rattle.marks.specs.Numbers.{AreWithin, limits_of};
+// The numbers of a core or an arena.
+ghost use Rattle.std.specs.Prelude.{◌≡◌, ◌↔◌, ◌≤◌, IfSome, IsSome};
+ghost use Rattle.marks.specs.Numbers.{AreWithin, limits_of, with_span_limit};
+ghost use Rattle.span.specs.declared.limits.TheConstants.{MOST_SPANS};
 
-use span::{MOST_PAGES, MOST_RING_KEYS, MOST_SHARDS};
+use span::{MOST_PAGES, MOST_RING_KEYS, MOST_SHARDS, MOST_SPANS};
 use std::marker::Model;
 
 /// The numbers of a core or an arena, each within its range. The seats and the steward of an arena bear them too, so that a call
@@ -11,31 +12,36 @@ use std::marker::Model;
 pub struct Limits {
     shards: u32,
     page_limit: usize,
+    span_limit: u32,
     ring_capacity: usize,
     gens: u32,
 }
 
 impl Model for Limits {
-    ghost use Rattle.marks.specs.Numbers.{AreWithin, Limits as Numbers, limits_of};
+    ghost use Rattle.marks.specs.Numbers.{AreWithin, Limits as Numbers, limits_of, with_span_limit};
 
     ghost Value = { Numbers };
 
-    ghost view = { λ limits.
-        limits_of limits.shards limits.page_limit limits.ring_capacity limits.gens };
+    ghost view = { λ limits. with_span_limit
+        (limits_of limits.shards limits.page_limit limits.ring_capacity limits.gens)
+        limits.span_limit };
 
-    ghost invariant = { λ limits. AreWithin
-        (limits_of limits.shards limits.page_limit limits.ring_capacity limits.gens) };
+    ghost invariant = { λ limits. AreWithin (with_span_limit
+        (limits_of limits.shards limits.page_limit limits.ring_capacity limits.gens)
+        limits.span_limit) };
 
     ghost inverse = { λ numbers. record {
       shards = numbers.shards;
       page_limit = numbers.page_limit;
+      span_limit = numbers.span_limit;
       ring_capacity = numbers.ring_capacity;
       gens = numbers.gens;
     } };
 }
 
 impl Limits {
-    /// The numbers, or `None` exactly where one is out of its range.
+    /// The numbers, or `None` exactly where one is out of its range. A shard may open as many spans as there are serials;
+    /// [`Limits::with_span_limit`] gives another number.
     pub fn new(shards: u32, page_limit: usize, ring_capacity: usize, gens: u32) -> Option<Limits>
         ensures in_range { IsSome result
             ↔ AreWithin (limits_of shards page_limit ring_capacity gens) }
@@ -50,9 +56,23 @@ impl Limits {
             Some(Limits {
                 shards,
                 page_limit,
+                span_limit: MOST_SPANS,
                 ring_capacity,
                 gens,
             })
+        } else {
+            None
+        }
+    }
+
+    /// The same numbers, but that a shard may open `span_limit` spans in its life, or `None` exactly where that is not 1 to
+    /// [`MOST_SPANS`].
+    pub fn with_span_limit(self, span_limit: u32) -> Option<Limits>
+        ensures in_range { IsSome result ↔ ((1 ≤ span_limit) × (span_limit ≤ MOST_SPANS)) }
+        ensures parts { IfSome result (λ limits. limits ≡ with_span_limit self span_limit) }
+    {
+        if matches!(span_limit, 1..=MOST_SPANS) {
+            Some(Limits { span_limit, ..self })
         } else {
             None
         }
@@ -74,6 +94,15 @@ impl Limits {
         ensures within { AreWithin self.now }
     {
         self.page_limit
+    }
+
+    /// How many spans a shard may open in its life: 1 to [`MOST_SPANS`].
+    #[inline]
+    pub fn span_limit(&self) -> u32
+        ensures span_limit { result ≡ self.now.span_limit }
+        ensures within { AreWithin self.now }
+    {
+        self.span_limit
     }
 
     /// How many keys a ring of deferred frees holds: 1 to 1,024.

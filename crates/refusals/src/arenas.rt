@@ -41,6 +41,9 @@ pub(crate) enum Call {
     End {
         seat: usize,
     },
+    Begin {
+        seat: usize,
+    },
     Retire {
         seat: usize,
         most: usize,
@@ -68,6 +71,7 @@ pub(crate) enum Told {
     HandedOver,
     Tended(usize, usize),
     Ended,
+    Begun(bool),
     Retired(usize),
     NotReceived(ReceiveError),
     Trimmed(usize),
@@ -180,6 +184,13 @@ fn retire<R: Wait>(rt: &R, arena: &Arena<NoGate>, seat: &mut Seat, most: usize) 
     })
 }
 
+fn begin<R: Wait>(rt: &R, arena: &Arena<NoGate>, seat: &mut Seat) -> Option<Told> {
+    if !seat.fits(arena) {
+        return None;
+    }
+    Some(Told::Begun(seat.begin(rt, arena)))
+}
+
 fn trim<R: Wait>(rt: &R, arena: &Arena<NoGate>, seat: &mut Seat) -> Option<Told> {
     if !seat.fits(arena) {
         return None;
@@ -242,6 +253,7 @@ fn answer<R: Wait>(rt: &R, stand: &mut Stand, call: Call) -> Option<Told> {
         Call::HandOver { seat } => Some(hand_over(seats.get_mut(seat)?)),
         Call::Tend { seat } => tend(rt, arena, seats.get_mut(seat)?, receipts),
         Call::End { seat } => end(rt, arena, seats.get_mut(seat)?),
+        Call::Begin { seat } => begin(rt, arena, seats.get_mut(seat)?),
         Call::Retire { seat, most } => retire(rt, arena, seats.get_mut(seat)?, most),
         Call::Trim { seat } => trim(rt, arena, seats.get_mut(seat)?),
         Call::Adopt { seat } => adopt(rt, arena, seats.get_mut(seat)?),
@@ -420,6 +432,8 @@ fn calls_of(alloc: Global) -> Option<Vec<Call>> {
     add_last_frees(&mut calls)?;
     add(&mut calls, Call::Trim { seat: 3 })?;
     add_puts(&mut calls, 3, 1)?;
+    add(&mut calls, Call::Begin { seat: 0 })?;
+    add_puts(&mut calls, 0, 1)?;
     Some(calls)
 }
 

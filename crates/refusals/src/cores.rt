@@ -16,6 +16,7 @@ pub(crate) enum Told {
     Sent,
     Settled(Option<Key>),
     ShardEnded,
+    ShardBegun,
     Retired(usize),
     Trimmed(usize),
     Adopted(SpanId),
@@ -36,6 +37,7 @@ pub(crate) fn tell(reply: &Reply) -> Told {
         Reply::Sent => Told::Sent,
         Reply::Settled(key) => Told::Settled(*key),
         Reply::ShardEnded => Told::ShardEnded,
+        Reply::ShardBegun => Told::ShardBegun,
         Reply::Retired(count) => Told::Retired(*count),
         Reply::Trimmed(count) => Told::Trimmed(*count),
         Reply::Adopted(head) => Told::Adopted(*head),
@@ -243,6 +245,8 @@ fn events_of(alloc: Global) -> Result<Vec<Event>, AllocError> {
     add_last_frees(&mut events)?;
     add(&mut events, Event::Trim { shard: 5 })?;
     add_puts(&mut events, 5, Class::C16, 1)?;
+    add(&mut events, Event::Begin { shard: 1 })?;
+    add_puts(&mut events, 1, Class::C64, 1)?;
     Ok(events)
 }
 

@@ -84,6 +84,7 @@ module _ (old : ShardState) (groups : List GroupState) (same : map_list bare gro
         let before = is_alike.stood index group there.0 in
         sound.serials index place before.0 span (before.1, ap (λ (g : GroupState). slice_get (spans_of g) place) (sym before.2) ∙ there.1) own;
     opened = sound.opened;
+    span_limit = sound.span_limit;
     gens = sound.gens;
     none_left = λ ended. nil_from_length groups (is_alike.many ∙ ap length (sound.none_left ended));
   }

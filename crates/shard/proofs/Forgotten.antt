@@ -57,6 +57,7 @@ IsSound-without_dead old sound = record {
       let was = before-without_dead before.0 place span (ap (λ (g : GroupState). slice_get (spans_of g) place) before.2 ∙ there.1) in
       sound.serials index was.0 before.0 span (before.1, was.1) own;
   opened = sound.opened;
+  span_limit = sound.span_limit;
   gens = sound.gens;
   none_left = λ ended. ap (map_list without_dead) (sound.none_left ended);
 }

@@ -36,6 +36,7 @@ module _ (old : ShardState) (sound : IsSound old) (index : ℕ) (group : GroupSt
           let less = sound.serials at_group at was.0 span.0 (was.1, span.1) (ap (λ (i : SpanId). i.shard) span.2 ∙ own) in
           rw (← span.2) less;
       opened = sound.opened;
+      span_limit = sound.span_limit;
       gens = sound.gens;
       none_left = λ ended. absurd (none-some group (ap (λ gs. slice_get gs index) (sym (sound.none_left ended)) ∙ here));
     }

@@ -68,6 +68,7 @@ pub struct Shard<L: Log = Kept> {
     alloc: Global,
     number: u32,
     page_limit: usize,
+    span_limit: u32,
     gens: u32,
     opened: u32,
     ended: bool,
@@ -98,14 +99,16 @@ impl<L: Log> Model for Shard<L> {
 }
 
 impl Shard<Kept> {
-    /// A shard with no page, which may have that many pages, and gives a slot the generations 1 to `gens`. It
-    /// is refused exactly where the number is not below 64, the pages are not 1 to 1,024, or `gens` is 0.
+    /// A shard with no page, which may have that many pages, opens as many spans as there are serials, and gives a slot the
+    /// generations 1 to `gens`. It is refused exactly where the number is not below 64, the pages are not 1 to 1,024, or `gens`
+    /// is 0.
     pub fn new(alloc: Global, number: u32, page_limit: usize, gens: u32) -> Result<Shard, Config>
         ensures in_range { IsOk result ↔ ((number < MOST_SHARDS) × (1 ≤ page_limit)
             × (page_limit ≤ MOST_PAGES) × (1 ≤ gens)) }
         ensures empty { IfOk result (λ shard. shard ≡ record {
           number = number;
           page_limit = page_limit;
+          span_limit = MOST_SPANS;
           gens = gens;
           opened = 0;
           ended = false;
@@ -116,23 +119,26 @@ impl Shard<Kept> {
         }) }
         ensures sound { IfOk result IsSound }
     {
-        Shard::with_log(alloc, number, page_limit, gens)
+        Shard::with_log(alloc, number, page_limit, MOST_SPANS, gens)
     }
 }
 
 impl<L: Log> Shard<L> {
-    /// A shard with no page, whose logs are kept or counted as its type says: as [`Shard::new`], and refused as that is.
+    /// A shard with no page, whose logs are kept or counted as its type says, and which may open `span_limit` spans in its
+    /// life: else as [`Shard::new`], and refused as that is, and where `span_limit` is not 1 to [`MOST_SPANS`].
     pub fn with_log(
         alloc: Global,
         number: u32,
         page_limit: usize,
+        span_limit: u32,
         gens: u32,
     ) -> Result<Shard<L>, Config>
         ensures in_range { IsOk result ↔ ((number < MOST_SHARDS) × (1 ≤ page_limit)
-            × (page_limit ≤ MOST_PAGES) × (1 ≤ gens)) }
+            × (page_limit ≤ MOST_PAGES) × (1 ≤ span_limit) × (span_limit ≤ MOST_SPANS) × (1 ≤ gens)) }
         ensures empty { IfOk result (λ shard. shard ≡ record {
           number = number;
           page_limit = page_limit;
+          span_limit = span_limit;
           gens = gens;
           opened = 0;
           ended = false;
@@ -143,13 +149,18 @@ impl<L: Log> Shard<L> {
         }) }
         ensures sound { IfOk result IsSound }
     {
-        if number >= MOST_SHARDS || page_limit == 0 || page_limit > MOST_PAGES || gens == 0 {
+        if number >= MOST_SHARDS
+            || !matches!(page_limit, 1..=MOST_PAGES)
+            || !matches!(span_limit, 1..=MOST_SPANS)
+            || gens == 0
+        {
             return Err(Config);
         }
         Ok(Shard {
             alloc,
             number,
             page_limit,
+            span_limit,
             gens,
             opened: 0,
             ended: false,
@@ -205,6 +216,15 @@ impl<L: Log> Shard<L> {
         ensures at_most { result ≤ MOST_SPANS }
     {
         self.opened
+    }
+
+    /// How many spans it may open in its life.
+    pub fn span_limit(&self) -> u32
+        ensures span_limit { result ≡ self.now.span_limit }
+        ensures at_most { result ≤ MOST_SPANS }
+        ensures opened { self.now.opened ≤ result }
+    {
+        self.span_limit
     }
 
     /// Whether it has as many groups as it may have pages.
@@ -309,8 +329,8 @@ impl<L: Log> Shard<L> {
     /// out, and the number of changes that the head's log had before.
     ///
     /// It is refused with `Ended` exactly after the shard's end, and with `PagesSpent` exactly where it has not
-    /// ended, no open group has a usable slot, and it has as many groups as it may have pages, or has opened 1,024 spans. With
-    /// `OutOfMemory` an allocation was refused; each stands before the first change.
+    /// ended, no open group has a usable slot, and it has as many groups as it may have pages, or has opened as many spans as it may.
+    /// With `OutOfMemory` an allocation was refused; each stands before the first change.
     pub fn put(&mut self, object: Object) -> Result<(Key, usize), PutError>
         ensures ok { IfOk result (λ made.
             Puts self.old (class_of object) object made.0 made.1 self.new) }
@@ -348,7 +368,7 @@ impl<L: Log> Shard<L> {
         if let Some(made) = self.put_here(class, words)? {
             return Ok(made);
         }
-        if self.groups.len() >= self.page_limit || self.opened >= MOST_SPANS {
+        if self.groups.len() >= self.page_limit || self.opened >= self.span_limit {
             return Err(PutError::PagesSpent);
         }
         self.put_in_new(class, words)
@@ -376,7 +396,7 @@ impl<L: Log> Shard<L> {
         requires width { length words.now ≡ width_of class }
         requires full { IsFull class self.old.groups }
         requires pages { length self.old.groups < self.old.page_limit }
-        requires opened { self.old.opened < MOST_SPANS }
+        requires opened { self.old.opened < self.old.span_limit }
         requires running { self.old.ended ≡ false }
         ensures ok { IfOk result (λ made. PutsInNew self.old class words.now made.0 made.1 self.new) }
         ensures only { IsOkUnless result PutError.OutOfMemory }

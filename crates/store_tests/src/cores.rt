@@ -5,11 +5,13 @@ use marks::Totals;
 use span::{Counted, Key, Log, Object, SpanId};
 use std::alloc::Global;
 
+mod beginning;
 mod classes;
 mod forgetting;
 mod plans;
 mod retiring;
 mod setting;
+mod spans;
 mod trimming;
 
 fn key(shard: u32, serial: u32, slot: u8, generation: u32) -> Option<Key> {
@@ -42,6 +44,7 @@ enum Told {
     Sent,
     Settled(Option<Key>),
     ShardEnded,
+    ShardBegun,
     Retired(usize),
     Trimmed(usize),
     Adopted(SpanId),
@@ -67,6 +70,7 @@ fn tell(reply: &Reply) -> Told {
         Reply::Sent => Told::Sent,
         Reply::Settled(key) => Told::Settled(*key),
         Reply::ShardEnded => Told::ShardEnded,
+        Reply::ShardBegun => Told::ShardBegun,
         Reply::Retired(count) => Told::Retired(*count),
         Reply::Trimmed(count) => Told::Trimmed(*count),
         Reply::Adopted(head) => Told::Adopted(*head),

@@ -21,6 +21,8 @@ mod arenas;
 #[cfg(test)]
 mod audits;
 #[cfg(test)]
+mod begins;
+#[cfg(test)]
 mod gates;
 #[cfg(test)]
 mod held;

@@ -8,9 +8,9 @@ use Rattle.certificate.specs.declared.certificate.Certificate.{Certificate}
 use Rattle.certificate.specs.Text.{IsWritable, certificate_text}
 use Rattle.fold.specs.declared.step.Step.TheVariants.{Folded, Emptied}
 use Rattle.arena_core.specs.declared.event.Event.{Event}
-use Rattle.arena_core.specs.declared.event.Event.TheVariants.{Put, Set, Free, End, Retire, Trim, Adopt, Step, Close}
+use Rattle.arena_core.specs.declared.event.Event.TheVariants.{Put, Set, Free, End, Begin, Retire, Trim, Adopt, Step, Close}
 use Rattle.arena_core.specs.declared.reply.Reply.{Reply}
-use Rattle.arena_core.specs.declared.reply.Reply.TheVariants.{Issued, Replaced, Freed, ShardEnded, Retired, Trimmed, Adopted, Marked, Stepped, NoPairLeft, Closed, NoPlan, Refused}
+use Rattle.arena_core.specs.declared.reply.Reply.TheVariants.{Issued, Replaced, Freed, ShardEnded, ShardBegun, Retired, Trimmed, Adopted, Marked, Stepped, NoPairLeft, Closed, NoPlan, Refused}
 use Rattle.arena_core.specs.Plain.{ErasedStep}
 use Rattle.arena_core.specs.Sound.{IsSound}
 use Rattle.arena_core.specs.State.{CoreState, HasKeys, new_core, pages, shown}
@@ -158,6 +158,17 @@ SaysEnd says reply = ⊥
 -- the shard ends, or is refused its end
 abbrev pub Ends : Option Held → ℕ → ℕ → Option Held → Type 0
 Ends old shard says new = (reply : Reply) × Steps old (End shard) reply new × SaysEnd says reply
+
+-- what C reads of the reply to a begin
+abbrev pub SaysBegun : ℕ → Reply → Type 0
+SaysBegun says ShardBegun = says ≡ done
+SaysBegun says (Refused refusal) = says ≡ refusal_status refusal
+-- no other reply comes
+SaysBegun says reply = ⊥
+
+-- the shard runs again, or is refused its begin
+abbrev pub Begins : Option Held → ℕ → ℕ → Option Held → Type 0
+Begins old shard says new = (reply : Reply) × Steps old (Begin shard) reply new × SaysBegun says reply
 
 -- what C reads of the reply to a retirement
 abbrev pub SaysRetired : RetireReply → Reply → Type 0

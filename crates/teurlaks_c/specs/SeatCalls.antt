@@ -28,7 +28,7 @@ use Rattle.teurlaks_c.specs.declared.share.Share.TheVariants.{Seat}
 use Rattle.teurlaks_c.specs.declared.share.SharedSeat.{SharedSeat}
 use Rattle.teurlaks_c.specs.Calls.{SaysWords}
 use Rattle.teurlaks_c.specs.Keys.{IsKeyOf, IsNoKey, IsSpanOf}
-use Rattle.teurlaks_c.specs.Status.{busy, config, done, no_core, none, out_of_memory, ring_full, adopt_status, put_status, receive_status}
+use Rattle.teurlaks_c.specs.Status.{busy, config, done, no_core, none, out_of_memory, ring_full, still_running, adopt_status, put_status, receive_status}
 
 -- the handle has no seat
 abbrev pub HasNoSeat : Option Share → Type 0
@@ -169,6 +169,13 @@ SaysEnded says None = says ≡ no_core
 SaysEnded says (Some (Err b)) = says ≡ busy
 SaysEnded says (Some (Ok (Ok ended))) = says ≡ done
 SaysEnded says (Some (Ok (Err error))) = says ≡ receive_status error
+
+-- what C reads of a begin, which is told whether the shard had ended
+abbrev pub SaysBegun : ℕ → Option (Result Bool Busy) → Type 0
+SaysBegun says None = says ≡ no_core
+SaysBegun says (Some (Err b)) = says ≡ busy
+SaysBegun says (Some (Ok true)) = says ≡ done
+SaysBegun says (Some (Ok false)) = says ≡ still_running
 
 -- what C reads of a trim
 abbrev pub SaysTrimmed : TrimReply → Option (Result ℕ Busy) → Type 0

@@ -1,7 +1,7 @@
 -- The numbers that calls answer.
 use Rattle.std.specs.Prelude.{ℕ}
 use Rattle.arena_core.specs.declared.reply.Refusal.{Refusal}
-use Rattle.arena_core.specs.declared.reply.Refusal.TheVariants.{OutOfMemory, PagesSpent, Ended, PlanOpen, TooMany, NothingToAdopt, RingFull, Config}
+use Rattle.arena_core.specs.declared.reply.Refusal.TheVariants.{OutOfMemory, PagesSpent, Ended, Running, PlanOpen, TooMany, NothingToAdopt, RingFull, Config}
 use Rattle.shard.specs.declared.error.PutError.{PutError}
 use Rattle.shard.specs.declared.error.PutError.TheVariants as put_error
 use Rattle.abandoned.specs.declared.error.ReceiveError.{ReceiveError}
@@ -49,11 +49,16 @@ no_core = 14
 abbrev pub has_core : ℕ
 has_core = 15
 
+-- the shard that is to begin again has not ended
+abbrev pub still_running : ℕ
+still_running = 17
+
 -- the status that stands for the refusal
 abbrev pub refusal_status : Refusal → ℕ
 refusal_status OutOfMemory = 2
 refusal_status PagesSpent = 3
 refusal_status Ended = 4
+refusal_status Running = 17
 refusal_status PlanOpen = 5
 refusal_status TooMany = 6
 refusal_status NothingToAdopt = 7

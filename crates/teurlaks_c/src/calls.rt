@@ -405,9 +405,10 @@ pub(crate) fn tell(found: Option<&[u128]>, room: &mut [RawWord]) -> WordsReply
 // What stands for a key where there is none: generation 0 is never given out.
 pub(crate) fn no_key() -> RawKey {
     RawKey {
-        shard: 0,
-        slot: 0,
         serial: 0,
         generation: 0,
+        shard: 0,
+        slot: 0,
+        reserved: 0,
     }
 }

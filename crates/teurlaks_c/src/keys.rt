@@ -11,12 +11,16 @@ pub(crate) fn key_of(raw: RawKey) -> Option<Key>
     ensures { MatchOption result (IsNoKey raw) (IsKeyOf raw) }
 {
     let RawKey {
-        shard,
-        slot,
         serial,
         generation,
+        shard,
+        slot,
+        reserved,
     } = raw;
-    let Some(span) = SpanId::new(u32::from(shard), u32::from(serial)) else {
+    if reserved != 0 {
+        return None;
+    }
+    let Some(span) = SpanId::new(u32::from(shard), serial) else {
         return None;
     };
     Key::new(span, slot, generation)
@@ -34,10 +38,11 @@ pub(crate) fn raw_of(key: Key) -> RawKey
     } = key;
     let SpanId { shard, serial } = span;
     RawKey {
+        serial,
+        generation,
         shard: shard as u8,
         slot,
-        serial: serial as u16,
-        generation,
+        reserved: 0,
     }
 }
 

@@ -1,7 +1,7 @@
-// Shards that end, retire groups or give pages back, groups that are adopted, and plans of folds.
+// Shards that end, begin again, retire groups or give pages back, groups that are adopted, and plans of folds.
 ghost use Rattle.std.specs.Prelude.{◌≡◌, IsSome, MatchOption, None};
 ghost use Rattle.arena_core.specs.declared.event.Event.TheVariants as event;
-ghost use Rattle.teurlaks_c.specs.Calls.{Adopts, Closes, CountsOf, Ends, IsOfMark, Keeps, Marks, Retires, SaysMarked, Steps, TakesStep, Tells, Trims, Writes};
+ghost use Rattle.teurlaks_c.specs.Calls.{Adopts, Begins, Closes, CountsOf, Ends, IsOfMark, Keeps, Marks, Retires, SaysMarked, Steps, TakesStep, Tells, Trims, Writes};
 ghost use Rattle.teurlaks_c.specs.Keys.{IsSpanOf};
 ghost use Rattle.teurlaks_c.specs.Status.{no_core};
 
@@ -21,7 +21,7 @@ use span::SpanId;
 use std::alloc::Global;
 use std::mem::replace;
 
-/// Ends the shard: its groups go to the pool, with their pages, and it takes no put again. Refused with `ENDED`, `PLAN_OPEN`,
+/// Ends the shard: its groups go to the pool, with their pages, and it takes no put until it begins again. Refused with `ENDED`, `PLAN_OPEN`,
 /// `CONFIG` or `OUT_OF_MEMORY` as an end of [`Core::step`](arena_core::Core::step) is; nothing has changed then.
 #[unsafe(no_mangle)]
 pub extern "C" fn teurlaks_end(alloc: Global, handle: &mut Handle, shard: u32) -> u32
@@ -30,6 +30,22 @@ pub extern "C" fn teurlaks_end(alloc: Global, handle: &mut Handle, shard: u32) -
 {
     match step(alloc, handle, Event::End { shard }) {
         Some(Reply::ShardEnded) => OK,
+        Some(Reply::Refused(refusal)) => status_of(refusal),
+        Some(_) => NONE,
+        None => NO_CORE,
+    }
+}
+
+/// Lets the shard, which has ended, run again, for a new thread. No key that it then gives out was given out before, and all keys stay
+/// what they were. Refused with `RUNNING` where the shard has not ended, and with `CONFIG` where there is no such shard; nothing has
+/// changed then. It takes no memory.
+#[unsafe(no_mangle)]
+pub extern "C" fn teurlaks_begin(alloc: Global, handle: &mut Handle, shard: u32) -> u32
+    ensures live { IsSome handle.old.held → Begins handle.old.held shard result handle.new.held }
+    ensures none { handle.old.held ≡ None → (result ≡ no_core) × (handle.new.held ≡ None) }
+{
+    match step(alloc, handle, Event::Begin { shard }) {
+        Some(Reply::ShardBegun) => OK,
         Some(Reply::Refused(refusal)) => status_of(refusal),
         Some(_) => NONE,
         None => NO_CORE,

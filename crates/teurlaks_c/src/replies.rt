@@ -1,14 +1,15 @@
 // What crosses to C, in and out.
 
-/// A key: the shard that opened its span, the slot, the span's serial number in that shard, and the generation. Any numbers may
-/// be given; where no live key has them, nothing is found.
+/// A key, in 12 bytes: the serial number of its span in the shard that opened that, the generation, the shard, the slot, and two bytes
+/// that are zero in each key. Any numbers may be given; where no live key has them, nothing is found.
 #[repr(C)]
 #[derive(Clone, Copy)]
 pub struct RawKey {
+    pub serial: u32,
+    pub generation: u32,
     pub shard: u8,
     pub slot: u8,
-    pub serial: u16,
-    pub generation: u32,
+    pub reserved: u16,
 }
 
 /// The name of a span, and of the group that it heads: the shard that opened it, and its serial number there.

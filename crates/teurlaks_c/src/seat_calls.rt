@@ -161,6 +161,21 @@ impl SeatCall for End {
     }
 }
 
+/// A begin of the seat's shard after its end.
+#[derive(Drop)]
+pub(crate) struct Begin;
+
+impl SeatCall for Begin {
+    /// Whether it had ended.
+    type Answer = Result<bool, Busy>;
+
+    ghost does = { λ call. IsOneCall };
+
+    fn ask(&self, seat: &mut Seat, arena: &Shards) -> Result<bool, Busy> {
+        seat.try_begin(arena)
+    }
+}
+
 /// A retirement of up to that many groups.
 #[derive(Drop)]
 pub(crate) struct Retire {

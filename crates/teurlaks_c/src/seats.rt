@@ -1,7 +1,7 @@
 // The calls of a seat, for the thread that has its handle.
 ghost use Rattle.std.specs.Prelude.{◌≡◌};
 ghost use Rattle.arena.specs.Delays.{HandsOver};
-ghost use Rattle.teurlaks_c.specs.SeatCalls.{Asks, AsksNothing, Ends, FreesKey, GetsWords, IsOneCall, LeavesKey, PutsWords, Retires, SaysAdopted, SaysEnded, SaysFreed, SaysGot, SaysHandedOver, SaysLeft, SaysPut, SaysRetired, SaysSet, SaysTended, SaysTrimmed, SetsWords, Tends};
+ghost use Rattle.teurlaks_c.specs.SeatCalls.{Asks, AsksNothing, Ends, FreesKey, GetsWords, IsOneCall, LeavesKey, PutsWords, Retires, SaysAdopted, SaysBegun, SaysEnded, SaysFreed, SaysGot, SaysHandedOver, SaysLeft, SaysPut, SaysRetired, SaysSet, SaysTended, SaysTrimmed, SetsWords, Tends};
 ghost use Rattle.teurlaks_c.specs.Status.{adopt_status, put_status, receive_status};
 ghost use Rattle.teurlaks_c.specs.Words.{words_of};
 
@@ -12,12 +12,12 @@ use crate::replies::{
     AdoptReply, PutReply, RawKey, RawWord, RetireReply, TendReply, TrimReply, WordsReply,
 };
 use crate::seat_calls::{
-    Adopt, End, Free, FreeLater, Get, HandOver, Put, Retire, Set, Stay, Tend, Trim, at_seat,
+    Adopt, Begin, End, Free, FreeLater, Get, HandOver, Put, Retire, Set, Stay, Tend, Trim, at_seat,
 };
 use crate::share_handle::ShareHandle;
 use crate::status::{
     BUSY, CONFIG, ENDED, NO_CORE, NONE, NOTHING_TO_ADOPT, OK, OUT_OF_MEMORY, PAGES_SPENT,
-    PLAN_OPEN, RING_FULL,
+    PLAN_OPEN, RING_FULL, RUNNING,
 };
 use crate::words::object_of;
 use abandoned::{AdoptError, ReceiveError};
@@ -97,13 +97,23 @@ pub extern "C" fn teurlaks_seat_free(alloc: Global, handle: &mut ShareHandle, ke
     freed_reply(at_seat(alloc, handle, &Free { key }))
 }
 
-/// Ends the seat's shard: its groups go to the pool, with their pages, and it takes no put again. Refused with `BUSY`, `ENDED`,
+/// Ends the seat's shard: its groups go to the pool, with their pages, and it takes no put until it begins again. Refused with `BUSY`, `ENDED`,
 /// `PLAN_OPEN` or `OUT_OF_MEMORY`; nothing has changed then.
 #[unsafe(no_mangle)]
 pub extern "C" fn teurlaks_seat_end(alloc: Global, handle: &mut ShareHandle) -> u32
     ensures { (answer : _) × Asks Ends handle.old.share answer handle.new.share × SaysEnded result answer }
 {
     ended_reply(at_seat(alloc, handle, &End))
+}
+
+/// Lets the seat's shard, which has ended, run again, for a new thread. No key that it then gives out was given out before, and all keys
+/// stay what they were. Refused with `BUSY`, or with `RUNNING` where the shard has not ended; nothing has changed then. It takes no
+/// memory.
+#[unsafe(no_mangle)]
+pub extern "C" fn teurlaks_seat_begin(alloc: Global, handle: &mut ShareHandle) -> u32
+    ensures { (answer : _) × Asks IsOneCall handle.old.share answer handle.new.share × SaysBegun result answer }
+{
+    begun_reply(at_seat(alloc, handle, &Begin))
 }
 
 /// Moves up to `most` groups of the seat's shard to the pool, and lets the shard go on: those with the fewest live keys, of those that
@@ -292,6 +302,18 @@ fn ended_reply(answer: Option<Result<Result<(), ReceiveError>, Busy>>) -> u32
     match answer {
         Some(Ok(Ok(()))) => OK,
         Some(Ok(Err(error))) => receive_status_of(error),
+        Some(Err(Busy)) => BUSY,
+        None => NO_CORE,
+    }
+}
+
+// What C reads of a begin.
+fn begun_reply(answer: Option<Result<bool, Busy>>) -> u32
+    ensures { SaysBegun result answer }
+{
+    match answer {
+        Some(Ok(true)) => OK,
+        Some(Ok(false)) => RUNNING,
         Some(Err(Busy)) => BUSY,
         None => NO_CORE,
     }

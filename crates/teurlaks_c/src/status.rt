@@ -55,6 +55,9 @@ pub(crate) const HAS_CORE: u32 = 15;
 /// Another thread has a lock that the call needs. Nothing has changed: try again later.
 pub(crate) const BUSY: u32 = 16;
 
+/// Refused: the shard has not ended, so it can't begin again.
+pub(crate) const RUNNING: u32 = 17;
+
 /// The status that stands for the refusal.
 #[inline(always)]
 pub(crate) fn status_of(refusal: Refusal) -> u32
@@ -64,6 +67,7 @@ pub(crate) fn status_of(refusal: Refusal) -> u32
         Refusal::OutOfMemory => OUT_OF_MEMORY,
         Refusal::PagesSpent => PAGES_SPENT,
         Refusal::Ended => ENDED,
+        Refusal::Running => RUNNING,
         Refusal::PlanOpen => PLAN_OPEN,
         Refusal::TooMany => TOO_MANY,
         Refusal::NothingToAdopt => NOTHING_TO_ADOPT,

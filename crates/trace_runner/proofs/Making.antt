@@ -20,7 +20,7 @@ use Rattle.trace_runner.specs.declared.plans.Plans.{Plans}
 use Rattle.trace_text.specs.declared.line.Call.{Call}
 use Rattle.trace_text.specs.declared.line.Line.TheVariants as line
 use Rattle.arena_core.specs.declared.event.Event.{Event}
-use Rattle.arena_core.specs.declared.event.Event.TheVariants.{Put, Get, Set, Free, Later, Settle, End, Retire, Trim, Adopt, Mark, MarkSome, Step, Close}
+use Rattle.arena_core.specs.declared.event.Event.TheVariants.{Put, Get, Set, Free, Later, Settle, End, Begin, Retire, Trim, Adopt, Mark, MarkSome, Step, Close}
 use Rattle.arena_core.specs.declared.reply.Reply.TheVariants.{ShardEnded}
 use Rattle.arena_core.specs.declared.reply.Reply.{Reply}
 use Rattle.span.specs.PlainMap.{PlainMap}
@@ -72,6 +72,7 @@ erased-one limits a b (Free key) reply step = (b, step, refl)
 erased-one limits a b (Later worker key) reply step = (b, step, refl)
 erased-one limits a b (Settle worker shard) reply step = (b, step, refl)
 erased-one limits a b (End shard) reply step = step
+erased-one limits a b (Begin shard) reply step = step
 erased-one limits a b (Retire shard most) reply step = step
 erased-one limits a b (Trim shard) reply step = step
 erased-one limits a b (Adopt shard) reply step = step

@@ -15,7 +15,7 @@ use Rattle.arena_core.specs.State.{CoreState, with_shard}
 use Rattle.arena_core.specs.Step.{CoreStep}
 use Rattle.trace_runner.specs.Recalls.{EndsOne, IsOpen, IsPutServed, IsServed, IsSetServed, KeepsPlan, KeepsShards, MayCall, ended_at, reply_to_put}
 use Rattle.arena_core.specs.declared.event.Event.{Event}
-use Rattle.arena_core.specs.declared.event.Event.TheVariants.{Put, Get, Set, Free, Later, Settle, End, Retire, Trim, Adopt, Mark, MarkSome, Step, Close}
+use Rattle.arena_core.specs.declared.event.Event.TheVariants.{Put, Get, Set, Free, Later, Settle, End, Begin, Retire, Trim, Adopt, Mark, MarkSome, Step, Close}
 use Rattle.arena_core.specs.declared.reply.Reply.{Reply}
 use Rattle.arena_core.specs.declared.reply.Reply.TheVariants.{Issued, Found, Replaced, Freed, Sent, ShardEnded, Trimmed, Adopted, Refused}
 use Rattle.arena_core.specs.declared.reply.Refusal.{Refusal}
@@ -102,6 +102,7 @@ KeepsPlan-step old new (Later worker key) (Refused RingFull) may step = KeepsPla
 KeepsPlan-step old new (Later worker key) (Refused Config) may step = KeepsPlan-same old new step.1
 KeepsPlan-step old new (Settle worker shard) reply may step = absurd may
 KeepsPlan-step old new (End shard) reply may step = absurd may
+KeepsPlan-step old new (Begin shard) reply may step = absurd may
 KeepsPlan-step old new (Retire shard most) reply may step = absurd may
 KeepsPlan-step old new (Trim shard) (Trimmed count) may step = subst (KeepsPlan old) (sym step.rest) (record { shards = KeepsShards-with_shard old shard step.before step.after step.here (ap (λ (s : ShardState). s.ended) step.trims.after); plan = refl })
 KeepsPlan-step old new (Trim shard) (Refused Config) may step = KeepsPlan-same old new step.1
@@ -152,6 +153,7 @@ IsServed-step old new (Later worker key) (Refused RingFull) may step = tt
 IsServed-step old new (Later worker key) (Refused Config) may step = elim step.0 [ inl outside ↦ omega (arith, may.0, outside) | inr outside ↦ omega (arith, may.1, outside) ]
 IsServed-step old new (Settle worker shard) reply may step = absurd may
 IsServed-step old new (End shard) reply may step = absurd may
+IsServed-step old new (Begin shard) reply may step = absurd may
 IsServed-step old new (Retire shard most) reply may step = absurd may
 IsServed-step old new (Trim shard) (Refused Config) may step = omega (arith, may.within, step.0)
 IsServed-step old new (Trim shard) (Trimmed count) may step = tt

@@ -13,11 +13,11 @@ use Rattle.trace_runner.specs.News.{News, news_of, with_all_made}
 use Rattle.trace_runner.specs.Runs.{AreSteps, DoLines, IsAnswered, ends_asked, finishing, pairs_left_of, planning_at, rings_asked}
 use Rattle.trace_runner.specs.declared.plans.Plans.{Plans}
 use Rattle.arena_core.specs.declared.event.Event.{Event}
-use Rattle.arena_core.specs.declared.event.Event.TheVariants.{Put, Later, Settle, End, Retire, Trim, Adopt, Mark, MarkSome, Step, Close}
+use Rattle.arena_core.specs.declared.event.Event.TheVariants.{Put, Later, Settle, End, Begin, Retire, Trim, Adopt, Mark, MarkSome, Step, Close}
 use Rattle.arena_core.specs.declared.reply.Reply.{Reply}
-use Rattle.arena_core.specs.declared.reply.Reply.TheVariants.{Issued, Settled, Retired, Marked, Stepped, NoPairLeft, Closed, NoPlan, Refused}
+use Rattle.arena_core.specs.declared.reply.Reply.TheVariants.{Issued, Settled, ShardBegun, Retired, Marked, Stepped, NoPairLeft, Closed, NoPlan, Refused}
 use Rattle.arena_core.specs.declared.reply.Refusal.{Refusal}
-use Rattle.arena_core.specs.declared.reply.Refusal.TheVariants.{OutOfMemory, PagesSpent, Ended, PlanOpen, TooMany, Config}
+use Rattle.arena_core.specs.declared.reply.Refusal.TheVariants.{OutOfMemory, PagesSpent, Ended, Running, PlanOpen, TooMany, Config}
 use Rattle.trace_text.specs.declared.line.Line.{Line}
 
 -- ---- what is done at a line
@@ -88,7 +88,7 @@ pub record EndsBelow (old : CoreState) (bound : ℕ) (test : ℕ → Bool) (new 
   pub limits : new.limits ≡ old.limits
   pub ended : (number : ℕ) → ended_at new number ≡ ((nat_lt number bound && test number) || ended_at old number)
 
--- the event may be called for a line: its shard is open, or its worker and shard are there, and no plan is where it would be in the way; the barrier alone ends shards, steps and closes, and no line retires
+-- the event may be called for a line: its shard is open, or its worker and shard are there, and no plan is where it would be in the way; the barrier alone ends shards, steps and closes, and no line begins a shard again or retires
 abbrev pub MayCall : CoreState → Event → Type 0
 MayCall core (Put shard value) = IsOpen core shard
 MayCall core (Trim shard) = IsOpen core shard
@@ -96,6 +96,7 @@ MayCall core (Adopt shard) = IsOpen core shard × (core.plan ≡ None)
 MayCall core (Later worker key) = (worker < core.limits.shards) × (key.span.shard < core.limits.shards)
 MayCall core (Settle worker shard) = ⊥
 MayCall core (End shard) = ⊥
+MayCall core (Begin shard) = ⊥
 MayCall core (Retire shard most) = ⊥
 MayCall core Mark = ⊥
 MayCall core MarkSome = ⊥
@@ -124,10 +125,12 @@ IsSetServed (Err cause) = ⊥
 -- the shard that was asked for is there and has not ended, and no plan is spoken of
 abbrev pub IsServed : Reply → Type 0
 IsServed (Refused Ended) = ⊥
+IsServed (Refused Running) = ⊥
 IsServed (Refused PlanOpen) = ⊥
 IsServed (Refused TooMany) = ⊥
 IsServed (Refused Config) = ⊥
 IsServed (Settled key) = ⊥
+IsServed ShardBegun = ⊥
 IsServed (Retired count) = ⊥
 IsServed (Marked certificate) = ⊥
 IsServed (Stepped abandoned owned step) = ⊥

@@ -709,8 +709,8 @@ fn answer_to(reply: Reply) -> Result<Answer, AllocError>
         // The others come of events that rings and plans are asked by.
         Reply::Settled(_) | Reply::Marked(_) | Reply::Stepped(..) => unreachable!(),
         Reply::NoPairLeft | Reply::Closed | Reply::NoPlan => unreachable!(),
-        // No line of a trace retires.
-        Reply::Retired(_) => unreachable!(),
+        // No line of a trace retires, or begins a shard again.
+        Reply::Retired(_) | Reply::ShardBegun => unreachable!(),
     }
 }
 
@@ -726,8 +726,9 @@ fn answer_to_refusal(refusal: Refusal) -> Result<Answer, AllocError>
         Refusal::NothingToAdopt => Ok(Answer::NothingToAdopt),
         Refusal::RingFull => Ok(Answer::RingFull),
         Refusal::OutOfMemory => Err(AllocError),
-        // A trace asks for its own shards alone, for none that has ended, and adopts where no plan is open.
-        Refusal::Ended | Refusal::PlanOpen | Refusal::TooMany | Refusal::Config => unreachable!(),
+        // A trace asks for its own shards alone, for none that has ended, begins none again, and adopts where no plan is open.
+        Refusal::Ended | Refusal::Running => unreachable!(),
+        Refusal::PlanOpen | Refusal::TooMany | Refusal::Config => unreachable!(),
     }
 }
 

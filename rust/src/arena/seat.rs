@@ -162,8 +162,8 @@ impl<T> Seat<T> {
         done(tended.status).map(|()| taken)
     }
 
-    /// Ends the seat's shard: its groups go to the pool, with their pages, from where they are folded or adopted, and it takes no value again. All
-    /// keys stay what they are, and the seat goes on to read, set and free.
+    /// Ends the seat's shard: its groups go to the pool, with their pages, from where they are folded or adopted, and it takes no value until it
+    /// [begins](Seat::begin) again. All keys stay what they are, and the seat goes on to read, set and free.
     ///
     /// # Errors
     ///
@@ -175,6 +175,20 @@ impl<T> Seat<T> {
         done(
             self.turn
                 .at_seat(|| unsafe { raw::teurlaks_seat_end(self.share.handle()) }),
+        )
+    }
+
+    /// Lets the seat's shard run again after its end, mostly in another thread, which the seat was sent to: it takes values as before, and
+    /// no key that it gives out was given out before. What others left to the seat meanwhile waits for [`Seat::tend`]. It takes no memory.
+    ///
+    /// # Errors
+    ///
+    /// [`Refused::Running`]: the shard has not ended.
+    pub fn begin(&mut self) -> Result<(), Refused> {
+        // SAFETY: as in `insert`.
+        done(
+            self.turn
+                .at_seat(|| unsafe { raw::teurlaks_seat_begin(self.share.handle()) }),
         )
     }
 

@@ -1,4 +1,4 @@
-//! What a core does with whole groups: ends, retirements, trims and adoptions, marks and their steps.
+//! What a core does with whole groups: ends, begins, retirements, trims and adoptions, marks and their steps.
 
 use super::Core;
 use crate::compact::Compact;
@@ -43,7 +43,8 @@ pub enum Stepped {
 }
 
 impl Core {
-    /// Ends a shard: its groups go to the pool, with their pages, and it takes no object again. Its number never comes back.
+    /// Ends a shard: its groups go to the pool, with their pages, and it takes no object until it
+    /// [begins](Core::begin) again.
     ///
     /// # Errors
     ///
@@ -55,6 +56,33 @@ impl Core {
         // SAFETY: as in `insert`.
         done(unsafe { raw::teurlaks_end(self.handle.get(), shard) })?;
         self.ended[shard as usize] = true;
+        Ok(())
+    }
+
+    /// Lets a shard that has ended run again, for a new thread: it takes objects and groups as before. All keys stay what they are, and
+    /// none that it gives out was given out before. It takes no memory.
+    ///
+    /// # Errors
+    ///
+    /// - [`Refused::Running`]: it has not ended;
+    /// - [`Refused::Config`]: there is no such shard.
+    ///
+    /// ```
+    /// # use teurlaks::{Core, Limits, Refused};
+    /// let mut core = Core::new(Limits::default())?;
+    /// let before = core.insert(0, 7)?;
+    /// assert_eq!(core.begin(0), Err(Refused::Running));
+    /// core.end(0)?; // the thread of the shard is gone
+    /// assert_eq!(core.insert(0, 8), Err(Refused::Ended));
+    /// core.begin(0)?; // and another one takes its place
+    /// let after = core.insert(0, 8)?;
+    /// assert_eq!((core.get(before), core.get(after)), (Some(7), Some(8)));
+    /// # Ok::<(), Refused>(())
+    /// ```
+    pub fn begin(&mut self, shard: u32) -> Result<(), Refused> {
+        // SAFETY: as in `insert`.
+        done(unsafe { raw::teurlaks_begin(self.handle.get(), shard) })?;
+        self.ended[shard as usize] = false;
         Ok(())
     }
 
@@ -183,7 +211,7 @@ impl Core {
     /// - [`Refused::PlanOpen`]: a plan is open;
     /// - [`Refused::OutOfMemory`]: memory was refused to a mark or to a step; what was folded before stays so, and no plan is open.
     pub fn mesh(&mut self) -> Result<usize, Refused> {
-        self.mesh_with(|_, _| ())
+        self.mesh_with(Core::step)
     }
 
     /// Gives back the pages on which no key is live, folds sparse pages onto others until that hardly gives any back, and says how many
@@ -231,12 +259,15 @@ impl Core {
         (0..self.shards()).filter_map(|shard| self.trim(shard).ok()).sum()
     }
 
-    /// As `mesh`, and tells of each fold when it is done.
-    pub(crate) fn mesh_with(&mut self, mut folded: impl FnMut(Group, Group)) -> Result<usize, Refused> {
+    /// As `mesh`, by that step.
+    pub(crate) fn mesh_with(
+        &mut self,
+        mut step: impl FnMut(&mut Core) -> Result<Stepped, Refused>,
+    ) -> Result<usize, Refused> {
         let before = self.pages();
         loop {
             let marked = self.mark_some()?;
-            let taken = self.take_steps(&mut folded);
+            let taken = self.take_steps(&mut step);
             self.close()?;
             taken?;
             if !marked.wants_another() {
@@ -245,14 +276,9 @@ impl Core {
         }
     }
 
-    fn take_steps(&mut self, folded: &mut impl FnMut(Group, Group)) -> Result<(), Refused> {
-        loop {
-            match self.step()? {
-                Stepped::NoPairLeft => return Ok(()),
-                Stepped::Folded(abandoned, owned) => folded(abandoned, owned),
-                Stepped::Emptied(..) => {}
-            }
-        }
+    fn take_steps(&mut self, step: &mut impl FnMut(&mut Core) -> Result<Stepped, Refused>) -> Result<(), Refused> {
+        while step(self)? != Stepped::NoPairLeft {}
+        Ok(())
     }
 
     /// The text of the last mark's certificate, which shows that no plan has more folds, or `None` before the first mark. `meshrun check`
@@ -319,7 +345,7 @@ pub(crate) fn done(status: u32) -> Result<(), Refused> {
     }
 }
 
-/// The calls of a type with a core that are the core's and do not move a value: its ends, retirements and trims, and its marks.
+/// The calls of a type with a core that are the core's and do not move a value: its ends, begins, retirements and trims, and its marks.
 macro_rules! letting_go {
     () => {
         /// The numbers with which it was made.
@@ -341,6 +367,15 @@ macro_rules! letting_go {
         /// As of [`Core::end`](crate::Core::end).
         pub fn end(&mut self, shard: u32) -> Result<(), crate::Refused> {
             self.core.end(shard)
+        }
+
+        /// Lets a shard that has ended run again, as [`Core::begin`](crate::Core::begin).
+        ///
+        /// # Errors
+        ///
+        /// As of [`Core::begin`](crate::Core::begin).
+        pub fn begin(&mut self, shard: u32) -> Result<(), crate::Refused> {
+            self.core.begin(shard)
         }
 
         /// Moves the sparsest groups of a shard to the pool, as [`Core::retire`](crate::Core::retire), whose shard goes on.

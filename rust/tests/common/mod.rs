@@ -14,6 +14,12 @@ impl Random {
         self.0
     }
 
+    /// A number that some key may have, or one without a generation, with half of its bits 0 at least.
+    pub fn bits(&mut self) -> u128 {
+        let mut wide = || u128::from(self.next()) << 64 | u128::from(self.next());
+        wide() & wide() >> 48
+    }
+
     pub fn below(&mut self, count: usize) -> usize {
         ((self.next() >> 11) % count as u64) as usize
     }

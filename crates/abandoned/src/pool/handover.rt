@@ -176,6 +176,40 @@ impl<L: Log> Pool<L> {
         ensures sound { IsSound self.new }
         ensures sound_shard { IsSoundShard shard.new }
     {
+        match self.adoptable(shard) {
+            Ok(head) => self.move_to(shard, head),
+            Err(error) => Err(error),
+        }
+    }
+
+    /// The head of the group that [`Pool::adopt`] would move to the shard if no allocation were refused. It takes no memory.
+    ///
+    /// # Errors
+    ///
+    /// Those of [`Pool::adopt`], each exactly where that has it, but for `OutOfMemory`, which never comes.
+    pub fn adoptable(&self, shard: &Shard<L>) -> Result<SpanId, AdoptError>
+        ensures lowest { IfOk result (IsHeadOfLowest self.now) }
+
+        // Each refusal.
+        ensures spent { (result ≡ Err AdoptError.PagesSpent)
+            ↔ (shard.now.page_limit ≡ length shard.now.groups) }
+        ensures ended { (result ≡ Err AdoptError.Ended)
+            ↔ ((shard.now.page_limit ≢ length shard.now.groups) × (shard.now.ended ≡ true)) }
+        ensures doubled { (result ≡ Err AdoptError.Doubled)
+            ↔ ((shard.now.page_limit ≢ length shard.now.groups) × (shard.now.ended ≡ false)
+            × IsDoubled self.now shard.now) }
+        ensures plan_open { (result ≡ Err AdoptError.PlanOpen)
+            ↔ ((shard.now.page_limit ≢ length shard.now.groups) × (shard.now.ended ≡ false)
+            × (IsDoubled self.now shard.now → ⊥) × (self.now.has_plan ≡ true)) }
+        ensures nothing { (result ≡ Err AdoptError.NothingToAdopt)
+            ↔ ((shard.now.page_limit ≢ length shard.now.groups) × (shard.now.ended ≡ false)
+            × (self.now.has_plan ≡ false) × HasNothingToAdopt self.now) }
+        ensures memory { result ≢ Err AdoptError.OutOfMemory }
+
+        // Both are sound.
+        ensures sound { IsSound self.now }
+        ensures sound_shard { IsSoundShard shard.now }
+    {
         let lowest = self.lowest_paged();
         let ended = shard.ended();
         if shard.is_full() {
@@ -193,7 +227,7 @@ impl<L: Log> Pool<L> {
         if self.has_plan {
             return Err(AdoptError::PlanOpen);
         }
-        self.move_to(shard, head)
+        Ok(head)
     }
 
     // Why no group is adopted where none has a page.

@@ -168,6 +168,19 @@ impl Seat {
         self.end_within(&Tries, arena)
     }
 
+    /// What [`Seat::begin`] does, where no other thread has the shard's lock.
+    ///
+    /// # Errors
+    ///
+    /// [`Busy`] where another thread has it.
+    pub fn try_begin<G: Gate, L: Log>(&mut self, arena: &Arena<G, L>) -> Result<bool, Busy>
+        requires { self.old.limits ≡ arena.now.limits }
+        ensures seat { OnOk result (CountsCall self.old self.new) }
+        ensures busy { OnErr result (self.new ≡ self.old) }
+    {
+        self.begin_within(&Tries, arena)
+    }
+
     /// What [`Seat::retire`] does, where no other thread has the pool's lock or the shard's.
     ///
     /// # Errors

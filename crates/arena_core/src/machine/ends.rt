@@ -1,4 +1,4 @@
-// The end of a shard, retirements, and the adoption of a group.
+// The end of a shard and its beginning again, retirements, and the adoption of a group.
 ghost use Rattle.std.specs.Prelude.{◌≡◌, ◌≤◌, MatchResult};
 ghost use Rattle.arena_core.specs.Sound.{IsSound};
 ghost use Rattle.arena_core.specs.State.{shown};
@@ -7,6 +7,7 @@ ghost use Rattle.arena_core.specs.declared.event.Event.TheVariants as event;
 ghost use Rattle.arena_core.specs.declared.reply.Reply.TheVariants as reply;
 
 use super::Core;
+use super::plans::spans_to_come;
 use crate::reply::{Refusal, adopt_refusal, end_refusal};
 use span::{Log, SpanId};
 
@@ -25,6 +26,29 @@ impl<L: Log> Core<L> {
         match self.pool.receive(shard) {
             Ok(()) => {}
             Err(error) => return Err(end_refusal(error)),
+        }
+        Ok(())
+    }
+
+    /// Lets the shard of this number, which has ended, run again, for a new thread: it takes puts and groups as before. The spans
+    /// that it opens have serials that go on from where they stood, so no key is issued twice; what stood in it stays where it
+    /// is, under its keys. It takes no memory.
+    ///
+    /// What [`Core::step`] does with [`Event::Begin`], without a reply to take apart. It is refused by [`Refusal::Running`] exactly
+    /// where the shard has not ended, and by [`Refusal::Config`] exactly where there is no such shard.
+    pub fn begin(&mut self, number: u32) -> Result<(), Refusal>
+        ensures exact { MatchResult result
+            (λ _. CoreStep self.old (event.Begin number) reply.ShardBegun self.new)
+            (λ refusal. CoreStep self.old (event.Begin number)
+            (reply.Refused refusal) self.new) }
+        ensures same { shown self.new ≡ shown self.old }
+        ensures sound { IsSound self.new }
+    {
+        let Some(shard) = self.shards.get_mut(number as usize) else {
+            return Err(Refusal::Config);
+        };
+        if !shard.begin() {
+            return Err(Refusal::Running);
         }
         Ok(())
     }
@@ -88,7 +112,7 @@ impl<L: Log> Core<L> {
     }
 
     // Moves the pool's group of lowest head that has a page to the shard of this number, and notes that its spans are
-    // there.
+    // there. The room for the notes is made before anything changes.
     pub(super) fn adopt(&mut self, number: u32) -> Result<SpanId, Refusal>
         ensures exact { MatchResult result
             (λ head. CoreStep self.old (event.Adopt number) (reply.Adopted head) self.new)
@@ -99,6 +123,11 @@ impl<L: Log> Core<L> {
         let Some(shard) = self.shards.get_mut(number as usize) else {
             return Err(self.no_adopter(number));
         };
+        let coming = match self.pool.adoptable(shard) {
+            Ok(head) => head,
+            Err(error) => return Err(adopt_refusal(error)),
+        };
+        self.whereabouts.reserve(spans_to_come(&self.pool, coming))?;
         let head = match self.pool.adopt(shard) {
             Ok(head) => head,
             Err(error) => return Err(adopt_refusal(error)),

@@ -21,8 +21,8 @@ impl<L: Log> Core<L> {
     ///
     /// What [`Core::step`] does with [`Event::Put`], without a reply to take apart. It is refused as that is: by
     /// [`Refusal::Config`] where there is no such shard, by [`Refusal::Ended`] where it has ended, by
-    /// [`Refusal::PagesSpent`] where it needs a page that it may not have, and by [`Refusal::OutOfMemory`] only where
-    /// none of these holds.
+    /// [`Refusal::PagesSpent`] where it needs a new span, and has as many groups as it may have pages or has opened as many
+    /// spans as it may, and by [`Refusal::OutOfMemory`] only where none of these holds.
     #[inline(always)]
     pub fn put(&mut self, number: u32, value: Object) -> Result<Key, Refusal>
         ensures exact { MatchResult result

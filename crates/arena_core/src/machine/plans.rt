@@ -1,5 +1,6 @@
 // Marks, the steps of their plans, and closes.
-ghost use Rattle.std.specs.Prelude.{◌≡◌, ◌<◌, ℕ, MatchResult, length};
+ghost use Rattle.std.specs.Prelude.{◌≡◌, ◌<◌, ℕ, IsSome, MatchResult, length};
+ghost use Rattle.abandoned.specs.State.{PooledState};
 ghost use Rattle.shard.specs.Group.{GroupState};
 ghost use Rattle.groups.specs.Group.{IsHeadOf, spans_of};
 ghost use Rattle.shard.specs.Sound.{IsSound as IsSoundShard};
@@ -15,6 +16,7 @@ ghost use Rattle.arena_core.specs.declared.reply.Reply.TheVariants as reply;
 
 use super::Core;
 use crate::reply::{Refusal, Reply, mark_refusal};
+use abandoned::Pool;
 use certificate::Certificate;
 use fold::{Step, fold_one};
 use marks::{has_too_many, mark_some_in, reopen_all};
@@ -91,7 +93,7 @@ impl<L: Log> Core<L> {
     }
 
     // Folds the next pair, whose owned group stands in the shard of this number, and notes that the spans that came are
-    // there.
+    // there. The room for the notes is made before anything changes.
     fn fold_next(
         &mut self,
         number: usize,
@@ -106,6 +108,8 @@ impl<L: Log> Core<L> {
         ensures same { shown self.new ≡ shown self.old }
         ensures sound { IsSound self.new }
     {
+        self.whereabouts
+            .reserve(spans_to_come(&self.pool, abandoned))?;
         let shard = &mut self.shards[number];
         let before = span_count(shard, owned);
         let step = fold_one(&mut self.pool, shard, abandoned, owned)?;
@@ -139,5 +143,16 @@ fn span_count<L: Log>(shard: &Shard<L>, head: SpanId) -> usize
     match shard.brief(head) {
         Some(brief) => brief.spans,
         None => 0,
+    }
+}
+
+// How many spans leave the pool with the group of the head, where that has a page: only such a group is adopted or folded.
+pub(super) fn spans_to_come<L: Log>(pool: &Pool<L>, head: SpanId) -> usize
+    ensures { (index : ℕ) (group : PooledState) → IsHeadOf pool.now.groups head index group
+        → IsSome group.page → result ≡ length (spans_of group) }
+{
+    match pool.brief(head) {
+        Some(brief) if brief.paged => brief.spans,
+        Some(_) | None => 0,
     }
 }

@@ -7,7 +7,7 @@ ghost use Rattle.arena_core.specs.State.{opened_by, shown};
 ghost use Rattle.span.specs.declared.limits.TheConstants.{ALL_IDS, MOST_SHARDS, MOST_SPANS};
 
 use super::Core;
-use span::{Key, Log, SpanId};
+use span::{Key, Log, MOST_SHARDS, SpanId};
 
 impl<L: Log> Core<L> {
     /// The live key that comes next after the given one, or the first one where none is given. `None` says that no live key
@@ -41,7 +41,7 @@ impl<L: Log> Core<L> {
         ensures { MatchOption result (HasNoneBetween (shown self.now) (MOST_SPANS * from) ALL_IDS)
             (IsFirstLive (shown self.now) (MOST_SPANS * from)) }
     {
-        for shard in from..64 {
+        for shard in from..MOST_SHARDS {
             if let Some(key) = self.first_in_spans(shard, 0) {
                 return Some(key);
             }

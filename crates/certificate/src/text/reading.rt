@@ -1,7 +1,7 @@
 // Reads certificates.
 ghost use Rattle.std.specs.Prelude.{◌≡◌, ◌+◌, ◌≤◌, IfOk};
 ghost use Rattle.certificate.specs.Grammar.{Reads, at_line, body_in, certificate_in, end_in, fixed_in, line_in, outline_of, version_in};
-ghost use Rattle.certificate.specs.Text.{IsTextOf, IsWritable};
+ghost use Rattle.certificate.specs.Text.{IsTextOf, IsWithinText, IsWritable};
 ghost use Rattle.certificate.specs.Words.{lines_of};
 
 use super::cause::{Cause, ReadError};
@@ -24,6 +24,7 @@ use std::alloc::Global;
 pub fn read(alloc: Global, text: &[u8]) -> Result<Certificate, ReadError>
     ensures read { Reads outline_of result (certificate_in text.now) }
     ensures writable { IfOk result IsWritable }
+    ensures within { IfOk result IsWithinText }
 
     // An accepted text is the very text that is written of what was read, or its text in version 1.
     ensures text { IfOk result (λ certificate. IsTextOf certificate text.now) }

@@ -14,6 +14,9 @@ use bitmap::Bits256;
 use mesh_graph::{Entry, MOST_GROUPS};
 use span::{Class, SpanId};
 
+/// A serial in a certificate's text is below this, whatever serials there are: that of a text says the same for ever.
+pub const TEXT_SPANS: u32 = 1024;
+
 /// A shard, a full stop and a serial.
 pub(super) fn parse_id(word: &[u8]) -> Result<SpanId, Cause>
     ensures { result_map id_parts result ≡ id_in word.now }
@@ -33,7 +36,10 @@ fn id_of(shard: Option<u32>, serial: Option<u32>) -> Result<SpanId, Cause>
         → result_map id_parts result ≡ id_of_numbers a b }
 {
     match (shard, serial) {
-        (Some(shard), Some(serial)) => SpanId::new(shard, serial).ok_or(Cause::Limit),
+        (Some(shard), Some(serial)) if serial < TEXT_SPANS => {
+            SpanId::new(shard, serial).ok_or(Cause::Limit)
+        }
+        (Some(_), Some(_)) => Err(Cause::Limit),
         _ => Err(Cause::Form),
     }
 }

@@ -1,7 +1,7 @@
 //! What help says below its list of words, and the version.
 
 /// The version, which is also that of the crate `teurlaks` and of the header for C.
-pub const VERSION: &str = "0.1.0";
+pub const VERSION: &str = "0.2.0";
 
 /// Of the program itself.
 pub const PROGRAM_HELP: &str = "\

@@ -7,7 +7,7 @@ use Rattle.arena_core.proofs.machine.new_shards.Given as goal
 
 abbrev pub invariant-loop-number : goal.invariant-loop-number
 invariant-loop-number g l = record {
-  items : l.shards.items ≡ map (new_shard l.page_limit l.gens) (range_with_len 0 l.number);
-  sound : (number : ℕ) → number < l.number → IsSound (new_shard l.page_limit l.gens number);
+  items : l.shards.items ≡ map (new_shard l.limits.page_limit l.limits.span_limit l.limits.gens) (range_with_len 0 l.number);
+  sound : (number : ℕ) → number < l.number → IsSound (new_shard l.limits.page_limit l.limits.span_limit l.limits.gens number);
   room : vec_len l.shards + l.count ≤ vec_capacity l.shards + l.number;
 }

@@ -1,8 +1,15 @@
-use Rattle.std.proofs.Common.{◌≡◌, ◌∙◌, sym, subst, refl, true, false}
+use Rattle.std.proofs.Common.{◌≡◌, ◌∙◌, map, sym, subst, refl, true, false}
 use Rattle.span.specs.ReceiptLists.{kept_receipts}
 use Rattle.audit.specs.Agreement.{IsInOrder}
+use Rattle.audit.specs.Order.{LeaveNothing}
+use Rattle.audit.proofs.Orderly.{LeaveNothing-all}
 use Rattle.audit.proofs.Lists.{list_at, lists_more, lists_all}
 use Rattle.audit.proofs.order.workers_are_in_order.Goals as goal
+
+pub is_in_order-requires-clause-nothing : goal.is_in_order-requires-clause-nothing
+is_in_order-requires-clause-nothing c =
+    subst (LeaveNothing c.args.logs.now) (list_at kept_receipts IsInOrder c.args.lists.now c.loop-list.list-index c.list-item.result c.loop-list-test.true c.list-item.is)
+    (LeaveNothing-all c.args.logs.now (map kept_receipts c.args.lists.now) c.requires.changes c.requires.replies c.loop-list.list-index)
 
 pub returns-then-not-is_in_order : goal.returns-then-not-is_in_order
 returns-then-not-is_in_order c = (

@@ -1,7 +1,7 @@
-use Rattle.std.proofs.Common.{◌≡◌, map, take}
-use Rattle.std.specs.List.{filter}
-use Rattle.certificate.specs.Chosen.{is_member}
+use Rattle.std.proofs.Common.{◌≡◌, take}
+use Rattle.std.specs.List.{flat_map}
+use Rattle.certificate.specs.Chosen.{sets_of}
 use Rattle.certificate.proofs.partner.planes_of.Given as goal
 
-abbrev pub invariant-loop-entry : goal.invariant-loop-entry
-invariant-loop-entry l = l.planes ≡ map (λ x. x.occupied) (filter (is_member l.chosen.words l.class) (take l.entry-index l.abandoned))
+abbrev pub invariant-loop-id : goal.invariant-loop-id
+invariant-loop-id l = l.planes ≡ flat_map (sets_of l.abandoned l.class) (take l.id-index l.chosen)

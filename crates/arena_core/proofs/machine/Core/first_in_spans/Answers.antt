@@ -1,26 +1,28 @@
 use Rattle.std.proofs.Common.{◌≡◌, ◌*◌, ◌+◌, arith, subst}
 use Rattle.span.specs.Ids.{rank}
+use Rattle.span.specs.declared.limits.TheConstants.{MOST_SPANS}
 use Rattle.arena_core.specs.NextLive.{HasNoneBetween}
 use Rattle.arena_core.specs.State.{shown}
 use Rattle.arena_core.proofs.NextLive.{HasNoneBetween-more, HasNoneBetween-opened, HasNoneBetween-span, IsFirstLive-span}
+use Rattle.span.specs.declared.limits.TheConstants.{MOST_SPANS}
 use Rattle.arena_core.proofs.machine.Core.first_in_spans.Goals as goal
 
 pub returns-in-Some-first_in_span : goal.returns-in-Some-first_in_span
 returns-in-Some-first_in_span g c =
-    let here : 1024 * c.args.shard + c.loop-serial.serial ≡ rank c.in-Some.id = omega (arith, c.in-Some.ensures.parts.0, c.in-Some.ensures.parts.1) in
-    let low = 1024 * c.args.shard + c.args.from in
+    let here : MOST_SPANS * c.args.shard + c.loop-serial.serial ≡ rank c.in-Some.id = omega (arith, c.in-Some.ensures.parts.0, c.in-Some.ensures.parts.1) in
+    let low = MOST_SPANS * c.args.shard + c.args.from in
     IsFirstLive-span (shown c.args.self.now) low c.in-Some.id c.in-Some-first_in_span.key (omega (arith, here, c.loop-serial.auto.serial))
     (subst (HasNoneBetween (shown c.args.self.now) low) here c.loop-serial.invariant) c.in-Some-first_in_span.ensures
 
 pub loop-serial-preserved : goal.loop-serial-preserved
 loop-serial-preserved g c =
-    let here : 1024 * c.args.shard + c.loop-serial.serial ≡ rank c.in-Some.id = omega (arith, c.in-Some.ensures.parts.0, c.in-Some.ensures.parts.1) in
-    let low = 1024 * c.args.shard + c.args.from in
-    let next : rank c.in-Some.id + 1 ≡ 1024 * c.args.shard + (c.loop-serial.serial + 1) = omega (arith, here) in
+    let here : MOST_SPANS * c.args.shard + c.loop-serial.serial ≡ rank c.in-Some.id = omega (arith, c.in-Some.ensures.parts.0, c.in-Some.ensures.parts.1) in
+    let low = MOST_SPANS * c.args.shard + c.args.from in
+    let next : rank c.in-Some.id + 1 ≡ MOST_SPANS * c.args.shard + (c.loop-serial.serial + 1) = omega (arith, here) in
     subst (HasNoneBetween (shown c.args.self.now) low) next
     (HasNoneBetween-span (shown c.args.self.now) low c.in-Some.id (subst (HasNoneBetween (shown c.args.self.now) low) here c.loop-serial.invariant) c.in_default-first_in_span.ensures)
 
 pub returns : goal.returns
 returns g c =
-    HasNoneBetween-more (shown c.args.self.now) (1024 * c.args.shard + c.args.from) (1024 * c.args.shard + c.loop-serial.serial) (1024 * (c.args.shard + 1)) c.loop-serial.invariant
+    HasNoneBetween-more (shown c.args.self.now) (MOST_SPANS * c.args.shard + c.args.from) (MOST_SPANS * c.args.shard + c.loop-serial.serial) (MOST_SPANS * (c.args.shard + 1)) c.loop-serial.invariant
     (HasNoneBetween-opened c.args.self.now c.opened_by-serial-end.ensures.sound.groups c.args.shard c.loop-serial.serial (omega (arith, c.loop-serial-test.false, c.opened_by-serial-end.ensures.opened)))

@@ -30,7 +30,7 @@ pooled g c =
     c.free.ensures.step c.free.ensures.found c.free.ensures.plain c.free.ensures.sound))
 
 pub invariant_of-self : goal.invariant_of-self
-invariant_of-self g c = record { sound = (pooled g c).kept; entries = c.self.invariant.entries; moved = c.self.invariant.moved }
+invariant_of-self g c = record { sound = (pooled g c).kept; moved = c.self.invariant.moved }
 
 pub returns-then-matches-clause-exact : goal.returns-then-matches-clause-exact
 returns-then-matches-clause-exact g c = (pooled g c).exact

@@ -9,7 +9,7 @@ sent g c =
     (IsSent-later (state_of c.self.inside) c.self.invariant.sound c.args.worker c.args.key c.send.result c.send.new.self c.send.ensures)
 
 pub invariant_of-self : goal.invariant_of-self
-invariant_of-self g c = record { sound = (sent g c).kept; entries = c.self.invariant.entries; moved = c.self.invariant.moved }
+invariant_of-self g c = record { sound = (sent g c).kept; moved = c.self.invariant.moved }
 
 pub returns-clause-exact : goal.returns-clause-exact
 returns-clause-exact g c = (sent g c).exact

@@ -26,7 +26,7 @@ pooled g c =
     c.in_ok-pooled.pooled c.in_ok-pooled.ensures.step c.in_ok-pooled.ensures.found c.in_ok-pooled.ensures.plain c.set.ensures.sound)
 
 pub invariant_of-self-then-matches : goal.invariant_of-self-then-matches
-invariant_of-self-then-matches g c = record { sound = (pooled g c).kept; entries = c.self.invariant.entries; moved = c.self.invariant.moved }
+invariant_of-self-then-matches g c = record { sound = (pooled g c).kept; moved = c.self.invariant.moved }
 
 pub returns-then-matches-clause-exact : goal.returns-then-matches-clause-exact
 returns-then-matches-clause-exact g c = (pooled g c).exact

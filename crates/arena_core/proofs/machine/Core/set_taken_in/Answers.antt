@@ -18,7 +18,7 @@ use Rattle.arena_core.proofs.machine.Core.set_taken_in.Goals as goal
 pub returns-in_default-clause-not_here : goal.returns-in_default-clause-not_here
 returns-in_default-clause-not_here g c = λ e. (
   subst (λ (s : CoreState). StandsInNoOther s.shards c.args.key.now.span) c.self.view_is
-      (no_other-unnamed c.self.inside.shards.items c.self.inside.whereabouts c.self.invariant.moved c.args.key.now.span (sym c.shard_of.ensures ∙ c.in_default.is)),
+      (no_other-unnamed c.self.inside.shards.items c.self.inside.whereabouts.entries c.self.invariant.moved c.args.key.now.span (sym c.shard_of.ensures ∙ c.in_default.is)),
   refl,
 )
 
@@ -26,7 +26,7 @@ pub returns-in_default-get_mut-clause-not_here : goal.returns-in_default-get_mut
 returns-in_default-get_mut-clause-not_here g c = λ e.
     let past : slice_get c.self.inside.shards.items c.in-Some.number ≡ None = slice_get_past c.self.inside.shards.items c.in-Some.number (no_read c.self.inside c.in-Some.number c.in_default-get_mut.ensures.variant.1) in (
       subst (λ (s : CoreState). StandsInNoOther s.shards c.args.key.now.span) c.self.view_is
-          (no_other-named c.self.inside.shards.items c.self.inside.whereabouts c.self.invariant.moved c.args.key.now.span c.in-Some.number (sym c.shard_of.ensures ∙ c.in-Some.is) (λ stands. none-some _ (sym past ∙ stands.1))),
+          (no_other-named c.self.inside.shards.items c.self.inside.whereabouts.entries c.self.invariant.moved c.args.key.now.span c.in-Some.number (sym c.shard_of.ensures ∙ c.in-Some.is) (λ stands. none-some _ (sym past ∙ stands.1))),
       c.self.view_is,
     )
 
@@ -79,7 +79,7 @@ returns-clause-not_here g c = λ e.
     let away : Sets c.in-Some-get_mut.shard.now c.args.key.now c.args.words.now NotHere c.set.new.self = subst (λ answer. Sets c.in-Some-get_mut.shard.now c.args.key.now c.args.words.now answer c.set.new.self) e c.in_ok-replaced.ensures.step in
     let read : IsRead c.self.inside c.in-Some.number c.in-Some-get_mut.shard.now = record { within = c.in-Some-get_mut.ensures.variant.0 refl; value = c.in-Some-get_mut.ensures.value } in (
       subst (λ (s : CoreState). StandsInNoOther s.shards c.args.key.now.span) c.self.view_is
-          (no_other-named c.self.inside.shards.items c.self.inside.whereabouts c.self.invariant.moved c.args.key.now.span c.in-Some.number (sym c.shard_of.ensures ∙ c.in-Some.is)
+          (no_other-named c.self.inside.shards.items c.self.inside.whereabouts.entries c.self.invariant.moved c.args.key.now.span c.in-Some.number (sym c.shard_of.ensures ∙ c.in-Some.is)
           (not-standing (state_of c.self.inside) c.self.invariant.sound.groups c.args.key.now.span c.in-Some.number c.in-Some-get_mut.shard.now (shard-read c.self.inside c.in-Some.number c.in-Some-get_mut.shard.now read) away.0)),
       state_of-same c.self.inside c.in-Some.number c.in-Some-get_mut.shard.now c.set.new.self read away.1 ∙ c.self.view_is,
     )

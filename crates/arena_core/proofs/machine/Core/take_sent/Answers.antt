@@ -10,7 +10,7 @@ taken g c =
     (IsTaken-take (state_of c.self.inside) c.self.invariant.sound c.args.worker c.args.shard c.take.result c.take.new.self c.take.ensures)
 
 pub invariant_of-self : goal.invariant_of-self
-invariant_of-self g c = record { sound = (taken g c).kept; entries = c.self.invariant.entries; moved = c.self.invariant.moved }
+invariant_of-self g c = record { sound = (taken g c).kept; moved = c.self.invariant.moved }
 
 pub returns-clause-taken : goal.returns-clause-taken
 returns-clause-taken g c = (taken g c).taken

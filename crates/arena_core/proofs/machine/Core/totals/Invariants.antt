@@ -1,14 +1,17 @@
 use Rattle.std.proofs.Common.{◌≡◌, ◌≤◌, ◌+◌, ◌*◌, length, take}
 use Rattle.std.specs.Prelude.{sum_by}
+use Rattle.bitmap.specs.declared.bits.TheConstants.{SLOTS}
+use Rattle.span.specs.declared.limits.TheConstants.{MOST_PAGES}
 use Rattle.groups.specs.Group.{paged_in}
 use Rattle.shard.specs.State.{ShardState}
 use Rattle.arena_core.specs.State.{shard_keys}
+use Rattle.span.specs.declared.limits.TheConstants.{MOST_PAGES}
 use Rattle.arena_core.proofs.machine.Core.totals.Given as goal
 
 abbrev pub invariant-loop-shard : goal.invariant-loop-shard
 invariant-loop-shard g l = record {
   pages : l.totals.pages ≡ sum_by (λ (shard : ShardState). length (paged_in shard.groups)) (take l.shard-index l.shard-items) + l.initial.totals.pages;
   live : l.totals.live ≡ sum_by shard_keys (take l.shard-index l.shard-items) + l.initial.totals.live;
-  few_pages : l.totals.pages ≤ l.initial.totals.pages + 1024 * l.shard-index;
-  few_keys : l.totals.live ≤ l.initial.totals.live + 262144 * l.shard-index;
+  few_pages : l.totals.pages ≤ l.initial.totals.pages + MOST_PAGES * l.shard-index;
+  few_keys : l.totals.live ≤ l.initial.totals.live + SLOTS * MOST_PAGES * l.shard-index;
 }

@@ -6,8 +6,8 @@ use Rattle.certificate.proofs.Rereading.{certificate_in-text}
 use Rattle.certificate.proofs.text.writing.write.Goals as goal
 
 pub returns-clause-read_again : goal.returns-clause-read_again
-returns-clause-read_again c =
+returns-clause-read_again c = λ within.
     let s = c.args.certificate.now.snapshot in
     ap certificate_in c.in_ok-text.ensures.text
-    ∙ certificate_in-text c.args.certificate.now c.requires c.in_ok-text.ensures.abandoned_ascending c.in_ok-text.ensures.owned_ascending
+    ∙ certificate_in-text c.args.certificate.now c.requires within c.in_ok-text.ensures.abandoned_ascending c.in_ok-text.ensures.owned_ascending
     (recursion_from_All IsReadable s.abandoned c.in_ok-text.ensures.abandoned) (recursion_from_All IsReadable s.owned c.in_ok-text.ensures.owned)

@@ -76,7 +76,7 @@ invariant_of-self-2 g c = record {
       (IsSound-put_in_new (state_of c.self.inside) c.self.invariant.sound c.in-Some.id c.in-Some.ensures.parts.0 c.in-Some.ensures.parts.1 c.args.class c.lower_heads-index.result c.args.words.now c.requires.width (place_now g c)
       (ap (λ (s : ShardState). s.ended) c.self.view_is ∙ c.requires.running)
       (subst (λ (s : ShardState). length s.groups < s.page_limit) (sym c.self.view_is) c.requires.pages)
-      (subst (λ (s : ShardState). s.opened < 1024) (sym c.self.view_is) c.requires.opened));
+      (subst (λ (s : ShardState). s.opened < s.span_limit) (sym c.self.view_is) c.requires.opened));
   rooms = λ class. rw (groups_now g c) (elim (cases_eq (c.lower_heads-index.result + 1) c.len.result) [
     | inl last ↦
         let at_end : c.lower_heads-index.result ≡ length c.self.inside.groups.items = omega (arith, last, c.len.ensures, c.insert_reserved.ensures.len, c.in_ok-reserve.ensures.len, c.self.inside.groups.ok.0) in

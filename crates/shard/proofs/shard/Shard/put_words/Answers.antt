@@ -6,7 +6,7 @@ use Rattle.shard.specs.Sound.{IsSound}
 use Rattle.shard.specs.State.{ShardState}
 use Rattle.shard.proofs.PutResult.{is_issued-result, IsSound-result, puts_if_new, shown-result}
 use Rattle.shard.proofs.ShownLogs.{is_issued-Puts, IsSound-Puts, shown-Puts}
-use Rattle.shard.proofs.shard.Shard.put_words.Goals.{then-len-self-via-then-len-self, then-len-self-via-else-len-self+then-self-ge-MOST_SPANS}
+use Rattle.shard.proofs.shard.Shard.put_words.Goals.{then-len-self-via-then-len-self, then-len-self-via-else-len-self+then-self-2}
 use Rattle.shard.proofs.shard.Shard.put_words.Goals as goal
 
 here : (g : _) (c : goal.In-Some g) → Puts c.args.self.now c.args.class c.args.words.now c.in-Some.made.0 c.in-Some.made.1 c.put_here.new.self
@@ -43,7 +43,7 @@ new_one g c =
     (ap (λ (s : ShardState). s.ended) (sym c.self.view_is) ∙ c.if-self.false)
     (full g c).0
     (subst (λ (s : ShardState). length s.groups < s.page_limit) same (omega (arith, c.self-2.inside.groups.ok.0, c.len.ensures)))
-    (subst (λ (s : ShardState). s.opened < 1024) same (omega arith))
+    (subst (λ (s : ShardState). s.opened < s.span_limit) same (omega arith))
     (subst (λ (s : ShardState). IfOk c.put_in_new.result (λ made. PutsInNew s c.args.class c.args.words.now made.0 made.1 c.put_in_new.new.self)) (full g c).1 c.put_in_new.ensures.ok)
 
 pub returns-clause-ok : goal.returns-clause-ok
@@ -73,9 +73,9 @@ pub returns-then-len-self-clause-spent : goal.returns-then-len-self-clause-spent
 returns-then-len-self-clause-spent g c =
     let full : IsFull c.args.class c.args.self.now.groups × (c.put_here.new.self ≡ c.args.self.now) = rw c.in_default.is at (c.in_ok-made.ensures {u = tt}).ok in
     let same : state_of c.self-2.inside ≡ c.args.self.now = c.self-2.view_is ∙ full.1 in
-    let spent : (c.args.self.now.page_limit ≤ length c.args.self.now.groups) ⊎ (1024 ≤ c.args.self.now.opened) = elim c.then-len-self.branch [
+    let spent : (c.args.self.now.page_limit ≤ length c.args.self.now.groups) ⊎ (c.args.self.now.span_limit ≤ c.args.self.now.opened) = elim c.then-len-self.branch [
       | then-len-self-via-then-len-self w ↦ inl (subst (λ (s : ShardState). s.page_limit ≤ length s.groups) same (omega (arith, w.if-len-self, c.self-2.inside.groups.ok.0, c.len.ensures)))
-      | then-len-self-via-else-len-self+then-self-ge-MOST_SPANS w ↦ inr (subst (λ (s : ShardState). 1024 ≤ s.opened) same (omega (arith, w.if-self-ge-MOST_SPANS)))
+      | then-len-self-via-else-len-self+then-self-2 w ↦ inr (subst (λ (s : ShardState). s.span_limit ≤ s.opened) same (omega (arith, w.if-self-2)))
     ] in (
       (λ e. (ap (λ (s : ShardState). s.ended) (sym c.self.view_is) ∙ c.if-self.false, (full.0, spent))),
       λ e. refl,

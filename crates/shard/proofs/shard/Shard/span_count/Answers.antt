@@ -2,11 +2,12 @@ use Rattle.std.proofs.Common.{◌+◌, ◌≤◌, List, arith, length, refl, sub
 use Rattle.shard.specs.Group.{GroupState}
 use Rattle.groups.specs.Group.{spans_in, spans_of}
 use Rattle.groups.proofs.SpanCounts.{at_most_ids, length-spans_more, length-take_spans}
+use Rattle.span.specs.declared.limits.TheConstants.{ALL_IDS}
 use Rattle.shard.proofs.shard.Shard.span_count.Goals as goal
 
 pub loop-group-init : goal.loop-group-init
 loop-group-init g c =
-    (refl, subst (λ (groups : List GroupState). length (spans_in groups) ≤ 65536) (sym c.deref-group-items.ensures.value) (at_most_ids (spans_in c.self.inside.groups.items) c.self.invariant.sound.once))
+    (refl, subst (λ (groups : List GroupState). length (spans_in groups) ≤ ALL_IDS) (sym c.deref-group-items.ensures.value) (at_most_ids (spans_in c.self.inside.groups.items) c.self.invariant.sound.once))
 
 pub overflow_add-count : goal.overflow_add-count
 overflow_add-count g c =

@@ -1,6 +1,7 @@
 use Rattle.std.proofs.Common.{◌≡◌, ◌≤◌, length, take}
 use Rattle.groups.specs.Group.{spans_in}
+use Rattle.span.specs.declared.limits.TheConstants.{ALL_IDS}
 use Rattle.shard.proofs.shard.Shard.span_count.Given as goal
 
 abbrev pub invariant-loop-group : goal.invariant-loop-group
-invariant-loop-group g l = (l.count ≡ length (spans_in (take l.group-index l.group-items))) × (length (spans_in l.group-items) ≤ 65536)
+invariant-loop-group g l = (l.count ≡ length (spans_in (take l.group-index l.group-items))) × (length (spans_in l.group-items) ≤ ALL_IDS)

@@ -19,10 +19,10 @@ none : (c : goal.After-forget_guests-count) → c.self.inside.plan ≡ None
 none c = None-if_not_some c.self.inside.plan (sym c.is_open.ensures ∙ c.if-is_open.false)
 
 kept : (c : goal.After-forget_guests-count) → IsKept (fields c)
-kept c = IsKept-forgotten c.self.inside (fields c) c.self.invariant refl refl refl refl refl refl refl c.forget_guests-count.ensures.items c.with-self-inside.ensures (none c)
+kept c = IsKept-forgotten c.self.inside (fields c) c.self.invariant refl refl refl refl refl refl refl refl c.forget_guests-count.ensures.items c.with-self-inside.ensures (none c)
 
 are : (c : goal.After-forget_guests-count) → state_of (fields c) ≡ with_forgotten (state_of c.self.inside)
-are c = state_of-forgotten c.self.inside (fields c) c.self.invariant refl refl refl refl refl refl refl c.forget_guests-count.ensures.items c.with-self-inside.ensures
+are c = state_of-forgotten c.self.inside (fields c) c.self.invariant refl refl refl refl refl refl refl refl c.forget_guests-count.ensures.items c.with-self-inside.ensures
 
 pub invariant_of-self : goal.invariant_of-self
 invariant_of-self c = kept c

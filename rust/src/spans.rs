@@ -1,0 +1,280 @@
+//! The spans that have values.
+
+use crate::names::Span;
+use crate::refused::Refused;
+use crate::values::Block;
+
+/// Where the values of a span are.
+#[derive(Clone, Copy)]
+pub(crate) struct Home {
+    span: Span,
+    /// The block of its page.
+    pub block: Block,
+    /// The number of its page.
+    pub page: u32,
+    /// The number of the span among those that have homes: no two have the same at one time.
+    pub number: u32,
+    /// How many values it has there.
+    pub live: u32,
+}
+
+/// The homes of spans, by the names of spans: it takes memory for as many as there were at one time, whatever their serial numbers are.
+///
+/// A home stands at the place that follows from its span or, where that is taken, at the next free one behind it (Knuth, *The Art of Computer
+/// Programming*, volume 3, 6.4, algorithms L and R). So a look-up is mostly a product and a comparison: with a `HashMap`
+/// of as cheap a hash the look-up of a value took half as long again.
+pub(crate) struct Spans {
+    // None at first, and then a power of two, of which at most half are homes.
+    places: Vec<Option<Home>>,
+    // How many further spans there is room for.
+    room: usize,
+    // By the numbers of spans, also of those that are free.
+    names: Vec<Span>,
+    free: Vec<u32>,
+}
+
+/// How many places there are at least, once there are any.
+const LEAST_PLACES: usize = 16;
+
+/// An odd number, found by trial, by which spans seldom want the same place, in shards that open them one after another, and where each second to
+/// 4,096th of these is left: where half of the places are taken, a search takes 1.07 steps on average then, and 1.5 at worst.
+const FACTOR: u64 = 0xD780_1A74_78B1_1F29;
+
+impl Spans {
+    pub fn new() -> Spans {
+        Spans {
+            places: Vec::new(),
+            room: 0,
+            names: Vec::new(),
+            free: Vec::new(),
+        }
+    }
+
+    /// Whether there is no room for a further span.
+    #[inline]
+    pub fn is_full(&self) -> bool {
+        self.room == 0
+    }
+
+    /// Makes room for so many further spans. A refusal changes nothing that is seen.
+    pub fn reserve(&mut self, additional: usize) -> Result<(), Refused> {
+        if additional <= self.room {
+            return Ok(());
+        }
+        let spans = self.places.len() / 2 - self.room;
+        let len = (2 * (spans + additional)).next_power_of_two().max(LEAST_PLACES);
+        // As many numbers as spans, so that a span that goes leaves its number without memory.
+        make_room(&mut self.names, len / 2)?;
+        make_room(&mut self.free, len / 2)?;
+        let mut places = Vec::new();
+        make_room(&mut places, len)?;
+        places.resize(len, None);
+        let homes = std::mem::replace(&mut self.places, places);
+        self.room = len / 2 - spans;
+        for home in homes.into_iter().flatten() {
+            let place = self.free_place(home.span);
+            self.places[place] = Some(home);
+        }
+        Ok(())
+    }
+
+    /// The home of the span, where it has one.
+    #[inline]
+    pub fn find(&self, span: Span) -> Option<&Home> {
+        match self.places.get(self.first_place(span))? {
+            Some(home) if home.span == span => Some(home),
+            Some(_) => self.places[self.place_of(span)?].as_ref(),
+            None => None,
+        }
+    }
+
+    /// The home of the span, to be changed, where it has one.
+    #[inline]
+    pub fn find_mut(&mut self, span: Span) -> Option<&mut Home> {
+        let place = self.first_place(span);
+        if self.places.get(place)?.as_ref()?.span == span {
+            return self.places[place].as_mut();
+        }
+        let place = self.place_of(span)?;
+        self.places[place].as_mut()
+    }
+
+    /// All homes.
+    pub fn iter(&self) -> impl Iterator<Item = &Home> {
+        self.places.iter().flatten()
+    }
+
+    /// Gives a span that has none a home on the page, with no value yet.
+    ///
+    /// # Panics
+    ///
+    /// Where there is no room for a further span.
+    pub fn insert(&mut self, span: Span, page: u32, block: Block) -> &mut Home {
+        self.room = self.room.checked_sub(1).expect("room was reserved");
+        let (number, place) = (self.number_for(span), self.free_place(span));
+        self.places[place].insert(Home {
+            span,
+            block,
+            page,
+            number,
+            live: 0,
+        })
+    }
+
+    /// Moves the home of the span of this number, where it has one, to the page of the other, and says whether it was elsewhere.
+    pub fn move_home(&mut self, number: u32, to: &Home) -> bool {
+        let Some(home) = self.find_mut(self.name(number)) else {
+            return false;
+        };
+        let moves = home.page != to.page;
+        home.page = to.page;
+        home.block = to.block;
+        moves
+    }
+
+    /// Forgets the home of the span, if it has one. It takes no memory.
+    pub fn remove(&mut self, span: Span) {
+        let Some(mut gap) = self.place_of(span) else {
+            return;
+        };
+        self.free.extend(self.places[gap].take().map(|home| home.number));
+        self.room += 1;
+        // Of those behind the gap, each that is looked for by way of it closes it.
+        let mut place = self.place_after(gap);
+        while let Some(home) = self.places[place] {
+            if self.steps(self.first_place(home.span), place) >= self.steps(gap, place) {
+                self.places[gap] = self.places[place].take();
+                gap = place;
+            }
+            place = self.place_after(place);
+        }
+    }
+
+    /// The span of this number, which one has or had.
+    #[inline]
+    pub fn name(&self, number: u32) -> Span {
+        self.names[number as usize]
+    }
+
+    /// A number that no span has, which is the span's from now on. There is room for it.
+    // There are fewer spans with homes than slots on the pages of 64 shards.
+    #[allow(clippy::cast_possible_truncation)]
+    fn number_for(&mut self, span: Span) -> u32 {
+        if let Some(number) = self.free.pop() {
+            self.names[number as usize] = span;
+            return number;
+        }
+        self.names.push(span);
+        self.names.len() as u32 - 1
+    }
+
+    /// Where the span's home stands, if it has one.
+    fn place_of(&self, span: Span) -> Option<usize> {
+        let mut place = self.first_place(span);
+        while self.places.get(place)?.as_ref()?.span != span {
+            place = self.place_after(place);
+        }
+        Some(place)
+    }
+
+    /// The free place for the span's home, which has none yet.
+    fn free_place(&self, span: Span) -> usize {
+        let mut place = self.first_place(span);
+        while self.places[place].is_some() {
+            place = self.place_after(place);
+        }
+        place
+    }
+
+    /// Where the span's home is to stand: by the middle of the product of its name with `FACTOR`, in which all of the name is.
+    #[inline]
+    // The upper half of the product has 32 bits.
+    #[allow(clippy::cast_possible_truncation)]
+    fn first_place(&self, span: Span) -> usize {
+        let product = span.number().wrapping_mul(FACTOR);
+        (product >> 32) as usize & self.places.len().wrapping_sub(1)
+    }
+
+    fn place_after(&self, place: usize) -> usize {
+        (place + 1) & (self.places.len() - 1)
+    }
+
+    /// How many places on the second one is.
+    fn steps(&self, from: usize, to: usize) -> usize {
+        to.wrapping_sub(from) & (self.places.len() - 1)
+    }
+}
+
+/// Sees to it that the list has room for so many in all.
+fn make_room<E>(list: &mut Vec<E>, len: usize) -> Result<(), Refused> {
+    list.try_reserve_exact(len - list.len())
+        .map_err(|_| Refused::OutOfMemory)
+}
+
+#[cfg(test)]
+mod tests {
+    use super::{Spans, LEAST_PLACES};
+    use crate::names::Span;
+    use crate::refused::Refused;
+    use crate::values::Block;
+    use std::collections::{HashMap, HashSet};
+
+    /// So many spans of some shards, of which the serial numbers are a step apart.
+    fn names(count: u32, step: u32) -> impl Iterator<Item = Span> + Clone {
+        (0..count).map(move |n| Span::new(n % 5, n.wrapping_mul(step)))
+    }
+
+    /// The homes are those of the map, each with a number of its own, which names its span.
+    fn are_those(spans: &Spans, map: &HashMap<u64, u32>) {
+        assert_eq!(spans.iter().count(), map.len());
+        let numbers: HashSet<u32> = spans.iter().map(|home| home.number).collect();
+        assert_eq!(numbers.len(), map.len());
+        for home in spans.iter() {
+            assert_eq!(map.get(&home.span.number()), Some(&home.page));
+            assert!(spans.name(home.number) == home.span);
+        }
+    }
+
+    #[test]
+    fn homes_as_a_map() -> Result<(), Refused> {
+        for step in [1, 2, 3, 256, 4096, 65_536, 1 << 24, 2_654_435_761] {
+            let (mut spans, mut map) = (Spans::new(), HashMap::new());
+            let mut random = 88_172_645_463_325_252_u64;
+            for (page, span) in (0..).zip(names(300, step).cycle().take(40_000)) {
+                random ^= random << 13;
+                random ^= random >> 7;
+                random ^= random << 17;
+                assert_eq!(spans.find(span).map(|home| home.page), map.get(&span.number()).copied());
+                if map.remove(&span.number()).is_some() {
+                    spans.remove(span);
+                } else if random % 3 > 0 {
+                    spans.reserve(1)?;
+                    spans.insert(span, page, Block::NOWHERE);
+                    map.insert(span.number(), page);
+                }
+                if page % 1000 == 0 {
+                    are_those(&spans, &map);
+                }
+            }
+            names(300, step).for_each(|span| spans.remove(span));
+            assert!(spans.iter().next().is_none() && spans.places.len() <= 1024);
+        }
+        Ok(())
+    }
+
+    /// Of spans that come and go, as many places stay as there were spans at one time, however many come.
+    #[test]
+    fn places_go_by_what_there_is() -> Result<(), Refused> {
+        let mut spans = Spans::new();
+        for serial in (0..u32::MAX).step_by(9973) {
+            spans.reserve(1)?;
+            spans.insert(Span::new(0, serial), 0, Block::NOWHERE);
+            spans.remove(Span::new(0, serial.wrapping_sub(4 * 9973)));
+        }
+        assert_eq!(
+            (spans.places.len(), spans.names.len(), spans.iter().count()),
+            (LEAST_PLACES, 5, 4)
+        );
+        Ok(())
+    }
+}
