@@ -12,7 +12,7 @@ use Rattle.arena_core.specs.declared.reply.Reply.TheVariants.{Refused, ShardBegu
 use Rattle.arena_core.proofs.Changes.{HasSoundGroups-with_shard, at_most_once}
 use Rattle.arena_core.proofs.FieldSteps.{state_of-same}
 use Rattle.arena_core.proofs.Fields.{IsRead, shard-read, state_of-with_shard_at, with_shard_at}
-use Rattle.arena_core.proofs.FieldsKept.{GetsNone-same, IsKept-with_shard_at}
+use Rattle.arena_core.proofs.FieldsKept.{IsKept-with_shard_at}
 use Rattle.arena_core.proofs.Groups.{IsCall}
 use Rattle.arena_core.proofs.PlanKept.{KeepsAllClosed-set, KeepsClosed-same, KeepsPooled-same}
 use Rattle.arena_core.proofs.PlanSteps.{AreAllClosedAsPlanned-set, HasSoundPlan-kept, IsSoundStep}
@@ -23,6 +23,7 @@ IsCall-begun : (shard : ShardState) → IsCall shard (begun shard)
 IsCall-begun shard = record {
   number_is = refl;
   page_limit_is = refl;
+  span_limit_is = refl;
   gens_is = refl;
   opened_more = omega arith;
   spans = λ id. refl;

@@ -34,7 +34,7 @@ opened-somewhere core sound id some = by_order (cases_lt id.serial (opened_by co
     by_order (inl below) = below
     by_order (inr past) = absurd (omega (arith, sound.once id, past-indicator id.serial (opened_by core.shards id.shard) past))
 
-no_strays : (core : CoreState) → HasSoundGroups core → sum_all (strays core.limits.gens) core ≡ 0
+pub no_strays : (core : CoreState) → HasSoundGroups core → sum_all (strays core.limits.gens) core ≡ 0
 no_strays core sound = strays-none core.limits.gens (all_spans core) sound.gens
 
 -- one shard changes
@@ -91,6 +91,7 @@ module _ (old : CoreState) (sound : HasSoundGroups old) (number : ℕ) (before a
     pool = sound.pool;
     gens = strays-each old.limits.gens (all_spans new) strays_new;
     once = λ id. once_new id (cases_eq id.shard number);
+    forgotten = sound.forgotten;
   }
 
 -- the pool changes
@@ -106,6 +107,7 @@ HasSoundGroups-with_pool old sound pool call sound_pool = record {
   once = λ id.
       let same : times id (with_pool old pool) ≡ times id old = omega (arith, sum_all-with_pool (named id) old pool, call.spans id) in
       same ∙ sound.once id;
+  forgotten = sound.forgotten;
 }
 
 -- spans move between a shard and the pool
@@ -146,4 +148,5 @@ module _ (old : CoreState) (sound : HasSoundGroups old) (number : ℕ) (before a
     pool = sound_pool;
     gens = strays-each old.limits.gens (all_spans moved) (sum_all-moved (strays old.limits.gens) ∙ no_strays old sound);
     once = once_still;
+    forgotten = sound.forgotten;
   }

@@ -52,13 +52,13 @@ use Rattle.arena_core.proofs.Steps.{CoreStep-refused, has_span-may_set, may_set-
 pub state_of-same : {L : Type 0} (c : Inside L) (number : ℕ) (before after : ShardState) → IsRead c number before → after ≡ before → state_of (with_shard_at c number after) ≡ state_of c
 state_of-same c number before after read same =
     let shards : set c.shards.items number after ≡ c.shards.items = ap (set c.shards.items number) same ∙ set-same c.shards.items number before (shard-read c number before read) in
-    λ i. record { limits = record { shards = length (shards i); page_limit = c.page_limit; span_limit = c.span_limit; ring_capacity = c.ring_capacity; gens = c.gens }; shards = shards i; pool = c.pool; plan = c.plan; rings = c.rings }
+    λ i. record { limits = record { shards = length (shards i); page_limit = c.page_limit; span_limit = c.span_limit; ring_capacity = c.ring_capacity; gens = c.gens }; shards = shards i; pool = c.pool; plan = c.plan; rings = c.rings; forgotten = c.forgotten.spans }
 
 -- a shard and a pool that are as they were leave the fields as they were
 pub state_of-both_same : {L : Type 0} (c : Inside L) (number : ℕ) (before after : ShardState) (pool : PoolState) (whereabouts : WhereaboutsState) → IsRead c number before → after ≡ before → pool ≡ c.pool → state_of (with_both_at c number after pool whereabouts) ≡ state_of c
 state_of-both_same c number before after pool whereabouts read same pool_is =
     let shards : set c.shards.items number after ≡ c.shards.items = ap (set c.shards.items number) same ∙ set-same c.shards.items number before (shard-read c number before read) in
-    λ i. record { limits = record { shards = length (shards i); page_limit = c.page_limit; span_limit = c.span_limit; ring_capacity = c.ring_capacity; gens = c.gens }; shards = shards i; pool = pool_is i; plan = c.plan; rings = c.rings }
+    λ i. record { limits = record { shards = length (shards i); page_limit = c.page_limit; span_limit = c.span_limit; ring_capacity = c.ring_capacity; gens = c.gens }; shards = shards i; pool = pool_is i; plan = c.plan; rings = c.rings; forgotten = c.forgotten.spans }
 
 pub IsStep-put_fields : {L : Type 0} (c : Inside L) (number : ℕ) (value : Value) (key : Key) (at : ℕ) (before after : ShardState) → IsSound (state_of c) → IsRead c number before → Puts before (class_of value) value key at after
     → (shown_by before).is_issued key ≡ false → shown_by after ≡ with_put (shown_by before) key value → IsSoundShard after

@@ -31,6 +31,7 @@ state_of-with_shard_at c number after = λ i. record {
   pool = c.pool;
   plan = c.plan;
   rings = c.rings;
+  forgotten = c.forgotten.spans;
 }
 
 pub state_of-with_both_at : {L : Type 0} (c : Inside L) (number : ℕ) (after : ShardState) (pool : PoolState) (whereabouts : WhereaboutsState) → state_of (with_both_at c number after pool whereabouts) ≡ with_pool (with_shard (state_of c) number after) pool
@@ -40,6 +41,7 @@ state_of-with_both_at c number after pool whereabouts = λ i. record {
   pool = pool;
   plan = c.plan;
   rings = c.rings;
+  forgotten = c.forgotten.spans;
 }
 
 -- the shard that was read at this number

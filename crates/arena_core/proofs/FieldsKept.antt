@@ -36,7 +36,6 @@ use Rattle.arena_core.proofs.Trimmed.{IsCall-Trims}
 use Rattle.arena_core.proofs.OneSpan.{ChangesSpan-Frees, ChangesSpan-Sets}
 use Rattle.arena_core.proofs.Retired.{HasGone-Retires}
 use Rattle.arena_core.proofs.Start.{slice_get-range}
-use Rattle.span.specs.declared.limits.TheConstants.{MOST_SPANS}
 
 -- a shard that stands at this number was read there
 pub read-at : {L : Type 0} (c : Inside L) (number : ℕ) (shard : ShardState) → slice_get c.shards.items number ≡ Some shard → IsRead c number shard
@@ -146,14 +145,15 @@ IsKept-mapped c now kept whereabouts closed items sound = record {
 }
 
 -- fields that are as they were
-pub IsKept-unchanged : {L : Type 0} (c now : Inside L) → IsKept c → now.page_limit ≡ c.page_limit → now.span_limit ≡ c.span_limit → now.ring_capacity ≡ c.ring_capacity → now.gens ≡ c.gens → now.plan ≡ c.plan → now.whereabouts ≡ c.whereabouts → now.rings ≡ c.rings → now.shards.items ≡ c.shards.items → now.pool ≡ c.pool → IsKept now
-IsKept-unchanged c now kept pages spans ring gens plan whereabouts rings items pool =
+pub IsKept-unchanged : {L : Type 0} (c now : Inside L) → IsKept c → now.page_limit ≡ c.page_limit → now.span_limit ≡ c.span_limit → now.ring_capacity ≡ c.ring_capacity → now.gens ≡ c.gens → now.plan ≡ c.plan → now.whereabouts ≡ c.whereabouts → now.rings ≡ c.rings → now.forgotten.spans ≡ c.forgotten.spans → now.shards.items ≡ c.shards.items → now.pool ≡ c.pool → IsKept now
+IsKept-unchanged c now kept pages spans ring gens plan whereabouts rings gone items pool =
     let same : state_of now ≡ state_of c = λ i. record {
       limits = record { shards = length (items i); page_limit = pages i; span_limit = spans i; ring_capacity = ring i; gens = gens i };
       shards = items i;
       pool = pool i;
       plan = plan i;
       rings = rings i;
+      forgotten = gone i;
     } in
     record {
       sound = subst IsSound (sym same) kept.sound;

@@ -29,7 +29,7 @@ module _ (closed : GroupState → Bool) where
 
   module _ (core : CoreState) (sound : HasSoundGroups core) where
     all_spans-flagged : all_spans (with_all_flags closed core) ≡ all_spans core
-    all_spans-flagged = ap (λ spans. spans ++ spans_in core.pool.groups) (shard_spans-flagged core.shards)
+    all_spans-flagged = ap (λ spans. spans ++ (spans_in core.pool.groups ++ core.forgotten)) (shard_spans-flagged core.shards)
 
     pub HasSoundGroups-flagged : HasSoundGroups (with_all_flags closed core)
     HasSoundGroups-flagged = record {
@@ -51,6 +51,7 @@ module _ (closed : GroupState → Bool) where
           ap (count_by (λ (s : SpanState). same_span s.id id)) all_spans-flagged
           ∙ sound.once id
           ∙ ap (indicator id.serial) (sym (opened_of-flagged core.shards id.shard));
+      forgotten = sound.forgotten;
     }
 
     pub shown-flagged : shown (with_all_flags closed core) ≡ shown core

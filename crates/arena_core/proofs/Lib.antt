@@ -7,6 +7,7 @@ pub mod FieldSteps
 pub mod Fields
 pub mod FieldsKept
 pub mod Flagged
+pub mod ForgottenSpans
 pub mod Groups
 pub mod Limits
 pub mod Lists

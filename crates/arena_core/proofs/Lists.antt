@@ -113,3 +113,8 @@ sum_by-same f g (x ∷ xs) same = omega (arith, sum_by-cons f x xs, sum_by-cons 
 
 pub length-filter_most : {X : Type 0} (p : X → Bool) (xs : List X) → length (filter p xs) ≤ length xs
 length-filter_most p xs = omega (arith, length-filter p xs, count_by-le-length p xs)
+
+-- a sum of nothing
+pub sum_by-none : {X : Type 0} (w : X → ℕ) (xs : List X) → ((at : ℕ) (x : X) → slice_get xs at ≡ Some x → w x ≡ 0) → sum_by w xs ≡ 0
+sum_by-none w [] none = refl
+sum_by-none w (x ∷ xs) none = omega (arith, sum_by-cons w x xs, none 0 x refl, sum_by-none w xs (λ at y here. none (suc at) y here))

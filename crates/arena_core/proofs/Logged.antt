@@ -1,5 +1,5 @@
 -- A sound core shows what the logs of all its spans say, whoever has them.
-use Rattle.std.proofs.Common.{◌≡◌, ℕ, ◌≤◌, cond, List, refl, sym, ap, ◌∙◌, arith, Option, Some, None}
+use Rattle.std.proofs.Common.{◌≡◌, ℕ, ◌≤◌, Bool, true, false, cond, List, refl, sym, ap, ◌∙◌, arith, Option, Some, None}
 use Rattle.std.specs.Prelude.{count_by, find, sum_by}
 use Rattle.span.specs.declared.key.Key.{Key}
 use Rattle.span.specs.Log.{value_in, was_issued}
@@ -8,17 +8,18 @@ use Rattle.span.specs.State.{SpanState}
 use Rattle.groups.specs.Shown.{issued_by, span_named}
 use Rattle.shard.specs.Shown.{shown as shown_by}
 use Rattle.groups.specs.Group.{spans_in}
+use Rattle.groups.proofs.ForgottenShown.{value_in-none_live}
 use Rattle.groups.proofs.Logged.{logged_by, same_plain_map}
 use Rattle.shard.proofs.ShownLogs.{shown-logged}
 use Rattle.abandoned.specs.Shown.{shown as shown_by_pool}
 use Rattle.abandoned.proofs.ShownLogs.{shown-logged as shown_by_pool-logged}
 use Rattle.arena_core.specs.Rings.{pending_at}
 use Rattle.arena_core.specs.Sound.{HasSoundGroups}
-use Rattle.arena_core.specs.State.{CoreState, all_spans, shown}
+use Rattle.arena_core.specs.State.{CoreState, all_spans, issued_forgotten, shown}
 use Rattle.arena_core.proofs.Changes.{at_most_once}
-use Rattle.arena_core.proofs.Lists.{found_of, sum_by-passing, sum_by-same}
+use Rattle.arena_core.proofs.Lists.{found_of, sum_by-none, sum_by-passing, sum_by-same}
 use Rattle.arena_core.proofs.Owners.{bit, bit-injective, code, code-injective, issued-sum, value-sum}
-use Rattle.arena_core.proofs.Spans.{is_named, sum_all, sum_all-parts, sum_in, sum_pooled}
+use Rattle.arena_core.proofs.Spans.{is_named, sum_all, sum_all-parts, sum_in, sum_pooled, times-parts}
 
 -- what the span's log says of the key, as a number, where it is the key's span
 abbrev value_weight : Key → SpanState → ℕ
@@ -56,11 +57,22 @@ module _ (core : CoreState) (sound : HasSoundGroups core) (key : Key) where
   issued-pool : bit ((shown_by_pool core.pool).is_issued key) ≡ sum_pooled (issued_weight key) core.pool
   issued-pool = sym (issued-spans key (spans_in core.pool.groups) (sound.pool.once key.span))
 
+  -- a forgotten span has no value
+  value-forgotten : sum_by (value_weight key) core.forgotten ≡ 0
+  value-forgotten = sum_by-none (value_weight key) core.forgotten (λ place span here. by_name span (value_in-none_live span key.slot key.generation (sound.forgotten place span here).none_live) (is_named key.span span))
+    where
+      by_name : (span : SpanState) → value_in span.log key.slot key.generation ≡ None → (b : Bool) → cond {A = ℕ} b (code (value_in span.log key.slot key.generation)) 0 ≡ 0
+      by_name span none true = ap code none
+      by_name span none false = refl
+
+  issued-gone : bit (issued_forgotten core key) ≡ sum_by (issued_weight key) core.forgotten
+  issued-gone = sym (issued-spans key core.forgotten (omega (arith, at_most_once core sound key.span, times-parts key.span core)))
+
   value-all : code ((shown core).value_of key) ≡ sum_all (value_weight key) core
-  value-all = omega (arith, value-sum core key (at_most_once core sound key.span), sum_all-parts (value_weight key) core, value-shards, value-pool)
+  value-all = omega (arith, value-sum core key (at_most_once core sound key.span), sum_all-parts (value_weight key) core, value-shards, value-pool, value-forgotten)
 
   issued-all : bit ((shown core).is_issued key) ≡ sum_all (issued_weight key) core
-  issued-all = omega (arith, issued-sum core key (at_most_once core sound key.span), sum_all-parts (issued_weight key) core, issued-shards, issued-pool)
+  issued-all = omega (arith, issued-sum core key (at_most_once core sound key.span), sum_all-parts (issued_weight key) core, issued-shards, issued-pool, issued-gone)
 
   -- the object that is shown under a key is the value that the log of its span leaves
   pub value-logged : (shown core).value_of key ≡ logged_by key (span_named (all_spans core) key.span)

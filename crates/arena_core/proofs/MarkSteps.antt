@@ -54,6 +54,7 @@ HasSoundGroups-retold core told plan sound = record {
   pool = record { ascending = sound.pool.ascending; groups = sound.pool.groups; in_use = sound.pool.in_use; once = sound.pool.once };
   gens = sound.gens;
   once = sound.once;
+  forgotten = sound.forgotten;
 }
 
 -- no plan is open, so no group is closed
@@ -153,14 +154,15 @@ module _ (old : CoreState) (sound : IsSound old) where
 
 -- the fields
 
-pub state_of-mapped : {L : Type 0} (c now : Inside L) (change : ShardState → ShardState) → now.page_limit ≡ c.page_limit → now.span_limit ≡ c.span_limit → now.ring_capacity ≡ c.ring_capacity → now.gens ≡ c.gens → now.rings ≡ c.rings → now.shards.items ≡ map change c.shards.items
+pub state_of-mapped : {L : Type 0} (c now : Inside L) (change : ShardState → ShardState) → now.page_limit ≡ c.page_limit → now.span_limit ≡ c.span_limit → now.ring_capacity ≡ c.ring_capacity → now.gens ≡ c.gens → now.rings ≡ c.rings → now.forgotten.spans ≡ c.forgotten.spans → now.shards.items ≡ map change c.shards.items
     → state_of now ≡ record (state_of c) { shards = map change c.shards.items; pool = now.pool; plan = now.plan }
-state_of-mapped c now change pages spans ring gens rings items = λ i. record {
+state_of-mapped c now change pages spans ring gens rings gone items = λ i. record {
   limits = record { shards = (ap length items ∙ length-map c.shards.items change) i; page_limit = pages i; span_limit = spans i; ring_capacity = ring i; gens = gens i };
   shards = items i;
   pool = now.pool;
   plan = now.plan;
   rings = rings i;
+  forgotten = gone i;
 }
 
 -- the pair that comes next
@@ -201,6 +203,7 @@ state_of-with_step_at c number after pool plan whereabouts = λ i. record {
   pool = pool;
   plan = plan;
   rings = c.rings;
+  forgotten = c.forgotten.spans;
 }
 
 pub IsSoundStep-fold_fields : {L : Type 0} (c : Inside L) (plan : OpenPlan) (pair : SpanId × SpanId) (number : ℕ) (before after : ShardState) (pool : PoolState) (current : Option OpenPlan) (whereabouts : WhereaboutsState) (step : Outcome) → IsSound (state_of c) → IsNext (state_of c) plan pair
@@ -218,4 +221,4 @@ pub state_of-refused : {L : Type 0} (c : Inside L) (id : SpanId) (number : ℕ) 
 state_of-refused c id number before after pool whereabouts there read same pool_is =
     let named = shard-named (state_of c) id number before there read in
     let shards : set c.shards.items number after ≡ c.shards.items = ap (set c.shards.items number) same ∙ set-same c.shards.items number before named.0 in
-    λ i. record { limits = record { shards = length (shards i); page_limit = c.page_limit; span_limit = c.span_limit; ring_capacity = c.ring_capacity; gens = c.gens }; shards = shards i; pool = pool_is i; plan = c.plan; rings = c.rings }
+    λ i. record { limits = record { shards = length (shards i); page_limit = c.page_limit; span_limit = c.span_limit; ring_capacity = c.ring_capacity; gens = c.gens }; shards = shards i; pool = pool_is i; plan = c.plan; rings = c.rings; forgotten = c.forgotten.spans }

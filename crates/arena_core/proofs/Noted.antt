@@ -35,7 +35,6 @@ use Rattle.arena_core.proofs.Spans.{has_span-counted, is_named, named as count_n
 use Rattle.arena_core.proofs.Retired.{IsPartOf}
 use Rattle.shard.specs.Sound.{IsSound as IsSoundShard}
 use Rattle.arena_core.proofs.Steps.{has_span-elsewhere, has_span-here, has_span-not}
-use Rattle.span.specs.declared.limits.TheConstants.{MOST_SPANS}
 
 -- the spans of a group, noted one after another
 

@@ -1,6 +1,7 @@
 -- What a core shows under a key, as a sum over its shards and its pool: all but one show nothing.
-use Rattle.std.proofs.Common.{◌≡◌, ℕ, suc, ◌+◌, ◌≤◌, Bool, true, false, cond, List, [], ◌∷◌, refl, ap, arith, Option, Some, None}
+use Rattle.std.proofs.Common.{◌≡◌, ℕ, zero, suc, ◌+◌, ◌||◌, ◌∙◌, sym, ◌≤◌, Bool, true, false, cond, List, [], ◌∷◌, refl, ap, arith, Option, Some, None}
 use Rattle.std.specs.Prelude.{sum_by}
+use Rattle.std.proofs.lemmas.Bool.{false≢true}
 use Rattle.std.proofs.lemmas.List.Sums.{sum_by-cons}
 use Rattle.span.specs.declared.id.SpanId.{SpanId}
 use Rattle.span.specs.declared.key.Key.{Key}
@@ -14,8 +15,8 @@ use Rattle.abandoned.specs.Shown.{shown as shown_by_pool}
 use Rattle.abandoned.specs.State.{PoolState}
 use Rattle.groups.specs.Group.{spans_in}
 use Rattle.arena_core.proofs.Codes.{code_of_words, code_of_words-injective}
-use Rattle.arena_core.specs.State.{CoreState, has_span, shard_with, shown, shown_at}
-use Rattle.arena_core.proofs.Spans.{has_span-uncounted, is_named, span-missed, times, times-parts, times_in, times_in-found, times_in-missed, times_owned, times_owned-cons, times_pooled}
+use Rattle.arena_core.specs.State.{CoreState, has_span, issued_forgotten, shard_with, shown, shown_at}
+use Rattle.arena_core.proofs.Spans.{has_span-uncounted, is_named, span-missed, times, times-parts, times_forgotten, times_in, times_in-found, times_in-missed, times_owned, times_owned-cons, times_pooled}
 
 -- a value as a number, none being 0
 abbrev pub code : Option Value → ℕ
@@ -87,8 +88,31 @@ value-sum core key once =
     read-shown_at key.span (λ plain. code (plain.value_of key)) (λ shard none. ap code (value-missed shard key none)) (λ pool none. ap code (value-unpooled pool key none)) core.pool core.shards
     (omega (arith, times-parts key.span core))
 
+-- where no forgotten span has the id, none has given the key out
+pub issued-unforgotten : (core : CoreState) (key : Key) → times_forgotten key.span core ≡ 0 → issued_forgotten core key ≡ false
+issued-unforgotten core key none = ap (issued_by key) (find-none (is_named key.span) core.forgotten none)
+
 pub issued-sum : (core : CoreState) (key : Key) → times key.span core ≤ 1
-    → bit ((shown core).is_issued key) ≡ sum_by (λ shard. bit ((shown_by shard).is_issued key)) core.shards + bit ((shown_by_pool core.pool).is_issued key)
-issued-sum core key once =
-    read-shown_at key.span (λ plain. bit (plain.is_issued key)) (λ shard none. ap bit (issued-missed shard key none)) (λ pool none. ap bit (issued-unpooled pool key none)) core.pool core.shards
-    (omega (arith, times-parts key.span core))
+    → bit ((shown core).is_issued key) ≡ sum_by (λ shard. bit ((shown_by shard).is_issued key)) core.shards + bit ((shown_by_pool core.pool).is_issued key) + bit (issued_forgotten core key)
+issued-sum core key once = by_test (issued_forgotten core key) refl
+  where
+    shown_there : bit ((shown_at core.pool (shard_with core.shards key.span)).is_issued key) ≡ sum_by (λ shard. bit ((shown_by shard).is_issued key)) core.shards + bit ((shown_by_pool core.pool).is_issued key)
+    shown_there =
+        read-shown_at key.span (λ plain. bit (plain.is_issued key)) (λ shard none. ap bit (issued-missed shard key none)) (λ pool none. ap bit (issued-unpooled pool key none)) core.pool core.shards
+        (omega (arith, times-parts key.span core))
+
+    -- one that a forgotten span has given out is none of the others
+    by_count : (n : ℕ) → times_forgotten key.span core ≡ n → issued_forgotten core key ≡ true → sum_by (λ shard. bit ((shown_by shard).is_issued key)) core.shards + bit ((shown_by_pool core.pool).is_issued key) ≡ 0
+    by_count zero none issued = absurd (false≢true (sym (issued-unforgotten core key none) ∙ issued))
+    by_count (suc n) some issued =
+        omega (
+          arith,
+          times-parts key.span core,
+          none-owned key.span (λ plain. bit (plain.is_issued key)) (λ shard none. ap bit (issued-missed shard key none)) (λ pool none. ap bit (issued-unpooled pool key none)) core.shards (omega (arith, times-parts key.span core)),
+          ap bit (issued-unpooled core.pool key (omega (arith, times-parts key.span core))),
+        )
+
+    by_test : (b : Bool) → issued_forgotten core key ≡ b
+        → bit (b || (shown_at core.pool (shard_with core.shards key.span)).is_issued key) ≡ sum_by (λ shard. bit ((shown_by shard).is_issued key)) core.shards + bit ((shown_by_pool core.pool).is_issued key) + bit b
+    by_test true issued = omega (arith, by_count (times_forgotten key.span core) refl issued)
+    by_test false none = omega (arith, shown_there)

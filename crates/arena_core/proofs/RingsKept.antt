@@ -132,7 +132,7 @@ IsOutside-none limits rings worker shard are none = by_shard (slice_get_cases ri
 
 pub IsSound-with_rings : (core : CoreState) (rings : List (List RingState)) → IsSound core → AreRings core.limits rings → IsSound (with_rings core rings)
 IsSound-with_rings core rings sound are = record {
-  groups = record { within = sound.groups.within; count = sound.groups.count; shards = sound.groups.shards; pool = sound.groups.pool; gens = sound.groups.gens; once = sound.groups.once };
+  groups = record { within = sound.groups.within; count = sound.groups.count; shards = sound.groups.shards; pool = sound.groups.pool; gens = sound.groups.gens; once = sound.groups.once; forgotten = sound.groups.forgotten };
   plan = HasSoundPlan-kept core (with_rings core rings) sound.plan refl refl (KeepsPooled-same core.pool.groups) (KeepsAllClosed-same core.shards) sound.plan.closed;
   rings = are;
 }

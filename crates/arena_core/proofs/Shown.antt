@@ -16,11 +16,11 @@ use Rattle.groups.proofs.Logged.{same_plain_map}
 use Rattle.abandoned.specs.Shown.{shown as shown_by_pool}
 use Rattle.abandoned.specs.State.{PoolState}
 use Rattle.arena_core.specs.Rings.{pending_at}
-use Rattle.arena_core.specs.State.{CoreState, has_span, shard_with, shown, shown_at, with_pool, with_shard}
+use Rattle.arena_core.specs.State.{CoreState, has_span, issued_forgotten, shard_with, shown, shown_at, with_pool, with_shard}
 use Rattle.arena_core.proofs.Lists.{count_by-found, count_by-missed, find-counted, sum_by-set_at}
 use Rattle.marks.proofs.Lists.{slice_get-set_same}
-use Rattle.arena_core.proofs.Owners.{bit, bit-injective, code, code-injective, issued-missed, issued-sum, issued-unpooled, value-missed, value-sum, value-unpooled}
-use Rattle.arena_core.proofs.Spans.{find-same, is_named, same_span-self, shard_with-here, shard_with-nowhere, times, times-parts, times_in-missed, times_pooled}
+use Rattle.arena_core.proofs.Owners.{bit, bit-injective, code, code-injective, issued-missed, issued-sum, issued-unforgotten, issued-unpooled, value-missed, value-sum, value-unpooled}
+use Rattle.arena_core.proofs.Spans.{find-same, is_named, same_span-self, shard_with-here, shard_with-nowhere, times, times-parts, times_forgotten, times_in-found, times_in-le, times_in-missed, times_pooled}
 
 pub same_key-self : (key : Key) → same_key key key ≡ true
 same_key-self key = rw (same_span-self key.span, eq-eqb key.slot key.slot refl, eq-eqb key.generation key.generation refl) refl
@@ -132,15 +132,32 @@ module _ (old new : CoreState) (once : (id : SpanId) → times id old ≤ 1) (on
     rings = ap (λ (c : CoreState). c.rings) is;
     alike = λ x y same. ap is_some (find-same x y (spans_in after.groups) same);
     value = λ key. read_with_shard (λ plain. code (plain.value_of key)) (value-sum old key (once key.span)) (value-sum new key (once_new key.span));
-    issued = λ key. read_with_shard (λ plain. bit (plain.is_issued key)) (issued-sum old key (once key.span)) (issued-sum new key (once_new key.span));
+    issued = λ key.
+        let gone : issued_forgotten new key ≡ issued_forgotten old key = ap (λ (c : CoreState). issued_forgotten c key) is in
+        omega (
+          arith,
+          ap bit gone,
+          issued-sum old key (once key.span),
+          issued-sum new key (once_new key.span),
+          ap (sum_of (λ plain. bit (plain.is_issued key))) is,
+          sum_by-set_at (λ shard. bit ((shown_by shard).is_issued key)) old.shards number before after here,
+        );
     value_here = λ key has. ap (λ o. (shown_at new.pool o).value_of key) (found key.span has);
-    issued_here = λ key has. ap (λ o. (shown_at new.pool o).is_issued key) (found key.span has);
+    issued_here = λ key has.
+        let none : issued_forgotten new key ≡ false = issued-unforgotten new key (unforgotten key.span has) in
+        ap (λ b. b || (shown_at new.pool (shard_with new.shards key.span)).is_issued key) none ∙ ap (λ o. (shown_at new.pool o).is_issued key) (found key.span has);
     value_only = λ key none. value-missed after key (times_in-missed key.span after none);
     issued_only = λ key none. issued-missed after key (times_in-missed key.span after none);
   }
     where
       read_with_shard : (read : PlainMap → ℕ) → IsSumOf read old → IsSumOf read new → read (shown new) + read (shown_by before) ≡ read (shown old) + read (shown_by after)
       read_with_shard read sum_old sum_new = omega (arith, sum_old, sum_new, ap (sum_of read) is, sum_by-set_at (λ shard. read (shown_by shard)) old.shards number before after here)
+
+      here_now : slice_get new.shards number ≡ Some after
+      here_now = ap (λ (c : CoreState). slice_get c.shards number) is ∙ slice_get-set_same old.shards number before after here
+
+      unforgotten : (id : SpanId) → has_span id after ≡ true → times_forgotten id new ≡ 0
+      unforgotten id has = omega (arith, times-parts id new, once_new id, times_in-found id after has, times_in-le id new.shards number after here_now)
 
       found : (id : SpanId) → has_span id after ≡ true → shard_with new.shards id ≡ Some after
       found id has =
@@ -152,15 +169,25 @@ module _ (old new : CoreState) (once : (id : SpanId) → times id old ≤ 1) (on
     rings = ap (λ (c : CoreState). c.rings) is;
     alike = λ x y same. ap is_some (find-same x y (spans_in pool.groups) same);
     value = λ key. read_with_pool (λ plain. code (plain.value_of key)) (value-sum old key (once key.span)) (value-sum new key (once_new key.span));
-    issued = λ key. read_with_pool (λ plain. bit (plain.is_issued key)) (issued-sum old key (once key.span)) (issued-sum new key (once_new key.span));
+    issued = λ key.
+        let gone : issued_forgotten new key ≡ issued_forgotten old key = ap (λ (c : CoreState). issued_forgotten c key) is in
+        omega (arith, ap bit gone, issued-sum old key (once key.span), issued-sum new key (once_new key.span), ap (sum_of (λ plain. bit (plain.is_issued key))) is);
     value_here = λ key has. ap (λ o. (shown_at new.pool o).value_of key) (found key.span has) ∙ ap (λ (c : CoreState). (shown_by_pool c.pool).value_of key) is;
-    issued_here = λ key has. ap (λ o. (shown_at new.pool o).is_issued key) (found key.span has) ∙ ap (λ (c : CoreState). (shown_by_pool c.pool).is_issued key) is;
+    issued_here = λ key has.
+        let none : issued_forgotten new key ≡ false = issued-unforgotten new key (unforgotten key.span has) in
+        ap (λ b. b || (shown_at new.pool (shard_with new.shards key.span)).is_issued key) none
+        ∙ ap (λ o. (shown_at new.pool o).is_issued key) (found key.span has)
+        ∙ ap (λ (c : CoreState). (shown_by_pool c.pool).is_issued key) is;
     value_only = λ key none. value-unpooled pool key (count_by-missed (is_named key.span) (spans_in pool.groups) (None-if_not_some _ none));
     issued_only = λ key none. issued-unpooled pool key (count_by-missed (is_named key.span) (spans_in pool.groups) (None-if_not_some _ none));
   }
     where
       read_with_pool : (read : PlainMap → ℕ) → IsSumOf read old → IsSumOf read new → read (shown new) + read (shown_by_pool old.pool) ≡ read (shown old) + read (shown_by_pool pool)
       read_with_pool read sum_old sum_new = omega (arith, sum_old, sum_new, ap (sum_of read) is)
+
+      unforgotten : (id : SpanId) → is_some (span_named (spans_in pool.groups) id) ≡ true → times_forgotten id new ≡ 0
+      unforgotten id has =
+          omega (arith, times-parts id new, once_new id, ap (λ (c : CoreState). times_pooled id c.pool) is, count_by-found (is_named id) (spans_in pool.groups) has)
 
       found : (id : SpanId) → is_some (span_named (spans_in pool.groups) id) ≡ true → shard_with new.shards id ≡ None
       found id has =

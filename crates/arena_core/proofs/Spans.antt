@@ -1,5 +1,5 @@
 -- Sums over the spans of a shard, of the pool and of a core, and how often a span stands there.
-use Rattle.std.proofs.Common.{◌≡◌, ℕ, zero, suc, ◌+◌, ◌≤◌, Bool, true, false, cond, List, [], ◌∷◌, refl, ap, ◌∙◌, arith, Some, None, slice_get, is_some}
+use Rattle.std.proofs.Common.{◌≡◌, ℕ, zero, suc, ◌+◌, ◌≤◌, Bool, true, false, cond, List, [], ◌∷◌, ◌++◌, refl, ap, arith, Some, None, slice_get, is_some}
 use Rattle.std.specs.Prelude.{find, count_by, sum_by}
 use Rattle.std.proofs.lemmas.List.Sums.{sum_by-append}
 use Rattle.std.proofs.option.Match.{None-if_not_some}
@@ -25,10 +25,14 @@ sum_pooled w pool = sum_by w (spans_in pool.groups)
 abbrev pub sum_all : (SpanState → ℕ) → CoreState → ℕ
 sum_all w core = sum_by w (all_spans core)
 
-pub sum_all-parts : (w : SpanState → ℕ) (core : CoreState) → sum_all w core ≡ sum_by (sum_in w) core.shards + sum_pooled w core.pool
+pub sum_all-parts : (w : SpanState → ℕ) (core : CoreState) → sum_all w core ≡ sum_by (sum_in w) core.shards + sum_pooled w core.pool + sum_by w core.forgotten
 sum_all-parts w core =
-    sum_by-append w (shard_spans core.shards) (spans_in core.pool.groups)
-    ∙ ap (λ n. n + sum_pooled w core.pool) (sum_by-flat_map w (λ (shard : ShardState). spans_in shard.groups) core.shards)
+    omega (
+      arith,
+      sum_by-append w (shard_spans core.shards) (spans_in core.pool.groups ++ core.forgotten),
+      sum_by-append w (spans_in core.pool.groups) core.forgotten,
+      sum_by-flat_map w (λ (shard : ShardState). spans_in shard.groups) core.shards,
+    )
 
 pub sum_all-with_shard : (w : SpanState → ℕ) (core : CoreState) (number : ℕ) (before after : ShardState) → slice_get core.shards number ≡ Some before
     → sum_all w (with_shard core number after) + sum_in w before ≡ sum_all w core + sum_in w after
@@ -58,12 +62,17 @@ times_pooled id pool = count_by (is_named id) (spans_in pool.groups)
 abbrev pub times_owned : SpanId → List ShardState → ℕ
 times_owned id shards = count_by (is_named id) (shard_spans shards)
 
+-- how often the span was forgotten
+abbrev pub times_forgotten : SpanId → CoreState → ℕ
+times_forgotten id core = count_by (is_named id) core.forgotten
+
 -- how often the span stands anywhere
 abbrev pub times : SpanId → CoreState → ℕ
 times id core = count_by (is_named id) (all_spans core)
 
-pub times-parts : (id : SpanId) (core : CoreState) → times id core ≡ times_owned id core.shards + times_pooled id core.pool
-times-parts id core = count-append (is_named id) (shard_spans core.shards) (spans_in core.pool.groups)
+pub times-parts : (id : SpanId) (core : CoreState) → times id core ≡ times_owned id core.shards + times_pooled id core.pool + times_forgotten id core
+times-parts id core =
+    omega (arith, count-append (is_named id) (shard_spans core.shards) (spans_in core.pool.groups ++ core.forgotten), count-append (is_named id) (spans_in core.pool.groups) core.forgotten)
 
 pub times_owned-cons : (id : SpanId) (shard : ShardState) (shards : List ShardState) → times_owned id (shard ∷ shards) ≡ times_in id shard + times_owned id shards
 times_owned-cons id shard shards = count-append (is_named id) (spans_in shard.groups) (shard_spans shards)

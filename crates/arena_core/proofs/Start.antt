@@ -63,6 +63,7 @@ HasSoundGroups-new_core limits within each = record {
   once = λ id.
       sum_all-new (named id) limits
       ∙ sym (ap (indicator id.serial) (opened_by-new limits (range_with_len 0 limits.shards) id.shard) ∙ past-indicator id.serial 0 (omega arith));
+  forgotten = λ place span here. absurd (none-some span here);
 }
 
 pub shown-new_core : (limits : Limits) → shown (new_core limits) ≡ empty_map
@@ -73,14 +74,14 @@ shown-new_core limits =
     nowhere id = shard_with-nowhere id (new_core limits).shards (sum-new (named id) limits (range_with_len 0 limits.shards))
 
 abbrev with_count : Limits → ℕ → List ShardState → CoreState
-with_count limits count shards = record { limits = record limits { shards = count }; shards = shards; pool = new_pool; plan = None; rings = new_rings limits.shards limits.ring_capacity }
+with_count limits count shards = record { limits = record limits { shards = count }; shards = shards; pool = new_pool; plan = None; rings = new_rings limits.shards limits.ring_capacity; forgotten = [] }
 
 -- the fields of a new core show as the new core
-pub new_core-fields : (limits : Limits) (pages spans capacity gens : ℕ) (shards : List ShardState) (pool : PoolState) (plan : Option OpenPlan) (rings : List (List RingState))
-    → pages ≡ limits.page_limit → spans ≡ limits.span_limit → capacity ≡ limits.ring_capacity → gens ≡ limits.gens → shards ≡ (new_core limits).shards → pool ≡ new_pool → plan ≡ None → rings ≡ (new_core limits).rings
-    → ◌≡◌ {A = CoreState} (record { limits = record { shards = length shards; page_limit = pages; span_limit = spans; ring_capacity = capacity; gens = gens }; shards = shards; pool = pool; plan = plan; rings = rings }) (new_core limits)
-new_core-fields limits pages spans capacity gens shards pool plan rings pages_are spans_are capacity_is gens_are are empty no_plan rings_are =
-    (λ i. record { limits = record { shards = length shards; page_limit = pages_are i; span_limit = spans_are i; ring_capacity = capacity_is i; gens = gens_are i }; shards = shards; pool = empty i; plan = no_plan i; rings = rings_are i })
+pub new_core-fields : (limits : Limits) (pages spans capacity gens : ℕ) (shards : List ShardState) (pool : PoolState) (plan : Option OpenPlan) (rings : List (List RingState)) (gone : List SpanState)
+    → pages ≡ limits.page_limit → spans ≡ limits.span_limit → capacity ≡ limits.ring_capacity → gens ≡ limits.gens → shards ≡ (new_core limits).shards → pool ≡ new_pool → plan ≡ None → rings ≡ (new_core limits).rings → gone ≡ []
+    → ◌≡◌ {A = CoreState} (record { limits = record { shards = length shards; page_limit = pages; span_limit = spans; ring_capacity = capacity; gens = gens }; shards = shards; pool = pool; plan = plan; rings = rings; forgotten = gone }) (new_core limits)
+new_core-fields limits pages spans capacity gens shards pool plan rings gone pages_are spans_are capacity_is gens_are are empty no_plan rings_are none_gone =
+    (λ i. record { limits = record { shards = length shards; page_limit = pages_are i; span_limit = spans_are i; ring_capacity = capacity_is i; gens = gens_are i }; shards = shards; pool = empty i; plan = no_plan i; rings = rings_are i; forgotten = none_gone i })
     ∙ ap (λ all. with_count limits (length all) all) are
     ∙ ap (λ n. with_count limits n (new_core limits).shards) (length-map-range_with_len (new_shard limits.page_limit limits.span_limit limits.gens) 0 limits.shards)
 

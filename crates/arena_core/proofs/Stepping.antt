@@ -139,7 +139,7 @@ module _ (old : CoreState) (sound : IsSound old) (plan : OpenPlan) (pair : SpanI
         let fold = IsFold-Folds old pair number before after pool here folds in
         record {
           kept = record {
-            groups = record { within = groups.within; count = groups.count; shards = groups.shards; pool = groups.pool; gens = groups.gens; once = groups.once };
+            groups = record { within = groups.within; count = groups.count; shards = groups.shards; pool = groups.pool; gens = groups.gens; once = groups.once; forgotten = groups.forgotten };
             plan = record {
               told = told ∙ sound.plan.told ∙ ap is_some next.plan_is;
               closed = AreAllClosedAsPlanned-folded old plan pair number after pool fold under_way next.pair_is (subst (λ p. AreAllClosedAsPlanned p old.shards) next.plan_is sound.plan.closed);
@@ -157,7 +157,7 @@ module _ (old : CoreState) (sound : IsSound old) (plan : OpenPlan) (pair : SpanI
     emptied : IsEmptyInPool old pair → IsSoundStep old Step (Stepped pair.0 pair.1 Emptied) (with_plan old (Some (with_next_done plan)))
     emptied empty = record {
       kept = record {
-        groups = record { within = sound.groups.within; count = sound.groups.count; shards = sound.groups.shards; pool = sound.groups.pool; gens = sound.groups.gens; once = sound.groups.once };
+        groups = record { within = sound.groups.within; count = sound.groups.count; shards = sound.groups.shards; pool = sound.groups.pool; gens = sound.groups.gens; once = sound.groups.once; forgotten = sound.groups.forgotten };
         plan = record {
           told = sound.plan.told ∙ ap is_some next.plan_is;
           closed = subst (λ p. AreAllClosedAsPlanned p old.shards) next.plan_is sound.plan.closed;

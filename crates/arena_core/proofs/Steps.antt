@@ -154,10 +154,10 @@ CoreStep-refused old number value shard put_error.Ended here spent ended = ((sha
 pub with_shard-same : (old : CoreState) (number : ℕ) (before after : ShardState) → slice_get old.shards number ≡ Some before → after ≡ before → with_shard old number after ≡ old
 with_shard-same old number before after here same =
     let shards : set old.shards number after ≡ old.shards = ap (set old.shards number) same ∙ set-same old.shards number before here in
-    λ i. record { limits = old.limits; shards = shards i; pool = old.pool; plan = old.plan; rings = old.rings }
+    λ i. record { limits = old.limits; shards = shards i; pool = old.pool; plan = old.plan; rings = old.rings; forgotten = old.forgotten }
 
 pub with_pool-same : (old : CoreState) (pool : PoolState) → pool ≡ old.pool → with_pool old pool ≡ old
-with_pool-same old pool same = λ i. record { limits = old.limits; shards = old.shards; pool = same i; plan = old.plan; rings = old.rings }
+with_pool-same old pool same = λ i. record { limits = old.limits; shards = old.shards; pool = same i; plan = old.plan; rings = old.rings; forgotten = old.forgotten }
 
 -- sets
 

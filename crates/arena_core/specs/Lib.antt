@@ -1,3 +1,4 @@
+pub mod Forgets
 pub mod Kept
 pub mod Moved
 pub mod NextLive

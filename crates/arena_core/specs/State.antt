@@ -1,12 +1,12 @@
 -- What contracts see of a core, and the plain map that it shows.
-use Rattle.std.specs.Prelude.{◌≡◌, ℕ, ◌+◌, Bool, false, List, [], ◌++◌, map, length, find, is_some, slice_get, slice_set, count_by, sum_by, if◌then◌else◌, Option, Some, None}
+use Rattle.std.specs.Prelude.{◌≡◌, ℕ, ◌+◌, ◌||◌, Bool, false, List, [], ◌++◌, map, length, find, is_some, slice_get, slice_set, count_by, sum_by, if◌then◌else◌, Option, Some, None}
 use Rattle.std.specs.List.{flat_map, range_with_len}
 use Rattle.span.specs.declared.id.SpanId.{SpanId}
 use Rattle.span.specs.declared.key.Key.{Key}
 use Rattle.span.specs.PlainMap.{PlainMap, same_key}
 use Rattle.span.specs.State.{SpanState}
 use Rattle.shard.specs.Shown.{shown as shown_by}
-use Rattle.groups.specs.Shown.{span_named}
+use Rattle.groups.specs.Shown.{issued_by, span_named}
 use Rattle.shard.specs.State.{ShardState}
 use Rattle.groups.specs.Group.{live_in, paged_in, spans_in}
 use Rattle.abandoned.specs.Shown.{shown as shown_by_pool}
@@ -15,13 +15,14 @@ use Rattle.marks.specs.Numbers.{Limits}
 use Rattle.marks.specs.Plans.{OpenPlan}
 use Rattle.arena_core.specs.Rings.{RingState, new_rings, pending_at}
 
--- a core: the numbers of the product, the shards by their numbers, the pool of the groups whose shards have ended, the open plan, if there is one, and the rings of keys that wait to be freed, by shard, then by worker
+-- a core: the numbers of the product, the shards by their numbers, the pool of the groups whose shards have ended, the open plan, if there is one, the rings of keys that wait to be freed, by shard, then by worker, and the spans that were forgotten, of which no memory is kept
 pub record CoreState : Type 0 where
   pub limits : Limits
   pub shards : List ShardState
   pub pool : PoolState
   pub plan : Option OpenPlan
   pub rings : List (List RingState)
+  pub forgotten : List SpanState
 
 -- a shard that has opened no span
 abbrev pub new_shard : ℕ → ℕ → ℕ → ℕ → ShardState
@@ -31,9 +32,9 @@ new_shard page_limit span_limit gens number = record { number = number; page_lim
 abbrev pub new_pool : PoolState
 new_pool = record { groups = []; group_room = 0; span_room = 0; has_plan = false }
 
--- a core of new shards, one for each number, an empty pool, no plan, and empty rings
+-- a core of new shards, one for each number, an empty pool, no plan, and empty rings, in which nothing was forgotten
 abbrev pub new_core : Limits → CoreState
-new_core limits = record { limits = limits; shards = map (new_shard limits.page_limit limits.span_limit limits.gens) (range_with_len 0 limits.shards); pool = new_pool; plan = None; rings = new_rings limits.shards limits.ring_capacity }
+new_core limits = record { limits = limits; shards = map (new_shard limits.page_limit limits.span_limit limits.gens) (range_with_len 0 limits.shards); pool = new_pool; plan = None; rings = new_rings limits.shards limits.ring_capacity; forgotten = [] }
 
 -- the core with another shard at this number
 abbrev pub with_shard : CoreState → ℕ → ShardState → CoreState
@@ -55,9 +56,9 @@ with_rings core rings = record core { rings = rings }
 abbrev pub shard_spans : List ShardState → List SpanState
 shard_spans shards = flat_map (λ shard. spans_in shard.groups) shards
 
--- the spans of all shards, and then those of the pool
+-- the spans of all shards, then those of the pool, and then those that were forgotten
 abbrev pub all_spans : CoreState → List SpanState
-all_spans core = shard_spans core.shards ++ spans_in core.pool.groups
+all_spans core = shard_spans core.shards ++ (spans_in core.pool.groups ++ core.forgotten)
 
 -- one of the shard's groups has the span
 abbrev pub has_span : SpanId → ShardState → Bool
@@ -81,10 +82,14 @@ abbrev pub shown_at : PoolState → Option ShardState → PlainMap
 shown_at pool None = shown_by_pool pool
 shown_at pool (Some shard) = shown_by shard
 
--- the plain map that the core shows: each key is that of the shard that has its span, or else of the pool, and the rings hold what is pending
+-- a span that was forgotten gave the key out
+abbrev pub issued_forgotten : CoreState → Key → Bool
+issued_forgotten core key = issued_by key (span_named core.forgotten key.span)
+
+-- the plain map that the core shows: each key is that of the shard that has its span, or else of the pool, keys of forgotten spans stay issued, and the rings hold what is pending
 abbrev pub shown : CoreState → PlainMap
 shown core = record {
-  is_issued = λ key. (shown_at core.pool (shard_with core.shards key.span)).is_issued key;
+  is_issued = λ key. issued_forgotten core key || (shown_at core.pool (shard_with core.shards key.span)).is_issued key;
   value_of = λ key. (shown_at core.pool (shard_with core.shards key.span)).value_of key;
   pending = λ worker shard. pending_at core.rings worker shard;
 }

@@ -30,6 +30,8 @@
 //! what it plans is carried out (`specs/Plan.antt`). Each step is besides an exact step of shards and
 //! pool (`specs/Step.antt`), and leads from a sound core to a sound core (`specs/Sound.antt`).
 //!
+//! A core whose logs are counted forgets spans that can never be live again, once it is asked to: [`Core::forget`].
+//!
 //! The core's mark is that of the crate `marks` on its own pool and shards.
 //!
 //! # Examples
@@ -50,6 +52,7 @@
 
 mod error;
 mod event;
+mod forgotten;
 mod machine;
 mod reply;
 mod rings;

@@ -12,6 +12,7 @@ ghost use Rattle.arena_core.specs.Plain.{ErasedStep};
 
 use crate::error::CoreError;
 use crate::event::Event;
+use crate::forgotten::Forgotten;
 use crate::reply::{Refusal, Reply};
 use crate::rings::Rings;
 use crate::whereabouts::Whereabouts;
@@ -24,6 +25,7 @@ use std::marker::Model;
 
 mod deferred;
 mod ends;
+mod forgetting;
 mod keys;
 mod plans;
 mod setting;
@@ -47,6 +49,7 @@ pub struct Core<L: Log = Kept> {
     plan: CurrentPlan,
     whereabouts: Whereabouts,
     rings: Rings,
+    forgotten: Forgotten,
 }
 
 impl<L: Log> Model for Core<L> {
@@ -132,6 +135,7 @@ impl<L: Log> Core<L> {
         let plan = CurrentPlan::new(alloc)?;
         let rings = Rings::new(alloc, count, ring_capacity)?;
         let shards = new_shards(alloc, limits)?;
+        let forgotten = Forgotten::new();
         Ok(Core {
             alloc,
             page_limit: limits.page_limit(),
@@ -143,6 +147,7 @@ impl<L: Log> Core<L> {
             plan,
             whereabouts: Whereabouts::new(alloc),
             rings,
+            forgotten,
         })
     }
 

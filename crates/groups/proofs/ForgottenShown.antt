@@ -1,6 +1,6 @@
 -- The values that logs leave, where spans go in which no slot is live.
 use Rattle.std.proofs.Common.{◌≡◌, ℕ, ◌+◌, ◌≤◌, Bool, true, false, cond, List, [], ◌∷◌, ◌++◌, Option, None, Some, map, refl, sym, ap, ◌∙◌, arith}
-use Rattle.std.specs.FinSet.{contains, contains-empty}
+use Rattle.std.specs.FinSet.{contains, contains-empty, empty}
 use Rattle.std.specs.FinMap as fin
 use Rattle.std.specs.Ordering.{nat_cmp}
 use Rattle.std.specs.Prelude.{find, is_some}
@@ -20,16 +20,19 @@ use Rattle.groups.proofs.Lists.{count-append, count-cons, find-none, none_where,
 use Rattle.groups.proofs.Logged.{logged_by}
 use Rattle.groups.proofs.ShownGroups.{value-logged}
 
--- a span that is not live leaves no value
-pub value_in-dead : (span : SpanState) (slot generation : ℕ) → is_live span ≡ false → value_in span.log slot generation ≡ None
-value_in-dead span slot generation dead = by_held (fin.get (replay span.log) slot) none
+-- a span with no live slot leaves no value
+pub value_in-none_live : (span : SpanState) (slot generation : ℕ) → live_slots span.log ≡ empty → value_in span.log slot generation ≡ None
+value_in-none_live span slot generation dead = by_held (fin.get (replay span.log) slot) none
   where
     none : is_some (fin.get (replay span.log) slot) ≡ false
-    none = sym (contains-live_slots span.log slot) ∙ ap (λ slots. contains slots slot) (live_slots-dead span dead) ∙ contains-empty nat_cmp slot
+    none = sym (contains-live_slots span.log slot) ∙ ap (λ slots. contains slots slot) dead ∙ contains-empty nat_cmp slot
 
     by_held : (held : Option Held) → is_some held ≡ false → value_if generation held ≡ None
     by_held None e = refl
     by_held (Some held) e = absurd cc
+
+pub value_in-dead : (span : SpanState) (slot generation : ℕ) → is_live span ≡ false → value_in span.log slot generation ≡ None
+value_in-dead span slot generation dead = value_in-none_live span slot generation (live_slots-dead span dead)
 
 module _ (key : Key) where
   -- the value that the logs of the spans leave under the key

@@ -124,8 +124,9 @@ impl Directory {
         } }
     {
         for index in 0..guests.len() {
-            if !is_live(&guests[index]) {
-                self.strike(guests[index].id());
+            let guest = &guests[index];
+            if !is_live(guest) {
+                self.strike(guest.id());
             }
         }
     }

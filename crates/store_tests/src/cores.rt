@@ -7,6 +7,7 @@ use std::alloc::Global;
 
 mod beginning;
 mod classes;
+mod forgetting;
 mod plans;
 mod retiring;
 mod setting;

@@ -10,6 +10,7 @@ ghost use Rattle.shard.specs.Forgets.{Forgets};
 ghost use Rattle.shard.specs.Group.{GroupState};
 ghost use Rattle.shard.specs.Shown.{shown};
 ghost use Rattle.shard.specs.Sound.{IsSound};
+ghost use Rattle.span.specs.declared.limits.TheConstants.{ALL_IDS};
 
 use super::Shard;
 use crate::group::Group;
@@ -21,6 +22,7 @@ impl Shard<Counted> {
     /// again: a look-up and a free of one no longer find its span. Heads stay, since they may take puts, and pages do. It takes no memory.
     pub fn forget(&mut self) -> usize
         ensures forgets { Forgets self.old result self.new }
+        ensures at_most { result ≤ ALL_IDS }
         ensures value { (key : Key) → (shown self.new).value_of key ≡ (shown self.old).value_of key }
         ensures sound { IsSound self.new }
     {

@@ -22,7 +22,7 @@ items_are g c =
 
 is_closed : (g : _) (c : goal.After-end g) → state_of (fields g c) ≡ with_plan_closed (state_of c.self.inside)
 is_closed g c =
-    state_of-mapped c.self.inside (fields g c) reopened refl refl refl refl refl (items_are g c)
+    state_of-mapped c.self.inside (fields g c) reopened refl refl refl refl refl refl (items_are g c)
     ∙ (λ i. record (state_of c.self.inside) { shards = map reopened c.self.inside.shards.items; pool = c.plan_closed.ensures.closed i; plan = c.end.ensures i })
 
 kept : (g : _) (c : goal.After-end g) → IsSound (state_of (fields g c))

@@ -29,7 +29,7 @@ mark_refusal-requires g c = λ doubled.
 pub invariant_of-self : goal.invariant_of-self
 invariant_of-self g c =
     let refused = c.in-Err.ensures {u = tt} in
-    IsKept-unchanged c.self.inside (record c.self.inside { shards = with_items c.self.inside.shards c.mark_some_in.new.shards; pool = c.mark_some_in.new.pool }) c.self.invariant refl refl refl refl refl refl refl
+    IsKept-unchanged c.self.inside (record c.self.inside { shards = with_items c.self.inside.shards c.mark_some_in.new.shards; pool = c.mark_some_in.new.pool }) c.self.invariant refl refl refl refl refl refl refl refl
     (with_items_is c.self.inside.shards c.mark_some_in.new.shards (ap length refused.err_shards ∙ c.deref_mut.ensures.len) ∙ refused.err_shards ∙ c.deref_mut.ensures.value) refused.err
 
 -- the shards that are lent are the core's
@@ -60,7 +60,7 @@ items_are g c =
 
 is_marked : (g : _) (c : goal.After-begin g) → state_of (fields g c) ≡ marked (state_of c.self.inside) c.self.invariant.sound c.in-Ok.certificate (largest g c)
 is_marked g c =
-    state_of-mapped c.self.inside (fields g c) (closed_onto c.in-Ok.certificate.plan) refl refl refl refl refl (items_are g c)
+    state_of-mapped c.self.inside (fields g c) (closed_onto c.in-Ok.certificate.plan) refl refl refl refl refl refl (items_are g c)
     ∙ (λ i. record (state_of c.self.inside) {
       shards = map (closed_onto c.in-Ok.certificate.plan) c.self.inside.shards.items;
       pool = (c.in-Ok.ensures {u = tt}).opened i;

@@ -1,0 +1,165 @@
+-- A core that forgets spans which can never be live again stays sound, and shows the same.
+use Rattle.std.proofs.Common.{zero, suc, ◌≡◌, ℕ, ◌+◌, length, Bool, true, false, not, cond, List, [], ◌∷◌, ◌++◌, None, Some, map, slice_get, is_some, refl, sym, ap, subst, ◌∙◌, arith, inl, inr}
+use Rattle.std.specs.Prelude.{sum_by}
+use Rattle.std.proofs.lemmas.List.{length-map}
+use Rattle.std.proofs.lemmas.List.Sums.{sum_by-append, sum_by-cons}
+use Rattle.span.specs.declared.id.SpanId.{SpanId}
+use Rattle.span.specs.State.{SpanState}
+use Rattle.groups.specs.Dead.{dead_among, dead_guests, is_dead, is_live, live_among, without_dead}
+use Rattle.groups.specs.Group.{spans_in}
+use Rattle.groups.specs.Sound.{AreSoundGroups}
+use Rattle.groups.proofs.DeadGuests.{before-filter, live_slots-dead}
+use Rattle.groups.proofs.Lists.{in_either}
+use Rattle.shard.specs.Group.{GroupState}
+use Rattle.shard.specs.State.{ShardState}
+use Rattle.shard.proofs.Forgotten.{IsSound-without_dead}
+use Rattle.marks.proofs.Flagged.{map_back}
+use Rattle.arena_core.specs.Forgets.{dead_owned, with_forgotten, without_dead_guests}
+use Rattle.arena_core.specs.Kept.{IsKept, state_of}
+use Rattle.arena_core.specs.declared.machine.Core.TheInside.{Inside}
+use Rattle.arena_core.specs.Moved.{Entries, KnowsMoved, WhereaboutsState}
+use Rattle.arena_core.specs.Sound.{HasSoundGroups, IsForgotten, IsSound, IsSoundAt}
+use Rattle.arena_core.specs.State.{CoreState, all_spans, has_span, opened_of, shown}
+use Rattle.arena_core.proofs.Changes.{indicator, no_strays}
+use Rattle.arena_core.proofs.Groups.{strays, strays-each}
+use Rattle.arena_core.proofs.Logged.{shown-same}
+use Rattle.arena_core.proofs.MarkSteps.{AreOpen-none}
+use Rattle.arena_core.proofs.PlanSteps.{HasSoundPlan-none}
+use Rattle.arena_core.proofs.Spans.{has_span-counted, named, sum_all, sum_all-parts, sum_in, times_in-found}
+
+-- sums over what is left and what went
+
+module _ (w : SpanState → ℕ) where
+  sum-live : (spans : List SpanState) → sum_by w (live_among spans) + sum_by w (dead_among spans) ≡ sum_by w spans
+  sum-live [] = refl
+  sum-live (span ∷ rest) = by_test (is_live span) (sum-live rest)
+    where
+      by_test : (b : Bool) → sum_by w (live_among rest) + sum_by w (dead_among rest) ≡ sum_by w rest
+          → sum_by w (cond b (span ∷ live_among rest) (live_among rest)) + sum_by w (cond (not b) (span ∷ dead_among rest) (dead_among rest)) ≡ sum_by w (span ∷ rest)
+      by_test true later = omega (arith, later, sum_by-cons w span (live_among rest), sum_by-cons w span rest)
+      by_test false later = omega (arith, later, sum_by-cons w span (dead_among rest), sum_by-cons w span rest)
+
+  sum-without_dead : (groups : List GroupState) → sum_by w (spans_in (map without_dead groups)) + sum_by w (dead_guests groups) ≡ sum_by w (spans_in groups)
+  sum-without_dead [] = refl
+  sum-without_dead (group ∷ groups) =
+      omega (
+        arith,
+        sum-without_dead groups,
+        sum-live group.guests,
+        sum_by-cons w group.head (live_among group.guests ++ spans_in (map without_dead groups)),
+        sum_by-cons w group.head (group.guests ++ spans_in groups),
+        sum_by-append w (live_among group.guests) (spans_in (map without_dead groups)),
+        sum_by-append w group.guests (spans_in groups),
+        sum_by-append w (dead_among group.guests) (dead_guests groups),
+      )
+
+  sum-owned : (shards : List ShardState) → sum_by (sum_in w) (map without_dead_guests shards) + sum_by w (dead_owned shards) ≡ sum_by (sum_in w) shards
+  sum-owned [] = refl
+  sum-owned (shard ∷ shards) =
+      omega (
+        arith,
+        sum-owned shards,
+        sum-without_dead shard.groups,
+        sum_by-cons (sum_in w) (without_dead_guests shard) (map without_dead_guests shards),
+        sum_by-cons (sum_in w) shard shards,
+        sum_by-append w (dead_guests shard.groups) (dead_owned shards),
+      )
+
+  -- no span comes or goes, but to those that were forgotten
+  sum_all-forgotten : (core : CoreState) → sum_all w (with_forgotten core) ≡ sum_all w core
+  sum_all-forgotten core = omega (arith, sum_all-parts w (with_forgotten core), sum_all-parts w core, sum-owned core.shards, sum_by-append w core.forgotten (dead_owned core.shards))
+
+-- what went can be forgotten
+
+forgotten-guests : (groups : List GroupState) → AreSoundGroups groups → (place : ℕ) (span : SpanState) → slice_get (dead_guests groups) place ≡ Some span → IsForgotten span
+forgotten-guests [] sound place span here = absurd cc
+forgotten-guests (group ∷ groups) sound place span here = elim (in_either (dead_among group.guests) (dead_guests groups) place span here) [
+  | inl first ↦
+      let was = before-filter is_dead group.guests place span first in
+      record { legal = (sound 0 group refl).legal (suc was.0) span was.1; none_live = live_slots-dead span (not_true (is_live span) was.2) }
+  | inr later ↦ forgotten-guests groups (λ index g at. sound (suc index) g at) later.0 span later.1
+]
+  where
+    not_true : (b : Bool) → not b ≡ true → b ≡ false
+    not_true true e = absurd cc
+    not_true false e = refl
+
+forgotten-owned : (shards : List ShardState) → ((number : ℕ) (shard : ShardState) → slice_get shards number ≡ Some shard → AreSoundGroups shard.groups) → (place : ℕ) (span : SpanState) → slice_get (dead_owned shards) place ≡ Some span → IsForgotten span
+forgotten-owned [] sound place span here = absurd cc
+forgotten-owned (shard ∷ shards) sound place span here = elim (in_either (dead_guests shard.groups) (dead_owned shards) place span here) [
+  | inl first ↦ forgotten-guests shard.groups (sound 0 shard refl) place span first
+  | inr later ↦ forgotten-owned shards (λ number s at. sound (suc number) s at) later.0 span later.1
+]
+
+-- the core
+
+opened_of-forgotten : (shards : List ShardState) (number : ℕ) → opened_of (slice_get (map without_dead_guests shards) number) ≡ opened_of (slice_get shards number)
+opened_of-forgotten [] number = refl
+opened_of-forgotten (shard ∷ shards) zero = refl
+opened_of-forgotten (shard ∷ shards) (suc number) = opened_of-forgotten shards number
+
+module _ (core : CoreState) (sound : IsSound core) where
+  HasSoundGroups-forgotten : HasSoundGroups (with_forgotten core)
+  HasSoundGroups-forgotten = record {
+    within = sound.groups.within;
+    count = length-map core.shards without_dead_guests ∙ sound.groups.count;
+    shards = λ number shard at.
+        let (was, here, is) = map_back without_dead_guests core.shards number shard at in
+        let fine = sound.groups.shards number was here in
+        subst (IsSoundAt core.limits number) is
+        (record { number_is = fine.number_is; page_limit_is = fine.page_limit_is; span_limit_is = fine.span_limit_is; gens_is = fine.gens_is; sound = IsSound-without_dead was fine.sound });
+    pool = sound.groups.pool;
+    gens = strays-each core.limits.gens (all_spans (with_forgotten core)) (sum_all-forgotten (strays core.limits.gens) core ∙ no_strays core sound.groups);
+    once = λ id. sum_all-forgotten (named id) core ∙ sound.groups.once id ∙ ap (indicator id.serial) (sym (opened_of-forgotten core.shards id.shard));
+    forgotten = λ place span here. elim (in_either core.forgotten (dead_owned core.shards) place span here) [
+      | inl before ↦ sound.groups.forgotten place span before
+      | inr later ↦ forgotten-owned core.shards (λ number shard at. (sound.groups.shards number shard at).sound.groups) later.0 span later.1
+    ];
+  }
+
+  pub IsSound-forgotten : core.plan ≡ None → IsSound (with_forgotten core)
+  IsSound-forgotten none = record {
+    groups = HasSoundGroups-forgotten;
+    plan = HasSoundPlan-none (with_forgotten core) none (sound.plan.told ∙ ap is_some none) (λ number shard here index group at.
+        let (was, there, is) = map_back without_dead_guests core.shards number shard here in
+        let (before, stood, same) = map_back without_dead was.groups index group (subst (λ (s : ShardState). slice_get s.groups index ≡ Some group) (sym is) at) in
+        subst (λ (g : GroupState). g.closed ≡ false) same (AreOpen-none core sound none number was there index before stood));
+    rings = sound.rings;
+  }
+
+  -- the map stays as it is
+  pub shown-forgotten : shown (with_forgotten core) ≡ shown core
+  shown-forgotten = shown-same core (with_forgotten core) sound.groups HasSoundGroups-forgotten refl (λ w. sum_all-forgotten w core)
+
+-- a span that stands in a shard stood there before
+has_span-forgotten : (shard : ShardState) (id : SpanId) → has_span id (without_dead_guests shard) ≡ true → has_span id shard ≡ true
+has_span-forgotten shard id has = has_span-counted id shard (omega (arith, times_in-found id (without_dead_guests shard) has, sum-without_dead (named id) shard.groups))
+
+pub KnowsMoved-forgotten : (shards : List ShardState) (entries : Entries) → KnowsMoved shards entries → KnowsMoved (map without_dead_guests shards) entries
+KnowsMoved-forgotten shards entries knows id number foreign (shard, at, has) =
+    let (was, there, is) = map_back without_dead_guests shards number shard at in
+    knows id number foreign (was, there, has_span-forgotten was id (ap (has_span id) is ∙ has))
+
+-- the fields
+module _ {L : Type 0} (c now : Inside L) (kept : IsKept c) (pages : now.page_limit ≡ c.page_limit) (spans : now.span_limit ≡ c.span_limit) (ring : now.ring_capacity ≡ c.ring_capacity) (gens : now.gens ≡ c.gens) (pool : now.pool ≡ c.pool) (plan : now.plan ≡ c.plan) (whereabouts : now.whereabouts ≡ c.whereabouts) (rings : now.rings ≡ c.rings)
+    (items : now.shards.items ≡ map without_dead_guests c.shards.items) (gone : now.forgotten.spans ≡ c.forgotten.spans ++ dead_owned c.shards.items) where
+  count_is : length now.shards.items ≡ length c.shards.items
+  count_is = ap length items ∙ length-map c.shards.items without_dead_guests
+
+  pub state_of-forgotten : state_of now ≡ with_forgotten (state_of c)
+  state_of-forgotten = λ i. record {
+    limits = record { shards = count_is i; page_limit = pages i; span_limit = spans i; ring_capacity = ring i; gens = gens i };
+    shards = items i;
+    pool = pool i;
+    plan = plan i;
+    rings = rings i;
+    forgotten = gone i;
+  }
+
+  pub IsKept-forgotten : c.plan ≡ None → IsKept now
+  IsKept-forgotten none = record {
+    sound = subst IsSound (sym state_of-forgotten) (IsSound-forgotten (state_of c) kept.sound none);
+    moved =
+        subst (KnowsMoved now.shards.items) (sym (ap (λ (w : WhereaboutsState). w.entries) whereabouts))
+        (subst (λ shards. KnowsMoved shards c.whereabouts.entries) (sym items) (KnowsMoved-forgotten c.shards.items c.whereabouts.entries kept.moved));
+  }
