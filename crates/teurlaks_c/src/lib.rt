@@ -59,13 +59,14 @@ pub use calls::{
     teurlaks_put, teurlaks_put_words, teurlaks_set, teurlaks_set_words, teurlaks_totals,
 };
 pub use meshing::{
-    teurlaks_adopt, teurlaks_begin, teurlaks_certificate, teurlaks_close, teurlaks_end, teurlaks_mark,
-    teurlaks_retire, teurlaks_step, teurlaks_trim,
+    teurlaks_adopt, teurlaks_begin, teurlaks_certificate, teurlaks_close, teurlaks_end,
+    teurlaks_forget, teurlaks_mark, teurlaks_retire, teurlaks_step, teurlaks_trim,
 };
 pub use seats::{
-    teurlaks_seat_adopt, teurlaks_seat_begin, teurlaks_seat_end, teurlaks_seat_free, teurlaks_seat_free_later,
-    teurlaks_seat_get_words, teurlaks_seat_hand_over, teurlaks_seat_put_words,
-    teurlaks_seat_retire, teurlaks_seat_set_words, teurlaks_seat_tend, teurlaks_seat_trim,
+    teurlaks_seat_adopt, teurlaks_seat_begin, teurlaks_seat_end, teurlaks_seat_free,
+    teurlaks_seat_free_later, teurlaks_seat_get_words, teurlaks_seat_hand_over,
+    teurlaks_seat_put_words, teurlaks_seat_retire, teurlaks_seat_set_words, teurlaks_seat_tend,
+    teurlaks_seat_trim,
 };
 pub use stewards::{
     teurlaks_arena_open, teurlaks_share_drop, teurlaks_steward_close, teurlaks_steward_mark_some,
