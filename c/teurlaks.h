@@ -115,6 +115,12 @@ struct teurlaks_trim_reply {
     size_t count;
 };
 
+/* How many spans went, where the status is TEURLAKS_OK; else 0. */
+struct teurlaks_forget_reply {
+    uint32_t status;
+    size_t count;
+};
+
 /* The head of the adopted group, where the status is TEURLAKS_OK. */
 struct teurlaks_adopt_reply {
     uint32_t status;
@@ -205,6 +211,10 @@ struct teurlaks_retire_reply teurlaks_retire(struct teurlaks_handle *handle, uin
 /* Gives back the page of each group of the shard in which nothing is live, but for a group of the open plan. The groups stay, and a
  * later put into one of them opens a page for it. TEURLAKS_CONFIG where there is no such shard, and no other refusal. Takes no memory. */
 struct teurlaks_trim_reply teurlaks_trim(struct teurlaks_handle *handle, uint32_t shard);
+
+/* Forgets the spans that can never be live again, with their generations: those that were folded and of which nothing is live.
+ * Nothing else changes that a caller sees. TEURLAKS_PLAN_OPEN while a plan is open, and no other refusal. Takes no memory. */
+struct teurlaks_forget_reply teurlaks_forget(struct teurlaks_handle *handle);
 
 /* Moves the pool's group of lowest head that has a page to the shard. Where several causes hold, it is refused for the shard if there is one
  * of this number (TEURLAKS_ENDED, TEURLAKS_PAGES_SPENT), then with TEURLAKS_PLAN_OPEN, TEURLAKS_NOTHING_TO_ADOPT, and only then for a number of

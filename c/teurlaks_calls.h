@@ -103,6 +103,11 @@ static inline struct teurlaks_retire_reply teurlaks_tested_retire(struct teurlak
     return handle ? teurlaks_retire(handle, shard, most) : none;
 }
 
+static inline struct teurlaks_forget_reply teurlaks_tested_forget(struct teurlaks_handle *handle) {
+    struct teurlaks_forget_reply none = {TEURLAKS_NO_CORE, 0};
+    return handle ? teurlaks_forget(handle) : none;
+}
+
 static inline struct teurlaks_trim_reply teurlaks_tested_trim(struct teurlaks_handle *handle, uint32_t shard) {
     struct teurlaks_trim_reply none = {TEURLAKS_NO_CORE, 0};
     return handle ? teurlaks_trim(handle, shard) : none;
@@ -240,6 +245,7 @@ static inline struct teurlaks_arena_totals_reply teurlaks_tested_steward_totals(
 #define teurlaks_end teurlaks_tested_end
 #define teurlaks_begin teurlaks_tested_begin
 #define teurlaks_retire teurlaks_tested_retire
+#define teurlaks_forget teurlaks_tested_forget
 #define teurlaks_trim teurlaks_tested_trim
 #define teurlaks_adopt teurlaks_tested_adopt
 #define teurlaks_mark teurlaks_tested_mark

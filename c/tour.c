@@ -179,6 +179,8 @@ static void tour(void) {
     struct teurlaks_next_reply next = teurlaks_next(&core, first.key);
     WANT(next.status == TEURLAKS_OK && !memcmp(&next.key, &put.key, sizeof put.key));
     WANT(free_all(&core) == 2 && teurlaks_totals(&core).live == 0);
+    /* The span that was folded has nothing live, and takes no put: it is forgotten, once. */
+    WANT(teurlaks_forget(&core).count == 1 && teurlaks_forget(&core).count == 0);
     /* The page has nothing live, and goes; a put opens one anew. */
     struct teurlaks_trim_reply trimmed = teurlaks_trim(&core, 1);
     WANT(trimmed.status == TEURLAKS_OK && trimmed.count == 1 && teurlaks_totals(&core).pages == 0);

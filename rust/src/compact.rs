@@ -18,7 +18,8 @@ pub(crate) trait Compact {
     /// As `Core::adopt`.
     fn adopt_one(&mut self, shard: u32) -> Result<Group, Refused>;
 
-    /// Trims, folds as long as that gives a sixteenth of the pages back, and says how many pages went. All groups are in shards then.
+    /// Trims, folds as long as that gives a sixteenth of the pages back, forgets what can never be live again, and says how many pages went.
+    /// All groups are in shards then.
     fn compact_all(&mut self) -> Result<usize, Refused> {
         let before = self.core().pages();
         self.core().trim_all();
@@ -29,6 +30,8 @@ pub(crate) trait Compact {
             let pages = self.core().pages();
             let regained = self.fold_sparse_pages()?;
             if regained == 0 || regained * 16 < pages {
+                // No plan is open, so that it is not refused.
+                self.core().forget()?;
                 return Ok(before - self.core().pages());
             }
         }

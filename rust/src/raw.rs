@@ -74,6 +74,13 @@ pub struct TrimReply {
 
 #[repr(C)]
 #[derive(Clone, Copy)]
+pub struct ForgetReply {
+    pub status: u32,
+    pub count: usize,
+}
+
+#[repr(C)]
+#[derive(Clone, Copy)]
 pub struct AdoptReply {
     pub status: u32,
     pub head: RawSpan,
@@ -148,6 +155,7 @@ extern "C" {
     pub fn teurlaks_begin(handle: *mut Handle, shard: u32) -> u32;
     pub fn teurlaks_retire(handle: *mut Handle, shard: u32, most: usize) -> RetireReply;
     pub fn teurlaks_trim(handle: *mut Handle, shard: u32) -> TrimReply;
+    pub fn teurlaks_forget(handle: *mut Handle) -> ForgetReply;
     pub fn teurlaks_adopt(handle: *mut Handle, shard: u32) -> AdoptReply;
     pub fn teurlaks_mark(handle: *mut Handle) -> MarkReply;
     pub fn teurlaks_mark_some(handle: *mut Handle) -> MarkReply;

@@ -1,5 +1,5 @@
 -- What the calls do.
-use Rattle.std.specs.Prelude.{◌≡◌, ◌⊎◌, ◌<◌, ◌≤◌, ◌++◌, ◌∷◌, [], ℕ, List, Option, Some, None, MatchOption, true, false, drop, length}
+use Rattle.std.specs.Prelude.{◌≡◌, ◌⊎◌, ◌<◌, ◌≤◌, ◌++◌, ◌∷◌, [], ℕ, List, Option, Some, None, MatchOption, MatchResult, Result, Ok, Err, true, false, drop, length}
 use Rattle.span.specs.declared.key.Key.{Key}
 use Rattle.span.specs.Classes.{IsObject}
 use Rattle.span.specs.Log.{Value}
@@ -11,11 +11,14 @@ use Rattle.arena_core.specs.declared.event.Event.{Event}
 use Rattle.arena_core.specs.declared.event.Event.TheVariants.{Put, Set, Free, End, Begin, Retire, Trim, Adopt, Step, Close}
 use Rattle.arena_core.specs.declared.reply.Reply.{Reply}
 use Rattle.arena_core.specs.declared.reply.Reply.TheVariants.{Issued, Replaced, Freed, ShardEnded, ShardBegun, Retired, Trimmed, Adopted, Marked, Stepped, NoPairLeft, Closed, NoPlan, Refused}
+use Rattle.arena_core.specs.declared.reply.Refusal.{Refusal}
+use Rattle.arena_core.specs.declared.reply.Refusal.TheVariants.{PlanOpen}
+use Rattle.arena_core.specs.Forgets.{Forgets as ForgetsIn}
 use Rattle.arena_core.specs.Plain.{ErasedStep}
 use Rattle.arena_core.specs.Sound.{IsSound}
 use Rattle.arena_core.specs.State.{CoreState, HasKeys, new_core, pages, shown}
 use Rattle.marks.specs.Numbers.{Limits}
-use Rattle.arena_core.specs.Step.{CoreStep}
+use Rattle.arena_core.specs.Step.{CoreStep, HasPlan}
 use Rattle.teurlaks_c.specs.declared.held.Held.{Held}
 use Rattle.teurlaks_c.specs.declared.held.Witness.{Witness}
 use Rattle.teurlaks_c.specs.declared.replies.RawKey.{RawKey}
@@ -26,6 +29,7 @@ use Rattle.teurlaks_c.specs.declared.replies.WordsReply.{WordsReply}
 use Rattle.teurlaks_c.specs.declared.replies.NextReply.{NextReply}
 use Rattle.teurlaks_c.specs.declared.replies.RetireReply.{RetireReply}
 use Rattle.teurlaks_c.specs.declared.replies.TrimReply.{TrimReply}
+use Rattle.teurlaks_c.specs.declared.replies.ForgetReply.{ForgetReply}
 use Rattle.teurlaks_c.specs.declared.replies.AdoptReply.{AdoptReply}
 use Rattle.teurlaks_c.specs.declared.replies.MarkReply.{MarkReply}
 use Rattle.teurlaks_c.specs.declared.replies.StepReply.{StepReply}
@@ -191,6 +195,24 @@ SaysTrimmed says reply = ⊥
 -- the shard gives pages back, or there is no such shard
 abbrev pub Trims : Option Held → ℕ → TrimReply → Option Held → Type 0
 Trims old shard says new = (reply : Reply) × Steps old (Trim shard) reply new × SaysTrimmed says reply
+
+-- what C reads of the answer to a forgetting
+abbrev pub SaysForgotten : ForgetReply → Result ℕ Refusal → Type 0
+SaysForgotten says (Ok count) = (says.status ≡ done) × (says.count ≡ count)
+SaysForgotten says (Err refusal) = (says.status ≡ refusal_status refusal) × (says.count ≡ 0)
+
+-- the core of the handle forgets the spans that can never be live again, or is refused that while a plan is open; the map that it shows stays, and so does the certificate that is kept
+pub record Forgets (old : Option Held) (says : ForgetReply) (new : Option Held) : Type 0 where
+  pub before : Held
+  pub after : Held
+  pub answer : Result ℕ Refusal
+  pub before_is : old ≡ Some before
+  pub after_is : new ≡ Some after
+  pub exact : MatchResult answer (λ count. ForgetsIn before.core count after.core) (λ refusal. (refusal ≡ PlanOpen) × HasPlan before.core × (after.core ≡ before.core))
+  pub plain : shown after.core ≡ shown before.core
+  pub sound : IsSound after.core
+  pub same : after.last ≡ before.last
+  pub says_is : SaysForgotten says answer
 
 -- what C reads of the reply to an adoption
 abbrev pub SaysAdopted : AdoptReply → Reply → Type 0

@@ -60,7 +60,7 @@ pub use calls::{
 };
 pub use meshing::{
     teurlaks_adopt, teurlaks_begin, teurlaks_certificate, teurlaks_close, teurlaks_end,
-    teurlaks_mark, teurlaks_retire, teurlaks_step, teurlaks_trim,
+    teurlaks_forget, teurlaks_mark, teurlaks_retire, teurlaks_step, teurlaks_trim,
 };
 pub use seats::{
     teurlaks_seat_adopt, teurlaks_seat_begin, teurlaks_seat_end, teurlaks_seat_free,

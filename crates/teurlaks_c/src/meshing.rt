@@ -1,7 +1,7 @@
 // Shards that end, begin again, retire groups or give pages back, groups that are adopted, and plans of folds.
 ghost use Rattle.std.specs.Prelude.{◌≡◌, IsSome, MatchOption, None};
 ghost use Rattle.arena_core.specs.declared.event.Event.TheVariants as event;
-ghost use Rattle.teurlaks_c.specs.Calls.{Adopts, Begins, Closes, CountsOf, Ends, IsOfMark, Keeps, Marks, Retires, SaysMarked, Steps, TakesStep, Tells, Trims, Writes};
+ghost use Rattle.teurlaks_c.specs.Calls.{Adopts, Begins, Closes, CountsOf, Ends, Forgets, IsOfMark, Keeps, Marks, Retires, SaysForgotten, SaysMarked, Steps, TakesStep, Tells, Trims, Writes};
 ghost use Rattle.teurlaks_c.specs.Keys.{IsSpanOf};
 ghost use Rattle.teurlaks_c.specs.Status.{no_core};
 
@@ -9,12 +9,13 @@ use crate::handle::Handle;
 use crate::held::{Held, Witness};
 use crate::keys::raw_span;
 use crate::replies::{
-    AdoptReply, CertificateReply, MarkReply, RawSpan, RetireReply, StepReply, TrimReply,
+    AdoptReply, CertificateReply, ForgetReply, MarkReply, RawSpan, RetireReply, StepReply,
+    TrimReply,
 };
 use crate::status::{
     EMPTIED, NO_CORE, NO_PAIR_LEFT, NO_PLAN, NONE, OK, OUT_OF_MEMORY, TOO_SMALL, status_of,
 };
-use arena_core::{Event, Reply};
+use arena_core::{Event, Refusal, Reply};
 use certificate::{Certificate, write};
 use fold::Step;
 use span::SpanId;
@@ -105,6 +106,24 @@ pub extern "C" fn teurlaks_trim(alloc: Global, handle: &mut Handle, shard: u32) 
             count: 0,
         },
     }
+}
+
+/// Forgets the spans of the core that can never be live again, with their generations; the count is how many went. Nothing else
+/// changes that a caller sees. Refused with `PLAN_OPEN` alone, while a plan is open. It takes no memory.
+#[unsafe(no_mangle)]
+pub extern "C" fn teurlaks_forget(alloc: Global, handle: &mut Handle) -> ForgetReply
+    ensures live { IsSome handle.old.held → Forgets handle.old.held result handle.new.held }
+    ensures none { handle.old.held ≡ None → (result.status ≡ no_core) × (result.count ≡ 0) × (handle.new.held ≡ None) }
+{
+    let Some(mut held) = replace(handle, Handle::none()).into_box(alloc) else {
+        return ForgetReply {
+            status: NO_CORE,
+            count: 0,
+        };
+    };
+    let answer = held.core.forget();
+    *handle = Handle::of(held);
+    forgotten_reply(answer)
 }
 
 /// Moves the pool's group of lowest head that has a page to the shard, and answers its head. Refused with `PAGES_SPENT`, `ENDED`,
@@ -221,6 +240,19 @@ pub extern "C" fn teurlaks_certificate(
     let says = write_last(alloc, &held.last, text);
     *handle = Handle::of(held);
     says
+}
+
+// What C reads of what was forgotten.
+fn forgotten_reply(answer: Result<usize, Refusal>) -> ForgetReply
+    ensures { SaysForgotten result answer }
+{
+    match answer {
+        Ok(count) => ForgetReply { status: OK, count },
+        Err(refusal) => ForgetReply {
+            status: status_of(refusal),
+            count: 0,
+        },
+    }
 }
 
 // The core, if there is one, takes the event, which is no mark.

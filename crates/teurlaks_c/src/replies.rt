@@ -76,6 +76,14 @@ pub struct TrimReply {
     pub count: usize,
 }
 
+/// What a forgetting answers: how many spans went where the status is `OK`, else 0.
+#[repr(C)]
+#[derive(Clone, Copy)]
+pub struct ForgetReply {
+    pub status: u32,
+    pub count: usize,
+}
+
 /// What an adoption answers: the head of the group where the status is `OK`.
 #[repr(C)]
 #[derive(Clone, Copy)]

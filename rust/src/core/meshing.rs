@@ -142,6 +142,33 @@ impl Core {
         done(status).map(|()| count)
     }
 
+    /// Forgets the pages that were folded onto others and whose keys are all gone, with the generations that are kept of them, and says how
+    /// many. Nothing else changes: their keys find nothing, as before, and are never given out again. [`Core::compact`] does so at its end.
+    ///
+    /// # Errors
+    ///
+    /// [`Refused::PlanOpen`] alone, while a plan is open. It takes no memory.
+    ///
+    /// ```
+    /// # use teurlaks::{Core, Limits};
+    /// let mut core = Core::new(Limits { shards: 2, ..Limits::default() })?;
+    /// let keys: Vec<_> = (0..512).map(|i| core.insert(i % 2, i.into())).collect::<Result<_, _>>()?;
+    /// for (i, key) in keys.iter().enumerate().filter(|(i, _)| i % 23 != 0) {
+    ///     core.free(*key);
+    /// }
+    /// assert_eq!((core.compact()?, core.pages(), core.forget()?), (1, 1, 0));
+    /// for key in &keys {
+    ///     core.free(*key);
+    /// }
+    /// assert_eq!((core.forget()?, core.forget()?, core.get(keys[0])), (1, 0, None));
+    /// # Ok::<(), teurlaks::Refused>(())
+    /// ```
+    pub fn forget(&mut self) -> Result<usize, Refused> {
+        // SAFETY: as in `insert`.
+        let raw::ForgetReply { status, count } = unsafe { raw::teurlaks_forget(self.handle.get()) };
+        done(status).map(|()| count)
+    }
+
     /// Moves the pool's group of lowest head that has a page to a shard, and gives its name.
     ///
     /// # Errors
