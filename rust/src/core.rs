@@ -132,7 +132,7 @@ impl Core {
     ///
     /// # Errors
     ///
-    /// - [`Refused::PagesSpent`]: no page of the shard has a usable slot, and it may have no further one, or has opened 1,024 in its life;
+    /// - [`Refused::PagesSpent`]: no page of the shard has a usable slot, and it may have no further one;
     /// - [`Refused::Ended`]: the shard has ended;
     /// - [`Refused::Config`]: there is no such shard;
     /// - [`Refused::OutOfMemory`]: none of these holds, and memory was refused.

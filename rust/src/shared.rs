@@ -107,7 +107,7 @@ impl<T: Copy> SharedStore<T> {
     ///
     /// # Errors
     ///
-    /// - [`Refused::PagesSpent`] only where no shard has room: each was asked, and may have no further page, or has opened 1,024 in its life;
+    /// - [`Refused::PagesSpent`] only where no shard has room: each was asked, and may have no further page;
     /// - [`Refused::OutOfMemory`] where memory was refused.
     #[inline]
     pub fn insert(&self, value: T) -> Result<Key, Refused> {
@@ -346,7 +346,7 @@ impl<T> SharedStore<T> {
     /// Others go on meanwhile, in this shard too: its lock is held for 16 pages at a time, or for one plan, and then let go of for those who wait. A
     /// value that is kept there meanwhile may take a new page. Another compaction of the shard waits for this one.
     ///
-    /// As of [`Core::compact`](crate::Core::compact), each fold uses up one of the 1,024 pages that a shard opens in its life.
+    /// As of [`Core::compact`](crate::Core::compact), each fold uses up one of the 4,294,967,295 pages that a shard may open in its life.
     ///
     /// # Errors
     ///

@@ -298,7 +298,7 @@ impl<T> Slab<T> {
     ///
     /// # Errors
     ///
-    /// - [`Refused::PagesSpent`]: no page of the shard has a usable slot, and it may have no further one, or has opened 1,024 in its life;
+    /// - [`Refused::PagesSpent`]: no page of the shard has a usable slot, and it may have no further one;
     /// - [`Refused::Ended`]: the shard has ended;
     /// - [`Refused::Config`]: there is no such shard;
     /// - [`Refused::OutOfMemory`]: memory was refused.
@@ -585,9 +585,7 @@ impl<T> Slab<T> {
     /// adopt the rest in turn; where that gave at least a sixteenth of the pages back, once more. Each fold copies the values of a page, and a plan
     /// looks at each pair of up to 4,096 pages on each side, those with the fewest values, so that there are as many plans as it takes; measured
     /// were 15 ms for 1,600 pages and 80 to 190 ms for 7,800. A page that is folded takes no value of its own any more, so each fold uses up one
-    /// of the 1,024 pages that a shard opens in its life: after 16,384 pages a slab of 16 shards opens no other, and one that is filled and
-    /// compacted again and again wants more shards. One that was filled up to 60,000 values, of which nine in ten were removed at random before
-    /// each compaction, opened its last page after 126 rounds, and one of 64 shards after 503.
+    /// of the 4,294,967,295 pages that a shard may open in its life; what can never have a value again is forgotten.
     ///
     /// # Errors
     ///

@@ -247,7 +247,7 @@ impl Core {
     ///
     /// Half of the pages, of each shard those with the fewest live keys, go to the pool, as many as can be are folded onto the other half, and
     /// the shards adopt the rest in turn; where that gave at least a sixteenth of the pages back, once more. A page that is folded takes no
-    /// object of its own any more, so each fold uses up one of the 1,024 pages that a shard opens in its life.
+    /// object of its own any more, so each fold uses up one of the 4,294,967,295 pages that a shard may open in its life.
     ///
     /// # Errors
     ///
