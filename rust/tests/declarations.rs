@@ -221,8 +221,8 @@ fn exported() -> Declarations {
             &mut declarations,
         );
     }
-    assert_eq!(declarations.functions.len(), 38);
-    assert_eq!(declarations.structs.len(), 18);
+    assert_eq!(declarations.functions.len(), 41);
+    assert_eq!(declarations.structs.len(), 19);
     declarations
 }
 

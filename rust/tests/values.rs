@@ -369,18 +369,18 @@ fn values_of_16_bytes_as_a_map() -> Result<(), Refused> {
 
 #[test]
 fn values_of_64_bytes_as_a_map() -> Result<(), Refused> {
-    as_a_map::<Value<48>>(30_000)
+    as_a_map::<Value<48>>(50_000)
 }
 
 #[test]
 fn values_of_240_bytes_as_a_map() -> Result<(), Refused> {
-    as_a_map::<Value<224>>(30_000)
+    as_a_map::<Value<224>>(50_000)
 }
 
 #[test]
 fn values_in_blocks_of_their_own_as_a_map() -> Result<(), Refused> {
-    as_a_map::<Value<5000>>(30_000)?;
-    as_a_map::<Aligned>(30_000)
+    as_a_map::<Value<5000>>(50_000)?;
+    as_a_map::<Aligned>(50_000)
 }
 
 #[test]
