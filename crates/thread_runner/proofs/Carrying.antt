@@ -1,8 +1,9 @@
 -- What a thread's rings carry, call after call.
-use Rattle.std.proofs.Common.{zero, suc, ◌≡◌, ◌∙◌, ◌+◌, ◌<◌, ◌++◌, ◌==◌, ℕ, List, [], ◌∷◌, ap, append-nil, append_assoc, arith, length, map, refl, slice_index_or, slice_set, subst, sym}
+use Rattle.std.proofs.Common.{get_or-set_other, get_or-set_same, inl, inr, zero, suc, ◌≡◌, ◌∙◌, ◌+◌, ◌<◌, ◌++◌, ◌==◌, ℕ, List, [], ◌∷◌, ap, append-nil, append_assoc, arith, length, map, refl, slice_index_or, slice_set, subst, sym}
 use Rattle.std.specs.Prelude.{if◌then◌else◌, filter}
 use Rattle.std.specs.List.{All, AllByRecursion}
 use Rattle.std.specs.List.Sorted.{IsPermutation}
+use Rattle.std.proofs.lemmas.Bool.Decides.{eqb_tells}
 use Rattle.std.proofs.lemmas.List.{length-map}
 use Rattle.std.proofs.lemmas.List.Elements.{filter-append}
 use Rattle.std.proofs.lemmas.List.Sorted.{IsPermutation-append_comm, IsPermutation-append_left, IsPermutation-append_right, IsPermutation-refl, IsPermutation-trans}
@@ -45,11 +46,12 @@ carried-unsent old new sent inboxes = λ i. record { sent = sent i; taken = take
 -- a key is sent on one ring
 sent_at : (lists : List (List Key)) (place shard : ℕ) (key : Key) → place < length lists
     → slice_index_or (slice_set lists place (slice_index_or lists place [] ++ key ∷ [])) shard [] ≡ slice_index_or lists shard [] ++ (if place == shard then key ∷ [] else [])
-sent_at [] place shard key below = absurd (omega arith)
-sent_at (l ∷ lists) zero zero key below = refl
-sent_at (l ∷ lists) zero (suc shard) key below = sym (append-nil (slice_index_or lists shard []))
-sent_at (l ∷ lists) (suc place) zero key below = sym (append-nil l)
-sent_at (l ∷ lists) (suc place) (suc shard) key below = sent_at lists place shard key (omega arith)
+sent_at lists place shard key below =
+    let entry : List Key = slice_index_or lists place [] ++ key ∷ [] in
+    elim (eqb_tells place shard) [
+      | inl (passes, same) ↦ rw passes (subst (λ n. slice_index_or (slice_set lists place entry) n [] ≡ slice_index_or lists n [] ++ key ∷ []) same (get_or-set_same lists place entry [] below))
+      | inr (fails, differ) ↦ rw fails (get_or-set_other lists place shard entry [] (λ is. differ (sym is)) ∙ sym (append-nil (slice_index_or lists shard [])))
+    ]
 
 pub Carries-sent : (key : Key) (old new : SeatState) → key.span.shard < length old.outboxes
     → sent_lists new ≡ slice_set (sent_lists old) key.span.shard (slice_index_or (sent_lists old) key.span.shard [] ++ key ∷ []) → new.inboxes ≡ old.inboxes → Carries (key ∷ []) [] (carried_by old) (carried_by new)

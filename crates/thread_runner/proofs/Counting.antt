@@ -128,15 +128,22 @@ AreDiaries-counted lines shown given threads seats diaries of are =
     diaries-below (λ thread. replies_by thread lines) diaries (λ thread diary at. let (seat, sits) = beside seats diaries thread diary (are.each_seat ∙ sym are.each_thread) at in (are.follow thread seat diary sits at).counted ∙ sum-places thread lines)
     ∙ ap (below (λ thread. replies_by thread lines)) are.each_thread ∙ lines-below threads lines of
 
+-- all that stands in a list at its place, after one more of these
+pub each_at-push : {X : Type 0} (P : ℕ → X → Type 0) (xs : List X) (x : X) → ((at : ℕ) (y : X) → slice_get xs at ≡ Some y → P at y) → P (length xs) x → (at : ℕ) (y : X) → slice_get (xs ++ x ∷ []) at ≡ Some y → P at y
+each_at-push P [] x each it zero y there = let same : x ≡ y = cc in subst (P 0) same it
+each_at-push P [] x each it (suc at) y there = absurd cc
+each_at-push P (z ∷ xs) x each it zero y there = each 0 y there
+each_at-push P (z ∷ xs) x each it (suc at) y there = each_at-push (λ k. P (suc k)) xs x (λ k w. each (suc k) w) it at y there
+
 -- all that stands in two lists at one place, after one more in each
-pub each_at-push : {X Y : Type 0} (P : ℕ → X → Y → Type 0) (xs : List X) (ys : List Y) (x : X) (y : Y) → length xs ≡ length ys → ((at : ℕ) (u : X) (v : Y) → slice_get xs at ≡ Some u → slice_get ys at ≡ Some v → P at u v)
+pub each_beside-push : {X Y : Type 0} (P : ℕ → X → Y → Type 0) (xs : List X) (ys : List Y) (x : X) (y : Y) → length xs ≡ length ys → ((at : ℕ) (u : X) (v : Y) → slice_get xs at ≡ Some u → slice_get ys at ≡ Some v → P at u v)
     → P (length xs) x y → (at : ℕ) (u : X) (v : Y) → slice_get (xs ++ x ∷ []) at ≡ Some u → slice_get (ys ++ y ∷ []) at ≡ Some v → P at u v
-each_at-push P [] [] x y same each it zero u v there here = let left : x ≡ u = cc in let right : y ≡ v = cc in subst (λ z. P 0 z v) left (subst (P 0 x) right it)
-each_at-push P [] [] x y same each it (suc at) u v there here = absurd cc
-each_at-push P [] (w ∷ ys) x y same each it at u v there here = absurd (omega arith)
-each_at-push P (z ∷ xs) [] x y same each it at u v there here = absurd (omega arith)
-each_at-push P (z ∷ xs) (w ∷ ys) x y same each it zero u v there here = each 0 u v there here
-each_at-push P (z ∷ xs) (w ∷ ys) x y same each it (suc at) u v there here = each_at-push (λ k. P (suc k)) xs ys x y (omega arith) (λ k a b. each (suc k) a b) it at u v there here
+each_beside-push P [] [] x y same each it zero u v there here = let left : x ≡ u = cc in let right : y ≡ v = cc in subst (λ z. P 0 z v) left (subst (P 0 x) right it)
+each_beside-push P [] [] x y same each it (suc at) u v there here = absurd cc
+each_beside-push P [] (w ∷ ys) x y same each it at u v there here = absurd (omega arith)
+each_beside-push P (z ∷ xs) [] x y same each it at u v there here = absurd (omega arith)
+each_beside-push P (z ∷ xs) (w ∷ ys) x y same each it zero u v there here = each 0 u v there here
+each_beside-push P (z ∷ xs) (w ∷ ys) x y same each it (suc at) u v there here = each_beside-push (λ k. P (suc k)) xs ys x y (omega arith) (λ k a b. each (suc k) a b) it at u v there here
 
 -- the seat and the diary of the next thread
 pub AreDiaries-push : (lines : List Line) (shown : Bool) (given : GivenKeys) (threads : ℕ) (seats : List SeatState) (diaries : List Diary) (seat : SeatState) (diary : Diary) → AreDiaries lines shown given threads seats diaries
@@ -144,5 +151,5 @@ pub AreDiaries-push : (lines : List Line) (shown : Bool) (given : GivenKeys) (th
 AreDiaries-push lines shown given threads seats diaries seat diary are is = record {
   each_thread = length-append diaries (diary ∷ []) ∙ ap (λ n. n + 1) are.each_thread;
   each_seat = length-append seats (seat ∷ []) ∙ ap (λ n. n + 1) are.each_seat;
-  follow = each_at-push (λ n s d. IsDiaryOf lines shown given n d (carried_by s)) seats diaries seat diary (are.each_seat ∙ sym are.each_thread) are.follow (subst (λ n. IsDiaryOf lines shown given n diary (carried_by seat)) (sym are.each_seat) is);
+  follow = each_beside-push (λ n s d. IsDiaryOf lines shown given n d (carried_by s)) seats diaries seat diary (are.each_seat ∙ sym are.each_thread) are.follow (subst (λ n. IsDiaryOf lines shown given n diary (carried_by seat)) (sym are.each_seat) is);
 }

@@ -70,8 +70,7 @@ AreDelivered-settled seats linked empty = record {
   each_thread = length-map seats carried_by;
   each_ring = λ thread its at.
       let (seat, sits, same) = source_at carried_by seats thread its at in
-      let wide = each_at (λ (s : SeatState). (length s.outboxes ≡ length seats) × (length s.inboxes ≡ length seats)) seats thread seat linked.wide sits in
-      (
+      let wide = each_at (λ (s : SeatState). (length s.outboxes ≡ length seats) × (length s.inboxes ≡ length seats)) seats thread seat linked.wide sits in (
         ap (λ (c : Carried). length c.sent) (sym same) ∙ length-map seat.outboxes (λ (o : Sending). o.sent) ∙ wide.0,
         ap (λ (c : Carried). length c.taken) (sym same) ∙ length-map seat.inboxes (λ (i : Taking). i.taken) ∙ wide.1,
       );

@@ -6,7 +6,7 @@ use Rattle.thread_runner.proofs.replay.replay_at.Goals as goal
 
 pub audited-requires-clause-voices : goal.audited-requires-clause-voices
 audited-requires-clause-voices g c κs within =
-    let seats = c.in_ok-seats.seats.items in
+    let seats = c.in_ok-seats.field-0.seats.items in
     let diaries = c.in_ok-seats.field-0.told.diaries.items in
     let (given, all) = c.in_ok-seats.ensures.diaries in
     let are = subst (λ ls. AreDiaries ls c.args.shown given c.args.trace.now.header.shards seats diaries) (sym c.requires.lines)
@@ -15,7 +15,7 @@ audited-requires-clause-voices g c κs within =
 
 pub audited-requires-clause-calls : goal.audited-requires-clause-calls
 audited-requires-clause-calls g c κs within =
-    let seats = c.in_ok-seats.seats.items in
+    let seats = c.in_ok-seats.field-0.seats.items in
     let diaries = c.in_ok-seats.field-0.told.diaries.items in
     let trace = c.args.trace.now in
     let (given, all) = c.in_ok-seats.ensures.diaries in
