@@ -341,7 +341,7 @@ impl<T> SharedStore<T> {
     }
 
     /// Gives back the pages of one shard on which no key is live, folds its sparse pages onto others until that hardly gives any back, and says how
-    /// many pages went. Every key stays valid. Pages are folded from 68 of them on, or once they have been: a core's first fold takes 136 KB.
+    /// many pages went. Every key stays valid. Pages are folded from 68 of them on, or once they have been.
     ///
     /// Others go on meanwhile, in this shard too: its lock is held for 16 pages at a time, or for one plan, and then let go of for those who wait. A
     /// value that is kept there meanwhile may take a new page. Another compaction of the shard waits for this one.

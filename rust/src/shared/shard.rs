@@ -11,7 +11,7 @@ use std::thread;
 /// How many groups are retired, folded or adopted under one hold of the lock: the retirements are the longest, 0.1 to 0.4 ms.
 const PIECE: usize = 16;
 
-/// The fewest pages for which a core gets a pool. It takes 136 KB, which is half of so many pages.
+/// The fewest pages for which a core gets a pool. It dates from when a pool took 136 KB, half of so many pages.
 const FEWEST_PAGES: usize = 68;
 
 /// How often a compaction lets others run where they wait for the lock, before it goes on all the same.
