@@ -25,6 +25,15 @@
 #define TEURLAKS_VERSION_MINOR 2
 #define TEURLAKS_VERSION_PATCH 0
 
+/* How a function of these headers is declared, also in C of 1989, which has no `inline`. */
+#if defined(__cplusplus) || (defined(__STDC_VERSION__) && __STDC_VERSION__ >= 199901L)
+#define TEURLAKS_INLINE static inline
+#elif defined(__GNUC__)
+#define TEURLAKS_INLINE static __inline__
+#else
+#define TEURLAKS_INLINE static
+#endif
+
 #ifdef __cplusplus
 extern "C" {
 #endif

@@ -11,7 +11,7 @@
 #include "teurlaks.h"
 
 /* What a status says, in words: a text that is there as long as the program is. */
-static inline const char *teurlaks_strerror(uint32_t status) {
+TEURLAKS_INLINE const char *teurlaks_strerror(uint32_t status) {
     switch (status) {
     case TEURLAKS_OK: return "done";
     case TEURLAKS_NONE: return "the key is not live, or there is no certificate yet";
@@ -37,196 +37,196 @@ static inline const char *teurlaks_strerror(uint32_t status) {
 
 #ifndef TEURLAKS_UNTESTED
 
-static inline uint32_t teurlaks_tested_new(struct teurlaks_handle *out, uint32_t shards, uint32_t page_limit, uint32_t ring_capacity, uint32_t gens) {
+TEURLAKS_INLINE uint32_t teurlaks_tested_new(struct teurlaks_handle *out, uint32_t shards, uint32_t page_limit, uint32_t ring_capacity, uint32_t gens) {
     return out ? teurlaks_new(out, shards, page_limit, ring_capacity, gens) : (uint32_t)TEURLAKS_NO_CORE;
 }
 
-static inline void teurlaks_tested_drop(struct teurlaks_handle *handle) {
+TEURLAKS_INLINE void teurlaks_tested_drop(struct teurlaks_handle *handle) {
     if (handle) teurlaks_drop(handle);
 }
 
-static inline struct teurlaks_put_reply teurlaks_tested_put(struct teurlaks_handle *handle, uint32_t shard, struct teurlaks_word value) {
+TEURLAKS_INLINE struct teurlaks_put_reply teurlaks_tested_put(struct teurlaks_handle *handle, uint32_t shard, struct teurlaks_word value) {
     struct teurlaks_put_reply none = {TEURLAKS_NO_CORE, {0, 0, 0, 0, 0}};
     return handle ? teurlaks_put(handle, shard, value) : none;
 }
 
-static inline struct teurlaks_get_reply teurlaks_tested_get(struct teurlaks_handle *handle, struct teurlaks_key key) {
+TEURLAKS_INLINE struct teurlaks_get_reply teurlaks_tested_get(struct teurlaks_handle *handle, struct teurlaks_key key) {
     struct teurlaks_get_reply none = {{0, 0}, TEURLAKS_NO_CORE};
     return handle ? teurlaks_get(handle, key) : none;
 }
 
-static inline struct teurlaks_put_reply teurlaks_tested_put_words(struct teurlaks_handle *handle, uint32_t shard, const struct teurlaks_word *words, size_t words_len) {
+TEURLAKS_INLINE struct teurlaks_put_reply teurlaks_tested_put_words(struct teurlaks_handle *handle, uint32_t shard, const struct teurlaks_word *words, size_t words_len) {
     struct teurlaks_put_reply none = {TEURLAKS_NO_CORE, {0, 0, 0, 0, 0}};
     struct teurlaks_word no_word = {0, 0};
     return handle ? teurlaks_put_words(handle, shard, words ? words : &no_word, words ? words_len : 0) : none;
 }
 
-static inline struct teurlaks_words_reply teurlaks_tested_get_words(struct teurlaks_handle *handle, struct teurlaks_key key, struct teurlaks_word *words, size_t words_len) {
+TEURLAKS_INLINE struct teurlaks_words_reply teurlaks_tested_get_words(struct teurlaks_handle *handle, struct teurlaks_key key, struct teurlaks_word *words, size_t words_len) {
     struct teurlaks_words_reply none = {TEURLAKS_NO_CORE, 0};
     struct teurlaks_word no_word = {0, 0};
     return handle ? teurlaks_get_words(handle, key, words ? words : &no_word, words ? words_len : 0) : none;
 }
 
-static inline uint32_t teurlaks_tested_set(struct teurlaks_handle *handle, struct teurlaks_key key, struct teurlaks_word value) {
+TEURLAKS_INLINE uint32_t teurlaks_tested_set(struct teurlaks_handle *handle, struct teurlaks_key key, struct teurlaks_word value) {
     return handle ? teurlaks_set(handle, key, value) : (uint32_t)TEURLAKS_NO_CORE;
 }
 
-static inline uint32_t teurlaks_tested_set_words(struct teurlaks_handle *handle, struct teurlaks_key key, const struct teurlaks_word *words, size_t words_len) {
+TEURLAKS_INLINE uint32_t teurlaks_tested_set_words(struct teurlaks_handle *handle, struct teurlaks_key key, const struct teurlaks_word *words, size_t words_len) {
     struct teurlaks_word no_word = {0, 0};
     return handle ? teurlaks_set_words(handle, key, words ? words : &no_word, words ? words_len : 0) : (uint32_t)TEURLAKS_NO_CORE;
 }
 
-static inline uint32_t teurlaks_tested_free(struct teurlaks_handle *handle, struct teurlaks_key key) {
+TEURLAKS_INLINE uint32_t teurlaks_tested_free(struct teurlaks_handle *handle, struct teurlaks_key key) {
     return handle ? teurlaks_free(handle, key) : (uint32_t)TEURLAKS_NO_CORE;
 }
 
-static inline struct teurlaks_next_reply teurlaks_tested_next(struct teurlaks_handle *handle, struct teurlaks_key after) {
+TEURLAKS_INLINE struct teurlaks_next_reply teurlaks_tested_next(struct teurlaks_handle *handle, struct teurlaks_key after) {
     struct teurlaks_next_reply none = {TEURLAKS_NO_CORE, {0, 0, 0, 0, 0}};
     return handle ? teurlaks_next(handle, after) : none;
 }
 
-static inline struct teurlaks_totals_reply teurlaks_tested_totals(struct teurlaks_handle *handle) {
+TEURLAKS_INLINE struct teurlaks_totals_reply teurlaks_tested_totals(struct teurlaks_handle *handle) {
     struct teurlaks_totals_reply none = {0, 0};
     return handle ? teurlaks_totals(handle) : none;
 }
 
-static inline uint32_t teurlaks_tested_end(struct teurlaks_handle *handle, uint32_t shard) {
+TEURLAKS_INLINE uint32_t teurlaks_tested_end(struct teurlaks_handle *handle, uint32_t shard) {
     return handle ? teurlaks_end(handle, shard) : (uint32_t)TEURLAKS_NO_CORE;
 }
 
-static inline uint32_t teurlaks_tested_begin(struct teurlaks_handle *handle, uint32_t shard) {
+TEURLAKS_INLINE uint32_t teurlaks_tested_begin(struct teurlaks_handle *handle, uint32_t shard) {
     return handle ? teurlaks_begin(handle, shard) : (uint32_t)TEURLAKS_NO_CORE;
 }
 
-static inline struct teurlaks_retire_reply teurlaks_tested_retire(struct teurlaks_handle *handle, uint32_t shard, size_t most) {
+TEURLAKS_INLINE struct teurlaks_retire_reply teurlaks_tested_retire(struct teurlaks_handle *handle, uint32_t shard, size_t most) {
     struct teurlaks_retire_reply none = {TEURLAKS_NO_CORE, 0};
     return handle ? teurlaks_retire(handle, shard, most) : none;
 }
 
-static inline struct teurlaks_forget_reply teurlaks_tested_forget(struct teurlaks_handle *handle) {
+TEURLAKS_INLINE struct teurlaks_forget_reply teurlaks_tested_forget(struct teurlaks_handle *handle) {
     struct teurlaks_forget_reply none = {TEURLAKS_NO_CORE, 0};
     return handle ? teurlaks_forget(handle) : none;
 }
 
-static inline struct teurlaks_trim_reply teurlaks_tested_trim(struct teurlaks_handle *handle, uint32_t shard) {
+TEURLAKS_INLINE struct teurlaks_trim_reply teurlaks_tested_trim(struct teurlaks_handle *handle, uint32_t shard) {
     struct teurlaks_trim_reply none = {TEURLAKS_NO_CORE, 0};
     return handle ? teurlaks_trim(handle, shard) : none;
 }
 
-static inline struct teurlaks_adopt_reply teurlaks_tested_adopt(struct teurlaks_handle *handle, uint32_t shard) {
+TEURLAKS_INLINE struct teurlaks_adopt_reply teurlaks_tested_adopt(struct teurlaks_handle *handle, uint32_t shard) {
     struct teurlaks_adopt_reply none = {TEURLAKS_NO_CORE, {0, 0}};
     return handle ? teurlaks_adopt(handle, shard) : none;
 }
 
-static inline struct teurlaks_mark_reply teurlaks_tested_mark(struct teurlaks_handle *handle) {
+TEURLAKS_INLINE struct teurlaks_mark_reply teurlaks_tested_mark(struct teurlaks_handle *handle) {
     struct teurlaks_mark_reply none = {TEURLAKS_NO_CORE, 0, 0, 0, 0};
     return handle ? teurlaks_mark(handle) : none;
 }
 
-static inline struct teurlaks_mark_reply teurlaks_tested_mark_some(struct teurlaks_handle *handle) {
+TEURLAKS_INLINE struct teurlaks_mark_reply teurlaks_tested_mark_some(struct teurlaks_handle *handle) {
     struct teurlaks_mark_reply none = {TEURLAKS_NO_CORE, 0, 0, 0, 0};
     return handle ? teurlaks_mark_some(handle) : none;
 }
 
-static inline struct teurlaks_step_reply teurlaks_tested_step(struct teurlaks_handle *handle) {
+TEURLAKS_INLINE struct teurlaks_step_reply teurlaks_tested_step(struct teurlaks_handle *handle) {
     struct teurlaks_step_reply none = {TEURLAKS_NO_CORE, {0, 0}, {0, 0}};
     return handle ? teurlaks_step(handle) : none;
 }
 
-static inline uint32_t teurlaks_tested_close(struct teurlaks_handle *handle) {
+TEURLAKS_INLINE uint32_t teurlaks_tested_close(struct teurlaks_handle *handle) {
     return handle ? teurlaks_close(handle) : (uint32_t)TEURLAKS_NO_CORE;
 }
 
-static inline struct teurlaks_certificate_reply teurlaks_tested_certificate(struct teurlaks_handle *handle, uint8_t *text, size_t text_len) {
+TEURLAKS_INLINE struct teurlaks_certificate_reply teurlaks_tested_certificate(struct teurlaks_handle *handle, uint8_t *text, size_t text_len) {
     struct teurlaks_certificate_reply none = {TEURLAKS_NO_CORE, 0};
     uint8_t no_text = 0;
     return handle ? teurlaks_certificate(handle, text ? text : &no_text, text ? text_len : 0) : none;
 }
 
-static inline uint32_t teurlaks_tested_arena_open(struct teurlaks_share_handle *out, uint32_t shards, uint32_t page_limit, uint32_t ring_capacity, uint32_t gens) {
+TEURLAKS_INLINE uint32_t teurlaks_tested_arena_open(struct teurlaks_share_handle *out, uint32_t shards, uint32_t page_limit, uint32_t ring_capacity, uint32_t gens) {
     return out ? teurlaks_arena_open(out, shards, page_limit, ring_capacity, gens) : (uint32_t)TEURLAKS_NO_CORE;
 }
 
-static inline uint32_t teurlaks_tested_steward_seat(struct teurlaks_share_handle *handle, struct teurlaks_share_handle *out) {
+TEURLAKS_INLINE uint32_t teurlaks_tested_steward_seat(struct teurlaks_share_handle *handle, struct teurlaks_share_handle *out) {
     return handle && out ? teurlaks_steward_seat(handle, out) : (uint32_t)TEURLAKS_NO_CORE;
 }
 
-static inline void teurlaks_tested_share_drop(struct teurlaks_share_handle *handle) {
+TEURLAKS_INLINE void teurlaks_tested_share_drop(struct teurlaks_share_handle *handle) {
     if (handle) teurlaks_share_drop(handle);
 }
 
-static inline struct teurlaks_put_reply teurlaks_tested_seat_put_words(struct teurlaks_share_handle *handle, const struct teurlaks_word *words, size_t words_len) {
+TEURLAKS_INLINE struct teurlaks_put_reply teurlaks_tested_seat_put_words(struct teurlaks_share_handle *handle, const struct teurlaks_word *words, size_t words_len) {
     struct teurlaks_put_reply none = {TEURLAKS_NO_CORE, {0, 0, 0, 0, 0}};
     struct teurlaks_word no_word = {0, 0};
     return handle ? teurlaks_seat_put_words(handle, words ? words : &no_word, words ? words_len : 0) : none;
 }
 
-static inline struct teurlaks_words_reply teurlaks_tested_seat_get_words(struct teurlaks_share_handle *handle, struct teurlaks_key key, struct teurlaks_word *words, size_t words_len) {
+TEURLAKS_INLINE struct teurlaks_words_reply teurlaks_tested_seat_get_words(struct teurlaks_share_handle *handle, struct teurlaks_key key, struct teurlaks_word *words, size_t words_len) {
     struct teurlaks_words_reply none = {TEURLAKS_NO_CORE, 0};
     struct teurlaks_word no_word = {0, 0};
     return handle ? teurlaks_seat_get_words(handle, key, words ? words : &no_word, words ? words_len : 0) : none;
 }
 
-static inline uint32_t teurlaks_tested_seat_set_words(struct teurlaks_share_handle *handle, struct teurlaks_key key, const struct teurlaks_word *words, size_t words_len) {
+TEURLAKS_INLINE uint32_t teurlaks_tested_seat_set_words(struct teurlaks_share_handle *handle, struct teurlaks_key key, const struct teurlaks_word *words, size_t words_len) {
     struct teurlaks_word no_word = {0, 0};
     return handle ? teurlaks_seat_set_words(handle, key, words ? words : &no_word, words ? words_len : 0) : (uint32_t)TEURLAKS_NO_CORE;
 }
 
-static inline uint32_t teurlaks_tested_seat_free(struct teurlaks_share_handle *handle, struct teurlaks_key key) {
+TEURLAKS_INLINE uint32_t teurlaks_tested_seat_free(struct teurlaks_share_handle *handle, struct teurlaks_key key) {
     return handle ? teurlaks_seat_free(handle, key) : (uint32_t)TEURLAKS_NO_CORE;
 }
 
-static inline uint32_t teurlaks_tested_seat_free_later(struct teurlaks_share_handle *handle, struct teurlaks_key key) {
+TEURLAKS_INLINE uint32_t teurlaks_tested_seat_free_later(struct teurlaks_share_handle *handle, struct teurlaks_key key) {
     return handle ? teurlaks_seat_free_later(handle, key) : (uint32_t)TEURLAKS_NO_CORE;
 }
 
-static inline uint32_t teurlaks_tested_seat_hand_over(struct teurlaks_share_handle *handle) {
+TEURLAKS_INLINE uint32_t teurlaks_tested_seat_hand_over(struct teurlaks_share_handle *handle) {
     return handle ? teurlaks_seat_hand_over(handle) : (uint32_t)TEURLAKS_NO_CORE;
 }
 
-static inline struct teurlaks_tend_reply teurlaks_tested_seat_tend(struct teurlaks_share_handle *handle) {
+TEURLAKS_INLINE struct teurlaks_tend_reply teurlaks_tested_seat_tend(struct teurlaks_share_handle *handle) {
     struct teurlaks_tend_reply none = {TEURLAKS_NO_CORE, 0};
     return handle ? teurlaks_seat_tend(handle) : none;
 }
 
-static inline uint32_t teurlaks_tested_seat_end(struct teurlaks_share_handle *handle) {
+TEURLAKS_INLINE uint32_t teurlaks_tested_seat_end(struct teurlaks_share_handle *handle) {
     return handle ? teurlaks_seat_end(handle) : (uint32_t)TEURLAKS_NO_CORE;
 }
 
-static inline uint32_t teurlaks_tested_seat_begin(struct teurlaks_share_handle *handle) {
+TEURLAKS_INLINE uint32_t teurlaks_tested_seat_begin(struct teurlaks_share_handle *handle) {
     return handle ? teurlaks_seat_begin(handle) : (uint32_t)TEURLAKS_NO_CORE;
 }
 
-static inline struct teurlaks_retire_reply teurlaks_tested_seat_retire(struct teurlaks_share_handle *handle, size_t most) {
+TEURLAKS_INLINE struct teurlaks_retire_reply teurlaks_tested_seat_retire(struct teurlaks_share_handle *handle, size_t most) {
     struct teurlaks_retire_reply none = {TEURLAKS_NO_CORE, 0};
     return handle ? teurlaks_seat_retire(handle, most) : none;
 }
 
-static inline struct teurlaks_trim_reply teurlaks_tested_seat_trim(struct teurlaks_share_handle *handle) {
+TEURLAKS_INLINE struct teurlaks_trim_reply teurlaks_tested_seat_trim(struct teurlaks_share_handle *handle) {
     struct teurlaks_trim_reply none = {TEURLAKS_NO_CORE, 0};
     return handle ? teurlaks_seat_trim(handle) : none;
 }
 
-static inline struct teurlaks_adopt_reply teurlaks_tested_seat_adopt(struct teurlaks_share_handle *handle) {
+TEURLAKS_INLINE struct teurlaks_adopt_reply teurlaks_tested_seat_adopt(struct teurlaks_share_handle *handle) {
     struct teurlaks_adopt_reply none = {TEURLAKS_NO_CORE, {0, 0}};
     return handle ? teurlaks_seat_adopt(handle) : none;
 }
 
-static inline struct teurlaks_mark_reply teurlaks_tested_steward_mark_some(struct teurlaks_share_handle *handle) {
+TEURLAKS_INLINE struct teurlaks_mark_reply teurlaks_tested_steward_mark_some(struct teurlaks_share_handle *handle) {
     struct teurlaks_mark_reply none = {TEURLAKS_NO_CORE, 0, 0, 0, 0};
     return handle ? teurlaks_steward_mark_some(handle) : none;
 }
 
-static inline struct teurlaks_step_reply teurlaks_tested_steward_step(struct teurlaks_share_handle *handle) {
+TEURLAKS_INLINE struct teurlaks_step_reply teurlaks_tested_steward_step(struct teurlaks_share_handle *handle) {
     struct teurlaks_step_reply none = {TEURLAKS_NO_CORE, {0, 0}, {0, 0}};
     return handle ? teurlaks_steward_step(handle) : none;
 }
 
-static inline uint32_t teurlaks_tested_steward_close(struct teurlaks_share_handle *handle) {
+TEURLAKS_INLINE uint32_t teurlaks_tested_steward_close(struct teurlaks_share_handle *handle) {
     return handle ? teurlaks_steward_close(handle) : (uint32_t)TEURLAKS_NO_CORE;
 }
 
-static inline struct teurlaks_arena_totals_reply teurlaks_tested_steward_totals(struct teurlaks_share_handle *handle) {
+TEURLAKS_INLINE struct teurlaks_arena_totals_reply teurlaks_tested_steward_totals(struct teurlaks_share_handle *handle) {
     struct teurlaks_arena_totals_reply none = {TEURLAKS_NO_CORE, 0, 0};
     return handle ? teurlaks_steward_totals(handle) : none;
 }
