@@ -1,6 +1,6 @@
 # What `check` asks of README: that it is short, that it shows the output which the program has, and that each limit and figure of its tables is
 # that of the source or the measurement from which it comes. It is called from `check`, and counts by its `passed` and `failed`.
-# shellcheck shell=bash disable=SC2154
+# shellcheck shell=bash disable=SC2016,SC2154
 
 # Counts whether README has this line, or this part of one.
 has_line() {
