@@ -29,6 +29,7 @@ use std::marker::Model;
 
 mod folds;
 mod forgetting;
+mod leaving;
 mod logs;
 mod moves;
 mod replacing;
@@ -100,7 +101,7 @@ impl<L: Log> Model for Shard<L> {
 
 impl Shard<Kept> {
     /// A shard with no page, which may have that many pages, opens as many spans as there are serials, and gives a slot the
-    /// generations 1 to `gens`. It is refused exactly where the number is not below 64, the pages are not 1 to 1,024, or `gens`
+    /// generations 1 to `gens`. It is refused exactly where the number is not below 64, the pages are not 1 to 1,048,576, or `gens`
     /// is 0.
     pub fn new(alloc: Global, number: u32, page_limit: usize, gens: u32) -> Result<Shard, Config>
         ensures in_range { IsOk result ↔ ((number < MOST_SHARDS) × (1 ≤ page_limit)
