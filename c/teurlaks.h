@@ -165,7 +165,7 @@ struct teurlaks_totals_reply {
     size_t live;
 };
 
-/* Leaves a core to a handle that has none, where it answers TEURLAKS_OK. 1 to 64 shards, of up to 1 to 1,024 pages; rings of 1 to 1,024 keys (give 1, while
+/* Leaves a core to a handle that has none, where it answers TEURLAKS_OK. 1 to 64 shards, of up to 1 to 1,048,576 pages; rings of 1 to 1,024 keys (give 1, while
  * frees are not deferred); generations from 1 to gens, at least 1. */
 uint32_t teurlaks_new(struct teurlaks_handle *out, uint32_t shards, uint32_t page_limit, uint32_t ring_capacity, uint32_t gens);
 

@@ -20,14 +20,15 @@ use std::ptr;
 pub struct Limits {
     /// How many shards there are, 1 to 64.
     pub shards: u32,
-    /// How many pages of 4,096 bytes a shard may have, 1 to 1,024.
+    /// How many pages of 4,096 bytes a shard may have, 1 to 1,048,576. Each adoption by a shard costs a step for each page that it has, so many
+    /// shards of few pages are compacted sooner than one of many, where much of what is retired comes back.
     pub pages: u32,
     /// How often a slot may be used, at least once. A slot that was used so often is never used again.
     pub generations: u32,
 }
 
 impl Default for Limits {
-    /// One shard, with as many pages and generations as there can be.
+    /// One shard of 1,024 pages, with as many generations as there can be.
     fn default() -> Limits {
         Limits {
             shards: 1,

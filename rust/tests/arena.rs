@@ -421,7 +421,7 @@ fn a_key_that_waits_is_handed_over_by_its_seat() -> Result<(), Refused> {
 
 #[test]
 fn calls_are_refused_as_they_say() -> Result<(), Refused> {
-    for wrong in [limits(0, 1), limits(65, 1), limits(1, 0), limits(1, 1025)] {
+    for wrong in [limits(0, 1), limits(65, 1), limits(1, 0), limits(1, 1_048_577)] {
         assert_eq!(Arena::<u64>::open(wrong).err(), Some(Refused::Config));
     }
     for keys in [0, 1025] {

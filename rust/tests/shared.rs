@@ -447,7 +447,7 @@ fn a_full_shard_passes_on() -> Result<(), Refused> {
 #[test]
 fn limits_out_of_range() {
     let refused = |limits| SharedStore::<u8>::with_limits(limits).map(drop).unwrap_err();
-    for bad in [limits(0, 9), limits(65, 9), limits(9, 0), limits(9, 1025)] {
+    for bad in [limits(0, 9), limits(65, 9), limits(9, 0), limits(9, 1_048_577)] {
         assert_eq!(refused(bad), Refused::Config);
     }
     let generations = 0;

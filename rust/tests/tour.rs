@@ -138,7 +138,7 @@ fn a_cache_closes_down() -> Result<(), Refused> {
 
 #[test]
 fn refused_where_out_of_range() -> Result<(), Refused> {
-    for (shards, pages, generations) in [(0, 1, 1), (65, 1, 1), (1, 0, 1), (1, 1025, 1), (1, 1, 0)] {
+    for (shards, pages, generations) in [(0, 1, 1), (65, 1, 1), (1, 0, 1), (1, 1_048_577, 1), (1, 1, 0)] {
         let limits = Limits {
             shards,
             pages,

@@ -9,7 +9,7 @@ use thiserror::Error;
 #[derive(Clone, Copy, PartialEq, Eq, Debug, Error)]
 pub enum OpenError {
     /// A number of the arena is out of its range, whether or not there is memory.
-    #[error("a number is out of range: 1 to 64 shards, 1 to 1024 pages a shard, rings of 1 to 1024 keys, 1 to 4294967295 generations")]
+    #[error("a number is out of range: 1 to 64 shards, 1 to 1048576 pages a shard, rings of 1 to 1024 keys, 1 to 4294967295 generations")]
     Config,
     /// Memory ran out, and each number is within its range.
     #[error("out of memory: free some and try again")]

@@ -29,7 +29,7 @@ impl<G: Gate> Arena<G, Kept> {
     ///
     /// # Errors
     ///
-    /// `Config` exactly where a number is out of its range, which is 1 to 64 shards, 1 to 1,024 pages, 1 to 1,024 keys, and from 1
+    /// `Config` exactly where a number is out of its range, which is 1 to 64 shards, 1 to 1,048,576 pages, 1 to 1,024 keys, and from 1
     /// generation on; `OutOfMemory` only where each is within it.
     pub fn open(
         alloc: Global,

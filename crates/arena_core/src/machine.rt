@@ -74,7 +74,7 @@ impl Core<Kept> {
     /// `ring_capacity` keys of deferred frees; its room is made here.
     ///
     /// [`CoreError::Config`] comes exactly where a number is out of its range, which is 1 to 64
-    /// shards, 1 to 1,024 pages, 1 to 1,024 entries, and from 1 generation on;
+    /// shards, 1 to 1,048,576 pages, 1 to 1,024 entries, and from 1 generation on;
     /// [`CoreError::OutOfMemory`] only where each number is within its range.
     pub fn new(
         alloc: Global,

@@ -87,7 +87,7 @@ impl Limits {
         self.shards
     }
 
-    /// How many pages of 4,096 bytes a shard may have, over all classes: 1 to 1,024.
+    /// How many pages of 4,096 bytes a shard may have, over all classes: 1 to 1,048,576.
     #[inline]
     pub fn page_limit(&self) -> usize
         ensures page_limit { result ≡ self.now.page_limit }

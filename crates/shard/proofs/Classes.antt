@@ -1,12 +1,12 @@
 -- The three classes, told apart.
-use Rattle.std.proofs.Common.{◌≡◌, ◌⊎◌, ◌<◌, List, length, get_or, set, refl, inl, inr, ap, arith, get_or-set_other, get_or-set_same}
-use Rattle.std.specs.FinSet.{empty}
+use Rattle.std.proofs.Common.{◌≡◌, ◌⊎◌, ℕ, ◌<◌, ◌≤◌, List, length, get_or, set, refl, inl, inr, ap, arith, sym, ◌∙◌, get_or-set_other, get_or-set_same}
+use Rattle.std.specs.List.{slice_index_or}
 use Rattle.std.proofs.lemmas.Option.{get_or_from_slice_get, slice_get-get_or}
-use Rattle.bitmap.specs.Slots.{SlotSet}
+use Rattle.bitmap.specs.Numbers.{NumbersState}
 use Rattle.span.specs.Classes.{width_of}
 use Rattle.span.specs.declared.class.Class.{Class}
 use Rattle.span.specs.declared.class.Class.TheVariants.{C16, C64, C256}
-use Rattle.shard.specs.Rooms.{number_of, rooms_of}
+use Rattle.shard.specs.Rooms.{no_numbers, number_of, room_of}
 
 pub class_from_width : (a b : Class) → width_of a ≡ width_of b → a ≡ b
 class_from_width C16 C16 same = refl
@@ -47,14 +47,33 @@ number-lt C64 = omega arith
 number-lt C256 = omega arith
 
 -- one set of three replaced
-module _ (sets : List SlotSet) (three : length sets ≡ 3) (class : Class) (new : SlotSet) where
-  pub rooms_of-set_same : rooms_of (set sets (number_of class) new) class ≡ new
-  rooms_of-set_same = get_or-set_same sets (number_of class) new empty (omega (arith, three, number-lt class))
+module _ (sets : List NumbersState) (three : length sets ≡ 3) (class : Class) (new : NumbersState) where
+  pub set_of-set_same : slice_index_or (set sets (number_of class) new) (number_of class) no_numbers ≡ new
+  set_of-set_same = get_or-set_same sets (number_of class) new no_numbers (omega (arith, three, number-lt class))
 
-  pub rooms_of-set_other : (other : Class) → (other ≡ class → ⊥) → rooms_of (set sets (number_of class) new) other ≡ rooms_of sets other
-  rooms_of-set_other other apart = get_or-set_other sets (number_of class) (number_of other) new empty (λ e. apart (class_from_number other class e))
+  pub set_of-set_other : (other : Class) → (other ≡ class → ⊥) → slice_index_or (set sets (number_of class) new) (number_of other) no_numbers ≡ slice_index_or sets (number_of other) no_numbers
+  set_of-set_other other apart = get_or-set_other sets (number_of class) (number_of other) new no_numbers (λ e. apart (class_from_number other class e))
+
+  -- the room of each set stays where that of the one does
+  pub room_of-set : new.room ≡ room_of sets class → (other : Class) → room_of (set sets (number_of class) new) other ≡ room_of sets other
+  room_of-set same other = elim (cases_class other class) [
+    | inl here ↦ ap (room_of (set sets (number_of class) new)) here ∙ ap (λ (s : NumbersState). s.room) set_of-set_same ∙ same ∙ sym (ap (room_of sets) here)
+    | inr apart ↦ ap (λ (s : NumbersState). s.room) (set_of-set_other other apart)
+  ]
 
 -- a set that was read, whatever stands past the end
-pub rooms_read : (sets : List SlotSet) → length sets ≡ 3 → (class : Class) (past : SlotSet) → rooms_of sets class ≡ get_or sets (number_of class) past
-rooms_read sets three class past =
-    get_or_from_slice_get sets (number_of class) (get_or sets (number_of class) past) empty (slice_get-get_or sets (number_of class) past (omega (arith, three, number-lt class)))
+pub set_read : (sets : List NumbersState) → length sets ≡ 3 → (class : Class) (past : NumbersState) → slice_index_or sets (number_of class) no_numbers ≡ get_or sets (number_of class) past
+set_read sets three class past =
+    get_or_from_slice_get sets (number_of class) (get_or sets (number_of class) past) no_numbers (slice_get-get_or sets (number_of class) past (omega (arith, three, number-lt class)))
+
+-- what fits the room of a class fits that of the set that was read for it
+pub fits_read : (sets now : List NumbersState) → length sets ≡ 3 → sets ≡ now → (class : Class) (past : NumbersState) (n : ℕ) → n ≤ room_of now class → n ≤ (get_or sets (number_of class) past).room
+fits_read sets now three same class past n fits = omega (arith, fits, ap (λ (s : NumbersState). s.room) (set_read sets three class past), ap (λ (s : List NumbersState). room_of s class) same)
+
+-- the same of the second set where the first has changed, and of the third where both have
+pub fits_second : (sets now : List NumbersState) → length sets ≡ 3 → sets ≡ now → (first past : NumbersState) (n : ℕ) → n ≤ room_of now C64 → n ≤ (get_or (set sets 0 first) 1 past).room
+fits_second sets now three same first past n fits = rw (get_or-set_other sets 0 1 first past (λ e. absurd (omega (arith, e)))) (fits_read sets now three same C64 past n fits)
+
+pub fits_third : (sets now : List NumbersState) → length sets ≡ 3 → sets ≡ now → (first second past : NumbersState) (n : ℕ) → n ≤ room_of now C256 → n ≤ (get_or (set (set sets 0 first) 1 second) 2 past).room
+fits_third sets now three same first second past n fits =
+    rw (get_or-set_other (set sets 0 first) 1 2 second past (λ e. absurd (omega (arith, e))), get_or-set_other sets 0 2 first past (λ e. absurd (omega (arith, e)))) (fits_read sets now three same C256 past n fits)

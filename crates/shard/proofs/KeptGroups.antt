@@ -2,30 +2,31 @@
 use Rattle.std.proofs.Common.{◌≡◌, ◌≤◌, ℕ, List, length, length-set, Some, set, slice_get, ◌∙◌, ap, arith}
 use Rattle.std.specs.Prelude.{vec_capacity}
 use Rattle.std.specs.Global.{Vec}
-use Rattle.bitmap.specs.Slots.{SlotSet}
+use Rattle.bitmap.specs.Numbers.{NumbersState}
 use Rattle.span.specs.declared.class.Class.{Class}
 use Rattle.groups.proofs.KnownGuests.{KnowsGuests-replaced}
 use Rattle.groups.proofs.ReplacedGroups.{AreAlike}
 use Rattle.shard.specs.Group.{GroupState}
 use Rattle.shard.specs.Kept.{IsKept, state_of}
-use Rattle.shard.specs.Rooms.{HasRooms, rooms_of}
+use Rattle.shard.specs.Rooms.{HasRooms, room_of, rooms_of}
 use Rattle.shard.specs.Sound.{IsSound}
 use Rattle.shard.specs.declared.shard.Shard.TheInside.{Inside}
 use Rattle.shard.proofs.GuestRoom.{HasGuestRoom-replaced}
 
-module _ {L : Type 0} (s : Inside L) (kept : IsKept s) (groups : Vec GroupState) (rooms : List SlotSet) where
+module _ {L : Type 0} (s : Inside L) (kept : IsKept s) (groups : Vec GroupState) (rooms : List NumbersState) where
   abbrev after : Inside L
   after = record s { groups = groups; rooms = rooms }
 
   -- the groups are as they were
-  pub IsKept-same : groups.items ≡ s.groups.items → vec_capacity s.groups ≤ vec_capacity groups → ((class : Class) → HasRooms class s.groups.items (rooms_of rooms class)) → IsKept after
-  IsKept-same same room has = record {
+  pub IsKept-same : groups.items ≡ s.groups.items → vec_capacity s.groups ≤ vec_capacity groups → ((class : Class) → HasRooms class s.groups.items (rooms_of rooms class)) → ((class : Class) → room_of s.rooms class ≤ room_of rooms class) → IsKept after
+  IsKept-same same room has more = record {
     number_fits = kept.number_fits;
     pages_fit = kept.pages_fit;
     gens_fit = kept.gens_fit;
     sound = rw same kept.sound;
     rooms = λ class. rw same (has class);
     room_for_groups = omega (arith, kept.room_for_groups, room, ap length same, s.groups.ok.0, groups.ok.0);
+    room_for_rooms = λ class. omega (arith, kept.room_for_rooms class, more class, ap length same, s.groups.ok.0, groups.ok.0);
     no_guests = kept.no_guests;
     room_for_guests = rw same kept.room_for_guests;
     guests_known = rw same kept.guests_known;
@@ -34,14 +35,15 @@ module _ {L : Type 0} (s : Inside L) (kept : IsKept s) (groups : Vec GroupState)
 
   -- one is replaced by a group whose spans have the same ids
   pub IsKept-replaced : (index : ℕ) (group now : GroupState) → slice_get s.groups.items index ≡ Some group → AreAlike group now → groups.items ≡ set s.groups.items index now → vec_capacity s.groups ≡ vec_capacity groups
-      → IsSound (record (state_of s) { groups = set s.groups.items index now }) → ((class : Class) → HasRooms class (set s.groups.items index now) (rooms_of rooms class)) → IsKept after
-  IsKept-replaced index group now here ids same room sound has = record {
+      → IsSound (record (state_of s) { groups = set s.groups.items index now }) → ((class : Class) → HasRooms class (set s.groups.items index now) (rooms_of rooms class)) → ((class : Class) → room_of s.rooms class ≤ room_of rooms class) → IsKept after
+  IsKept-replaced index group now here ids same room sound has more = record {
     number_fits = kept.number_fits;
     pages_fit = kept.pages_fit;
     gens_fit = kept.gens_fit;
     sound = rw same sound;
     rooms = λ class. rw same (has class);
     room_for_groups = omega (arith, kept.room_for_groups, room, ap length same ∙ length-set s.groups.items index now, s.groups.ok.0, groups.ok.0);
+    room_for_rooms = λ class. omega (arith, kept.room_for_rooms class, more class, ap length same ∙ length-set s.groups.items index now, s.groups.ok.0, groups.ok.0);
     no_guests = kept.no_guests;
     room_for_guests = rw same (HasGuestRoom-replaced s.groups.items s.onto s.span_room (vec_capacity s.guest_room) kept.room_for_guests index group now here ids);
     guests_known = rw same (KnowsGuests-replaced s.groups.items s.directory.entries kept.guests_known index group now here ids);

@@ -46,14 +46,14 @@ AreInOrder-sorted told sorted low high a b less at_low at_high =
 
 -- ---- a filter
 
-filter-yes : {X : Type 0} (p : X → Bool) (x : X) (xs : List X) → p x ≡ true → filter p (x ∷ xs) ≡ x ∷ filter p xs
+pub filter-yes : {X : Type 0} (p : X → Bool) (x : X) (xs : List X) → p x ≡ true → filter p (x ∷ xs) ≡ x ∷ filter p xs
 filter-yes p x xs is = ap (λ b. cond b (x ∷ filter p xs) (filter p xs)) is
 
-filter-no : {X : Type 0} (p : X → Bool) (x : X) (xs : List X) → p x ≡ false → filter p (x ∷ xs) ≡ filter p xs
+pub filter-no : {X : Type 0} (p : X → Bool) (x : X) (xs : List X) → p x ≡ false → filter p (x ∷ xs) ≡ filter p xs
 filter-no p x xs is = ap (λ b. cond b (x ∷ filter p xs) (filter p xs)) is
 
 -- what is kept stood there, and passes
-before-filter : {X : Type 0} (p : X → Bool) (xs : List X) (at : ℕ) (x : X) → slice_get (filter p xs) at ≡ Some x → (was : ℕ) × (slice_get xs was ≡ Some x) × (p x ≡ true)
+pub before-filter : {X : Type 0} (p : X → Bool) (xs : List X) (at : ℕ) (x : X) → slice_get (filter p xs) at ≡ Some x → (was : ℕ) × (slice_get xs was ≡ Some x) × (p x ≡ true)
 before-filter p [] at x there = absurd cc
 before-filter p (y ∷ xs) at x there = elim (cases_Bool (p y)) [
   | inl is ↦ first_or_later p y xs at x is (before-filter p xs) (ap (λ zs. slice_get zs at) (sym (filter-yes p y xs is)) ∙ there)

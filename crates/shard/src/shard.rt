@@ -7,7 +7,7 @@ ghost use Rattle.span.specs.State.{SpanState};
 ghost use Rattle.span.specs.PlainMap as plain;
 ghost use Rattle.shard.specs.Group.{GroupState};
 ghost use Rattle.groups.specs.Group.{Ascend, HasNoHead, IsElsewhere, IsHeadOf, IsHere, live_in, paged_in, summary};
-ghost use Rattle.shard.specs.Rooms.{HasRooms, PutsFirst, rooms_of};
+ghost use Rattle.shard.specs.Rooms.{HasRooms, PutsFirst, room_of, rooms_of};
 ghost use Rattle.span.specs.Classes.{class_of, width_of};
 ghost use Rattle.span.specs.declared.class.Class.{Class};
 ghost use Rattle.shard.specs.Shown.{shown};
@@ -29,6 +29,7 @@ use std::marker::Model;
 
 mod folds;
 mod forgetting;
+mod leaving;
 mod logs;
 mod moves;
 mod replacing;
@@ -100,7 +101,7 @@ impl<L: Log> Model for Shard<L> {
 
 impl Shard<Kept> {
     /// A shard with no page, which may have that many pages, opens as many spans as there are serials, and gives a slot the
-    /// generations 1 to `gens`. It is refused exactly where the number is not below 64, the pages are not 1 to 1,024, or `gens`
+    /// generations 1 to `gens`. It is refused exactly where the number is not below 64, the pages are not 1 to 1,048,576, or `gens`
     /// is 0.
     pub fn new(alloc: Global, number: u32, page_limit: usize, gens: u32) -> Result<Shard, Config>
         ensures in_range { IsOk result ↔ ((number < MOST_SHARDS) × (1 ≤ page_limit)
@@ -165,7 +166,7 @@ impl<L: Log> Shard<L> {
             opened: 0,
             ended: false,
             groups: Vec::new(alloc),
-            rooms: ClassRooms::empty(),
+            rooms: ClassRooms::new(alloc),
             directory: Directory::new(alloc),
             group_room: 0,
             span_room: 0,
@@ -389,8 +390,8 @@ impl<L: Log> Shard<L> {
         Ok(made)
     }
 
-    // Opens a span on a new page, with the value at its first slot. The new head, its page and the list of groups
-    // grow before the shard changes. No other group has room, so its own is the only one that may have.
+    // Opens a span on a new page, with the value at its first slot. The new head, its page, the list of groups and the sets of
+    // those with room grow before the shard changes. No other group has room, so its own is the only one that may have.
     #[inline(never)]
     fn put_in_new(&mut self, class: Class, words: &[u128]) -> Result<(Key, usize), PutError>
         requires width { length words.now ≡ width_of class }
@@ -409,6 +410,7 @@ impl<L: Log> Shard<L> {
         let key = head.put_at(0, words)?;
         let mut page = Page::blank(self.alloc)?;
         self.groups.reserve(1)?;
+        self.rooms.reserve(self.groups.len() + 1)?;
         page.set_at(class, 0, words);
         let index = lower_heads(self.groups.as_slice(), id);
         insert_reserved(
@@ -527,7 +529,6 @@ fn put_first<L: Log>(
     requires width { length words.now ≡ width_of class }
     requires rooms { (other : Class) → HasRooms other groups.old.items
         (rooms_of rooms.old other) }
-    requires many { length groups.old.items ≤ MOST_PAGES }
     ensures ok { IfOk result (λ found. MatchOption found
         (IsFull class groups.old.items × (groups.new.items ≡ groups.old.items))
         (λ made. PutsFirst class groups.old.items words.now made.0 made.1 groups.new.items)) }
@@ -535,6 +536,7 @@ fn put_first<L: Log>(
     ensures err { OnErr result (groups.new.items ≡ groups.old.items) }
     ensures rooms { (other : Class) → HasRooms other groups.new.items
         (rooms_of rooms.new other) }
+    ensures same_room { (other : Class) → room_of rooms.new other ≡ room_of rooms.old other }
     ensures capacity { vec_capacity groups.new ≡ vec_capacity groups.old }
 {
     while let Some(index) = rooms.lowest(class) {

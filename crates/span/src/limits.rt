@@ -10,7 +10,7 @@ pub const MOST_SPANS: u32 = u32::MAX;
 pub const ALL_IDS: u64 = MOST_SHARDS as u64 * MOST_SPANS as u64;
 
 /// How many pages one shard has at most.
-pub const MOST_PAGES: usize = 1024;
+pub const MOST_PAGES: usize = 1_048_576;
 
 /// How many keys a ring of deferred frees holds at most.
 pub const MOST_RING_KEYS: usize = 1024;

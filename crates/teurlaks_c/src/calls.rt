@@ -19,7 +19,7 @@ use std::alloc::Global;
 use std::mem::replace;
 
 /// Leaves a new core to the handle, which has none yet: of `shards` shards, 1 to 64, each of up to `page_limit` pages of 4,096 bytes,
-/// 1 to 1,024, with rings of `ring_capacity` keys, 1 to 1,024, each slot of which is given the generations from 1 to `gens`, at least 1.
+/// 1 to 1,048,576, with rings of `ring_capacity` keys, 1 to 1,024, each slot of which is given the generations from 1 to `gens`, at least 1.
 ///
 /// `HAS_CORE` comes exactly where the handle has a core already. Where it has none, `CONFIG` comes exactly where a number is out of its
 /// range, and `OUT_OF_MEMORY` only where each is within it. Where the status is not `OK` the handle is as it was.

@@ -27,7 +27,7 @@ use std::mem::replace;
 use std::sync::Arc;
 
 /// Leaves the steward of a new arena to the handle, which has nothing yet: of `shards` shards, 1 to 64, each of up to `page_limit` pages of
-/// 4,096 bytes, 1 to 1,024, with rings of `ring_capacity` keys, 1 to 1,024, each slot of which is given the generations from 1 to `gens`,
+/// 4,096 bytes, 1 to 1,048,576, with rings of `ring_capacity` keys, 1 to 1,024, each slot of which is given the generations from 1 to `gens`,
 /// at least 1. A shard opens 1,024 spans at most. The steward has a seat for each shard, to be given to threads.
 ///
 /// `HAS_CORE` comes exactly where the handle has a seat or a steward already. Where it has none, `CONFIG` comes exactly where a number is

@@ -12,7 +12,8 @@ use Rattle.trace_text.specs.declared.cause.Cause.{Cause}
 use Rattle.trace_text.specs.declared.cause.Cause.TheVariants as cause
 use Rattle.trace_text.specs.declared.cause.ParseError.{ParseError}
 use Rattle.trace_text.specs.declared.cause.ParseError.TheVariants.{BadTrace, OutOfMemory}
-use Rattle.span.specs.declared.limits.TheConstants.{MOST_PAGES, MOST_RING_KEYS, MOST_SHARDS}
+use Rattle.span.specs.declared.limits.TheConstants.{MOST_RING_KEYS, MOST_SHARDS}
+use Rattle.trace_text.specs.declared.header.TheConstants.{TRACE_PAGES}
 
 -- the line that a trace of each version begins with
 abbrev pub opening_of : Version → List ℕ
@@ -35,7 +36,7 @@ pub data Field : Type 0 where
 
 -- the five lines, in their order
 abbrev pub fields : List Field
-fields = Opening ∷ Size (codes "shards") MOST_SHARDS ∷ Size (codes "pages") MOST_PAGES ∷ Size (codes "ring") MOST_RING_KEYS ∷ Size (codes "gens") 4294967295 ∷ []
+fields = Opening ∷ Size (codes "shards") MOST_SHARDS ∷ Size (codes "pages") TRACE_PAGES ∷ Size (codes "ring") MOST_RING_KEYS ∷ Size (codes "gens") 4294967295 ∷ []
 
 -- the line has this form and says this number, which may be of any size: the first says that of a version, and each other line its word and the number
 abbrev pub SaysNumber : Field → ℕ → List ℕ → Type 0
@@ -83,7 +84,7 @@ pub record IsHeaderFault (lines : List (List ℕ)) (number : ℕ) (c : Cause) : 
 -- each size is in its range
 pub record IsWithinLimits (h : Header) : Type 0 where
   pub shards : IsInRange 1 MOST_SHARDS h.shards
-  pub pages : IsInRange 1 MOST_PAGES h.pages
+  pub pages : IsInRange 1 TRACE_PAGES h.pages
   pub ring : IsInRange 1 MOST_RING_KEYS h.ring
   pub gens : IsInRange 1 4294967295 h.gens
 

@@ -15,7 +15,11 @@ ghost use Rattle.trace_text.specs.declared.numeral.Number.TheVariants.{Fits};
 use super::cause::{Cause, ParseError};
 use super::numeral::{Number, parse_number};
 use super::words::{first_line, words};
-use span::{MOST_PAGES, MOST_RING_KEYS, MOST_SHARDS};
+use span::{MOST_RING_KEYS, MOST_SHARDS};
+
+/// How many pages a shard of a trace may have at most, in each version of the grammar that there is: which texts are refused rests
+/// on it, and what their reports tell of a shard that may have no more.
+pub const TRACE_PAGES: u32 = 1024;
 
 /// The version of the grammar that a trace is written in.
 #[derive(Clone, Copy, Debug, PartialEq, Eq)]
@@ -216,7 +220,7 @@ pub fn read_header(text: &[u8]) -> Result<(Header, &[u8]), ParseError>
 {
     let (version, below) = opening(text)?;
     let (shards, below) = size(below, 2, b"shards", MOST_SHARDS)?;
-    let (pages, below) = size(below, 3, b"pages", MOST_PAGES as u32)?;
+    let (pages, below) = size(below, 3, b"pages", TRACE_PAGES)?;
     let (ring, below) = size(below, 4, b"ring", MOST_RING_KEYS as u32)?;
     let (gens, below) = size(below, 5, b"gens", u32::MAX)?;
     let header = Header {

@@ -68,7 +68,7 @@ mod words;
 
 pub use cause::{Cause, ParseError};
 pub use counting::{count_from, counting_from};
-pub use header::{Header, Version};
+pub use header::{Header, TRACE_PAGES, Version};
 pub use line::{Binding, Call, Keys, Line};
 pub use line_list::LineList;
 pub use name::{Name, Reference};

@@ -1,6 +1,7 @@
 // Groups of a running shard that go to the pool.
 ghost use Rattle.std.specs.Prelude.{◌≡◌, ◌↔◌, ◌≤◌, List, ◌∷◌, Err, IfOk, IsOkUnless, OnErr, OnOk, false, length, true};
 ghost use Rattle.std.specs.List.{list_any};
+ghost use Rattle.shard.specs.Leaving.{swept};
 ghost use Rattle.shard.specs.Shown.{shown as shown_by_shard};
 ghost use Rattle.shard.specs.Sound.{IsSound as IsSoundShard};
 ghost use Rattle.shard.specs.Sparse.{AreSparsestFirst};
@@ -62,11 +63,13 @@ impl<L: Log> Pool<L> {
         self.retire_some(shard, most)
     }
 
-    // Makes room for the sparsest groups, as many as are to go, and takes them in.
+    // Makes room for the sparsest groups, as many as are to go, and takes them in. Their places in the shard go in one walk,
+    // when all have left.
     fn retire_some(&mut self, shard: &mut Shard<L>, most: usize) -> Result<usize, ReceiveError>
         // No cause of a refusal holds but memory.
         requires running { shard.old.ended ≡ false }
         requires apart { IsInPool self.old shard.old → ⊥ }
+        requires open { list_any (λ group. group.closed) shard.old.groups ≡ false }
         requires sound { IsSound self.old }
         requires sound_shard { IsSoundShard shard.old }
 
@@ -91,44 +94,46 @@ impl<L: Log> Pool<L> {
         going.truncate(most);
         self.reserve(going.len(), span_count(going.as_slice()))?;
         self.take_going(shard, going.as_slice());
+        shard.sweep();
         Ok(going.len())
     }
 
-    // Takes in the groups that are told of, one after another, in reserved room.
+    // Takes in the groups that are told of, one after another, in reserved room. Their places in the shard stay.
     fn take_going(&mut self, shard: &mut Shard<L>, going: &[LiveGroup])
-        requires ready { (rest : List LiveGroup) × AreReady self.old shard.old going.now rest }
+        requires ready { (rest : List LiveGroup)
+            × AreReady self.old (swept shard.old) going.now rest }
 
         // They came.
-        ensures moved { MovesSparse (length going.now) self.old shard.old self.new shard.new }
-        ensures whole { HasRetired self.old shard.old (length going.now) self.new shard.new }
-        ensures left { (rest : List LiveGroup) → AreReady self.old shard.old going.now rest
-            → AreSparsestFirst shard.new.groups rest }
-        ensures kept { together (shown self.new) (shown_by_shard shard.new)
-            ≡ together (shown self.old) (shown_by_shard shard.old) }
+        ensures moved { MovesSparse (length going.now) self.old (swept shard.old) self.new
+            (swept shard.new) }
+        ensures whole { HasRetired self.old (swept shard.old) (length going.now) self.new
+            (swept shard.new) }
+        ensures left { (rest : List LiveGroup) → AreReady self.old (swept shard.old) going.now rest
+            → AreSparsestFirst (swept shard.new).groups rest }
+        ensures kept { together (shown self.new) (shown_by_shard (swept shard.new))
+            ≡ together (shown self.old) (shown_by_shard (swept shard.old)) }
 
-        // Both are sound afterwards.
         ensures sound { IsSound self.new }
-        ensures sound_shard { IsSoundShard shard.new }
     {
         for one in going {
             self.take_one(shard, one);
         }
     }
 
-    // Takes in the group that is told of, in reserved room.
+    // Takes in the group that is told of, in reserved room. Its place in the shard stays.
     fn take_one(&mut self, shard: &mut Shard<L>, one: &LiveGroup)
         requires { (more rest : List LiveGroup)
-            × AreReady self.old shard.old (one.now ∷ more) rest }
+            × AreReady self.old (swept shard.old) (one.now ∷ more) rest }
 
         // What it does.
-        ensures moves { MovesSparsest self.old shard.old self.new shard.new }
-        ensures kept { together (shown self.new) (shown_by_shard shard.new)
-            ≡ together (shown self.old) (shown_by_shard shard.old) }
+        ensures moves { MovesSparsest self.old (swept shard.old) self.new (swept shard.new) }
+        ensures kept { together (shown self.new) (shown_by_shard (swept shard.new))
+            ≡ together (shown self.old) (shown_by_shard (swept shard.old)) }
         ensures ready { (more rest : List LiveGroup)
-            → AreReady self.old shard.old (one.now ∷ more) rest
-            → AreReady self.new shard.new more rest }
+            → AreReady self.old (swept shard.old) (one.now ∷ more) rest
+            → AreReady self.new (swept shard.new) more rest }
     {
-        let Some(whole) = shard.lift(one.head) else {
+        let Some(whole) = shard.lift_aside(one.head) else {
             unreachable!();
         };
         self.take_in(whole);

@@ -13,6 +13,7 @@ invariant_of-self g c = record {
   sound = IsSound-begun (state_of c.self.inside) c.self.invariant.sound;
   rooms = c.self.invariant.rooms;
   room_for_groups = c.self.invariant.room_for_groups;
+  room_for_rooms = c.self.invariant.room_for_rooms;
   no_guests = c.self.invariant.no_guests;
   room_for_guests = c.self.invariant.room_for_guests;
   guests_known = c.self.invariant.guests_known;

@@ -39,7 +39,7 @@ pub invariant_of-self : goal.invariant_of-self
 invariant_of-self g c =
     let found = found_in c.args.self.now.groups c.self.inside.groups.items c.args.key.now.span c.in-Some.index c.in-Some.place (ap (λ (s : ShardState). s.groups) (sym c.self.view_is)) c.in-Some.ensures.place in
     let read = read_is _ _ _ _ found.0 found.1 found.2 c.index_mut-group.result.now c.index_mut-group.ensures.value in
-    IsKept-same c.self.inside c.self.invariant _ c.self.inside.rooms (groups_same c.self.inside.groups.items c.in-Some.index c.index_mut-group.result.now c.free.new.self read (c.if-not-free.ensures {u = tt}).unknown) (omega arith) c.self.invariant.rooms
+    IsKept-same c.self.inside c.self.invariant _ c.self.inside.rooms (groups_same c.self.inside.groups.items c.in-Some.index c.index_mut-group.result.now c.free.new.self read (c.if-not-free.ensures {u = tt}).unknown) (omega arith) c.self.invariant.rooms (λ class. omega arith)
 
 pub returns-then-not-free-clause-step : goal.returns-then-not-free-clause-step
 returns-then-not-free-clause-step g c =
@@ -64,7 +64,7 @@ insert-requires g c =
     let found = found_in c.args.self.now.groups c.self.inside.groups.items c.args.key.now.span c.in-Some.index c.in-Some.place (ap (λ (s : ShardState). s.groups) (sym c.self.view_is)) c.in-Some.ensures.place in
     let here = here_read _ _ _ _ found.0 found.1 found.2 c.index_mut-group.result.now c.index_mut-group.ensures.value c.span_at.result.now c.span_at.ensures in
     let low = slice_get_within c.self.inside.groups.items c.in-Some.index c.index_mut-group.result.now here.group_is in
-    omega (arith, low, c.self.invariant.sound.limit, c.self.invariant.pages_fit)
+    omega (arith, low, c.self.invariant.room_for_rooms c.class-class.result, c.self.inside.groups.ok.0)
 
 freed_now : (g : _) (c : goal.After-insert g) → c.free.new.self ≡ with_span c.index_mut-group.result.now c.in-Some.place (with_free c.span_at.result.now c.args.key.now)
 freed_now g c = (c.if-not-free.ensures {u = tt}).freed c.span_at.result.now c.span_at.ensures
@@ -90,6 +90,7 @@ invariant_of-self-2 g c =
       | inl same ↦ rw (same, c.insert.ensures.this) (HasRooms-free c.class-class.result c.self.inside.groups.items (rooms_of c.self.inside.rooms c.class-class.result) (kept.rooms c.class-class.result) c.in-Some.index c.free.new.self (slice_get_within c.self.inside.groups.items c.in-Some.index group here.group_is))
       | inr apart ↦ rw (c.insert.ensures.others class apart) (HasRooms-other class c.self.inside.groups.items (rooms_of c.self.inside.rooms class) (kept.rooms class) c.in-Some.index c.free.new.self (λ e. apart (sym e ∙ sym c.class-class.ensures)))
     ]))
+    (λ class. omega (arith, c.insert.ensures.room class))
 
 pub returns-clause-step : goal.returns-clause-step
 returns-clause-step g c = (

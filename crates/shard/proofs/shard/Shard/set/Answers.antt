@@ -65,7 +65,7 @@ pub invariant_of-self : goal.invariant_of-self
 invariant_of-self g c =
     let found = found_in c.args.self.now.groups c.self.inside.groups.items c.args.key.now.span c.in-Some.index c.in-Some.place (ap (λ (s : ShardState). s.groups) (sym c.self.view_is)) c.in-Some.ensures.place in
     let read = read_is _ _ _ _ found.0 found.1 found.2 c.index_mut-group.result.now c.index_mut-group.ensures.value in
-    IsKept-same c.self.inside c.self.invariant _ c.self.inside.rooms (groups_same c.self.inside.groups.items c.in-Some.index c.index_mut-group.result.now c.set.new.self read c.in_err-set.ensures.err) (omega arith) c.self.invariant.rooms
+    IsKept-same c.self.inside c.self.invariant _ c.self.inside.rooms (groups_same c.self.inside.groups.items c.in-Some.index c.index_mut-group.result.now c.set.new.self read c.in_err-set.ensures.err) (omega arith) c.self.invariant.rooms (λ class. omega arith)
 
 pub returns-in_err-set-clause-refused : goal.returns-in_err-set-clause-refused
 returns-in_err-set-clause-refused g c =
@@ -78,7 +78,7 @@ pub invariant_of-self-then-not-branch : goal.invariant_of-self-then-not-branch
 invariant_of-self-then-not-branch g c =
     let found = found_in c.args.self.now.groups c.self.inside.groups.items c.args.key.now.span c.in-Some.index c.in-Some.place (ap (λ (s : ShardState). s.groups) (sym c.self.view_is)) c.in-Some.ensures.place in
     let read = read_is _ _ _ _ found.0 found.1 found.2 c.index_mut-group.result.now c.index_mut-group.ensures.value in
-    IsKept-same c.self.inside c.self.invariant _ c.self.inside.rooms (groups_same c.self.inside.groups.items c.in-Some.index c.index_mut-group.result.now c.set.new.self read (undone c.in_ok-set.field-0 c.if-not-branch.true c.in_ok-set.ensures.unknown)) (omega arith) c.self.invariant.rooms
+    IsKept-same c.self.inside c.self.invariant _ c.self.inside.rooms (groups_same c.self.inside.groups.items c.in-Some.index c.index_mut-group.result.now c.set.new.self read (undone c.in_ok-set.field-0 c.if-not-branch.true c.in_ok-set.ensures.unknown)) (omega arith) c.self.invariant.rooms (λ class. omega arith)
 
 pub returns-then-not-branch-clause-step : goal.returns-then-not-branch-clause-step
 returns-then-not-branch-clause-step g c =
@@ -125,6 +125,7 @@ invariant_of-self-2 g c =
     (IsSound-set (state_of c.self.inside) kept.sound c.in-Some.index group here.group_is place span here.span_is key.slot key.generation words (settable_now g c))
     (λ class. HasRooms-full class c.self.inside.groups.items (rooms_of c.self.inside.rooms class) (kept.rooms class) c.in-Some.index (set_group group place span key.slot key.generation words) group here.group_is
     (HasNoRoom-set group span key.slot key.generation words place here.span_is (kept.sound.groups c.in-Some.index group here.group_is).apart (settable_now g c) class))
+    (λ class. omega arith)
 
 pub returns-clause-step : goal.returns-clause-step
 returns-clause-step g c = (

@@ -1,11 +1,10 @@
-use Rattle.std.proofs.Common.{◌≡◌, ◌∙◌, [], List, None, true, ap, arith, subst, sym}
+use Rattle.std.proofs.Common.{◌≡◌, ◌∙◌, [], None, true, ap, arith, sym}
 use Rattle.groups.specs.Directory.{DirectoryState}
 use Rattle.groups.proofs.GuestDirectory.{IsDirectory-none}
-use Rattle.shard.specs.Group.{GroupState}
 use Rattle.shard.specs.Kept.{state_of}
-use Rattle.shard.specs.Rooms.{HasRooms, rooms_of}
 use Rattle.shard.specs.State.{ShardState}
 use Rattle.shard.proofs.GuestRoom.{HasGuestRoom-none}
+use Rattle.shard.proofs.RoomBits.{HasRooms-empty}
 use Rattle.shard.proofs.Start.{IsSound-none}
 use Rattle.shard.proofs.shard.Shard.set_ended.Goals as goal
 
@@ -17,11 +16,12 @@ invariant_of-self g c =
       pages_fit = c.self.invariant.pages_fit;
       gens_fit = c.self.invariant.gens_fit;
       sound = rw c.new.ensures.items (IsSound-none (record (state_of c.self.inside) { ended = true; group_room = 0; span_room = 0; onto = None }) c.self.invariant.sound.opened c.self.invariant.sound.span_limit c.self.invariant.sound.gens);
-      rooms = λ class. rw c.new.ensures.items (subst (λ (groups : List GroupState). HasRooms class groups (rooms_of c.self.inside.rooms class)) none (c.self.invariant.rooms class));
+      rooms = λ class. rw (c.new.ensures.items, c.new-2.ensures class) (HasRooms-empty class);
       room_for_groups = omega (arith, c.new.result.ok.1);
-      no_guests = c.new-3.ensures.items;
+      room_for_rooms = λ class. omega (arith, c.new.ensures.len);
+      no_guests = c.new-4.ensures.items;
       room_for_guests = HasGuestRoom-none _ _ _;
-      guests_known = IsDirectory-none _ _ c.new.result.items _ c.new.ensures.items (ap (λ (d : DirectoryState). d.entries) c.new-2.ensures);
+      guests_known = IsDirectory-none _ _ c.new.result.items _ c.new.ensures.items (ap (λ (d : DirectoryState). d.entries) c.new-3.ensures);
       room_for_entries = omega arith;
     }
 

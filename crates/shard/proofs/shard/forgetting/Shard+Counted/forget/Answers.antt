@@ -35,6 +35,14 @@ invariant_of-self c = record {
     c.self.inside.groups.ok.0,
     c.forget_all.new.groups.ok.0,
   );
+  room_for_rooms = λ class. omega (
+    arith,
+    c.self.invariant.room_for_rooms class,
+    ap length c.forget_all.ensures.items,
+    length-map c.self.inside.groups.items (without_dead {Closed = _}),
+    c.self.inside.groups.ok.0,
+    c.forget_all.new.groups.ok.0,
+  );
   no_guests = c.self.invariant.no_guests;
   room_for_guests = rw c.forget_all.ensures.items (HasGuestRoom-without_dead c.self.inside.groups.items c.self.inside.onto c.self.inside.span_room (vec_capacity c.self.inside.guest_room) c.self.invariant.room_for_guests);
   guests_known = c.forget_all.ensures.known;

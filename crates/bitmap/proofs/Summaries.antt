@@ -1,0 +1,135 @@
+-- A set of numbers and the set of its parts that have one.
+use Rattle.std.proofs.Common.{◌≡◌, ℕ, ◌+◌, ◌*◌, ◌/◌, ◌%◌, ◌<◌, ◌≤◌, ◌⊎◌, Bool, true, false, Option, Some, None, is_some, ◌&&◌, ◌||◌, not, nat_lt, ◌∙◌, ap, sym, subst, refl, inl, inr, arith, lt-ltb, le-ltb, eq-eqb}
+use Rattle.std.specs.Ordering.{nat_cmp, eq_by_cmp}
+use Rattle.std.specs.Cmp.{nat_cmp_total, second_so, unsigned_tied}
+use Rattle.std.specs.FinSet.{contains, empty, insert, remove, contains-empty, contains-insert, contains-remove}
+use Rattle.std.proofs.lemmas.Bool.{cases_eq, cases_lt, false_from_ne_true, ltb-true, ne_eqb, true≢false}
+use Rattle.std.specs.Prelude.{MatchOption}
+use Rattle.bitmap.specs.Parts.{HasNoneIn, IsLowestIn, IsSummary}
+use Rattle.bitmap.specs.Slots.{SlotSet, IsLowest}
+use Rattle.bitmap.specs.Words.{same_slots}
+
+pub contains-insert_same : (s : SlotSet) (at : ℕ) → contains (insert s at) at ≡ true
+contains-insert_same s at = contains-insert nat_cmp_total s at at ∙ rw (unsigned_tied at at, eq-eqb at at refl) refl
+
+pub contains-insert_other : (s : SlotSet) (at q : ℕ) → (q ≡ at → ⊥) → contains (insert s at) q ≡ contains s q
+contains-insert_other s at q other = contains-insert nat_cmp_total s at q ∙ rw (unsigned_tied q at, ne_eqb q at other) refl
+
+pub contains-remove_same : (s : SlotSet) (at : ℕ) → contains (remove s at) at ≡ false
+contains-remove_same s at = contains-remove nat_cmp_total s at at ∙ rw (unsigned_tied at at, eq-eqb at at refl) refl
+
+pub contains-remove_other : (s : SlotSet) (at q : ℕ) → (q ≡ at → ⊥) → contains (remove s at) q ≡ contains s q
+contains-remove_other s at q other = contains-remove nat_cmp_total s at q ∙ rw (unsigned_tied q at, ne_eqb q at other) refl
+
+-- what was in before is in
+kept : (s : SlotSet) (at q : ℕ) → contains s q ≡ true → contains (insert s at) q ≡ true
+kept s at q member = elim (cases_eq q at) [
+  | inl same ↦ ap (contains (insert s at)) same ∙ contains-insert_same s at
+  | inr other ↦ contains-insert_other s at q other ∙ member
+]
+
+-- what is left was in
+pub was : (s : SlotSet) (at q : ℕ) → contains (remove s at) q ≡ true → contains s q ≡ true
+was s at q member = second_so (not (eq_by_cmp nat_cmp q at)) (contains s q) (sym (contains-remove nat_cmp_total s at q) ∙ member)
+
+pub IsSummary-empty : (numbers filled : SlotSet) → numbers ≡ empty → filled ≡ empty → IsSummary numbers filled
+IsSummary-empty numbers filled none no_part = record {
+  has = λ n member. absurd (true≢false (sym member ∙ ap (λ s. contains s n) none ∙ contains-empty nat_cmp n));
+  some = λ part member. absurd (true≢false (sym member ∙ ap (λ s. contains s part) no_part ∙ contains-empty nat_cmp part));
+}
+
+module _ (numbers filled : SlotSet) (summary : IsSummary numbers filled) where
+  pub IsSummary-insert : (at : ℕ) → IsSummary (insert numbers at) (insert filled (at / 256))
+  IsSummary-insert at = record {
+    has = λ n member. elim (cases_eq n at) [
+      | inl same ↦ ap (λ k. contains (insert filled (at / 256)) (k / 256)) same ∙ contains-insert_same filled (at / 256)
+      | inr other ↦ kept filled (at / 256) (n / 256) (summary.has n (sym (contains-insert_other numbers at n other) ∙ member))
+    ];
+    some = λ part member. elim (cases_eq part (at / 256)) [
+      | inl same ↦ (at, sym same, contains-insert_same numbers at)
+      | inr other ↦
+          let (n, here, inside) = summary.some part (sym (contains-insert_other filled (at / 256) part other) ∙ member) in
+          (n, here, kept numbers at n inside)
+    ];
+  }
+
+  -- another number of the part is left
+  pub IsSummary-remove : (at left : ℕ) → left / 256 ≡ at / 256 → contains (remove numbers at) left ≡ true → IsSummary (remove numbers at) filled
+  IsSummary-remove at left here inside = record {
+    has = λ n member. summary.has n (was numbers at n member);
+    some = λ part member. elim (cases_eq part (at / 256)) [
+      | inl same ↦ (left, here ∙ sym same, inside)
+      | inr other ↦
+          let (n, place, is) = summary.some part member in
+          (n, place, contains-remove_other numbers at n (λ e. other (sym place ∙ ap (λ k. k / 256) e)) ∙ is)
+    ];
+  }
+
+  -- none of the part is left
+  pub IsSummary-remove_last : (at : ℕ) → HasNoneIn (remove numbers at) (at / 256) → IsSummary (remove numbers at) (remove filled (at / 256))
+  IsSummary-remove_last at none = record {
+    has = λ n member. contains-remove_other filled (at / 256) (n / 256) (λ e. true≢false (sym member ∙ none n e)) ∙ summary.has n (was numbers at n member);
+    some = λ part member. elim (cases_eq part (at / 256)) [
+      | inl same ↦ absurd (true≢false (sym member ∙ ap (contains (remove filled (at / 256))) same ∙ contains-remove_same filled (at / 256)))
+      | inr other ↦
+          let (n, place, is) = summary.some part (was filled (at / 256) part member) in
+          (n, place, contains-remove_other numbers at n (λ e. other (sym place ∙ ap (λ k. k / 256) e)) ∙ is)
+    ];
+  }
+
+  -- the least number stands in the least part that has one
+  pub IsLowest-part : (part n : ℕ) → IsLowest filled part → IsLowestIn numbers part n → IsLowest numbers n
+  IsLowest-part part n least lowest = record {
+    inside = lowest.inside;
+    lower = λ other member.
+        let above : part ≤ other / 256 = least.lower (other / 256) (summary.has other member) in
+        elim (cases_eq (other / 256) part) [
+          | inl here ↦ lowest.lower other member here
+          | inr apart ↦ omega (arith, above, apart, lowest.part_is)
+        ];
+  }
+
+  -- a part that is in has a number
+  pub has_some : (part : ℕ) → contains filled part ≡ true → HasNoneIn numbers part → ⊥
+  has_some part member none = let (n, place, is) = summary.some part member in true≢false (sym is ∙ none n place)
+
+  pub empty-summary : filled ≡ empty → numbers ≡ empty
+  empty-summary none = same_slots _ _ (λ q. false_from_ne_true (contains numbers q) (λ member. true≢false (sym (summary.has q member) ∙ ap (λ s. contains s (q / 256)) none ∙ contains-empty nat_cmp (q / 256))) ∙ sym (contains-empty nat_cmp q))
+
+-- the numbers below a count, and the parts of these
+pub IsSummary-below : (numbers filled : SlotSet) (count parts : ℕ) → count ≤ 256 * parts → 256 * parts < count + 256 → ((q : ℕ) → contains numbers q ≡ nat_lt q count) → ((q : ℕ) → contains filled q ≡ nat_lt q parts) → IsSummary numbers filled
+IsSummary-below numbers filled count parts low high below parts_below = record {
+  has = λ n member. let less : n < count = ltb-true n count (sym (below n) ∙ member) in parts_below (n / 256) ∙ lt-ltb (n / 256) parts (omega (arith, less, low));
+  some = λ part member.
+      let less : part < parts = ltb-true part parts (sym (parts_below part) ∙ member) in
+      (256 * part, omega arith, below (256 * part) ∙ lt-ltb (256 * part) count (omega (arith, less, high)));
+}
+
+-- the numbers below a count, and below the next
+
+pub below-none : (q : ℕ) → contains {R = nat_cmp} empty q ≡ nat_lt q 0
+below-none q = contains-empty nat_cmp q ∙ sym (le-ltb q 0 (omega arith))
+
+pub below-next : (s : SlotSet) (count : ℕ) → ((q : ℕ) → contains s q ≡ nat_lt q count) → (q : ℕ) → contains (insert s count) q ≡ nat_lt q (count + 1)
+below-next s count below q = each (cases_eq q count) (cases_lt q count)
+  where
+    each : (q ≡ count) ⊎ (q ≡ count → ⊥) → (q < count) ⊎ (count ≤ q) → contains (insert s count) q ≡ nat_lt q (count + 1)
+    each (inl same) cases = ap (contains (insert s count)) same ∙ contains-insert_same s count ∙ sym (lt-ltb q (count + 1) (omega arith))
+    each (inr other) (inl less) = contains-insert_other s count q other ∙ below q ∙ lt-ltb q count less ∙ sym (lt-ltb q (count + 1) (omega arith))
+    each (inr other) (inr more) = contains-insert_other s count q other ∙ below q ∙ le-ltb q count more ∙ sym (le-ltb q (count + 1) (omega (arith, other, more)))
+
+-- what a look into the part of a number that was taken out says
+
+module _ (numbers filled : SlotSet) (summary : IsSummary numbers filled) (at : ℕ) (after : SlotSet) (after_is : after ≡ remove numbers at) where
+  pub IsSummary-left : (found : Option ℕ) → MatchOption found (HasNoneIn after (at / 256)) (IsLowestIn after (at / 256)) → is_some found ≡ true → IsSummary after filled
+  IsSummary-left None none some = absurd (true≢false (sym some))
+  IsSummary-left (Some left) lowest some = subst (λ s. IsSummary s filled) (sym after_is) (IsSummary-remove numbers filled summary at left lowest.part_is (ap (λ s. contains s left) (sym after_is) ∙ lowest.inside))
+
+  pub IsSummary-left_none : (found : Option ℕ) → MatchOption found (HasNoneIn after (at / 256)) (IsLowestIn after (at / 256)) → is_some found ≡ false → IsSummary after (remove filled (at / 256))
+  IsSummary-left_none None none gone = subst (λ s. IsSummary s (remove filled (at / 256))) (sym after_is) (IsSummary-remove_last numbers filled summary at (subst (λ s. HasNoneIn s (at / 256)) after_is none))
+  IsSummary-left_none (Some left) lowest gone = absurd (true≢false gone)
+
+-- the least number of the least part that has one
+pub lowest-part : (numbers filled : SlotSet) → IsSummary numbers filled → (part : ℕ) → IsLowest filled part → (found : Option ℕ) → MatchOption found (HasNoneIn numbers part) (IsLowestIn numbers part) → MatchOption found (numbers ≡ empty) (IsLowest numbers)
+lowest-part numbers filled summary part least None none = absurd (has_some numbers filled summary part least.inside none)
+lowest-part numbers filled summary part least (Some n) lowest = IsLowest-part numbers filled summary part n least lowest

@@ -1,0 +1,10 @@
+use Rattle.std.proofs.Common.{◌≡◌, ◌∙◌, ◌+◌, ◌*◌, ℕ, ap, arith, refl, sym, vec_len}
+use Rattle.bitmap.specs.Numbers.{NumbersState}
+use Rattle.bitmap.proofs.Joined.{remove-high, remove-low}
+use Rattle.bitmap.proofs.numbers.NumberSet.remove.Goals as goal
+
+pub returns-then-number-lt-SLOTS : goal.returns-then-number-lt-SLOTS
+returns-then-number-lt-SLOTS c = rw (← c.self.view_is, c.remove.ensures, remove-low c.self.inside.low c.self.inside.high.items c.args.number (omega arith)) refl
+
+pub returns : goal.returns
+returns c = rw (← c.self.view_is, c.strike.ensures.len, remove-high c.self.inside.low c.self.inside.high.items c.args.number c.strike.new.high.items (omega arith) c.strike.ensures.numbers) refl

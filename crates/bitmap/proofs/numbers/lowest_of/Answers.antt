@@ -1,0 +1,16 @@
+use Rattle.std.proofs.Common.{◌≡◌, arith}
+use Rattle.bitmap.proofs.InParts.{in_room}
+use Rattle.bitmap.proofs.Summaries.{IsLowest-part, empty-summary, has_some, lowest-part}
+use Rattle.bitmap.proofs.numbers.lowest_of.Goals as goal
+
+pub returns-in_default-clause-lowest : goal.returns-in_default-clause-lowest
+returns-in_default-clause-lowest c = empty-summary _ _ c.requires.parts (empty-summary _ _ c.requires.top c.in_default.ensures.lowest)
+
+pub returns-clause-lowest : goal.returns-clause-lowest
+returns-clause-lowest c =
+    lowest-part _ _ c.requires.parts c.in-Some-lowest_in.part
+    (IsLowest-part _ _ c.requires.top c.in-Some.first c.in-Some-lowest_in.part c.in-Some.ensures.lowest (rw (← c.from.ensures) c.in-Some-lowest_in.ensures))
+    c.lowest_in-2.result c.lowest_in-2.ensures
+
+pub returns-clause-in_room : goal.returns-clause-in_room
+returns-clause-in_room c = rw c.args.high.now.ok.0 (in_room c.args.high.now.items c.in-Some-lowest_in.part c.lowest_in-2.result c.lowest_in-2.ensures)

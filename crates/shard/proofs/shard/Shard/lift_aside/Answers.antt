@@ -1,0 +1,83 @@
+use Rattle.std.proofs.Common.{◌≡◌, ◌∙◌, List, None, ap, arith, false, inl, refl, set, slice_get, subst, sym, true}
+use Rattle.std.specs.Prelude.{filter, remove}
+use Rattle.groups.specs.Directory.{DirectoryState}
+use Rattle.groups.specs.Group.{HasNoHead, IsHeadOf}
+use Rattle.groups.proofs.Lists.{set-same}
+use Rattle.shard.specs.Group.{GroupState}
+use Rattle.shard.specs.Kept.{state_of}
+use Rattle.shard.specs.Leaving.{has_left, has_stayed, left_place, swept}
+use Rattle.shard.specs.Rooms.{rooms_of}
+use Rattle.shard.specs.State.{ShardState}
+use Rattle.shard.proofs.GuestRoom.{HasGuestRoom-none}
+use Rattle.shard.proofs.HeadsHere.{head_read}
+use Rattle.shard.proofs.KeptGroups.{IsKept-same}
+use Rattle.shard.proofs.Left.{HasNoHead-left, HasNoHead-swept, IsSound-left, KnowsGuests-left, stayed-left}
+use Rattle.shard.proofs.LiftedGroup.{IsSoundWhole-lifted}
+use Rattle.shard.proofs.RoomBits.{HasRooms-full}
+use Rattle.shard.proofs.shard.Shard.lift_aside.Goals as goal
+
+pub returns-in_default-clause-lifts : goal.returns-in_default-clause-lifts
+returns-in_default-clause-lifts g c = (HasNoHead-swept c.args.self.now.groups c.args.head (c.in_default.ensures {u = tt}).head, refl)
+
+pub invariant_of-self : goal.invariant_of-self
+invariant_of-self g c =
+    let head_here = head_read c.self.inside.groups.items c.args.self.now.groups (ap (λ (s : ShardState). s.groups) c.self.view_is) c.args.head c.in-Some.index c.in-Some.ensures.head c.index_mut-group.result.now c.index_mut-group.ensures.value in
+    IsKept-same c.self.inside c.self.invariant _ c.self.inside.rooms (set-same c.self.inside.groups.items c.in-Some.index c.index_mut-group.result.now head_here.here) (omega arith) c.self.invariant.rooms (λ class. omega arith)
+
+pub returns-then-has_left-clause-lifts : goal.returns-then-has_left-clause-lifts
+returns-then-has_left-clause-lifts g c =
+    let group = c.index_mut-group.result.now in
+    let head_here = head_read c.self.inside.groups.items c.args.self.now.groups (ap (λ (s : ShardState). s.groups) c.self.view_is) c.args.head c.in-Some.index c.in-Some.ensures.head group c.index_mut-group.ensures.value in (
+      subst (λ (s : ShardState). HasNoHead (filter has_stayed s.groups) c.args.head) c.self.view_is
+          (HasNoHead-left (state_of c.self.inside) c.self.invariant.sound c.in-Some.index group head_here.here group.head.class c.args.head head_here.head_is (sym c.has_left.ensures ∙ c.if-has_left.true)),
+      ap (λ (groups : List GroupState). swept (record (state_of c.self.inside) { groups = groups })) (set-same c.self.inside.groups.items c.in-Some.index group head_here.here) ∙ ap swept c.self.view_is,
+    )
+
+pub new-requires : goal.new-requires
+new-requires g c =
+    let head_here = head_read c.self.inside.groups.items c.args.self.now.groups (ap (λ (s : ShardState). s.groups) c.self.view_is) c.args.head c.in-Some.index c.in-Some.ensures.head c.index_mut-group.result.now c.index_mut-group.ensures.value in
+    rw (c.into_parts-spans.ensures.spans, c.into_parts-spans.ensures.page, c.replace.ensures.value)
+    (IsSoundWhole-lifted (state_of c.self.inside) c.self.invariant.sound c.in-Some.index c.index_mut-group.result.now head_here.here)
+
+-- the group that left, where it stood
+here_now : (g : _) (c : goal.After-new g) → IsHeadOf c.self.inside.groups.items c.args.head c.in-Some.index c.index_mut-group.result.now
+here_now g c = head_read c.self.inside.groups.items c.args.self.now.groups (ap (λ (s : ShardState). s.groups) c.self.view_is) c.args.head c.in-Some.index c.in-Some.ensures.head c.index_mut-group.result.now c.index_mut-group.ensures.value
+
+place_now : (g : _) (c : goal.After-new g) → c.replace.new.dest ≡ left_place c.index_mut-group.result.now.head.id c.class.result c.self.inside.gens
+place_now g c = c.replace.ensures.after ∙ c.left_by-place.ensures ∙ ap (λ id. left_place id c.class.result c.self.inside.gens) c.head_id.ensures
+
+pub invariant_of-self-2 : goal.invariant_of-self-2
+invariant_of-self-2 g c =
+    let group = c.index_mut-group.result.now in
+    let place = left_place group.head.id c.class.result c.self.inside.gens in
+    let here = (here_now g c).here in
+    record {
+      number_fits = c.self.invariant.number_fits;
+      pages_fit = c.self.invariant.pages_fit;
+      gens_fit = c.self.invariant.gens_fit;
+      sound = rw (place_now g c) (IsSound-left (state_of c.self.inside) c.self.invariant.sound c.in-Some.index group here c.class.result);
+      rooms = λ class. rw (place_now g c) (HasRooms-full class c.self.inside.groups.items (rooms_of c.self.inside.rooms class) (c.self.invariant.rooms class) c.in-Some.index place group here (λ none. inl refl));
+      room_for_groups = c.self.invariant.room_for_groups;
+      room_for_rooms = c.self.invariant.room_for_rooms;
+      no_guests = c.self.invariant.no_guests;
+      room_for_guests = HasGuestRoom-none _ _ _;
+      guests_known = rw (place_now g c, c.strike_all.ensures, c.guests.ensures, c.into_parts-spans.ensures.spans, c.replace.ensures.value)
+          (KnowsGuests-left (state_of c.self.inside) c.self.invariant.sound c.in-Some.index group here c.class.result c.self.inside.directory.entries c.self.invariant.guests_known);
+      room_for_entries = omega (arith, c.self.invariant.room_for_entries, ap (λ (d : DirectoryState). d.room) c.strike_all.ensures);
+    }
+
+pub returns-clause-lifts : goal.returns-clause-lifts
+returns-clause-lifts g c =
+    let group = c.index_mut-group.result.now in
+    let left = stayed-left (state_of c.self.inside) c.self.invariant.sound c.in-Some.index group (here_now g c).here c.class.result c.args.head (here_now g c).head_is (sym c.has_left.ensures ∙ c.if-has_left.false) in (
+      left.0,
+      group,
+      subst (λ (s : ShardState). IsHeadOf (filter has_stayed s.groups) c.args.head left.0 group) c.self.view_is left.1,
+      c.new.ensures ∙ rw (c.into_parts-spans.ensures.spans, c.into_parts-spans.ensures.page, c.replace.ensures.value) refl,
+      ap (λ (place : GroupState). record (state_of c.self.inside) { onto = None; groups = filter has_stayed (set c.self.inside.groups.items c.in-Some.index place) }) (place_now g c)
+          ∙ ap (λ (groups : List GroupState). record (state_of c.self.inside) { onto = None; groups = groups }) left.2
+          ∙ ap (λ (s : ShardState). record s { onto = None; groups = remove (filter has_stayed s.groups) left.0 }) c.self.view_is,
+    )
+
+pub returns-clause-sound : goal.returns-clause-sound
+returns-clause-sound g c = (invariant_of-self-2 g c).sound

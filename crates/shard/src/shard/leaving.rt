@@ -1,0 +1,51 @@
+// Groups that leave one after another, while their places stay until all have left.
+ghost use Rattle.std.specs.Prelude.{◌≡◌, filter, vec_capacity};
+ghost use Rattle.shard.specs.Leaving.{has_stayed, swept};
+ghost use Rattle.shard.specs.Moves.{Lifts};
+ghost use Rattle.shard.specs.Sound.{IsSound};
+
+use super::Shard;
+use crate::group::Group;
+use groups::Whole;
+use span::{Log, SpanId};
+use std::mem::replace;
+
+impl<L: Log> Shard<L> {
+    /// The group of the head leaves, with its guests and its page, and no other moves up: where it stood stays a place of no
+    /// account, until [`Shard::sweep`] drops all such places. So many that leave cost a walk together, where each
+    /// [`Shard::lift`] costs one. `None` where the shard does not have the group, or it has left. It takes no memory.
+    pub fn lift_aside(&mut self, head: SpanId) -> Option<Whole<L>>
+        ensures lifts { Lifts (swept self.old) head result (swept self.new) }
+        ensures sound { IsSound self.new }
+    {
+        let Some(index) = self.find_head(head) else {
+            return None;
+        };
+        let group = &mut self.groups[index];
+        if group.has_left() {
+            return None;
+        }
+        let place = Group::left_by(self.alloc, group.head_id(), group.class(), self.gens);
+        let (spans, page) = replace(group, place).into_parts();
+        self.directory.strike_all(spans.guests());
+        self.onto = None;
+        Some(Whole::new(spans, page))
+    }
+
+    /// Drops the places of groups that have left. It takes no memory.
+    pub fn sweep(&mut self)
+        ensures swept { self.new ≡ swept self.old }
+        ensures sound { IsSound self.new }
+    {
+        drop_places(&mut self.groups);
+        self.rooms.fill(self.groups.len());
+    }
+}
+
+// Drops the places of groups that have left.
+fn drop_places<L: Log>(groups: &mut Vec<Group<L>>)
+    ensures items { groups.new.items ≡ filter has_stayed groups.old.items }
+    ensures capacity { vec_capacity groups.new ≡ vec_capacity groups.old }
+{
+    groups.retain(|group| !group.has_left());
+}
