@@ -2,7 +2,7 @@
  * million events the last thin the values out to a twentieth, and then the sparse half of the pages goes through the pool and is folded, as
  * often as that gives pages back, and what can never be live again is forgotten. Each round every live value is looked up, and keys that were
  * freed find nothing. After the first ten rounds, and then each tenth, it prints a line: events, spans opened so far, pages, live values,
- * resident kilobytes; at its end how much more is resident than after the first ten rounds. */
+ * resident kilobytes; at its end how much more is resident than after the first ten rounds, and what is once all is freed, ended and forgotten. */
 #include "teurlaks.h"
 
 #include <inttypes.h>
@@ -126,6 +126,10 @@ int main(int count, char **words) {
         fflush(stdout);
     }
     if (first > 0) printf("service: %.3f of what was resident after the first ten rounds\n", (double)resident() / (double)first);
+    while (live_count > 0) free_one();
+    WANT(teurlaks_end(&core, 0) == TEURLAKS_OK && teurlaks_forget(&core).status == TEURLAKS_OK);
+    WANT(teurlaks_forget(&core).count == 0);
+    printf("service: %ld KB resident once all is freed, ended and forgotten\n", resident());
     teurlaks_drop(&core);
     free(live);
     return 0;

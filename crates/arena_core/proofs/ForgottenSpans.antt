@@ -24,7 +24,7 @@ use Rattle.marks.proofs.Flagged.{map_back}
 use Rattle.arena_core.specs.Forgets.{dead_owned, dead_spans, with_forgotten, without_dead_groups, without_dead_guests}
 use Rattle.arena_core.specs.Kept.{IsKept, state_of}
 use Rattle.arena_core.specs.declared.machine.Core.TheInside.{Inside}
-use Rattle.arena_core.specs.Moved.{Entries, KnowsMoved, WhereaboutsState}
+use Rattle.arena_core.specs.Moved.{Entries, KeepsStanding, KnowsMoved}
 use Rattle.arena_core.specs.Sound.{HasSoundGroups, IsForgotten, IsSound, IsSoundAt}
 use Rattle.arena_core.specs.State.{CoreState, all_spans, has_span, opened_of, shown}
 use Rattle.arena_core.proofs.Changes.{indicator, no_strays}
@@ -32,6 +32,7 @@ use Rattle.arena_core.proofs.Groups.{strays, strays-each}
 use Rattle.arena_core.proofs.Logged.{shown-same}
 use Rattle.arena_core.proofs.MarkSteps.{AreOpen-none}
 use Rattle.arena_core.proofs.PlanSteps.{HasSoundPlan-none}
+use Rattle.arena_core.proofs.Standing.{KnowsMoved-standing}
 use Rattle.arena_core.proofs.Spans.{has_span-counted, named, sum_all, sum_all-parts, sum_in, sum_pooled, times_in-found}
 
 -- sums over what is left and what went
@@ -186,7 +187,7 @@ KnowsMoved-forgotten shards entries knows id number foreign (shard, at, has) =
     knows id number foreign (was, there, has_span-forgotten was id (ap (has_span id) is ∙ has))
 
 -- the fields
-module _ {L : Type 0} (c now : Inside L) (kept : IsKept c) (pages : now.page_limit ≡ c.page_limit) (spans : now.span_limit ≡ c.span_limit) (ring : now.ring_capacity ≡ c.ring_capacity) (gens : now.gens ≡ c.gens) (pool : now.pool ≡ without_dead_groups c.pool) (plan : now.plan ≡ c.plan) (whereabouts : now.whereabouts ≡ c.whereabouts) (rings : now.rings ≡ c.rings)
+module _ {L : Type 0} (c now : Inside L) (kept : IsKept c) (pages : now.page_limit ≡ c.page_limit) (spans : now.span_limit ≡ c.span_limit) (ring : now.ring_capacity ≡ c.ring_capacity) (gens : now.gens ≡ c.gens) (pool : now.pool ≡ without_dead_groups c.pool) (plan : now.plan ≡ c.plan) (keeps : KeepsStanding now.shards.items c.whereabouts.entries now.whereabouts.entries) (rings : now.rings ≡ c.rings)
     (items : now.shards.items ≡ map without_dead_guests c.shards.items) (gone : now.forgotten.spans ≡ c.forgotten.spans ++ dead_spans c.shards.items c.pool) where
   count_is : length now.shards.items ≡ length c.shards.items
   count_is = ap length items ∙ length-map c.shards.items without_dead_guests
@@ -205,6 +206,6 @@ module _ {L : Type 0} (c now : Inside L) (kept : IsKept c) (pages : now.page_lim
   IsKept-forgotten none = record {
     sound = subst IsSound (sym state_of-forgotten) (IsSound-forgotten (state_of c) kept.sound none);
     moved =
-        subst (KnowsMoved now.shards.items) (sym (ap (λ (w : WhereaboutsState). w.entries) whereabouts))
+        KnowsMoved-standing now.shards.items c.whereabouts.entries now.whereabouts.entries keeps
         (subst (λ shards. KnowsMoved shards c.whereabouts.entries) (sym items) (KnowsMoved-forgotten c.shards.items c.whereabouts.entries kept.moved));
   }

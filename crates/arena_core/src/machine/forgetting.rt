@@ -35,6 +35,7 @@ impl Core<Counted> {
         self.forgotten = Forgotten::with(&self.forgotten, &self.shards, &self.pool);
         let owned = forget_guests(&mut self.shards);
         let pooled = self.pool.forget();
+        self.whereabouts.forget(&self.shards);
         Ok(owned + pooled)
     }
 }

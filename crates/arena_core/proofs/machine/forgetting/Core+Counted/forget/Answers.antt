@@ -5,6 +5,7 @@ use Rattle.span.specs.declared.log.Counted.{Counted}
 use Rattle.abandoned.specs.Forgets.{gone_from}
 use Rattle.arena_core.specs.Forgets.{dead_owned, dead_spans, with_forgotten}
 use Rattle.arena_core.specs.Kept.{IsKept, state_of}
+use Rattle.arena_core.specs.Moved.{KeepsStanding}
 use Rattle.arena_core.specs.State.{CoreState, shown}
 use Rattle.arena_core.specs.declared.machine.Core.TheInside.{Inside}
 use Rattle.arena_core.proofs.ForgottenSpans.{IsKept-forgotten, shown-forgotten, state_of-forgotten}
@@ -14,17 +15,20 @@ pub forget_guests-owned-requires : goal.forget_guests-owned-requires
 forget_guests-owned-requires c = omega (arith, c.self.invariant.sound.groups.within.shards.1)
 
 -- the fields then
-abbrev fields : goal.After-forget-pooled → Inside Counted
-fields c = record c.self.inside { shards = c.forget_guests-owned.new.shards; pool = c.forget-pooled.new.self; forgotten = c.with-self-inside.result }
+abbrev fields : goal.After-forget → Inside Counted
+fields c = record c.self.inside { shards = c.forget_guests-owned.new.shards; pool = c.forget-pooled.new.self; whereabouts = c.forget.new.self; forgotten = c.with-self-inside.result }
 
-none : (c : goal.After-forget-pooled) → c.self.inside.plan ≡ None
+none : (c : goal.After-forget) → c.self.inside.plan ≡ None
 none c = None-if_not_some c.self.inside.plan (sym c.is_open.ensures ∙ c.if-is_open.false)
 
-kept : (c : goal.After-forget-pooled) → IsKept (fields c)
-kept c = IsKept-forgotten c.self.inside (fields c) c.self.invariant refl refl refl refl c.forget-pooled.ensures.forgets.after refl refl refl c.forget_guests-owned.ensures.items c.with-self-inside.ensures (none c)
+keeps : (c : goal.After-forget) → KeepsStanding c.forget_guests-owned.new.shards.items c.self.inside.whereabouts.entries c.forget.new.self.entries
+keeps c = c.forget.ensures
 
-are : (c : goal.After-forget-pooled) → state_of (fields c) ≡ with_forgotten (state_of c.self.inside)
-are c = state_of-forgotten c.self.inside (fields c) c.self.invariant refl refl refl refl c.forget-pooled.ensures.forgets.after refl refl refl c.forget_guests-owned.ensures.items c.with-self-inside.ensures
+kept : (c : goal.After-forget) → IsKept (fields c)
+kept c = IsKept-forgotten c.self.inside (fields c) c.self.invariant refl refl refl refl c.forget-pooled.ensures.forgets.after refl (keeps c) refl c.forget_guests-owned.ensures.items c.with-self-inside.ensures (none c)
+
+are : (c : goal.After-forget) → state_of (fields c) ≡ with_forgotten (state_of c.self.inside)
+are c = state_of-forgotten c.self.inside (fields c) c.self.invariant refl refl refl refl c.forget-pooled.ensures.forgets.after refl (keeps c) refl c.forget_guests-owned.ensures.items c.with-self-inside.ensures
 
 pub invariant_of-self : goal.invariant_of-self
 invariant_of-self c = kept c
