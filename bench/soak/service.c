@@ -2,13 +2,11 @@
  * million events the last thin the values out to a twentieth, and then the sparse half of the pages goes through the pool and is folded, as
  * often as that gives pages back, and what can never be live again is forgotten. Each round every live value is looked up, and keys that were
  * freed find nothing. After the first ten rounds, and then each tenth, it prints a line: events, spans opened so far, pages, live values,
- * resident kilobytes; at its end how much more is resident than after the first ten rounds. */
+ * resident kilobytes; at its end how much more is resident than after the first ten rounds, and what is once all is freed, ended and forgotten. */
+#include "common.h"
 #include "teurlaks.h"
 
 #include <inttypes.h>
-#include <stdio.h>
-#include <stdlib.h>
-#include <unistd.h>
 
 enum { EVENTS_OF_A_ROUND = 1000000, ROUNDS_OF_A_LINE = 10, KEPT_OF = 20, STALE = 4096 };
 
@@ -21,31 +19,9 @@ static struct teurlaks_handle core;
 static struct held *live;
 static size_t live_count;
 static struct teurlaks_key stale[STALE];
-static uint64_t stale_count, events, spans, drawn = 1;
+static uint64_t stale_count, events, spans;
 
-#define WANT(holds)                                                                                                                          \
-    do {                                                                                                                                     \
-        if (!(holds)) {                                                                                                                      \
-            printf("service: event %" PRIu64 ", line %d: %s\n", events, __LINE__, #holds);                                                   \
-            exit(1);                                                                                                                         \
-        }                                                                                                                                    \
-    } while (0)
-
-/* SplitMix64. */
-static uint64_t draw(uint64_t below) {
-    uint64_t z = (drawn += 0x9e3779b97f4a7c15u);
-    z = (z ^ (z >> 30)) * 0xbf58476d1ce4e5b9u;
-    z = (z ^ (z >> 27)) * 0x94d049bb133111ebu;
-    return (z ^ (z >> 31)) % below;
-}
-
-static long resident(void) {
-    long all, pages = 0;
-    FILE *file = fopen("/proc/self/statm", "r");
-    if (!file || fscanf(file, "%ld %ld", &all, &pages) != 2) exit(2);
-    fclose(file);
-    return pages * (sysconf(_SC_PAGESIZE) / 1024);
-}
+static void say_where(void) { printf("service: event %" PRIu64, events); }
 
 static void put_one(void) {
     struct held held = {.value = draw(UINT64_MAX)};
@@ -116,6 +92,7 @@ int main(int count, char **words) {
     live = malloc(values * sizeof *live);
     if (!live) return 2;
     for (size_t at = 0; at < values; at++) live[at] = (struct held){{0}, 0};
+    drawn = 1;
     WANT(teurlaks_new(&core, 1, 1024, 1, UINT32_MAX) == TEURLAKS_OK);
     for (uint64_t rounds = 1; events < wanted; rounds++) {
         round_of(values);
@@ -126,6 +103,10 @@ int main(int count, char **words) {
         fflush(stdout);
     }
     if (first > 0) printf("service: %.3f of what was resident after the first ten rounds\n", (double)resident() / (double)first);
+    while (live_count > 0) free_one();
+    WANT(teurlaks_end(&core, 0) == TEURLAKS_OK && teurlaks_forget(&core).status == TEURLAKS_OK);
+    WANT(teurlaks_forget(&core).count == 0);
+    printf("service: %ld KB resident once all is freed, ended and forgotten\n", resident());
     teurlaks_drop(&core);
     free(live);
     return 0;

@@ -2,12 +2,11 @@
  * of other numbers, under budgets of memory that change; each call answers as the map does, a refused call has changed nothing and
  * succeeds with memory, and at its end a core has just the live keys of the map. The seed is printed at once, and what it draws does not
  * depend on the time, but for where it ends. Link it with c/pages.c and with --wrap for rattle_alloc and rattle_realloc. */
+#include "common.h"
 #include "teurlaks.h"
 
 #include <inttypes.h>
 #include <stdbool.h>
-#include <stdio.h>
-#include <stdlib.h>
 #include <string.h>
 #include <time.h>
 
@@ -25,7 +24,7 @@ struct got __real_rattle_realloc(void *at, size_t old, size_t size, size_t least
 struct got __wrap_rattle_alloc(size_t size, size_t least);
 struct got __wrap_rattle_realloc(void *at, size_t old, size_t size, size_t least);
 
-static uint64_t seed, drawn;
+static uint64_t seed;
 static struct teurlaks_handle core;
 static uint32_t shards;
 
@@ -37,21 +36,7 @@ static struct {
     uint64_t calls, refused, wanted, puts, sets, frees, cores, ends, retired, trimmed, adopted, marks, folds, emptied;
 } counts;
 
-#define WANT(holds)                                                                                                                          \
-    do {                                                                                                                                     \
-        if (!(holds)) {                                                                                                                      \
-            printf("soak: seed %" PRIu64 ", call %" PRIu64 ", line %d: %s\n", seed, counts.calls, __LINE__, #holds);                         \
-            exit(1);                                                                                                                         \
-        }                                                                                                                                    \
-    } while (0)
-
-/* SplitMix64. */
-static uint64_t draw(uint64_t below) {
-    uint64_t z = (drawn += 0x9e3779b97f4a7c15u);
-    z = (z ^ (z >> 30)) * 0xbf58476d1ce4e5b9u;
-    z = (z ^ (z >> 27)) * 0x94d049bb133111ebu;
-    return (z ^ (z >> 31)) % below;
-}
+static void say_where(void) { printf("soak: seed %" PRIu64 ", call %" PRIu64, seed, counts.calls); }
 
 static bool is_refused(size_t size) {
     if (!has_budget) return false;

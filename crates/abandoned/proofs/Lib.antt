@@ -2,6 +2,8 @@ pub mod Adopted
 pub mod Arranged
 pub mod Arrived
 pub mod Cases
+pub mod ForgottenGroups
+pub mod ForgottenPool
 pub mod Freed
 pub mod FreedPlace
 pub mod HeadPlaces

@@ -231,6 +231,10 @@ module _ (groups : List PooledState) (place_of : ℕ → Option ℕ) (found : Ar
     get-left_over : (at : ℕ) → at < length left → slice_get left at ≡ slice_get (set groups place last) at
     get-left_over at low = ap (λ (gs : List PooledState). slice_get gs at) left_is ∙ get-take (set groups place last) (length groups - 1) at (let e = shorter in omega arith)
 
+    -- the groups before it stay where they are
+    pub lower-swap : (at : ℕ) → at < place → slice_get left at ≡ slice_get groups at
+    lower-swap at less = get-left_over at (let low = within in let long = shorter in omega arith) ∙ get-set_other groups place at last (λ same. omega (arith, same))
+
     pub LetsGo-swap : LetsGo groups place left
     LetsGo-swap = record {
       stood = λ at z there.

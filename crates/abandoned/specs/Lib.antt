@@ -1,4 +1,5 @@
 pub mod Calls
+pub mod Forgets
 pub mod Groups
 pub mod GroupsKept
 pub mod Handover

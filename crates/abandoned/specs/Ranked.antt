@@ -1,6 +1,7 @@
 -- Groups in a row, found by the ranks of their heads. No public clause cites this module.
-use Rattle.std.specs.Prelude.{suc, ◌≡◌, ◌≢◌, ℕ, if◌then◌else◌, List, [], ◌∷◌, Option, Some, IsSome, insert, length, nat_lt, slice_get}
-use Rattle.span.specs.Ids.{rank}
+use Rattle.std.specs.Prelude.{suc, ◌≡◌, ◌≢◌, ◌≤◌, ℕ, if◌then◌else◌, List, [], ◌∷◌, Option, Some, IsSome, count_by, insert, length, nat_lt, slice_get}
+use Rattle.span.specs.declared.id.SpanId.{SpanId}
+use Rattle.span.specs.Ids.{rank, same_span}
 use Rattle.abandoned.specs.Groups.{GroupsState}
 use Rattle.abandoned.specs.State.{PooledState}
 
@@ -46,3 +47,17 @@ pub record AreOfOld (old new : GroupsState) : Type 0 where
   pub room : new.room ≡ old.room
   pub paged : (index : ℕ) (group : PooledState) → slice_get new.groups index ≡ Some group → IsSome group.page
       → (was : PooledState) × (at : ℕ) × (slice_get old.groups at ≡ Some was) × IsSome was.page × (head_rank was ≡ head_rank group)
+
+-- each head stands once
+abbrev pub HaveOwnHeads : List PooledState → Type 0
+HaveOwnHeads groups = (i j : ℕ) (a b : PooledState) → slice_get groups i ≡ Some a → slice_get groups j ≡ Some b → a.head.id ≡ b.head.id → i ≡ j
+
+-- no id stands twice among the guests of a group
+abbrev pub HaveGuestsOnce : List PooledState → Type 0
+HaveGuestsOnce groups = (index : ℕ) (group : PooledState) → slice_get groups index ≡ Some group → (id : SpanId) → count_by (λ span. same_span span.id id) group.guests ≤ 1
+
+-- what is left are the groups that have a page
+pub record KeepsPaged (groups left : List PooledState) : Type 0 where
+  pub paged : (now : ℕ) (group : PooledState) → slice_get left now ≡ Some group → IsSome group.page
+  pub stood : (now : ℕ) (group : PooledState) → slice_get left now ≡ Some group → (was : ℕ) × (slice_get groups was ≡ Some group)
+  pub stay : (was : ℕ) (group : PooledState) → slice_get groups was ≡ Some group → IsSome group.page → (now : ℕ) × (slice_get left now ≡ Some group)

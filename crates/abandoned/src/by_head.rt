@@ -6,13 +6,15 @@ ghost use Rattle.span.specs.Log.{Holds};
 ghost use Rattle.span.specs.SpanLogs.{AreLegal, room_for_logs, span_of_log};
 ghost use Rattle.span.specs.State.{IsSettable, SpanState};
 ghost use Rattle.groups.specs.Pages.{set_group};
-ghost use Rattle.groups.specs.Sound.{IsSoundGroup};
+ghost use Rattle.groups.specs.Directory.{KnowsGuests};
+ghost use Rattle.groups.specs.Sound.{AreSoundGroups, IsSoundGroup};
 ghost use Rattle.groups.specs.Spans.{with_free_at, with_set_at, live_count};
 ghost use Rattle.abandoned.specs.Calls.{HasNoPage};
 ghost use Rattle.groups.specs.Group.{Ascend, HasNoHead, IsHeadOf, IsPlaceFor, paged_in, spans_in, spans_of, summary, with_span};
+ghost use Rattle.abandoned.specs.Forgets.{left_in};
 ghost use Rattle.abandoned.specs.Groups.{FreesIn, HasHeadAt, Removes};
 ghost use Rattle.std.specs.List.{Contains};
-ghost use Rattle.abandoned.specs.Ranked.{head_rank};
+ghost use Rattle.abandoned.specs.Ranked.{HaveGuestsOnce, head_rank};
 ghost use Rattle.abandoned.specs.Noted.{AreNoted, HasNoPageAt, IsHeadOfFirstPaged, IsPagedHead};
 ghost use Rattle.abandoned.specs.State.{PooledState};
 ghost use Rattle.span.specs.declared.limits.TheConstants.{ALL_IDS};
@@ -22,7 +24,8 @@ use crate::by_rank::ByRank;
 use crate::pooled::Pooled;
 use crate::ranks::Ranks;
 use crate::walks;
-use span::{Entry, Kept, Log, SpanId, SpanLog};
+use groups::Directory;
+use span::{Counted, Entry, Kept, Log, SpanId, SpanLog};
 use std::alloc::{AllocError, Global};
 use std::marker::Model;
 
@@ -227,6 +230,23 @@ impl Groups<Kept> {
         let mut groups = self.places.into_row();
         groups.sort_unstable_by_key(|group| group.head_id().rank());
         walks::into_logs(groups, logs);
+    }
+}
+
+impl Groups<Counted> {
+    /// The groups that have no page go, and each other forgets its guests in which no slot is live. The directory says where
+    /// the guests stand that are left.
+    pub(crate) fn forget(&mut self, directory: &mut Directory)
+        requires known { KnowsGuests self.old.groups directory.old.entries }
+        requires once { HaveGuestsOnce self.old.groups }
+        requires sound { AreSoundGroups self.old.groups }
+        ensures groups { self.new ≡ record self.old { groups = left_in self.old.groups } }
+        ensures known { KnowsGuests self.new.groups directory.new.entries }
+        ensures room { directory.new.room ≡ directory.old.room }
+    {
+        self.places.forget_guests(directory);
+        self.places.keep_paged();
+        tidy(&self.places, &mut self.paged);
     }
 }
 

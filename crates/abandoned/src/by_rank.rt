@@ -19,6 +19,8 @@ use std::alloc::{AllocError, Global};
 use std::collections::HashMap;
 use std::marker::Model;
 
+mod forgetting;
+
 /// Groups in a row, and for the rank of each head where in the row its group stands.
 ///
 /// So memory follows the groups that are here, whichever heads they have, and a look-up, an arrival and a departure cost
@@ -244,8 +246,10 @@ fn let_go<L: Log>(
     requires found { AreFound groups.old.items (hash.get nat_eq places.old) }
     ensures gone { slice_get groups.old.items place ≡ Some result }
     ensures left { LetsGo groups.old.items place groups.new.items }
+    ensures lower { (at : ℕ) → at < place
+        → slice_get groups.new.items at ≡ slice_get groups.old.items at }
     ensures found { AreFound groups.new.items (hash.get nat_eq places.new) }
-    ensures fewer { length groups.new.items ≤ length groups.old.items }
+    ensures fewer { length groups.new.items < length groups.old.items }
     ensures capacity { vec_capacity groups.new ≡ vec_capacity groups.old }
     ensures spare { hash.spare places.old ≤ hash.spare places.new }
 {

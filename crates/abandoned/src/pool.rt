@@ -22,6 +22,7 @@ use span::{Entry, Kept, Key, Log, SpanId};
 use std::alloc::{AllocError, Global};
 use std::marker::Model;
 
+mod forgetting;
 mod handover;
 mod logs;
 mod moves;

@@ -10,12 +10,13 @@ ghost use Rattle.groups.specs.Spans.{HasNoSpan, IsSpanAt, union_of, with_free_at
 ghost use Rattle.groups.specs.Brief.{IsBriefOf};
 ghost use Rattle.abandoned.specs.Calls.{GivesUp};
 ghost use Rattle.abandoned.specs.State.{group_of};
+ghost use Rattle.groups.specs.Dead.{without_dead};
 ghost use Rattle.groups.specs.Group.{spans_of, summary, with_span};
 ghost use Rattle.bitmap.specs.declared.bits.TheConstants.{SLOTS};
 
 use groups::{Brief, Spans};
 use page::Page;
-use span::{Class, Entry, Log, Span, SpanId};
+use span::{Class, Counted, Entry, Log, Span, SpanId};
 use std::alloc::AllocError;
 use std::marker::Model;
 
@@ -195,5 +196,14 @@ impl<L: Log> Pooled<L> {
         if self.spans.occupied().lowest().is_none() {
             self.page = None;
         }
+    }
+}
+
+impl Pooled<Counted> {
+    /// Drops its guests in which no slot is live.
+    pub(crate) fn forget_guests(&mut self)
+        ensures { self.new ≡ without_dead self.old }
+    {
+        self.spans.forget_guests();
     }
 }

@@ -1,23 +1,30 @@
 -- A core that forgets spans which can never be live again stays sound, and shows the same.
-use Rattle.std.proofs.Common.{zero, suc, ◌≡◌, ℕ, ◌+◌, length, Bool, true, false, not, cond, List, [], ◌∷◌, ◌++◌, None, Some, map, slice_get, is_some, refl, sym, ap, subst, ◌∙◌, arith, inl, inr}
-use Rattle.std.specs.Prelude.{sum_by}
+use Rattle.std.proofs.Common.{zero, suc, ◌≡◌, ℕ, ◌+◌, length, Bool, true, false, not, cond, List, [], ◌∷◌, ◌++◌, None, Some, Option, map, slice_get, is_some, refl, sym, ap, subst, ◌∙◌, arith, inl, inr}
+use Rattle.std.specs.FinSet.{empty}
+use Rattle.std.specs.Prelude.{MatchOption, sum_by}
 use Rattle.std.proofs.lemmas.List.{length-map}
 use Rattle.std.proofs.lemmas.List.Sums.{sum_by-append, sum_by-cons}
 use Rattle.span.specs.declared.id.SpanId.{SpanId}
 use Rattle.span.specs.State.{SpanState}
 use Rattle.groups.specs.Dead.{dead_among, dead_guests, is_dead, is_live, live_among, without_dead}
-use Rattle.groups.specs.Group.{spans_in}
-use Rattle.groups.specs.Sound.{AreSoundGroups}
-use Rattle.groups.proofs.DeadGuests.{before-filter, live_slots-dead}
+use Rattle.span.specs.Log.{live_slots}
+use Rattle.page.specs.Words.{Words}
+use Rattle.groups.specs.Group.{Group, paged_in, spans_in, spans_of}
+use Rattle.groups.specs.Sound.{AreSoundGroups, AreStored}
+use Rattle.groups.specs.Spans.{union_of}
+use Rattle.groups.proofs.DeadGuests.{before-filter, live_slots-dead, live_slots-none}
 use Rattle.groups.proofs.Lists.{in_either}
 use Rattle.shard.specs.Group.{GroupState}
 use Rattle.shard.specs.State.{ShardState}
 use Rattle.shard.proofs.Forgotten.{IsSound-without_dead}
+use Rattle.abandoned.specs.Forgets.{gone_from, unpaged_in}
+use Rattle.abandoned.specs.State.{PoolState, PooledState}
+use Rattle.abandoned.proofs.ForgottenPool.{IsSound-left, sum-paged}
 use Rattle.marks.proofs.Flagged.{map_back}
-use Rattle.arena_core.specs.Forgets.{dead_owned, with_forgotten, without_dead_guests}
+use Rattle.arena_core.specs.Forgets.{dead_owned, dead_spans, with_forgotten, without_dead_groups, without_dead_guests}
 use Rattle.arena_core.specs.Kept.{IsKept, state_of}
 use Rattle.arena_core.specs.declared.machine.Core.TheInside.{Inside}
-use Rattle.arena_core.specs.Moved.{Entries, KnowsMoved, WhereaboutsState}
+use Rattle.arena_core.specs.Moved.{Entries, KeepsStanding, KnowsMoved}
 use Rattle.arena_core.specs.Sound.{HasSoundGroups, IsForgotten, IsSound, IsSoundAt}
 use Rattle.arena_core.specs.State.{CoreState, all_spans, has_span, opened_of, shown}
 use Rattle.arena_core.proofs.Changes.{indicator, no_strays}
@@ -25,7 +32,8 @@ use Rattle.arena_core.proofs.Groups.{strays, strays-each}
 use Rattle.arena_core.proofs.Logged.{shown-same}
 use Rattle.arena_core.proofs.MarkSteps.{AreOpen-none}
 use Rattle.arena_core.proofs.PlanSteps.{HasSoundPlan-none}
-use Rattle.arena_core.proofs.Spans.{has_span-counted, named, sum_all, sum_all-parts, sum_in, times_in-found}
+use Rattle.arena_core.proofs.Standing.{KnowsMoved-standing}
+use Rattle.arena_core.proofs.Spans.{has_span-counted, named, sum_all, sum_all-parts, sum_in, sum_pooled, times_in-found}
 
 -- sums over what is left and what went
 
@@ -39,7 +47,7 @@ module _ (w : SpanState → ℕ) where
       by_test true later = omega (arith, later, sum_by-cons w span (live_among rest), sum_by-cons w span rest)
       by_test false later = omega (arith, later, sum_by-cons w span (dead_among rest), sum_by-cons w span rest)
 
-  sum-without_dead : (groups : List GroupState) → sum_by w (spans_in (map without_dead groups)) + sum_by w (dead_guests groups) ≡ sum_by w (spans_in groups)
+  sum-without_dead : {Closed : Type 0} (groups : List (Group Closed)) → sum_by w (spans_in (map without_dead groups)) + sum_by w (dead_guests groups) ≡ sum_by w (spans_in groups)
   sum-without_dead [] = refl
   sum-without_dead (group ∷ groups) =
       omega (
@@ -65,13 +73,25 @@ module _ (w : SpanState → ℕ) where
         sum_by-append w (dead_guests shard.groups) (dead_owned shards),
       )
 
+  sum-pooled : (pool : PoolState) → sum_pooled w (without_dead_groups pool) + sum_by w (gone_from pool.groups) ≡ sum_pooled w pool
+  sum-pooled pool = omega (arith, sum-without_dead (paged_in pool.groups), sum-paged w pool.groups, sum_by-append w (dead_guests (paged_in pool.groups)) (spans_in (unpaged_in pool.groups)))
+
   -- no span comes or goes, but to those that were forgotten
   sum_all-forgotten : (core : CoreState) → sum_all w (with_forgotten core) ≡ sum_all w core
-  sum_all-forgotten core = omega (arith, sum_all-parts w (with_forgotten core), sum_all-parts w core, sum-owned core.shards, sum_by-append w core.forgotten (dead_owned core.shards))
+  sum_all-forgotten core =
+      omega (
+        arith,
+        sum_all-parts w (with_forgotten core),
+        sum_all-parts w core,
+        sum-owned core.shards,
+        sum-pooled core.pool,
+        sum_by-append w core.forgotten (dead_spans core.shards core.pool),
+        sum_by-append w (dead_owned core.shards) (gone_from core.pool.groups),
+      )
 
 -- what went can be forgotten
 
-forgotten-guests : (groups : List GroupState) → AreSoundGroups groups → (place : ℕ) (span : SpanState) → slice_get (dead_guests groups) place ≡ Some span → IsForgotten span
+forgotten-guests : {Closed : Type 0} (groups : List (Group Closed)) → AreSoundGroups groups → (place : ℕ) (span : SpanState) → slice_get (dead_guests groups) place ≡ Some span → IsForgotten span
 forgotten-guests [] sound place span here = absurd cc
 forgotten-guests (group ∷ groups) sound place span here = elim (in_either (dead_among group.guests) (dead_guests groups) place span here) [
   | inl first ↦
@@ -91,6 +111,29 @@ forgotten-owned (shard ∷ shards) sound place span here = elim (in_either (dead
   | inr later ↦ forgotten-owned shards (λ number s at. sound (suc number) s at) later.0 span later.1
 ]
 
+forgotten-unpaged : (groups : List PooledState) → AreSoundGroups groups → ((index : ℕ) (group : PooledState) → slice_get groups index ≡ Some group → is_some group.page ≡ false) → (place : ℕ) (span : SpanState) → slice_get (spans_in groups) place ≡ Some span → IsForgotten span
+forgotten-unpaged [] sound none place span here = absurd cc
+forgotten-unpaged (group ∷ groups) sound none place span here = elim (in_either (spans_of group) (spans_in groups) place span here) [
+  | inl first ↦ record { legal = (sound 0 group refl).legal place span first; none_live = by_page group.page (none 0 group refl) (sound 0 group refl).page first }
+  | inr later ↦ forgotten-unpaged groups (λ index g at. sound (suc index) g at) (λ index g at. none (suc index) g at) later.0 span later.1
+]
+  where
+    by_page : (page : Option Words) → is_some page ≡ false → MatchOption page (union_of (spans_of group) ≡ empty) (AreStored (spans_of group)) → slice_get (spans_of group) place ≡ Some span → live_slots span.log ≡ empty
+    by_page None e empty first = live_slots-none (spans_of group) empty place span first
+    by_page (Some words) e stored first = absurd cc
+
+forgotten-pooled : (groups : List PooledState) → AreSoundGroups groups → (place : ℕ) (span : SpanState) → slice_get (gone_from groups) place ≡ Some span → IsForgotten span
+forgotten-pooled groups sound place span here = elim (in_either (dead_guests (paged_in groups)) (spans_in (unpaged_in groups)) place span here) [
+  | inl guest ↦ forgotten-guests (paged_in groups) (λ index g at. let was = before-filter (λ (g : PooledState). is_some g.page) groups index g at in sound was.0 g was.1) place span guest
+  | inr other ↦
+      forgotten-unpaged (unpaged_in groups) (λ index g at. let was = before-filter (λ (g : PooledState). not (is_some g.page)) groups index g at in sound was.0 g was.1)
+      (λ index g at. let was = before-filter (λ (g : PooledState). not (is_some g.page)) groups index g at in not_true (is_some g.page) was.2) other.0 span other.1
+]
+  where
+    not_true : (b : Bool) → not b ≡ true → b ≡ false
+    not_true true e = absurd cc
+    not_true false e = refl
+
 -- the core
 
 opened_of-forgotten : (shards : List ShardState) (number : ℕ) → opened_of (slice_get (map without_dead_guests shards) number) ≡ opened_of (slice_get shards number)
@@ -108,12 +151,15 @@ module _ (core : CoreState) (sound : IsSound core) where
         let fine = sound.groups.shards number was here in
         subst (IsSoundAt core.limits number) is
         (record { number_is = fine.number_is; page_limit_is = fine.page_limit_is; span_limit_is = fine.span_limit_is; gens_is = fine.gens_is; sound = IsSound-without_dead was fine.sound });
-    pool = sound.groups.pool;
+    pool = IsSound-left core.pool sound.groups.pool;
     gens = strays-each core.limits.gens (all_spans (with_forgotten core)) (sum_all-forgotten (strays core.limits.gens) core ∙ no_strays core sound.groups);
     once = λ id. sum_all-forgotten (named id) core ∙ sound.groups.once id ∙ ap (indicator id.serial) (sym (opened_of-forgotten core.shards id.shard));
-    forgotten = λ place span here. elim (in_either core.forgotten (dead_owned core.shards) place span here) [
+    forgotten = λ place span here. elim (in_either core.forgotten (dead_spans core.shards core.pool) place span here) [
       | inl before ↦ sound.groups.forgotten place span before
-      | inr later ↦ forgotten-owned core.shards (λ number shard at. (sound.groups.shards number shard at).sound.groups) later.0 span later.1
+      | inr now ↦ elim (in_either (dead_owned core.shards) (gone_from core.pool.groups) now.0 span now.1) [
+        | inl owned ↦ forgotten-owned core.shards (λ number shard at. (sound.groups.shards number shard at).sound.groups) now.0 span owned
+        | inr pooled ↦ forgotten-pooled core.pool.groups sound.groups.pool.groups pooled.0 span pooled.1
+      ]
     ];
   }
 
@@ -141,8 +187,8 @@ KnowsMoved-forgotten shards entries knows id number foreign (shard, at, has) =
     knows id number foreign (was, there, has_span-forgotten was id (ap (has_span id) is ∙ has))
 
 -- the fields
-module _ {L : Type 0} (c now : Inside L) (kept : IsKept c) (pages : now.page_limit ≡ c.page_limit) (spans : now.span_limit ≡ c.span_limit) (ring : now.ring_capacity ≡ c.ring_capacity) (gens : now.gens ≡ c.gens) (pool : now.pool ≡ c.pool) (plan : now.plan ≡ c.plan) (whereabouts : now.whereabouts ≡ c.whereabouts) (rings : now.rings ≡ c.rings)
-    (items : now.shards.items ≡ map without_dead_guests c.shards.items) (gone : now.forgotten.spans ≡ c.forgotten.spans ++ dead_owned c.shards.items) where
+module _ {L : Type 0} (c now : Inside L) (kept : IsKept c) (pages : now.page_limit ≡ c.page_limit) (spans : now.span_limit ≡ c.span_limit) (ring : now.ring_capacity ≡ c.ring_capacity) (gens : now.gens ≡ c.gens) (pool : now.pool ≡ without_dead_groups c.pool) (plan : now.plan ≡ c.plan) (keeps : KeepsStanding now.shards.items c.whereabouts.entries now.whereabouts.entries) (rings : now.rings ≡ c.rings)
+    (items : now.shards.items ≡ map without_dead_guests c.shards.items) (gone : now.forgotten.spans ≡ c.forgotten.spans ++ dead_spans c.shards.items c.pool) where
   count_is : length now.shards.items ≡ length c.shards.items
   count_is = ap length items ∙ length-map c.shards.items without_dead_guests
 
@@ -160,6 +206,6 @@ module _ {L : Type 0} (c now : Inside L) (kept : IsKept c) (pages : now.page_lim
   IsKept-forgotten none = record {
     sound = subst IsSound (sym state_of-forgotten) (IsSound-forgotten (state_of c) kept.sound none);
     moved =
-        subst (KnowsMoved now.shards.items) (sym (ap (λ (w : WhereaboutsState). w.entries) whereabouts))
+        KnowsMoved-standing now.shards.items c.whereabouts.entries now.whereabouts.entries keeps
         (subst (λ shards. KnowsMoved shards c.whereabouts.entries) (sym items) (KnowsMoved-forgotten c.shards.items c.whereabouts.entries kept.moved));
   }

@@ -35,6 +35,7 @@ pub mod Runs
 pub mod Shown
 pub mod Spans
 pub mod Start
+pub mod Standing
 pub mod Stepping
 pub mod Steps
 pub mod Trimmed

@@ -1,5 +1,5 @@
 -- Where spans stand that left the shard which opened them. No public clause cites this module.
-use Rattle.std.specs.Prelude.{◌≡◌, ◌≢◌, ◌⊎◌, ◌≤◌, ◌+◌, ℕ, true, List, length, cond, Option, None, Some, slice_get, eqb, refl}
+use Rattle.std.specs.Prelude.{◌≡◌, ◌≢◌, ◌⊎◌, ◌↔◌, ◌≤◌, ◌+◌, ℕ, Bool, true, IsTrue, List, length, cond, Option, None, Some, slice_get, eqb, refl}
 use Rattle.std.specs.Coded.{Coded, code_by, coded×, coded_ℕ}
 use Rattle.std.specs.Ordering.{nat_cmp}
 use Rattle.std.specs.FinMap as map
@@ -51,6 +51,15 @@ with_taken entries id number = cond (eqb id.shard number) (map.remove entries (r
 -- a span that stands in a shard which did not open it stands in the one that the entries name
 abbrev pub KnowsMoved : List ShardState → Entries → Type 0
 KnowsMoved shards entries = (id : SpanId) (number : ℕ) → number ≢ id.shard → StandsIn shards id number → named entries id ≡ Some number
+
+-- it is told whether the shard of this number has the span of this rank
+pub record TellsStanding (shards : List ShardState) (place number : ℕ) (told : Bool) : Type 0 where
+  pub stands : (id : SpanId) → rank id ≡ place → (IsTrue told ↔ StandsIn shards id number)
+
+-- the entries of spans that stand in the shard that is named are left, and no others
+pub record KeepsStanding (shards : List ShardState) (old new : Entries) : Type 0 where
+  pub kept : (id : SpanId) (number : ℕ) → named old id ≡ Some number → StandsIn shards id number → named new id ≡ Some number
+  pub stands : (id : SpanId) (number : ℕ) → named new id ≡ Some number → StandsIn shards id number
 
 -- the spans of the head's group from the place on are that many at most
 abbrev pub HasAtMost : List GroupState → SpanId → ℕ → ℕ → Type 0

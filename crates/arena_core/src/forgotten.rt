@@ -5,8 +5,9 @@
 ghost use Rattle.std.specs.Prelude.{◌≡◌, List, [], ◌++◌};
 ghost use Rattle.std.specs.Borrow.{ftrue};
 ghost use Rattle.span.specs.State.{SpanState};
-ghost use Rattle.arena_core.specs.Forgets.{dead_owned};
+ghost use Rattle.arena_core.specs.Forgets.{dead_spans};
 
+use abandoned::Pool;
 use shard::Shard;
 use span::Counted;
 use std::marker::Model;
@@ -33,10 +34,14 @@ impl Forgotten {
         Forgotten {}
     }
 
-    /// The spans that were forgotten before, and the guests of the shards in which no slot is live.
+    /// The spans that were forgotten before, and those of the shards and of the pool that can never be live again.
     #[inline(always)]
-    pub(crate) fn with(before: &Forgotten, shards: &Vec<Shard<Counted>>) -> Forgotten
-        ensures { result.spans ≡ before.now.spans ++ dead_owned shards.now.items }
+    pub(crate) fn with(
+        before: &Forgotten,
+        shards: &Vec<Shard<Counted>>,
+        pool: &Pool<Counted>,
+    ) -> Forgotten
+        ensures { result.spans ≡ before.now.spans ++ dead_spans shards.now.items pool.now }
     {
         Forgotten {}
     }

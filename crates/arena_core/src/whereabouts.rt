@@ -1,13 +1,14 @@
 // Where the spans are that left the shard which opened them.
-ghost use Rattle.std.specs.Prelude.{◌≡◌, ◌≤◌, ◌<◌, ◌+◌, OnOk, Some, nat_eq};
+ghost use Rattle.std.specs.Prelude.{◌≡◌, ◌≤◌, ◌<◌, ◌+◌, ℕ, OnOk, Some, nat_eq};
 ghost use Rattle.std.specs.FinMap as map;
 ghost use Rattle.std.specs.HashMap as hash;
 ghost use Rattle.shard.specs.Sound.{IsSound};
 ghost use Rattle.span.specs.Ids.{rank};
-ghost use Rattle.arena_core.specs.Moved.{HasAtMost, Notes, entries_of, named, with_taken};
+ghost use Rattle.span.specs.declared.id.SpanId.{SpanId};
+ghost use Rattle.arena_core.specs.Moved.{HasAtMost, KeepsStanding, Notes, StandsIn, TellsStanding, entries_of, named, with_taken};
 
 use shard::Shard;
-use span::{Log, SpanId};
+use span::{Log, MOST_SPANS, SpanId};
 use std::alloc::{AllocError, Global};
 use std::collections::HashMap;
 use std::marker::Model;
@@ -15,8 +16,8 @@ use std::marker::Model;
 /// For spans that a shard took in which did not open them, the number of the one that took each in last.
 ///
 /// A span that stands in a shard which did not open it stands in the one that is named here: the core notes each span that
-/// a shard takes in. It need not note that one leaves, so a span that is named here may be in the pool. A span that comes
-/// back to the shard which opened it is named no more.
+/// a shard takes in. It need not note that one leaves, so a span that is named here may be in the pool, or forgotten, until [`Whereabouts::forget`]
+/// looks. A span that comes back to the shard which opened it is named no more.
 ///
 /// An entry goes into room that was made before, so that nothing is noted by halves.
 #[derive(Drop)]
@@ -99,6 +100,64 @@ impl Whereabouts {
                 self.set(id, number);
             }
         }
+    }
+
+    /// Names no more those spans that do not stand in the shard that is named, and gives memory back where a quarter of it would do.
+    /// It takes none.
+    pub fn forget<L: Log>(&mut self, shards: &Vec<Shard<L>>)
+        ensures { KeepsStanding shards.now.items self.old.entries self.new.entries }
+    {
+        keep_standing(&mut self.shards, shards);
+        give_back(&mut self.shards);
+    }
+}
+
+// Drops the entries of spans that do not stand in the shard of the number that they have.
+fn keep_standing<L: Log>(entries: &mut HashMap<u64, u8>, shards: &Vec<Shard<L>>)
+    ensures kept { (id : SpanId) (number : ℕ)
+        → hash.get nat_eq entries.old (rank id) ≡ Some number → StandsIn shards.now.items id number
+        → hash.get nat_eq entries.new (rank id) ≡ Some number }
+    ensures stands { (id : SpanId) (number : ℕ)
+        → hash.get nat_eq entries.new (rank id) ≡ Some number
+        → StandsIn shards.now.items id number }
+{
+    entries.retain(|span, number| stands_in(shards, *span, *number));
+}
+
+// Whether the shard of this number has the span of this rank.
+fn stands_in<L: Log>(shards: &Vec<Shard<L>>, span: u64, number: u8) -> bool
+    ensures { TellsStanding shards.now.items span number result }
+{
+    let Some(id) = id_of(span) else {
+        return false;
+    };
+    let Some(shard) = shards.get(usize::from(number)) else {
+        return false;
+    };
+    shard.has(id)
+}
+
+// The id of this rank.
+fn id_of(number: u64) -> Option<SpanId>
+    ensures { (id : SpanId) → rank id ≡ number → result ≡ Some id }
+{
+    let Ok(shard) = u32::try_from(number / u64::from(MOST_SPANS)) else {
+        return None;
+    };
+    let Ok(serial) = u32::try_from(number % u64::from(MOST_SPANS)) else {
+        return None;
+    };
+    SpanId::new(shard, serial)
+}
+
+// Gives memory back where a quarter of the room in the table would do for its entries. Twice as much stays.
+fn give_back(entries: &mut HashMap<u64, u8>)
+    ensures { (number : ℕ)
+        → hash.get nat_eq entries.new number ≡ hash.get nat_eq entries.old number }
+{
+    let used = entries.len();
+    if used < entries.capacity() / 4 {
+        entries.shrink_to(2 * used);
     }
 }
 

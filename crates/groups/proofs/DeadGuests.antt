@@ -1,10 +1,13 @@
 -- Spans without those in which no slot is live.
 use Rattle.std.proofs.Common.{zero, suc, ◌≡◌, ℕ, ◌+◌, Bool, true, false, not, cond, List, [], ◌∷◌, ◌++◌, Option, Some, None, MatchOption, filter, length, map, slice_get, ◌∙◌, ap, sym, subst, refl, arith}
-use Rattle.std.specs.FinSet.{empty, empty_of_len, len, union}
+use Rattle.std.specs.FinSet.{contains, contains-empty, empty, empty_of_len, len, len-empty, union}
+use Rattle.std.specs.Ordering.{nat_cmp}
+use Rattle.std.specs.Prelude.{nat_lt}
 use Rattle.std.proofs.lemmas.Bool.{ltb-false}
 use Rattle.std.proofs.lemmas.List.{length-append}
 use Rattle.std.proofs.lemmas.List.Filters.{length-filter_both}
-use Rattle.bitmap.specs.Slots.{AreDisjoint}
+use Rattle.bitmap.specs.Slots.{AreDisjoint, SlotSet}
+use Rattle.bitmap.specs.Words.{same_slots}
 use Rattle.span.specs.Log.{live_slots}
 use Rattle.span.specs.Ids.{same_span}
 use Rattle.span.specs.State.{SpanState}
@@ -16,7 +19,7 @@ use Rattle.groups.specs.Sound.{AreStored, IsSoundGroup}
 use Rattle.groups.specs.Spans.{AreApart, union_of}
 use Rattle.groups.proofs.GroupSpans.{times}
 use Rattle.groups.proofs.Lists.{count-append, count-cons, same_some}
-use Rattle.groups.proofs.Unions.{union-empty, union-swap}
+use Rattle.groups.proofs.Unions.{outside_left, union-empty, union-swap}
 
 -- what a filter leaves
 
@@ -52,6 +55,28 @@ module _ {X : Type 0} (p : X → Bool) where
 -- a span that is not live has no live slot
 pub live_slots-dead : (span : SpanState) → is_live span ≡ false → live_slots span.log ≡ empty
 live_slots-dead span dead = empty_of_len (live_slots span.log) (omega (arith, ltb-false 0 (len (live_slots span.log)) dead))
+
+-- and one with no live slot is not live
+pub is_live-none : (span : SpanState) → live_slots span.log ≡ empty → is_live span ≡ false
+is_live-none span none = ap (λ (slots : SlotSet). nat_lt 0 (len slots)) none ∙ ap (nat_lt 0) (len-empty nat_cmp)
+
+empty_left : (a b : SlotSet) → union a b ≡ empty → a ≡ empty
+empty_left a b none = same_slots _ _ (λ q. outside_left a b q (ap (λ (s : SlotSet). contains s q) none ∙ contains-empty nat_cmp q) ∙ sym (contains-empty nat_cmp q))
+
+-- where no slot is live in any of the spans, it is so of each
+pub live_slots-none : (spans : List SpanState) → union_of spans ≡ empty → (place : ℕ) (span : SpanState) → slice_get spans place ≡ Some span → live_slots span.log ≡ empty
+live_slots-none [] none place span there = absurd cc
+live_slots-none (first ∷ rest) none zero span there = ap (λ (s : SpanState). live_slots s.log) (sym (same_some there)) ∙ empty_left (live_slots first.log) (union_of rest) none
+live_slots-none (first ∷ rest) none (suc place) span there = live_slots-none rest (empty_left (union_of rest) (live_slots first.log) (union-swap (union_of rest) (live_slots first.log) ∙ none)) place span there
+
+-- and none of them is live
+pub live_among-none : (spans : List SpanState) → ((place : ℕ) (span : SpanState) → slice_get spans place ≡ Some span → live_slots span.log ≡ empty) → live_among spans ≡ []
+live_among-none [] none = refl
+live_among-none (span ∷ rest) none = by_test (is_live span) (is_live-none span (none 0 span refl)) (live_among-none rest (λ place other there. none (suc place) other there))
+  where
+    by_test : (b : Bool) → b ≡ false → live_among rest ≡ [] → cond b (span ∷ live_among rest) (live_among rest) ≡ []
+    by_test true dead later = absurd cc
+    by_test false dead later = later
 
 -- no slot is live in the others
 pub union_of-live : (spans : List SpanState) → union_of (live_among spans) ≡ union_of spans

@@ -122,9 +122,13 @@ module _ {Closed : Type 0} (groups : List (Group Closed)) (entries : Entries) (k
   pub AreEntered-forgotten : AreEntered (struck entries (dead_among group.guests)) (live_among group.guests)
   AreEntered-forgotten = AreEntered-live (λ (g : Group Closed). g.head.id) (λ (g : Group Closed). g.guests) groups entries knows index group here
 
+  pub KnowsGuests-forgotten_apart : HaveOwnHeads (λ (g : Group Closed). g.head.id) (λ (g : Group Closed). g.guests) groups → ((id : SpanId) → count_by (λ (s : SpanState). same_span s.id id) group.guests ≤ 1)
+      → KnowsGuests (set groups index (without_dead group)) (entered (struck entries (dead_among group.guests)) (live_among group.guests) group.head.id 1)
+  KnowsGuests-forgotten_apart heads once =
+      IsDirectory-live (λ (g : Group Closed). g.head.id) (λ (g : Group Closed). g.guests) groups entries knows index group here
+      heads (without_dead group) refl refl
+      (HaveOwnRanks-once (live_among group.guests) (λ id. omega (arith, once id, times-live id group.guests)))
+
   pub KnowsGuests-forgotten : Ascend groups → ((id : SpanId) → count_by (λ (s : SpanState). same_span s.id id) group.guests ≤ 1)
       → KnowsGuests (set groups index (without_dead group)) (entered (struck entries (dead_among group.guests)) (live_among group.guests) group.head.id 1)
-  KnowsGuests-forgotten ascend once =
-      IsDirectory-live (λ (g : Group Closed). g.head.id) (λ (g : Group Closed). g.guests) groups entries knows index group here
-      (own_heads (λ (g : Group Closed). g.head) (λ (g : Group Closed). g.guests) groups ascend) (without_dead group) refl refl
-      (HaveOwnRanks-once (live_among group.guests) (λ id. omega (arith, once id, times-live id group.guests)))
+  KnowsGuests-forgotten ascend = KnowsGuests-forgotten_apart (own_heads (λ (g : Group Closed). g.head) (λ (g : Group Closed). g.guests) groups ascend)

@@ -72,6 +72,19 @@ module _ {G : Type 0} (head_of : G → SpanId) (guests_of : G → List SpanState
     place_is = was.place_is;
   }
 
+  -- groups of which those that have guests are the same, in whatever order
+  pub IsDirectory-left : (groups left : List G) (entries : Entries) → IsDirectory head_of guests_of groups entries
+      → ((index : ℕ) (group : G) → slice_get left index ≡ Some group → (was : ℕ) × (slice_get groups was ≡ Some group))
+      → ((index place : ℕ) (group : G) (guest : SpanState) → slice_get groups index ≡ Some group → slice_get (guests_of group) place ≡ Some guest → (now : ℕ) × (slice_get left now ≡ Some group))
+      → IsDirectory head_of guests_of left entries
+  IsDirectory-left groups left entries is stood stay = record {
+    known = λ index place group guest here there. let was = stood index group here in is.known was.0 place group guest was.1 there;
+    only = λ number at found. left_at number at (is.only number at found);
+  }
+    where
+      left_at : (number : ℕ) (at : Place) → IsGuestAt head_of guests_of groups number at → IsGuestAt head_of guests_of left number at
+      left_at number at was = let now = stay was.index was.place was.group was.guest was.group_is was.guest_is in stands_too groups left number at was now.0 now.1
+
   pub IsDirectory-none : (groups : List G) (entries : Entries) → groups ≡ [] → entries ≡ map.empty → IsDirectory head_of guests_of groups entries
   IsDirectory-none groups entries none empty = record {
     known = λ index place group guest here there. absurd (none-some group (ap (λ gs. slice_get gs index) (sym none) ∙ here));

@@ -1,5 +1,5 @@
 // Where guests stand.
-ghost use Rattle.std.specs.Prelude.{◌≡◌, ◌<◌, ◌≤◌, ◌-◌, ◌+◌, OnOk, OnErr, Some, drop, is_some, length, max, nat_eq, true};
+ghost use Rattle.std.specs.Prelude.{◌≡◌, ◌<◌, ◌≤◌, ◌-◌, ◌+◌, ℕ, OnOk, OnErr, Some, drop, is_some, length, max, nat_eq, true};
 ghost use Rattle.std.specs.FinMap as map;
 ghost use Rattle.std.specs.HashMap as hash;
 ghost use Rattle.span.specs.Ids.{rank};
@@ -131,6 +131,13 @@ impl Directory {
         }
     }
 
+    /// Gives memory back where a quarter of the room in the table would do for the entries and those that room is reserved for.
+    pub fn give_back(&mut self)
+        ensures { self.new ≡ self.old }
+    {
+        give_back(&mut self.places, self.room);
+    }
+
     /// Writes into the entries of the guests, each of which has one, that they are the guests of the head, in this order.
     /// It takes neither memory nor reserved room.
     pub fn move_all<L: Log>(&mut self, guests: &[Span<L>], head: SpanId)
@@ -187,5 +194,20 @@ fn write_over(places: &mut HashMap<u64, Place>, guest: u64, place: Place)
     match places.get_mut(&guest) {
         Some(entry) => *entry = place,
         None => unreachable!(),
+    }
+}
+
+// Gives memory back where a quarter of the room in the table would do for the entries and those that room is reserved
+// for. Twice as much stays, so that entries that come and go move the table only where it has halved or doubled.
+fn give_back(places: &mut HashMap<u64, Place>, room: usize)
+    requires { room ≤ hash.spare places.old }
+    ensures same { (number : ℕ)
+        → hash.get nat_eq places.new number ≡ hash.get nat_eq places.old number }
+    ensures spare { room ≤ hash.spare places.new }
+{
+    let capacity = places.capacity();
+    let wanted = places.len() + room;
+    if wanted < capacity / 4 {
+        places.shrink_to(2 * wanted);
     }
 }

@@ -142,8 +142,9 @@ impl Core {
         done(status).map(|()| count)
     }
 
-    /// Forgets the pages that were folded onto others and whose keys are all gone, with the generations that are kept of them, and says how
-    /// many. Nothing else changes: their keys find nothing, as before, and are never given out again. [`Core::compact`] does so at its end.
+    /// Forgets the pages whose keys are all gone and that were folded onto others, or left to the pool, with the generations that are kept
+    /// of them, and says how many. A page that its shard has opened stays known there, since it takes values again. Nothing else changes: keys
+    /// of what was forgotten find nothing, as before, and are never given out again. [`Core::compact`] does so at its end.
     ///
     /// # Errors
     ///
@@ -161,6 +162,9 @@ impl Core {
     ///     core.free(*key);
     /// }
     /// assert_eq!((core.forget()?, core.forget()?, core.get(keys[0])), (1, 0, None));
+    /// core.end(0)?;
+    /// core.end(1)?;
+    /// assert_eq!((core.forget()?, core.forget()?), (1, 0)); // and nothing is left
     /// # Ok::<(), teurlaks::Refused>(())
     /// ```
     pub fn forget(&mut self) -> Result<usize, Refused> {

@@ -1,10 +1,10 @@
 // Spans that can never be live again, which the core forgets.
-ghost use Rattle.std.specs.Prelude.{◌≡◌, ◌≤◌, MatchResult, length, map};
+ghost use Rattle.std.specs.Prelude.{◌*◌, ◌≡◌, ◌≤◌, MatchResult, length, map};
 ghost use Rattle.arena_core.specs.Forgets.{Forgets, dead_owned, without_dead_guests};
 ghost use Rattle.arena_core.specs.Sound.{IsSound};
 ghost use Rattle.arena_core.specs.State.{shown};
 ghost use Rattle.arena_core.specs.Step.{HasPlan};
-ghost use Rattle.span.specs.declared.limits.TheConstants.{MOST_SHARDS};
+ghost use Rattle.span.specs.declared.limits.TheConstants.{ALL_IDS, MOST_SHARDS};
 
 use super::Core;
 use crate::forgotten::Forgotten;
@@ -13,11 +13,13 @@ use shard::Shard;
 use span::Counted;
 
 impl Core<Counted> {
-    /// Forgets the guests of the shards' groups in which no slot is live, with their generations, and answers how many. A
-    /// guest takes no put, so none of their keys can be live again: it finds nothing, as before, and was given out once, as before.
+    /// Forgets the spans that can never be live again, with their generations, and answers how many: the guests of the shards'
+    /// groups in which no slot is live, and of the pool such guests and all spans of groups in which no slot is live. A guest takes no
+    /// put, and neither does what is in the pool, which no shard takes back where nothing of it is live: so each of their keys finds nothing,
+    /// as before, and was given out once, as before. A shard's own group with nothing live stays, since it takes puts again, also where it has been trimmed.
     /// Nothing that a caller sees changes but the memory that is kept. It takes none.
     ///
-    /// It is no event, and is asked for: a sweep looks at each guest. With kept logs there is none, since an audit reads all logs.
+    /// It is no event, and is asked for: a sweep looks at each group and each guest. With kept logs there is none, since an audit reads all logs.
     ///
     /// It is refused with [`Refusal::PlanOpen`] exactly while a plan is open.
     pub fn forget(&mut self) -> Result<usize, Refusal>
@@ -30,9 +32,11 @@ impl Core<Counted> {
         if self.plan.is_open() {
             return Err(Refusal::PlanOpen);
         }
-        self.forgotten = Forgotten::with(&self.forgotten, &self.shards);
-        let count = forget_guests(&mut self.shards);
-        Ok(count)
+        self.forgotten = Forgotten::with(&self.forgotten, &self.shards, &self.pool);
+        let owned = forget_guests(&mut self.shards);
+        let pooled = self.pool.forget();
+        self.whereabouts.forget(&self.shards);
+        Ok(owned + pooled)
     }
 }
 
@@ -41,6 +45,7 @@ fn forget_guests(shards: &mut Vec<Shard<Counted>>) -> usize
     requires { length shards.old.items ≤ MOST_SHARDS }
     ensures items { shards.new.items ≡ map without_dead_guests shards.old.items }
     ensures count { result ≡ length (dead_owned shards.old.items) }
+    ensures at_most { result ≤ ALL_IDS * MOST_SHARDS }
 {
     let mut count = 0;
     for index in 0..shards.len() {

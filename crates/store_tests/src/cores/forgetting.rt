@@ -1,4 +1,4 @@
-// Spans that a core forgets, once they are guests in which nothing is live.
+// Spans that a core forgets, once nothing of them can be live again.
 use super::{Told, answer, found, key, new_counted_core, put};
 use arena_core::{Core, Event, Refusal};
 use fold::Step;
@@ -134,4 +134,54 @@ fn two_guests(alloc: Global) -> Option<[usize; 2]> {
 #[test]
 fn guests_are_forgotten_and_heads_stay(rt: HostRuntime) {
     assert_eq!(rt; two_guests(rt.alloc()), Some([1, 0]));
+}
+
+fn end(shard: u32) -> (Event, Told) {
+    (Event::End { shard }, Told::ShardEnded)
+}
+
+// The counts of what is forgotten once all shards have ended: while the guest's key alone is live, once none is, and then.
+fn are_all_forgotten(core: &mut Core<Counted>, guest: Key, head: Key) -> Option<[usize; 3]> {
+    let ends = [
+        end(0),
+        end(1),
+        end(2),
+        free(head, true),
+        look_gone(head),
+        look(guest, 2),
+    ];
+    if !are_answered(core, ends.as_slice()) {
+        return None;
+    }
+    let with_guest = forget(core).ok()?;
+    answer(core, &Event::Free { key: guest })?;
+    Some([with_guest, forget(core).ok()?, forget(core).ok()?])
+}
+
+fn nothing_left(alloc: Global) -> Option<[usize; 3]> {
+    let mut core = new_counted_core(alloc)?;
+    let [guest, head, _] = keys()?;
+    if answer(&mut core, &put(1, 3)) != Some(Told::Issued(head))
+        || !is_guest(&mut core, guest, head)
+    {
+        return None;
+    }
+    let counts = are_all_forgotten(&mut core, guest, head)?;
+    let stale = [
+        look_gone(guest),
+        free(head, false),
+        (Event::Begin { shard: 1 }, Told::ShardBegun),
+        (put(1, 4), Told::Issued(key(1, 1, 0, 1)?)),
+    ];
+    if are_answered(&mut core, stale.as_slice()) {
+        Some(counts)
+    } else {
+        None
+    }
+}
+
+// A head stays while a guest of it is live.
+#[test]
+fn nothing_stays_in_the_pool_that_is_not_live(rt: HostRuntime) {
+    assert_eq!(rt; nothing_left(rt.alloc()), Some([0, 2, 0]));
 }

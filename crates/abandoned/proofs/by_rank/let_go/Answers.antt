@@ -4,7 +4,7 @@ use Rattle.std.specs.Prelude.{IsSome}
 use Rattle.std.proofs.lemmas.Option.{slice_get_read}
 use Rattle.span.specs.Ids.{rank}
 use Rattle.groups.proofs.Maps.{Sets-number}
-use Rattle.abandoned.proofs.RankedGroups.{AreFound-last, AreFound-other, LetsGo-swap, its, mid-last}
+use Rattle.abandoned.proofs.RankedGroups.{AreFound-last, AreFound-other, LetsGo-swap, its, lower-swap, mid-last}
 use Rattle.abandoned.proofs.by_rank.let_go.Goals as goal
 
 pub move_to-requires : goal.move_to-requires
@@ -48,3 +48,13 @@ returns-else-place-len-clause-found g c =
     let strikes = its (hash.get nat_eq c.args.places.now) (hash.get nat_eq c.remove.new.self) None None c.rank.result _ (c.rank.ensures.value ∙ ap rank c.head_id.ensures) refl (Sets-number c.args.places.now c.remove.new.self c.rank.result None c.remove.ensures.updates) in
     AreFound-last c.args.groups.now.items (hash.get nat_eq c.args.places.now) c.requires.found c.args.place c.swap_remove-group.result here c.swap_remove-group.new.self.items c.swap_remove-group.ensures.items (hash.get nat_eq c.remove.new.self) strikes
     (λ low. omega (arith, low, c.if-place-len.false, c.len.ensures, c.swap_remove-group.new.self.ok.0))
+
+pub returns-then-place-len-clause-lower : goal.returns-then-place-len-clause-lower
+returns-then-place-len-clause-lower g c =
+    let here = slice_get_read c.args.groups.now.items _ c.args.place c.swap_remove-group.result refl c.requires.within c.swap_remove-group.ensures.value in
+    lower-swap c.args.groups.now.items (hash.get nat_eq c.args.places.now) c.requires.found c.args.place c.swap_remove-group.result here c.swap_remove-group.new.self.items c.swap_remove-group.ensures.items
+
+pub returns-else-place-len-clause-lower : goal.returns-else-place-len-clause-lower
+returns-else-place-len-clause-lower g c =
+    let here = slice_get_read c.args.groups.now.items _ c.args.place c.swap_remove-group.result refl c.requires.within c.swap_remove-group.ensures.value in
+    lower-swap c.args.groups.now.items (hash.get nat_eq c.args.places.now) c.requires.found c.args.place c.swap_remove-group.result here c.swap_remove-group.new.self.items c.swap_remove-group.ensures.items

@@ -32,57 +32,65 @@ use Rattle.arena_core.specs.contracts.forgotten.Forgotten.with as f
 use Rattle.arena_core.proofs.forgotten.Forgotten.with.Statement as stated
 use Rattle.arena_core.proofs.forgotten.Forgotten.with.Code as code
 use Rattle.arena_core.specs.contracts.forgotten.Forgotten as forgotten
-use Rattle.arena_core.specs.Forgets.{dead_owned}
+use Rattle.arena_core.specs.Forgets.{dead_spans}
 use Rattle.shard.specs.contracts.shard.Shard as shard
 use Rattle.span.specs.contracts.log.Counted as counted
 use Rattle.span.specs.contracts.log.CountedLog.TheImpl as log
 use Rattle.std.specs.contracts.alloc.Global as global
 use Rattle.std.specs.contracts.impls.GlobalAllocator.TheImpl as allocator
 use Rattle.std.specs.contracts.vec.Vec as vec
+use Rattle.abandoned.specs.contracts.pool.Pool as pool
 
 -- the list of shards that is lent
 abbrev lent : RattleType
 lent = vec.the_row (shard.the_row counted.the_row log.ghosts) global.the_row allocator.ghosts
 
+-- the pool that is lent
+abbrev lent_pool : RattleType
+lent_pool = pool.the_row counted.the_row log.ghosts
+
 abbrev stayed : Stays (f.ended).signature.params (f.ended).kept
-stayed = (stay_none_ref (0 ∷ []) tt (plain (λ _. forgotten.the_row)) yes, (stay_none_ref (1 ∷ []) tt (plain (λ _. lent)) yes, tt))
+stayed = (stay_none_ref (0 ∷ []) tt (plain (λ _. forgotten.the_row)) yes, (stay_none_ref (1 ∷ []) tt (plain (λ _. lent)) yes, (stay_none_ref (2 ∷ []) tt (plain (λ _. lent_pool)) yes, tt)))
 
 module _ {M : Type 1} {𝓤 : Ura M} (𝓛 : Logic 𝓤) (mem : Memory → SProp 𝓤) (run : Routine → Fun 𝓤) (C : Calls 𝓤 𝓛.H) (Λ : Loops 𝓤 𝓛.H) where
   open 𝓛 use {H}
 
-  module _ (κs : Lfts 2) (qs : Shares 2) (a : Args f.signature κs) where
+  module _ (κs : Lfts 3) (qs : Shares 3) (a : Args f.signature κs) where
     abbrev before : Val
     before = vptr a.0.ref_ptr.0 a.0.ref_ptr.1
 
     abbrev added : Val
     added = vptr a.1.0.ref_ptr.0 a.1.0.ref_ptr.1
 
+    abbrev pooled : Val
+    pooled = vptr a.1.1.0.ref_ptr.0 a.1.1.0.ref_ptr.1
+
     abbrev bound : (walk_of 𝓛 f.ended stayed (f.clauses 𝓛 mem run)).Ghost
-    bound = ((κs, qs, tt, a, (before ∷ [], (added ∷ [], tt))), tt)
+    bound = ((κs, qs, tt, a, (before ∷ [], (added ∷ [], (pooled ∷ [], tt)))), tt)
 
     abbrev passed : Fml
-    passed = owns (types_at f.signature.params κs) a (before ∷ [], (added ∷ [], tt))
+    passed = owns (types_at f.signature.params κs) a (before ∷ [], (added ∷ [], (pooled ∷ [], tt)))
 
-    walk : ent 𝓤 (on_entry 𝓛 f.signature κs qs a (before ∷ [], (added ∷ [], tt)))
-        (WpFn 𝓤 H C Λ code.function (before ∷ added ∷ []) ((walk_of 𝓛 f.ended stayed (f.clauses 𝓛 mem run)).post bound))
+    walk : ent 𝓤 (on_entry 𝓛 f.signature κs qs a (before ∷ [], (added ∷ [], (pooled ∷ [], tt))))
+        (WpFn 𝓤 H C Λ code.function (before ∷ added ∷ pooled ∷ []) ((walk_of 𝓛 f.ended stayed (f.clauses 𝓛 mem run)).post bound))
     walk =
-        qed 𝓛 (raw (alive 𝓛 f.signature κs qs) ∷ ‵ passed ∷ []) ∵ enter ! C Λ code.function (before ∷ added ∷ []) _ $
-        alloc_all ! (λ l. pass_all ! refl ((tt, tt), ((tt, tt), tt)) $ sets ! (agg ! (no_more !)) refl (tt, tt) $
+        qed 𝓛 (raw (alive 𝓛 f.signature κs qs) ∷ ‵ passed ∷ []) ∵ enter ! C Λ code.function (before ∷ added ∷ pooled ∷ []) _ $
+        alloc_all ! (λ l. pass_all ! refl ((tt, tt), ((tt, tt), ((tt, tt), tt))) $ sets ! (agg ! (no_more !)) refl (tt, tt) $
         returns ! (look_at ! 0 refl) $ free_all ! refl $
-        suffices ! _ (ends_at 𝓛 f.ended stayed (f.clauses 𝓛 mem run) bound (vstruct vnil) (record { spans = a.0.now.spans ++ dead_owned a.1.0.now.items }) (tt, (tt, tt)) (tt, (tt, tt))) $
-        says ! refl $ pure_i ! (forgotten.the_row.own_val (record { spans = a.0.now.spans ++ dead_owned a.1.0.now.items }) (vstruct vnil ∷ [])) ((λ vss. (tt, tt)), tt) ((tt, (refl, tt)), tt) $
+        suffices ! _ (ends_at 𝓛 f.ended stayed (f.clauses 𝓛 mem run) bound (vstruct vnil) (record { spans = a.0.now.spans ++ dead_spans a.1.0.now.items a.1.1.0.now }) (tt, (tt, (tt, tt))) (tt, (tt, (tt, tt)))) $
+        says ! refl $ pure_i ! (forgotten.the_row.own_val (record { spans = a.0.now.spans ++ dead_spans a.1.0.now.items a.1.1.0.now }) (vstruct vnil ∷ [])) ((λ vss. (tt, tt)), tt) ((tt, (refl, tt)), tt) $
         move ! (1 ∷ 2 ∷ 0 ∷ []) $ done !)
 
   walks : Walks 𝓛 f.ended stayed (WpFn 𝓤 H C Λ code.function) (f.clauses 𝓛 mem run)
   walks =
-      walked 𝓛 f.ended stayed (f.clauses 𝓛 mem run) (WpFn 𝓤 H C Λ code.function) (λ κs. (shr_vals, (shr_vals, tt)))
-      (λ κs. (shr_Tells (named 0) κs.0 forgotten.the_row, (shr_Tells (named 1) κs.1.0 lent, tt)))
+      walked 𝓛 f.ended stayed (f.clauses 𝓛 mem run) (WpFn 𝓤 H C Λ code.function) (λ κs. (shr_vals, (shr_vals, (shr_vals, tt))))
+      (λ κs. (shr_Tells (named 0) κs.0 forgotten.the_row, (shr_Tells (named 1) κs.1.0 lent, (shr_Tells (named 2) κs.1.1.0 lent_pool, tt))))
       (λ κs qs bounds a g are. via 𝓤 _ (fst∗ 𝓤 _ (emp 𝓤)) (walk κs qs a))
 
 meets : {M : Type 1} {𝓤 : Ura M} (𝓛 : Logic 𝓤) (mem : Memory → SProp 𝓤) (run : Routine → Fun 𝓤) (𝓣 : Tables 𝓤 𝓛.H)
     → Meets 𝓛 f.signature (WpFn 𝓤 𝓛.H 𝓣.C 𝓣.Λ code.function) (f.spec 𝓛 mem run)
 meets {𝓤 = 𝓤} 𝓛 mem run 𝓣 =
-    walk_Meets 𝓛 f.ended stayed (Goes-none_ref 𝓛 2 (0 ∷ []) tt (plain (λ _. forgotten.the_row)) yes, (Goes-none_ref 𝓛 2 (1 ∷ []) tt (plain (λ _. lent)) yes, tt)) (f.clauses 𝓛 mem run) (WpFn 𝓤 𝓛.H 𝓣.C 𝓣.Λ code.function)
+    walk_Meets 𝓛 f.ended stayed (Goes-none_ref 𝓛 3 (0 ∷ []) tt (plain (λ _. forgotten.the_row)) yes, (Goes-none_ref 𝓛 3 (1 ∷ []) tt (plain (λ _. lent)) yes, (Goes-none_ref 𝓛 3 (2 ∷ []) tt (plain (λ _. lent_pool)) yes, tt))) (f.clauses 𝓛 mem run) (WpFn 𝓤 𝓛.H 𝓣.C 𝓣.Λ code.function)
     (WpFn-mono 𝓤 𝓛.H 𝓛.laws 𝓣 code.function) (walks 𝓛 mem run 𝓣.C 𝓣.Λ)
 
 pub with_spec : {M : Type 1} → stated.statement M

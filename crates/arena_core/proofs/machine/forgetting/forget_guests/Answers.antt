@@ -37,3 +37,6 @@ pub returns-clause-count : goal.returns-clause-count
 returns-clause-count c =
     c.loop-index.invariant.count
     ∙ ap (λ (shards : List ShardState). length (dead_owned shards)) (take_all c.loop-index.index c.args.shards.now.items (omega (arith, c.len-index-end.ensures, c.args.shards.now.ok.0)))
+
+pub returns-clause-at_most : goal.returns-clause-at_most
+returns-clause-at_most c = omega (arith, c.loop-index.invariant.most, c.len-index-end.ensures, c.args.shards.now.ok.0, c.requires)

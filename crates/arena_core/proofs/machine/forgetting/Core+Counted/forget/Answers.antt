@@ -1,28 +1,34 @@
 use Rattle.std.proofs.Common.{◌≡◌, ◌∙◌, None, ap, arith, length, refl, sym}
+use Rattle.std.proofs.lemmas.List.{length-append}
 use Rattle.std.proofs.option.Match.{None-if_not_some}
-use Rattle.arena_core.specs.Forgets.{dead_owned, with_forgotten}
+use Rattle.span.specs.declared.log.Counted.{Counted}
+use Rattle.abandoned.specs.Forgets.{gone_from}
+use Rattle.arena_core.specs.Forgets.{dead_owned, dead_spans, with_forgotten}
 use Rattle.arena_core.specs.Kept.{IsKept, state_of}
+use Rattle.arena_core.specs.Moved.{KeepsStanding}
 use Rattle.arena_core.specs.State.{CoreState, shown}
 use Rattle.arena_core.specs.declared.machine.Core.TheInside.{Inside}
-use Rattle.span.specs.declared.log.Counted.{Counted}
 use Rattle.arena_core.proofs.ForgottenSpans.{IsKept-forgotten, shown-forgotten, state_of-forgotten}
 use Rattle.arena_core.proofs.machine.forgetting.Core+Counted.forget.Goals as goal
 
-pub forget_guests-count-requires : goal.forget_guests-count-requires
-forget_guests-count-requires c = omega (arith, c.self.invariant.sound.groups.within.shards.1)
+pub forget_guests-owned-requires : goal.forget_guests-owned-requires
+forget_guests-owned-requires c = omega (arith, c.self.invariant.sound.groups.within.shards.1)
 
 -- the fields then
-abbrev fields : goal.After-forget_guests-count → Inside Counted
-fields c = record c.self.inside { shards = c.forget_guests-count.new.shards; forgotten = c.with-self-inside.result }
+abbrev fields : goal.After-forget → Inside Counted
+fields c = record c.self.inside { shards = c.forget_guests-owned.new.shards; pool = c.forget-pooled.new.self; whereabouts = c.forget.new.self; forgotten = c.with-self-inside.result }
 
-none : (c : goal.After-forget_guests-count) → c.self.inside.plan ≡ None
+none : (c : goal.After-forget) → c.self.inside.plan ≡ None
 none c = None-if_not_some c.self.inside.plan (sym c.is_open.ensures ∙ c.if-is_open.false)
 
-kept : (c : goal.After-forget_guests-count) → IsKept (fields c)
-kept c = IsKept-forgotten c.self.inside (fields c) c.self.invariant refl refl refl refl refl refl refl refl c.forget_guests-count.ensures.items c.with-self-inside.ensures (none c)
+keeps : (c : goal.After-forget) → KeepsStanding c.forget_guests-owned.new.shards.items c.self.inside.whereabouts.entries c.forget.new.self.entries
+keeps c = c.forget.ensures
 
-are : (c : goal.After-forget_guests-count) → state_of (fields c) ≡ with_forgotten (state_of c.self.inside)
-are c = state_of-forgotten c.self.inside (fields c) c.self.invariant refl refl refl refl refl refl refl refl c.forget_guests-count.ensures.items c.with-self-inside.ensures
+kept : (c : goal.After-forget) → IsKept (fields c)
+kept c = IsKept-forgotten c.self.inside (fields c) c.self.invariant refl refl refl refl c.forget-pooled.ensures.forgets.after refl (keeps c) refl c.forget_guests-owned.ensures.items c.with-self-inside.ensures (none c)
+
+are : (c : goal.After-forget) → state_of (fields c) ≡ with_forgotten (state_of c.self.inside)
+are c = state_of-forgotten c.self.inside (fields c) c.self.invariant refl refl refl refl c.forget-pooled.ensures.forgets.after refl (keeps c) refl c.forget_guests-owned.ensures.items c.with-self-inside.ensures
 
 pub invariant_of-self : goal.invariant_of-self
 invariant_of-self c = kept c
@@ -31,7 +37,9 @@ pub returns-clause-exact : goal.returns-clause-exact
 returns-clause-exact c = record {
   no_plan = ap (λ (s : CoreState). s.plan) (sym c.self.view_is) ∙ none c;
   after = are c ∙ ap with_forgotten c.self.view_is;
-  count_is = c.forget_guests-count.ensures.count ∙ ap (λ (s : CoreState). length (dead_owned s.shards)) c.self.view_is;
+  count_is =
+      omega (arith, c.forget_guests-owned.ensures.count, c.forget-pooled.ensures.forgets.count_is, length-append (dead_owned c.self.inside.shards.items) (gone_from c.self.inside.pool.groups))
+      ∙ ap (λ (s : CoreState). length (dead_spans s.shards s.pool)) c.self.view_is;
 }
 
 pub returns-clause-same : goal.returns-clause-same
