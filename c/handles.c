@@ -86,6 +86,7 @@ static void each_call_of_a_steward(struct teurlaks_share_handle *none) {
     WANT(teurlaks_steward_mark_some(none).status == TEURLAKS_NO_CORE);
     WANT(teurlaks_steward_step(none).status == TEURLAKS_NO_CORE);
     WANT(teurlaks_steward_close(none) == TEURLAKS_NO_CORE);
+    WANT(teurlaks_steward_forget(none).status == TEURLAKS_NO_CORE && teurlaks_steward_forget(none).count == 0);
     struct teurlaks_arena_totals_reply totals = teurlaks_steward_totals(none);
     WANT(totals.status == TEURLAKS_NO_CORE && totals.pages == 0 && totals.live == 0);
 }

@@ -271,8 +271,7 @@ struct teurlaks_arena_totals_reply {
     size_t live;
 };
 
-/* Leaves the steward of a new arena to a handle that has nothing, where it answers TEURLAKS_OK; the numbers are those of teurlaks_new.
- * A shard of an arena opens 1,024 pages at most in its life. */
+/* Leaves the steward of a new arena to a handle that has nothing, where it answers TEURLAKS_OK; the numbers are those of teurlaks_new. */
 uint32_t teurlaks_arena_open(struct teurlaks_share_handle *out, uint32_t shards, uint32_t page_limit, uint32_t ring_capacity, uint32_t gens);
 
 /* Leaves a seat that no handle has had to `out`, which has nothing: TEURLAKS_NONE where the steward has no further one. */
@@ -328,6 +327,9 @@ struct teurlaks_step_reply teurlaks_steward_step(struct teurlaks_share_handle *h
 
 /* As teurlaks_close. */
 uint32_t teurlaks_steward_close(struct teurlaks_share_handle *handle);
+
+/* As teurlaks_forget, of all shards at one time. */
+struct teurlaks_forget_reply teurlaks_steward_forget(struct teurlaks_share_handle *handle);
 
 /* How much the arena keeps, at one time. */
 struct teurlaks_arena_totals_reply teurlaks_steward_totals(struct teurlaks_share_handle *handle);

@@ -226,6 +226,11 @@ TEURLAKS_INLINE uint32_t teurlaks_tested_steward_close(struct teurlaks_share_han
     return handle ? teurlaks_steward_close(handle) : (uint32_t)TEURLAKS_NO_CORE;
 }
 
+TEURLAKS_INLINE struct teurlaks_forget_reply teurlaks_tested_steward_forget(struct teurlaks_share_handle *handle) {
+    struct teurlaks_forget_reply none = {TEURLAKS_NO_CORE, 0};
+    return handle ? teurlaks_steward_forget(handle) : none;
+}
+
 TEURLAKS_INLINE struct teurlaks_arena_totals_reply teurlaks_tested_steward_totals(struct teurlaks_share_handle *handle) {
     struct teurlaks_arena_totals_reply none = {TEURLAKS_NO_CORE, 0, 0};
     return handle ? teurlaks_steward_totals(handle) : none;
@@ -271,6 +276,7 @@ TEURLAKS_INLINE struct teurlaks_arena_totals_reply teurlaks_tested_steward_total
 #define teurlaks_steward_mark_some teurlaks_tested_steward_mark_some
 #define teurlaks_steward_step teurlaks_tested_steward_step
 #define teurlaks_steward_close teurlaks_tested_steward_close
+#define teurlaks_steward_forget teurlaks_tested_steward_forget
 #define teurlaks_steward_totals teurlaks_tested_steward_totals
 
 #endif

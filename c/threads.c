@@ -50,8 +50,6 @@ struct worker {
     size_t count, aim;
     int grows;
     uint64_t number, random;
-    /* How many groups it may yet retire: each fold uses up one of the pages that a shard opens in its life. */
-    size_t retires;
 };
 
 static struct worker workers[THREADS];
@@ -128,9 +126,8 @@ static void give_back(struct worker *me) {
     PATIENTLY(trimmed, trimmed.status, teurlaks_seat_trim(&me->seat));
     WANT(trimmed.status == TEURLAKS_OK);
     struct teurlaks_retire_reply retired;
-    PATIENTLY(retired, retired.status, teurlaks_seat_retire(&me->seat, me->retires < 20 ? me->retires : 20));
+    PATIENTLY(retired, retired.status, teurlaks_seat_retire(&me->seat, 20));
     WANT(retired.status == TEURLAKS_OK || retired.status == TEURLAKS_PLAN_OPEN);
-    me->retires -= retired.count;
     if (me->number % 2) return;
     struct teurlaks_adopt_reply adopted;
     do PATIENTLY(adopted, adopted.status, teurlaks_seat_adopt(&me->seat));
@@ -211,6 +208,13 @@ static size_t mesh(struct teurlaks_share_handle *steward) {
     return folds;
 }
 
+/* Forgets what folds have brought and can never be live again. */
+static void forget(struct teurlaks_share_handle *steward) {
+    struct teurlaks_forget_reply reply;
+    PATIENTLY(reply, reply.status, teurlaks_steward_forget(steward));
+    WANT(reply.status == TEURLAKS_OK);
+}
+
 static struct teurlaks_arena_totals_reply totals(struct teurlaks_share_handle *steward) {
     struct teurlaks_arena_totals_reply reply;
     PATIENTLY(reply, reply.status, teurlaks_steward_totals(steward));
@@ -244,7 +248,7 @@ int main(void) {
     for (int i = 0; i < THREADS; i++) {
         struct worker *worker = &workers[i];
         WANT(teurlaks_steward_seat(&steward, &worker->seat) == TEURLAKS_OK && !pthread_mutex_init(&worker->inbox.lock, NULL));
-        worker->grows = 1, worker->aim = 2000, worker->retires = 300;
+        worker->grows = 1, worker->aim = 2000;
         worker->number = (uint64_t)i << 40, worker->random = 88172645463325252u + i;
     }
     WANT(teurlaks_steward_seat(&steward, &none) == TEURLAKS_NONE);
@@ -253,6 +257,7 @@ int main(void) {
     size_t folds = 0;
     while (atomic_load(&ended) < THREADS) {
         folds += mesh(&steward);
+        forget(&steward);
         nanosleep(&(struct timespec){0, 1000000}, NULL);
     }
     for (int i = 0; i < THREADS; i++) pthread_join(workers[i].thread, NULL);

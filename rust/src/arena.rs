@@ -87,7 +87,7 @@ impl<T: Copy> Arena<T> {
         "a value of an arena has 1 to 256 bytes"
     );
 
-    /// An arena of these limits with no value, which has a seat for each shard. A shard opens 1,024 pages at most in its life.
+    /// An arena of these limits with no value, which has a seat for each shard.
     /// Between each two seats there is a ring of 256 keys for [`Seat::free_later`], of 16 bytes each: 64 KB for four seats, and
     /// 16 MB for 64, which are resident once they are used.
     ///
@@ -220,6 +220,21 @@ impl<T> Arena<T> {
                 Stepped::NoPairLeft => return Ok(folded),
             }
         }
+    }
+
+    /// Forgets what folds have brought to shards and can never be live again, with its generations, and says how many spans went: it
+    /// holds all locks meanwhile. Nothing that a caller sees changes, but the memory that is kept. It takes none.
+    ///
+    /// # Errors
+    ///
+    /// [`Refused::PlanOpen`] alone, while a plan is open.
+    pub fn forget(&mut self) -> Result<usize, Refused> {
+        // SAFETY: as in `mark_some`.
+        let raw::ForgetReply { status, count } = self
+            .turn
+            .at_steward(|| unsafe { raw::teurlaks_steward_forget(self.share.handle()) });
+        done(status)?;
+        Ok(count)
     }
 
     /// How many pages there are and how many keys are live, at one time: it holds all locks meanwhile.

@@ -196,6 +196,7 @@ extern "C" {
     pub fn teurlaks_steward_mark_some(handle: *mut ShareHandle) -> MarkReply;
     pub fn teurlaks_steward_step(handle: *mut ShareHandle) -> StepReply;
     pub fn teurlaks_steward_close(handle: *mut ShareHandle) -> u32;
+    pub fn teurlaks_steward_forget(handle: *mut ShareHandle) -> ForgetReply;
     pub fn teurlaks_steward_totals(handle: *mut ShareHandle) -> ArenaTotalsReply;
 }
 

@@ -10,7 +10,7 @@ use std::fmt;
 pub enum Refused {
     /// Memory ran out: the call may be tried again.
     OutOfMemory,
-    /// The shard may have no further page, or has opened as many as it may in its life: 4,294,967,295, or 1,024 in an arena.
+    /// The shard may have no further page, or has opened as many as it may in its life, 4,294,967,295.
     PagesSpent,
     /// The shard has ended, and takes no value.
     Ended,

@@ -27,8 +27,6 @@ struct Worker<'i, const WORDS: usize> {
     aim: usize,
     // The number of its next value.
     number: u64,
-    // How many groups it may yet retire: each fold uses up one of the pages that a shard opens in its life.
-    retires: usize,
 }
 
 impl<'i, const WORDS: usize> Worker<'i, WORDS> {
@@ -45,7 +43,6 @@ impl<'i, const WORDS: usize> Worker<'i, WORDS> {
             grows: true,
             aim: 3000,
             number,
-            retires: 400,
         }
     }
 
@@ -104,10 +101,8 @@ impl<'i, const WORDS: usize> Worker<'i, WORDS> {
     /// Leaves the sparse half of its pages to the pool, or takes all that is there.
     fn give_back(&mut self) -> Result<(), Refused> {
         self.seat.trim();
-        let most = self.retires.min(60);
-        match self.seat.retire(most) {
-            Ok(went) => self.retires -= went,
-            Err(Refused::PlanOpen) => {}
+        match self.seat.retire(60) {
+            Ok(_) | Err(Refused::PlanOpen) => {}
             Err(refused) => return Err(refused),
         }
         if self.number % 2 == 0 {
@@ -214,6 +209,7 @@ fn beside_a_steward<const WORDS: usize>(
         let mut folds = 0;
         while !workers.iter().all(|worker| worker.is_finished()) {
             folds += arena.mesh().unwrap();
+            arena.forget().unwrap();
             thread::sleep(Duration::from_millis(1));
         }
         (
@@ -310,6 +306,56 @@ fn pages_fold_beside_those_who_look_up_and_change() -> Result<(), Refused> {
         .iter()
         .all(|(key, number)| first.get(*key) == Some(Value::new(*number))));
     Ok(())
+}
+
+/// Three hundred threads come and go at four seats, and each opens more pages than it leaves. Keys of all shards are found, and freed ones
+/// are not, also once what they were of was forgotten.
+#[test]
+fn threads_come_and_go() -> Result<(), Refused> {
+    let mut arena = Arena::open(limits(4, 64))?;
+    let mut seats = (0..4).map(|_| arena.seat()).collect::<Result<Vec<_>, _>>()?;
+    let mut kept: Vec<(Key, u64)> = Vec::new();
+    let mut gone: Vec<Key> = Vec::new();
+    for round in 0..75_u64 {
+        let threads: Vec<_> = seats
+            .drain(..)
+            .enumerate()
+            .map(|(here, seat)| thread::spawn(move || come_and_go(seat, 4 * round + here as u64)))
+            .collect();
+        for thread in threads {
+            let (seat, stays) = thread.join().unwrap()?;
+            seats.push(seat);
+            kept.extend(stays);
+        }
+        arena.mesh()?;
+        let seat = &mut seats[0];
+        for (key, number) in kept.drain(..kept.len() / 2) {
+            assert_eq!(seat.remove(key), Some([number; 32]));
+            gone.push(key);
+        }
+        arena.forget()?;
+        assert!(kept.iter().all(|(key, number)| seat.get(*key) == Some([*number; 32])));
+        assert!(!gone.iter().any(|key| seat.contains(*key) || seat.free(*key)));
+        assert_eq!(arena.totals().live, kept.len());
+    }
+    // Each thread opened 25 pages.
+    assert!(kept.iter().any(|(key, _)| key.serial() > 1024));
+    Ok(())
+}
+
+/// A thread at the seat, whose shard may have ended with the thread before: of 400 values it leaves each eighth.
+fn come_and_go(mut seat: Seat<[u64; 32]>, number: u64) -> Result<(Seat<[u64; 32]>, Vec<(Key, u64)>), Refused> {
+    match seat.begin() {
+        Ok(()) | Err(Refused::Running) => {}
+        Err(refused) => return Err(refused),
+    }
+    let all: Vec<(Key, u64)> = (0..400)
+        .map(|at| Ok((seat.insert([1000 * number + at; 32])?, 1000 * number + at)))
+        .collect::<Result<_, Refused>>()?;
+    let (stay, go): (Vec<_>, Vec<_>) = all.into_iter().partition(|(_, value)| value % 8 == number % 8);
+    assert!(go.iter().all(|(key, _)| seat.free(*key)));
+    seat.end()?;
+    Ok((seat, stay))
 }
 
 /// The shard of a thread that is gone goes on in another one, which frees what was left to it meanwhile.

@@ -17,18 +17,18 @@ use Rattle.marks.proofs.limits.Limits.TheSendSync as limits
 use Rattle.latch.proofs.latch.Latch.TheSendSync as latch
 use Rattle.latch.specs.contracts.latch.Latch
 use Rattle.arena.proofs.ring_table.RingTable.TheSendSync as table
-use Rattle.arena.specs.contracts.words.Words
+use Rattle.arena.specs.contracts.hints.Hints
 use Rattle.arena.specs.contracts.arena.Arena
 
--- the words are atomic, and own nothing
-words_send : IsSend (Words.the_field).row
-words_send =
-    let all : AllSend (fields Words.the_type) = (search (sendable, crosses) depth 40, tt) in
-    struct_send (shape Words.the_type) all
+-- the counts and the words are atomic, and own nothing
+hints_send : IsSend (Hints.the_field).row
+hints_send =
+    let all : AllSend (fields Hints.the_type) = (search (sendable, crosses) depth 40, (search (sendable, crosses) depth 60, (search (sendable, crosses) depth 40, tt))) in
+    struct_send (shape Hints.the_type) all
 
 pub Arena-send : (G L : RattleType) (g : Ghosts L.Denot) → IsSend G → IsSend L → IsSend (Arena.the_row G L g)
 Arena-send G L g gate log =
     let locked : IsSend (Latch.the_row (Shard.the_row L g)) = latch.the_send (Shard.the_row L g) (shard.the_send L g log) in
     let locks = vec.the_send (Latch.the_row (Shard.the_row L g)) Global.the_row TheImpl.ghosts locked heap.the_send heap_memory.the_frees in
-    let all : AllSend (fields (Arena.the_type G L g)) = (heap.the_field_send, (limits.the_send, (table.the_send, (latch.the_send (Pool.the_row L g) (pool.the_send L g log), (locks, (words_send, (gate, tt))))))) in
+    let all : AllSend (fields (Arena.the_type G L g)) = (heap.the_field_send, (limits.the_send, (table.the_send, (latch.the_send (Pool.the_row L g) (pool.the_send L g log), (locks, (hints_send, (gate, tt))))))) in
     recorded_send (Arena.the_field G L g).row _ _ (Arena.the_type G L g).to_one (struct_send (shape (Arena.the_type G L g)) all)

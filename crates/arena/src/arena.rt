@@ -1,18 +1,19 @@
 // Shards behind locks.
-ghost use Rattle.std.specs.Prelude.{◌≡◌, ◌≢◌, ◌≤◌, Err, IfOk, IsSome, None, Ok, OnErr, OnOk, is_some, length, vec_len};
+ghost use Rattle.std.specs.Prelude.{◌≡◌, ◌≢◌, ◌<◌, ◌≤◌, Err, IfOk, IsSome, None, Ok, OnErr, OnOk, is_some, length, vec_len};
 ghost use Rattle.certificate.specs.Plans.{IsBestPlanOf, IsCertificateOf, IsShortOf};
 ghost use Rattle.certificate.specs.Text.{IsWritable};
 ghost use Rattle.marks.specs.Plans.{next_pair};
 ghost use Rattle.mesh_graph.specs.declared.build.TheConstants.{MOST_GROUPS};
 ghost use Rattle.arena.specs.Seats.{IsTableOf};
 ghost use Rattle.arena.specs.Stewards.{Steps, begun};
+ghost use Rattle.span.specs.declared.limits.TheConstants.{MOST_SHARDS};
 
 use crate::gate::Gate;
+use crate::hints::{Hints, Place};
 use crate::locks::{LockedShard, reopen_all, totals_of};
 use crate::patience::{Patience, Tries, Waits};
 use crate::ring_table::RingTable;
 use crate::steward::Steward;
-use crate::words::{Place, Words};
 use abandoned::Pool;
 use certificate::Certificate;
 use fold::{Step, fold_one};
@@ -24,8 +25,8 @@ use span::{Kept, Log, SpanId};
 use std::alloc::{AllocError, Global};
 use std::sync::Wait;
 
-/// Shards and the pool, each behind a lock of its own, and a word for each span that says where it may be. The pool's
-/// lock is taken first, and then those of shards, ascending.
+/// Shards and the pool, each behind a lock of its own, with how many spans each shard has opened, and hints of where these may be.
+/// The pool's lock is taken first, and then those of shards, ascending.
 #[derive(Drop)]
 pub struct Arena<G: Gate, L: Log = Kept> {
     pub(crate) alloc: Global,
@@ -35,7 +36,7 @@ pub struct Arena<G: Gate, L: Log = Kept> {
     pub table: RingTable,
     pub(crate) pool: Latch<Pool<L>>,
     pub(crate) shards: Vec<Latch<Shard<L>>>,
-    pub(crate) words: Words,
+    pub(crate) hints: Hints,
     pub(crate) gate: G,
     ghost shards_are: { vec_len shards ≡ limits.shards },
     ghost has_a_shard: { 1 ≤ vec_len shards },
@@ -392,8 +393,8 @@ impl<G: Gate, L: Log> Arena<G, L> {
         })
     }
 
-    // Folds the pair, and says from now on that the spans that came are in the shard of the owned group. Where the word of
-    // that group names no shard, the group is nowhere.
+    // Folds the pair in the shard that has its owned group: the one that its hint names, or else the first that has it. The pool's
+    // lock is held meanwhile, so no group moves. Where no shard has that group, it is nowhere.
     fn fold<P: Patience>(
         &self,
         patience: &P,
@@ -401,17 +402,47 @@ impl<G: Gate, L: Log> Arena<G, L> {
         owned: SpanId,
     ) -> Result<Result<Step, AllocError>, P::Busy> {
         let mut pool = patience.lock(&self.pool)?;
-        let Place::Shard(number) = self.words.place_of(owned) else {
-            return Ok(Ok(Step::Absent));
-        };
+        if let Place::Shard(number) = self.hints.place_of(owned) {
+            if let Some(step) = self.fold_in(patience, &mut *pool, number, abandoned, owned)? {
+                return Ok(step);
+            }
+        }
+        let mut refused = None;
+        for number in 0..self.limits.shards() {
+            match self.fold_in(patience, &mut *pool, number, abandoned, owned) {
+                Ok(None) => {}
+                Ok(Some(step)) => return Ok(step),
+                Err(busy) => refused = Some(busy),
+            }
+        }
+        match refused {
+            Some(busy) => Err(busy),
+            None => Ok(Ok(Step::Absent)),
+        }
+    }
+
+    // Folds the pair in the shard of this number, if that has the owned group, and notes that the spans that came are there.
+    fn fold_in<P: Patience>(
+        &self,
+        patience: &P,
+        pool: &mut Pool<L>,
+        number: u32,
+        abandoned: SpanId,
+        owned: SpanId,
+    ) -> Result<Option<Result<Step, AllocError>>, P::Busy>
+        requires { number < MOST_SHARDS }
+    {
         let Some(lock) = self.shards.get(number as usize) else {
-            return Ok(Ok(Step::Absent));
+            return Ok(None);
         };
         let mut shard = patience.lock(lock)?;
-        let step = fold_one(&mut *pool, &mut *shard, abandoned, owned);
-        if step.is_ok() {
-            self.words.set_group(&*shard, owned, Place::Shard(number));
+        if !shard.has(owned) {
+            return Ok(None);
         }
-        Ok(step)
+        let step = fold_one(pool, &mut *shard, abandoned, owned);
+        if step.is_ok() {
+            self.hints.note_group(&*shard, owned, Place::Shard(number));
+        }
+        Ok(Some(step))
     }
 }

@@ -16,6 +16,11 @@ pub enum OpenError {
     OutOfMemory,
 }
 
+/// Why nothing was forgotten: the steward has an open plan, which is to be closed before.
+#[derive(Clone, Copy, PartialEq, Eq, Debug, Error)]
+#[error("a plan is open: close it first")]
+pub struct PlanOpen;
+
 impl From<AllocError> for OpenError {
     ghost from_gives = { λ _ error. error ≡ OutOfMemory };
 

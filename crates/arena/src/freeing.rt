@@ -3,18 +3,45 @@ ghost use Rattle.std.specs.Prelude.{◌+◌, ◌≤◌, IfOk, IfSome, length, ta
 ghost use Rattle.arena.specs.Receipts.{AddsFrees, IsFreeBy};
 
 use crate::arena::Arena;
+use crate::finding::Visit;
 use crate::gate::Gate;
-use crate::patience::{MOST_MOVES, Patience, Tries, Waits};
+use crate::hints::Place;
+use crate::patience::{Patience, Tries, Waits};
 use crate::receipts::Receipts;
 use crate::sections::{free_in, free_pool, unopened_free};
-use crate::words::Place;
+use abandoned::Pool;
 use latch::Busy;
 use shard::Shard;
 use span::{Key, Log, Receipt};
 use std::sync::Wait;
 
+// A free of the key by the worker.
+#[derive(Drop)]
+struct Free {
+    worker: u32,
+    section: u64,
+    key: Key,
+}
+
+impl Visit for Free {
+    type Answer = Receipt;
+
+    ghost tells = { λ call. IsFreeBy call.worker call.section call.key };
+
+    #[inline]
+    fn in_pool<L: Log>(&self, pool: &mut Pool<L>) -> Option<Receipt> {
+        free_pool(pool, self.worker, self.section, &self.key)
+    }
+
+    #[inline]
+    fn in_shard<L: Log>(&self, shard: &mut Shard<L>) -> Option<Receipt> {
+        free_in(shard, self.worker, self.section, &self.key)
+    }
+}
+
 impl<G: Gate, L: Log> Arena<G, L> {
-    // Frees the key for the worker, under the lock of whoever has its span. A span that was never opened takes no lock.
+    // Frees the key for the worker, under the lock of whoever has its span. Of a span that is nowhere it makes the receipt of one that
+    // was never opened.
     pub(crate) fn free_wherever<R: Wait>(
         &self,
         rt: &R,
@@ -24,16 +51,11 @@ impl<G: Gate, L: Log> Arena<G, L> {
     ) -> Receipt
         ensures { IsFreeBy worker section key.now result }
     {
-        for _ in rt.forever() {
-            let Ok(told) = self.free_once(&Waits { rt }, worker, section, key);
-            if let Some(receipt) = told {
-                return receipt;
-            }
-        }
-        unreachable!()
+        let Ok(receipt) = self.free_by(&Waits { rt }, worker, section, key);
+        receipt
     }
 
-    // The same, where no other thread has that lock, and the span does not move on each time that it is followed.
+    // The same, where no other thread has a lock that it asks for.
     pub(crate) fn try_free_wherever(
         &self,
         worker: u32,
@@ -42,38 +64,27 @@ impl<G: Gate, L: Log> Arena<G, L> {
     ) -> Result<Receipt, Busy>
         ensures { IfOk result (IsFreeBy worker section key.now) }
     {
-        for _ in 0..MOST_MOVES {
-            if let Some(receipt) = self.free_once(&Tries, worker, section, key)? {
-                return Ok(receipt);
-            }
-        }
-        Err(Busy)
+        self.free_by(&Tries, worker, section, key)
     }
 
-    // Frees the key where its word says that its span is, if the span is there.
-    fn free_once<P: Patience>(
+    #[inline]
+    fn free_by<P: Patience>(
         &self,
         patience: &P,
         worker: u32,
         section: u64,
         key: &Key,
-    ) -> Result<Option<Receipt>, P::Busy>
-        ensures { IfOk result (λ told. IfSome told (IsFreeBy worker section key.now)) }
+    ) -> Result<Receipt, P::Busy>
+        ensures { IfOk result (IsFreeBy worker section key.now) }
     {
-        match self.words.place_of(key.span) {
-            Place::Unopened => Ok(Some(unopened_free(worker, section, key))),
-            Place::Pool => {
-                let mut pool = patience.lock(&self.pool)?;
-                Ok(free_pool(&mut *pool, worker, section, key))
-            }
-            Place::Shard(number) => {
-                let Some(lock) = self.shards.get(number as usize) else {
-                    return Ok(None);
-                };
-                let mut shard = patience.lock(lock)?;
-                self.gate.inside(number);
-                Ok(free_in(&mut *shard, worker, section, key))
-            }
+        let call = Free {
+            worker,
+            section,
+            key: *key,
+        };
+        match self.visit(patience, key.span, &call)? {
+            Some(receipt) => Ok(receipt),
+            None => Ok(unopened_free(worker, section, key)),
         }
     }
 
@@ -130,10 +141,10 @@ impl<G: Gate, L: Log> Arena<G, L> {
         free_front(&mut *shard, worker, section, keys, receipts)
     }
 
-    // Whether the word of the first key's span says that the span is in the worker's own shard.
+    // Whether the span of the first key may be in the worker's own shard, by its hint.
     fn is_first_at_home(&self, worker: u32, keys: &[Key]) -> bool {
         match keys.first() {
-            Some(key) => self.words.place_of(key.span) == Place::Shard(worker),
+            Some(key) => self.hints.place_of(key.span) == Place::Shard(worker),
             None => false,
         }
     }

@@ -6,14 +6,20 @@
 //! makes, and takes its steps beside the workers.
 //!
 //! ```text
-//!   word of a span      not opened     the pool       shard s
+//!   where a span may be  nowhere       the pool       shard s
 //!                           │             │             │
 //!   locks, in the order   (none)         pool    <   shard 0  <  shard 1  <  ..
 //!   they are taken in
-//!                       put, get, set, free of a span  one lock
-//!                       end, retire, adopt, step       the pool's and one shard's
+//!                       put, get, set, free of a span  one lock, where the hint of the span is right
+//!                       end, retire, adopt             the pool's and one shard's
+//!                       step                           these, where the hint of the owned group is right
 //!                       mark, close, totals            all of them
 //! ```
+//!
+//! Where a span may be is a hint, in a table of fixed size: where it is wrong, or gone since its word speaks of another span, the
+//! span is looked for in the pool and then in one shard after the other. That a span was never opened is no hint: each shard's
+//! count of the spans that it has opened says so, and then no lock is taken. So an arena opens as many spans as its numbers say, in
+//! memory that is bounded by what its shards and its pool keep.
 //!
 //! A worker may leave a key to the thread of the shard that opened its span (`Seat::free_later`): it goes on a ring from
 //! that worker to that shard, without a lock or memory, and is freed when the shard's thread tends its rings (`Seat::tend`),
@@ -27,8 +33,7 @@
 //!
 //! What is done under a lock is done by one call of a shard, of the pool, `fold_one` or `mark_in` on
 //! what the lock lends ([`sections`]), so the contracts of those calls hold of it, and each look-up,
-//! put, set and free makes its receipt there. A word is only a hint of where a span is: an answer
-//! stands on what was found under the lock.
+//! put, set and free makes its receipt there. An answer stands on what was found under the lock.
 //!
 //! No contract speaks of what a lock guards at a moment that no caller can name. So a seat's contract
 //! says that its answer is its receipt's, and when the run is over the receipts are held against the
@@ -60,9 +65,13 @@ mod arena;
 mod counting;
 mod ending;
 mod error;
+mod finding;
+mod forgetting;
 mod freeing;
 mod gate;
+mod hints;
 mod locks;
+mod looking_up;
 mod opening;
 mod outboxes;
 mod patience;
@@ -76,11 +85,10 @@ mod steward;
 mod tending;
 mod unkept;
 mod unlocked;
-mod words;
 
 pub use arena::{Arena, Stepped};
 pub use ending::{Finished, Unfinished, finish};
-pub use error::OpenError;
+pub use error::{OpenError, PlanOpen};
 pub use gate::{Gate, NoGate};
 pub use latch::Busy;
 pub use marks::{Limits, MarkError, Totals};
@@ -89,4 +97,3 @@ pub use receipts::{Dropped, Receipts};
 pub use ring_table::RingTable;
 pub use seat::{Seat, Tended};
 pub use steward::Steward;
-pub use words::ARENA_SPANS;

@@ -7,7 +7,7 @@ use crate::patience::Patience;
 use latch::{Latch, LatchGuard};
 use marks::{LendsShard, Totals};
 use shard::Shard;
-use span::{Log, SpanId};
+use span::{Counted, Log, SpanId};
 
 // A shard under its lock, as a mark takes it.
 #[derive(Drop)]
@@ -66,4 +66,17 @@ pub(crate) fn totals_of<L: Log, P: Patience>(
         pages: others.pages.saturating_add(shard.pages()),
         live: others.live.saturating_add(shard.live()),
     })
+}
+
+/// Has the shards forget each guest in which no slot is live, or none where another thread has one of them. It gives how many went.
+pub(crate) fn forget_all<P: Patience>(
+    patience: &P,
+    shards: &[Latch<Shard<Counted>>],
+) -> Result<usize, P::Busy> {
+    let Some((first, rest)) = shards.split_first() else {
+        return Ok(0);
+    };
+    let mut shard = patience.lock(first)?;
+    let others = forget_all(patience, rest)?;
+    Ok(others.saturating_add(shard.forget()))
 }

@@ -3,16 +3,15 @@ ghost use Rattle.std.specs.Prelude.{◌≡◌, ◌<◌, ◌≤◌, ◌↔◌, Al
 ghost use Rattle.std.specs.List.{range_with_len};
 ghost use Rattle.marks.specs.Numbers.{AreWithin, limits_of};
 ghost use Rattle.remote_queue.specs.Rings.{AreFreshInboxes, AreFreshOutboxes, AreTransposed, inbox_rings, outbox_rings};
-ghost use Rattle.arena.specs.Numbers.{arena_limits};
 ghost use Rattle.arena.specs.Seats.{AreLinked, AreSeatsOf, IsTableOf, first_standing, standing};
 
 use crate::arena::Arena;
 use crate::error::OpenError;
 use crate::gate::Gate;
+use crate::hints::Hints;
 use crate::ring_table::RingTable;
 use crate::seat::Seat;
 use crate::steward::Steward;
-use crate::words::{ARENA_SPANS, Words};
 use abandoned::Pool;
 use latch::Latch;
 use marks::Limits;
@@ -24,8 +23,8 @@ use std::mem::replace;
 
 impl<G: Gate> Arena<G, Kept> {
     /// An arena of `shards` new shards and an empty pool, with a seat for each worker, by number, and its steward. A shard may
-    /// have `page_limit` pages of 256 slots, and opens [`ARENA_SPANS`] spans at most; a ring holds `ring_capacity` keys, and a slot
-    /// is given the generations from 1 to `gens`.
+    /// have `page_limit` pages of 4,096 bytes, and may open as many spans as there are serials; [`Arena::with_limits`] takes another
+    /// number. A ring holds `ring_capacity` keys, and a slot is given the generations from 1 to `gens`.
     ///
     /// # Errors
     ///
@@ -44,7 +43,7 @@ impl<G: Gate> Arena<G, Kept> {
         ensures memory { IsErrOf result OpenError.OutOfMemory
             → AreWithin (limits_of shards page_limit ring_capacity gens) }
         ensures numbers { IfOk result (λ opened. opened.0.limits
-            ≡ arena_limits shards page_limit ring_capacity gens) }
+            ≡ limits_of shards page_limit ring_capacity gens) }
         ensures standing { IfOk result (λ opened. map standing opened.1.items
             ≡ map (first_standing opened.0.limits) (range_with_len 0 shards)) }
         ensures seats { IfOk result (λ opened. AreSeatsOf opened.0.limits opened.0.table
@@ -78,7 +77,7 @@ impl<G: Gate, L: Log> Arena<G, L> {
         ensures memory { IsErrOf result OpenError.OutOfMemory
             → AreWithin (limits_of shards page_limit ring_capacity gens) }
         ensures numbers { IfOk result (λ opened. opened.0.limits
-            ≡ arena_limits shards page_limit ring_capacity gens) }
+            ≡ limits_of shards page_limit ring_capacity gens) }
         ensures standing { IfOk result (λ opened. map standing opened.1.items
             ≡ map (first_standing opened.0.limits) (range_with_len 0 shards)) }
         ensures seats { IfOk result (λ opened. AreSeatsOf opened.0.limits opened.0.table
@@ -92,9 +91,37 @@ impl<G: Gate, L: Log> Arena<G, L> {
           plan = None;
         }) }
     {
-        let Some(limits) = arena_limits(shards, page_limit, ring_capacity, gens) else {
+        let Some(limits) = Limits::new(shards, page_limit, ring_capacity, gens) else {
             return Err(OpenError::Config);
         };
+        Ok(Arena::with_limits(alloc, limits, gate)?)
+    }
+
+    /// An arena of new shards by all of its numbers, how many spans a shard may open among them, whose logs are kept or counted as
+    /// its type says, with its seats and its steward.
+    ///
+    /// # Errors
+    ///
+    /// `AllocError` where memory runs out.
+    pub fn with_limits(
+        alloc: Global,
+        limits: Limits,
+        gate: G,
+    ) -> Result<(Arena<G, L>, Vec<Seat>, Steward), AllocError>
+        ensures numbers { IfOk result (λ opened. opened.0.limits ≡ limits) }
+        ensures standing { IfOk result (λ opened. map standing opened.1.items
+            ≡ map (first_standing opened.0.limits) (range_with_len 0 limits.shards)) }
+        ensures seats { IfOk result (λ opened. AreSeatsOf opened.0.limits opened.0.table
+            opened.1.items) }
+        ensures linked { IfOk result (λ opened. AreLinked opened.1.items) }
+        ensures fresh { IfOk result (λ opened. All (λ seat.
+            AreFreshOutboxes limits.ring_capacity seat.outboxes × AreFreshInboxes seat.inboxes)
+            opened.1.items) }
+        ensures steward { IfOk result (λ opened. opened.2 ≡ record {
+          limits = opened.0.limits;
+          plan = None;
+        }) }
+    {
         let links = links_of(alloc, limits)?;
         let table = RingTable::of(&links);
         let seats = seats_of(alloc, limits, &table, links)?;
@@ -102,15 +129,6 @@ impl<G: Gate, L: Log> Arena<G, L> {
         let arena = arena_of(alloc, limits, table, gate)?;
         Ok((arena, seats, steward))
     }
-}
-
-// The numbers of an arena, or `None` where one is out of its range.
-fn arena_limits(shards: u32, page_limit: usize, ring_capacity: usize, gens: u32) -> Option<Limits>
-    ensures in_range { IsSome result ↔ AreWithin (limits_of shards page_limit ring_capacity gens) }
-    ensures parts { IfSome result
-        (λ limits. limits ≡ arena_limits shards page_limit ring_capacity gens) }
-{
-    Limits::new(shards, page_limit, ring_capacity, gens)?.with_span_limit(ARENA_SPANS)
 }
 
 // A ring from each worker to each shard.
@@ -179,7 +197,7 @@ fn seats_of(
     Ok(seats)
 }
 
-// New shards and an empty pool behind locks, and the words of spans of which none is opened.
+// New shards and an empty pool behind locks, with hints of spans of which none is opened.
 fn arena_of<G: Gate, L: Log>(
     alloc: Global,
     limits: Limits,
@@ -190,7 +208,7 @@ fn arena_of<G: Gate, L: Log>(
     ensures limits { IfOk result (λ arena. arena.limits ≡ limits) }
     ensures table { IfOk result (λ arena. arena.table ≡ table) }
 {
-    let words = Words::new(alloc, limits.shards())?;
+    let hints = Hints::new(alloc, limits.shards(), limits.page_limit())?;
     let shards = locked_shards(alloc, limits)?;
     Ok(Arena {
         alloc,
@@ -198,7 +216,7 @@ fn arena_of<G: Gate, L: Log>(
         table,
         pool: Latch::new(alloc, Pool::with_log(alloc))?,
         shards,
-        words,
+        hints,
         gate,
     })
 }

@@ -3,9 +3,6 @@ use latch::{Busy, Latch, LatchGuard};
 use std::convert::Infallible;
 use std::sync::Wait;
 
-/// How often a call that does not wait follows a span that moves, before it answers that it is busy.
-pub(crate) const MOST_MOVES: u32 = 8;
-
 /// Whether a call waits for a lock, or answers that another thread has it.
 pub(crate) trait Patience {
     /// What it answers in place of waiting on. A call that waits answers nothing of that kind.

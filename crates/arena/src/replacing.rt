@@ -1,19 +1,53 @@
 // A set in place of a key wherever its span is.
-ghost use Rattle.std.specs.Prelude.{IfOk, IfSome};
+ghost use Rattle.std.specs.Prelude.{IfOk};
 ghost use Rattle.arena.specs.Receipts.{IsSetBy};
 
 use crate::arena::Arena;
+use crate::finding::Visit;
 use crate::gate::Gate;
-use crate::patience::{MOST_MOVES, Patience, Tries, Waits};
+use crate::patience::{Patience, Tries, Waits};
 use crate::sections::{set_in, set_pool, unopened_set};
-use crate::words::Place;
+use abandoned::Pool;
 use latch::Busy;
+use shard::Shard;
 use span::{Key, Log, Object, Receipt};
 use std::alloc::AllocError;
 use std::sync::Wait;
 
+// A set of the key to the object by the worker.
+#[derive(Drop)]
+struct Set {
+    worker: u32,
+    section: u64,
+    key: Key,
+    value: Object,
+}
+
+impl Visit for Set {
+    type Answer = Result<Receipt, AllocError>;
+
+    ghost tells = { λ call told. IfOk told (IsSetBy call.worker call.section call.key call.value) };
+
+    #[inline]
+    fn in_pool<L: Log>(&self, pool: &mut Pool<L>) -> Option<Result<Receipt, AllocError>> {
+        match set_pool(pool, self.worker, self.section, &self.key, self.value) {
+            Ok(told) => Some(Ok(told?)),
+            Err(refused) => Some(Err(refused)),
+        }
+    }
+
+    #[inline]
+    fn in_shard<L: Log>(&self, shard: &mut Shard<L>) -> Option<Result<Receipt, AllocError>> {
+        match set_in(shard, self.worker, self.section, &self.key, self.value) {
+            Ok(told) => Some(Ok(told?)),
+            Err(refused) => Some(Err(refused)),
+        }
+    }
+}
+
 impl<G: Gate, L: Log> Arena<G, L> {
-    // Sets the key's object for the worker, under the lock of whoever has its span. A span that was never opened takes no lock.
+    // Sets the key's object for the worker, under the lock of whoever has its span. Of a span that is nowhere it makes the receipt of
+    // one that was never opened.
     pub(crate) fn set_wherever<R: Wait>(
         &self,
         rt: &R,
@@ -24,16 +58,11 @@ impl<G: Gate, L: Log> Arena<G, L> {
     ) -> Result<Receipt, AllocError>
         ensures { IfOk result (IsSetBy worker section key.now value.now) }
     {
-        for _ in rt.forever() {
-            let Ok(set) = self.set_once(&Waits { rt }, worker, section, key, value);
-            if let Some(receipt) = set? {
-                return Ok(receipt);
-            }
-        }
-        unreachable!()
+        let Ok(set) = self.set_by(&Waits { rt }, worker, section, key, value);
+        set
     }
 
-    // The same, where no other thread has that lock, and the span does not move on each time that it is followed.
+    // The same, where no other thread has a lock that it asks for.
     pub(crate) fn try_set_wherever(
         &self,
         worker: u32,
@@ -43,42 +72,29 @@ impl<G: Gate, L: Log> Arena<G, L> {
     ) -> Result<Result<Receipt, AllocError>, Busy>
         ensures { IfOk result (λ set. IfOk set (IsSetBy worker section key.now value.now)) }
     {
-        for _ in 0..MOST_MOVES {
-            match self.set_once(&Tries, worker, section, key, value)? {
-                Ok(Some(receipt)) => return Ok(Ok(receipt)),
-                Ok(None) => {}
-                Err(refused) => return Ok(Err(refused)),
-            }
-        }
-        Err(Busy)
+        self.set_by(&Tries, worker, section, key, value)
     }
 
-    // Sets the key's object where its word says that its span is, if the span is there.
-    fn set_once<P: Patience>(
+    #[inline]
+    fn set_by<P: Patience>(
         &self,
         patience: &P,
         worker: u32,
         section: u64,
         key: &Key,
         value: &Object,
-    ) -> Result<Result<Option<Receipt>, AllocError>, P::Busy>
-        ensures { IfOk result (λ set. IfOk set (λ told. IfSome told
-            (IsSetBy worker section key.now value.now))) }
+    ) -> Result<Result<Receipt, AllocError>, P::Busy>
+        ensures { IfOk result (λ set. IfOk set (IsSetBy worker section key.now value.now)) }
     {
-        match self.words.place_of(key.span) {
-            Place::Unopened => Ok(Ok(Some(unopened_set(worker, section, key, *value)))),
-            Place::Pool => {
-                let mut pool = patience.lock(&self.pool)?;
-                Ok(set_pool(&mut *pool, worker, section, key, *value))
-            }
-            Place::Shard(number) => {
-                let Some(lock) = self.shards.get(number as usize) else {
-                    return Ok(Ok(None));
-                };
-                let mut shard = patience.lock(lock)?;
-                self.gate.inside(number);
-                Ok(set_in(&mut *shard, worker, section, key, *value))
-            }
+        let call = Set {
+            worker,
+            section,
+            key: *key,
+            value: *value,
+        };
+        match self.visit(patience, key.span, &call)? {
+            Some(set) => Ok(set),
+            None => Ok(Ok(unopened_set(worker, section, key, *value))),
         }
     }
 }

@@ -2,7 +2,7 @@
 ghost use Rattle.std.proofs.Props.{props};
 ghost use Rattle.std.specs.Prelude.{All, ◌≡◌, ℕ, ◌+◌, ◌-◌, ◌<◌, ◌≤◌, ◌^◌, ◌↔◌, ◌∷◌, ◌++◌, [], IfOk, IfSome, IsOk, IsTrue, MatchResult, None, OnErr, OnOk, Some, length, map, slice_get, slice_index_or, slice_set, sum, vec_len};
 ghost use Rattle.arena.specs.Delays.{CountsCall, HandsOver, HasNoneWaiting, NoneWaits, delay_begun};
-ghost use Rattle.arena.specs.Receipts.{AddsFrees, IsGetBy, done_by, found_by, free_receipt, get_receipt, joined, put_receipt, set_receipt};
+ghost use Rattle.arena.specs.Receipts.{AddsFrees, done_by, found_by, free_receipt, get_receipt, joined, put_receipt, set_receipt};
 ghost use Rattle.arena.specs.Seats.{AreNoFewer, HasItsRings, KeepsEnds, free_places, in_rings, known_lists, sending_side, sent_lists, taken_lists};
 ghost use Rattle.arena.specs.Settled.{taken_with_known};
 ghost use Rattle.arena.specs.Tended.{AreLookedAt, IsTended};
@@ -11,14 +11,14 @@ ghost use Rattle.span.specs.declared.limits.TheConstants.{MOST_RING_KEYS, MOST_S
 
 use crate::arena::Arena;
 use crate::gate::Gate;
+use crate::hints::Place;
 use crate::outboxes::{MOST_DELAY, count_call_on, finish_on, hand_over_waiting, leave_on};
 use crate::patience::{Patience, Waits};
 use crate::receipts::Receipts;
 use crate::ring_table::{RingLists, RingTable};
-use crate::sections::{get_in, get_pool, put_in, unopened_get};
+use crate::sections::put_in;
 use crate::settling::{Frees, settle_rings};
 use crate::tending::{look_at_rings, tend_rings};
-use crate::words::Place;
 use abandoned::{AdoptError, ReceiveError};
 use marks::Limits;
 use remote_queue::{Inbox, Outbox};
@@ -183,7 +183,8 @@ impl Seat {
     }
 
     /// Looks the key up, under the lock of whoever has its span, and gives what was found and the receipt. A span that was
-    /// never opened takes no lock: nothing is found, before its log's first change.
+    /// never opened takes no lock: nothing is found, before its log's first change. The same is told of a span that was forgotten
+    /// ([`Arena::forget`]).
     pub fn get<G: Gate, L: Log, R: Wait>(
         &mut self,
         rt: &R,
@@ -196,7 +197,7 @@ impl Seat {
         ensures seat { CountsCall self.old self.new }
     {
         self.count_call();
-        let receipt = self.get_wherever(rt, arena, key);
+        let receipt = arena.get_wherever(rt, self.worker, self.section, key);
         (value_in(&receipt), receipt)
     }
 
@@ -448,7 +449,7 @@ impl Seat {
             Ok(receipt) => {
                 if receipt.at == 0 {
                     // The span is new: whoever is handed its key finds it from now on.
-                    arena.words.set(receipt.key.span, Place::Shard(self.worker));
+                    arena.hints.count_opened(receipt.key.span);
                 }
                 Ok(Ok((receipt.key, receipt)))
             }
@@ -469,11 +470,7 @@ impl Seat {
         let mut pool = patience.lock(&arena.pool)?;
         let mut shard = patience.lock(&arena.shards[self.worker as usize])?;
         self.hand_over();
-        arena.words.set_all(&*shard, Place::Pool);
-        let received = pool.receive(&mut *shard);
-        // Where it was refused, the spans are still in the shard.
-        arena.words.set_all(&*shard, Place::Shard(self.worker));
-        Ok(received)
+        Ok(pool.receive(&mut *shard))
     }
 
     // Begins the worker's shard again, where it has ended.
@@ -508,11 +505,7 @@ impl Seat {
         let mut pool = patience.lock(&arena.pool)?;
         let mut shard = patience.lock(&arena.shards[self.worker as usize])?;
         self.count_call();
-        arena.words.set_all(&*shard, Place::Pool);
-        let retired = pool.retire(&mut *shard, most);
-        // What has stayed, or all of it where this was refused, is still in the shard.
-        arena.words.set_all(&*shard, Place::Shard(self.worker));
-        Ok(retired)
+        Ok(pool.retire(&mut *shard, most))
     }
 
     // Gives back the pages of the worker's shard in which nothing is live.
@@ -548,8 +541,8 @@ impl Seat {
         let adopted = pool.adopt(&mut *shard);
         if let Ok(head) = adopted {
             arena
-                .words
-                .set_group(&*shard, head, Place::Shard(self.worker));
+                .hints
+                .note_group(&*shard, head, Place::Shard(self.worker));
         }
         Ok(adopted)
     }
@@ -624,51 +617,6 @@ impl Seat {
     {
         swap(&mut self.inboxes, inboxes);
         self.table.swap_columns(columns);
-    }
-
-    // Looks the key up, under the lock of whoever has its span. A span that was never opened takes no lock.
-    fn get_wherever<G: Gate, L: Log, R: Wait>(
-        &self,
-        rt: &R,
-        arena: &Arena<G, L>,
-        key: &Key,
-    ) -> Receipt
-        ensures { IsGetBy self.now.worker self.now.section key.now result }
-    {
-        for _ in rt.forever() {
-            let Ok(told) = self.get_once(&Waits { rt }, arena, key);
-            if let Some(receipt) = told {
-                return receipt;
-            }
-        }
-        unreachable!()
-    }
-
-    // Looks the key up where its word says that its span is, if the span is there.
-    fn get_once<G: Gate, L: Log, P: Patience>(
-        &self,
-        patience: &P,
-        arena: &Arena<G, L>,
-        key: &Key,
-    ) -> Result<Option<Receipt>, P::Busy>
-        ensures { IfOk result (λ told. IfSome told
-            (IsGetBy self.now.worker self.now.section key.now)) }
-    {
-        match arena.words.place_of(key.span) {
-            Place::Unopened => Ok(Some(unopened_get(self.worker, self.section, key))),
-            Place::Pool => {
-                let pool = patience.lock(&arena.pool)?;
-                Ok(get_pool(&*pool, self.worker, self.section, key))
-            }
-            Place::Shard(number) => {
-                let Some(lock) = arena.shards.get(number as usize) else {
-                    return Ok(None);
-                };
-                let shard = patience.lock(lock)?;
-                arena.gate.inside(number);
-                Ok(get_in(&*shard, self.worker, self.section, key))
-            }
-        }
     }
 }
 

@@ -296,7 +296,7 @@ fn retires_and_folds(rt: HostRuntime) -> Result<(), Fail> {
     Ok(())
 }
 
-// A key that no put has given out: of the last span of the second shard.
+// A key that no put has given out: of a span that the second shard has not opened.
 fn stranger() -> Option<Key> {
     let id = SpanId::new(1, 1023)?;
     Key::new(id, 0, 1)

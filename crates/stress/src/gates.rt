@@ -126,14 +126,14 @@ fn end<G: Gate, R: Wait>(rt: &R, arena: &Arena<G, Counted>, seat: &mut Seat) -> 
 }
 
 // How often each shard was entered so far, after a put of each worker, a look-up, a set, a free and a tend of keys in the first
-// shard, a trim and an end of that shard, and a look-up in the pool.
+// shard, a trim and an end of that shard, and two look-ups in the pool, the first of which has no hint of where the span went.
 fn entered<R: Wait>(
     rt: &R,
     arena: &Arena<Counting<'_>, Counted>,
     passes: &Passes,
     first: &mut Seat,
     second: &mut Seat,
-) -> Option<[(u64, u64); 8]>
+) -> Option<[(u64, u64); 9]>
     requires first { first.old.limits ≡ arena.now.limits }
     requires second { second.old.limits ≡ arena.now.limits }
 {
@@ -156,6 +156,8 @@ fn entered<R: Wait>(
     let ended = end(rt, arena, first);
     let after_end = passes.so_far();
     let pooled = get(rt, arena, second, &kept);
+    let after_pooled = passes.so_far();
+    let noted = get(rt, arena, second, &kept);
     if !(found
         && replaced
         && freed
@@ -163,7 +165,8 @@ fn entered<R: Wait>(
         && tended == Some(1)
         && trimmed == 0
         && ended
-        && pooled)
+        && pooled
+        && noted)
     {
         return None;
     }
@@ -175,12 +178,13 @@ fn entered<R: Wait>(
         after_tend,
         after_trim,
         after_end,
+        after_pooled,
         passes.so_far(),
     ])
 }
 
 // The same of a new arena.
-fn entered_anew<R: Wait>(rt: &R, alloc: Global) -> Option<[(u64, u64); 8]> {
+fn entered_anew<R: Wait>(rt: &R, alloc: Global) -> Option<[(u64, u64); 9]> {
     let passes = Passes {
         first: AtomicU64::new(0),
         second: AtomicU64::new(0),
@@ -210,7 +214,8 @@ fn passes_the_gate(rt: HostRuntime) -> Result<(), Fail> {
             (7, 1),
             (8, 1),
             (8, 1),
-            (8, 1)
+            (9, 1),
+            (9, 1)
         ])
     );
     Ok(())

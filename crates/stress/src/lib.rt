@@ -37,6 +37,8 @@ mod sections;
 #[cfg(test)]
 mod sets;
 #[cfg(test)]
+mod spans;
+#[cfg(test)]
 mod steward;
 #[cfg(test)]
 mod tends;

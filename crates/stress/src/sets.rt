@@ -65,7 +65,7 @@ fn end<R: Wait>(rt: &R, arena: &Arena<NoGate>, seat: &mut Seat) -> bool
     seat.end(rt, arena).is_ok() || seat.end(rt, arena).is_ok()
 }
 
-// A key that no put has given out: of the last span of the second shard.
+// A key that no put has given out: of a span that the second shard has not opened.
 fn stranger() -> Option<Key> {
     let id = SpanId::new(1, 1023)?;
     Key::new(id, 0, 1)

@@ -1,15 +1,18 @@
 -- What the calls on the steward of an arena do.
-use Rattle.std.specs.Prelude.{◌≡◌, ℕ, Bool, true, false, Option, Some, None, Result, Ok, Err, IfOk, OnErr, OnOk, MatchOption, is_some, ◌++◌, ◌∷◌, [], ◌⊎◌, vec_len}
+use Rattle.std.specs.Prelude.{◌≡◌, ℕ, Bool, true, false, Option, Some, None, Result, Ok, Err, IfOk, IsErr, IsSome, ◌↔◌, OnErr, OnOk, MatchOption, is_some, ◌++◌, ◌∷◌, [], ◌⊎◌, vec_len}
 use Rattle.std.specs.declared.alloc.AllocError.{AllocError}
 use Rattle.certificate.specs.declared.certificate.Certificate.{Certificate}
 use Rattle.certificate.specs.Plans.{IsBestPlanOf, IsShortOf}
 use Rattle.latch.specs.declared.latch.Busy.{Busy}
+use Rattle.arena_core.specs.declared.reply.Refusal.TheVariants.{PlanOpen as PlanIsOpen}
 use Rattle.marks.specs.declared.error.MarkError.{MarkError}
 use Rattle.marks.specs.declared.totals.Totals.{Totals}
 use Rattle.marks.specs.Numbers.{Limits}
 use Rattle.arena.specs.Stewards.{Steps, begun}
 use Rattle.arena.specs.declared.arena.Stepped.{Stepped}
+use Rattle.arena.specs.declared.error.PlanOpen.{PlanOpen}
 use Rattle.arena.specs.declared.arena.Stepped.TheVariants.{NoPairLeft, NoPlan, Taken}
+use Rattle.teurlaks_c.specs.declared.replies.ForgetReply.{ForgetReply}
 use Rattle.teurlaks_c.specs.declared.replies.MarkReply.{MarkReply}
 use Rattle.teurlaks_c.specs.declared.replies.StepReply.{StepReply}
 use Rattle.teurlaks_c.specs.declared.replies.ArenaTotalsReply.{ArenaTotalsReply}
@@ -19,7 +22,7 @@ use Rattle.teurlaks_c.specs.declared.share.SharedSteward.{SharedSteward}
 use Rattle.std.specs.Arc.{arc_value}
 use Rattle.teurlaks_c.specs.Calls.{CountsOf, kept}
 use Rattle.teurlaks_c.specs.Keys.{IsSpanOf}
-use Rattle.teurlaks_c.specs.Status.{busy, done, has_core, no_core, no_pair_left, no_plan, out_of_memory, mark_status, status_of_outcome, none}
+use Rattle.teurlaks_c.specs.Status.{busy, done, has_core, no_core, no_pair_left, no_plan, out_of_memory, mark_status, refusal_status, status_of_outcome, none}
 
 -- the handle has no steward
 abbrev pub HasNoSteward : Option Share → Type 0
@@ -104,6 +107,10 @@ Closes before answer after =
 abbrev pub Keeps : {Answer : Type 0} → SharedSteward → Answer → SharedSteward → Type 0
 Keeps before answer after = (after.steward ≡ before.steward) × (after.last ≡ before.last)
 
+-- guests are forgotten, but while a plan is open, or where another thread has a lock
+abbrev pub Forgets : SharedSteward → Result (Result ℕ PlanOpen) Busy → SharedSteward → Type 0
+Forgets before answer after = IfOk answer (λ forgotten. IsErr forgotten ↔ IsSome before.steward.plan) × Keeps before answer after
+
 -- what C reads of a mark
 abbrev pub SaysMarked : MarkReply → Option (Result (Result MarkReply MarkError) Busy) → Type 0
 SaysMarked says None = says.status ≡ no_core
@@ -126,6 +133,13 @@ SaysClosed says None = says ≡ no_core
 SaysClosed says (Some (Err b)) = says ≡ busy
 SaysClosed says (Some (Ok true)) = says ≡ done
 SaysClosed says (Some (Ok false)) = says ≡ no_plan
+
+-- what C reads of a forgetting
+abbrev pub SaysForgotten : ForgetReply → Option (Result (Result ℕ PlanOpen) Busy) → Type 0
+SaysForgotten says None = (says.status ≡ no_core) × (says.count ≡ 0)
+SaysForgotten says (Some (Err b)) = (says.status ≡ busy) × (says.count ≡ 0)
+SaysForgotten says (Some (Ok (Ok count))) = (says.status ≡ done) × (says.count ≡ count)
+SaysForgotten says (Some (Ok (Err refused))) = (says.status ≡ refusal_status PlanIsOpen) × (says.count ≡ 0)
 
 -- what C reads of totals
 abbrev pub SaysTotals : ArenaTotalsReply → Option (Result Totals Busy) → Type 0

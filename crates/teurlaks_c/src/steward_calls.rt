@@ -3,14 +3,14 @@ ghost use Rattle.std.specs.Prelude.{◌≡◌, Some};
 ghost use Rattle.certificate.specs.Text.{IsWritable};
 ghost use Rattle.teurlaks_c.specs.declared.share.SharedSteward.{SharedSteward};
 ghost use Rattle.teurlaks_c.specs.Calls.{CountsOf, kept};
-ghost use Rattle.teurlaks_c.specs.StewardCalls.{Asks, Closes, Keeps, Marks, TakesStep};
+ghost use Rattle.teurlaks_c.specs.StewardCalls.{Asks, Closes, Forgets, Keeps, Marks, TakesStep};
 
 use crate::held::Witness;
 use crate::meshing::marked;
 use crate::replies::MarkReply;
 use crate::share::{Share, SharedSteward};
 use crate::share_handle::ShareHandle;
-use arena::{Busy, Stepped, Totals};
+use arena::{Busy, PlanOpen, Stepped, Totals};
 use certificate::Certificate;
 use marks::MarkError;
 use std::alloc::{AllocError, Global};
@@ -99,6 +99,20 @@ impl StewardCall for Close {
 
     fn ask(&self, shared: &mut SharedSteward) -> Result<bool, Busy> {
         shared.arena.try_close(&mut shared.steward)
+    }
+}
+
+/// A forgetting of guests in which no slot is live.
+#[derive(Drop)]
+pub(crate) struct Forget;
+
+impl StewardCall for Forget {
+    type Answer = Result<Result<usize, PlanOpen>, Busy>;
+
+    ghost does = { λ call. Forgets };
+
+    fn ask(&self, shared: &mut SharedSteward) -> Result<Result<usize, PlanOpen>, Busy> {
+        shared.arena.try_forget(&shared.steward)
     }
 }
 

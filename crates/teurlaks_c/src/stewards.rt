@@ -1,25 +1,24 @@
 // An arena from its beginning to its end, and the calls of its steward.
 ghost use Rattle.std.specs.Prelude.{◌≡◌, ◌↔◌, ◌≢◌, IfErr, IfOk, IsErrOf, IsSome, MatchBool, None, vec_len, MatchResult, Some};
 ghost use Rattle.std.specs.Arc.{arc_value};
-ghost use Rattle.arena.specs.Numbers.{arena_limits};
 ghost use Rattle.arena.specs.declared.error.OpenError.TheVariants as open_error;
 ghost use Rattle.teurlaks_c.specs.declared.share.SharedSeat.{SharedSeat};
 ghost use Rattle.teurlaks_c.specs.declared.share.Share.TheVariants as shares;
 ghost use Rattle.marks.specs.Numbers.{AreWithin, limits_of};
 ghost use Rattle.teurlaks_c.specs.Status.{config, has_core, mark_status, status_of_outcome};
-ghost use Rattle.teurlaks_c.specs.StewardCalls.{Asks, Closes, HandsOutOf, HandsOutSeat, HasNewArena, Keeps, LeavesSeat, Marks, SaysClosed, SaysMarked, SaysStepped, SaysTotals, TakesStep};
+ghost use Rattle.teurlaks_c.specs.StewardCalls.{Asks, Closes, Forgets, HandsOutOf, HandsOutSeat, HasNewArena, Keeps, LeavesSeat, Marks, SaysClosed, SaysForgotten, SaysMarked, SaysStepped, SaysTotals, TakesStep};
 
 use crate::keys::raw_span;
 use crate::meshing::{unmarked, unstepped};
-use crate::replies::{ArenaTotalsReply, MarkReply, StepReply};
+use crate::replies::{ArenaTotalsReply, ForgetReply, MarkReply, StepReply};
 use crate::share::{Shards, Share, SharedSeat, SharedSteward};
 use crate::share_handle::ShareHandle;
 use crate::status::{
     BUSY, CONFIG, EMPTIED, HAS_CORE, NO_CORE, NO_PAIR_LEFT, NO_PLAN, NONE, OK, OUT_OF_MEMORY,
     PLAN_OPEN, TOO_MANY,
 };
-use crate::steward_calls::{Close, CountAll, MarkSome, Step, at_steward};
-use arena::{Arena, Busy, NoGate, OpenError, Seat, Stepped, Totals};
+use crate::steward_calls::{Close, CountAll, Forget, MarkSome, Step, at_steward};
+use arena::{Arena, Busy, NoGate, OpenError, PlanOpen, Seat, Stepped, Totals};
 use fold::Step as Outcome;
 use marks::MarkError;
 use std::alloc::{AllocError, AllocFailed, Global};
@@ -28,7 +27,7 @@ use std::sync::Arc;
 
 /// Leaves the steward of a new arena to the handle, which has nothing yet: of `shards` shards, 1 to 64, each of up to `page_limit` pages of
 /// 4,096 bytes, 1 to 1,048,576, with rings of `ring_capacity` keys, 1 to 1,024, each slot of which is given the generations from 1 to `gens`,
-/// at least 1. A shard opens 1,024 spans at most. The steward has a seat for each shard, to be given to threads.
+/// at least 1. A shard may open as many spans as there are serials. The steward has a seat for each shard, to be given to threads.
 ///
 /// `HAS_CORE` comes exactly where the handle has a seat or a steward already. Where it has none, `CONFIG` comes exactly where a number is
 /// out of its range, and `OUT_OF_MEMORY` only where each is within it. Where the status is not `OK` the handle is as it was.
@@ -42,7 +41,7 @@ pub extern "C" fn teurlaks_arena_open(
     gens: u32,
 ) -> u32
     ensures ok { result ≡ 0
-        → HasNewArena (arena_limits shards page_limit ring_capacity gens) out.new.share }
+        → HasNewArena (limits_of shards page_limit ring_capacity gens) out.new.share }
     ensures refused { (result ≡ 0 → ⊥) → out.new.share ≡ out.old.share }
     ensures config { out.old.share ≡ None → (result ≡ config)
         ↔ (AreWithin (limits_of shards page_limit ring_capacity gens) → ⊥) }
@@ -81,7 +80,7 @@ fn opened(
     ensures config { IsErrOf result open_error.Config
         ↔ (AreWithin (limits_of shards page_limit ring_capacity gens) → ⊥) }
     ensures new { IfOk result (λ shared. (shared.steward ≡ record {
-      limits = arena_limits shards page_limit ring_capacity gens;
+      limits = limits_of shards page_limit ring_capacity gens;
       plan = None;
     }) × (shared.last ≡ None) × (vec_len shared.seats ≡ shards)) }
 {
@@ -237,6 +236,17 @@ pub extern "C" fn teurlaks_steward_close(alloc: Global, handle: &mut ShareHandle
     closed_reply(at_steward(alloc, handle, &Close))
 }
 
+/// Forgets the guests of the shards' groups in which no slot is live, with their generations; the count is how many went. Nothing else
+/// changes that a caller sees. Refused with `BUSY`, or with `PLAN_OPEN` while a plan is open; nothing has changed then. It takes no
+/// memory.
+#[unsafe(no_mangle)]
+pub extern "C" fn teurlaks_steward_forget(alloc: Global, handle: &mut ShareHandle) -> ForgetReply
+    ensures { (answer : _) × Asks Forgets handle.old.share answer handle.new.share
+        × SaysForgotten result answer }
+{
+    forgotten_reply(at_steward(alloc, handle, &Forget))
+}
+
 /// How many pages the arena has, and how many keys are live in it, at one time. Refused with `BUSY`. Nothing changes.
 #[unsafe(no_mangle)]
 pub extern "C" fn teurlaks_steward_totals(
@@ -312,6 +322,19 @@ fn closed_reply(answer: Option<Result<bool, Busy>>) -> u32
         Some(Err(Busy)) => BUSY,
         None => NO_CORE,
     }
+}
+
+// What C reads of a forgetting.
+fn forgotten_reply(answer: Option<Result<Result<usize, PlanOpen>, Busy>>) -> ForgetReply
+    ensures { SaysForgotten result answer }
+{
+    let status = match answer {
+        Some(Ok(Ok(count))) => return ForgetReply { status: OK, count },
+        Some(Ok(Err(PlanOpen))) => PLAN_OPEN,
+        Some(Err(Busy)) => BUSY,
+        None => NO_CORE,
+    };
+    ForgetReply { status, count: 0 }
 }
 
 // What C reads of totals.

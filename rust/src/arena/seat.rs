@@ -45,7 +45,7 @@ impl<T: Copy> Seat<T> {
     ///
     /// # Errors
     ///
-    /// - [`Refused::PagesSpent`]: no page of the shard has a usable slot, and it may have no further one, or has opened 1,024 in its life;
+    /// - [`Refused::PagesSpent`]: no page of the shard has a usable slot, and it may have no further one, or has opened 4,294,967,295 in its life;
     /// - [`Refused::Ended`]: the shard has ended;
     /// - [`Refused::OutOfMemory`]: none of these holds, and memory was refused.
     #[doc(alias = "put")]

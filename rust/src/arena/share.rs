@@ -77,6 +77,7 @@ answers!(
     AdoptReply,
     MarkReply,
     StepReply,
+    ForgetReply,
     ArenaTotalsReply
 );
 

@@ -1,14 +1,14 @@
 // The calls of a seat that do not wait: where another thread has a lock that they need, they answer so, and change nothing.
 ghost use Rattle.std.specs.Prelude.{◌≡◌, ◌≤◌, IfOk, OnErr, OnOk};
 ghost use Rattle.arena.specs.Delays.{CountsCall, HandsOver, HasNoneWaiting};
-ghost use Rattle.arena.specs.Receipts.{IsGetBy, free_receipt, get_receipt, put_receipt, set_receipt};
+ghost use Rattle.arena.specs.Receipts.{free_receipt, get_receipt, put_receipt, set_receipt};
 ghost use Rattle.arena.specs.Seats.{AreNoFewer, KeepsEnds, free_places, sending_side};
 ghost use Rattle.arena.specs.Tended.{AreLookedAt, IsTended};
 
 use super::{Seat, done_in, value_in};
 use crate::arena::Arena;
 use crate::gate::Gate;
-use crate::patience::{MOST_MOVES, Tries};
+use crate::patience::Tries;
 use crate::receipts::Receipts;
 use crate::tending::{look_at_rings, try_tend_rings};
 use abandoned::{AdoptError, ReceiveError};
@@ -46,11 +46,12 @@ impl Seat {
         self.put_within(&Tries, arena, value)
     }
 
-    /// What [`Seat::get`] does, where no other thread has the lock of whoever has the key's span.
+    /// What [`Seat::get`] does, where no other thread has a lock that it asks for: that of whoever may have the key's span; and where the
+    /// span has moved on, the pool's, and then, one after another, those of the shards.
     ///
     /// # Errors
     ///
-    /// [`Busy`] where another thread has it, or the span moved on each of eight times that it was followed.
+    /// [`Busy`] where another thread has the lock; of those of the shards only where none of the others has the span.
     pub fn try_get<G: Gate, L: Log>(
         &mut self,
         arena: &Arena<G, L>,
@@ -62,17 +63,16 @@ impl Seat {
         ensures seat { OnOk result (CountsCall self.old self.new) }
         ensures busy { OnErr result (self.new ≡ self.old) }
     {
-        let receipt = self.try_get_wherever(arena, key)?;
+        let receipt = arena.try_get_wherever(self.worker, self.section, key)?;
         self.count_call();
         Ok((value_in(&receipt), receipt))
     }
 
-    /// What [`Seat::set`] does, where no other thread has the lock of whoever has the key's span.
+    /// What [`Seat::set`] does, where no other thread has a lock that it asks for, which are those of [`Seat::try_get`].
     ///
     /// # Errors
     ///
-    /// [`Busy`] where another thread has it, or the span moved on each of eight times that it was followed. Else the set, whose error
-    /// is that of [`Seat::set`].
+    /// [`Busy`] as that of [`Seat::try_get`]. Else the set, whose error is that of [`Seat::set`].
     pub fn try_set<G: Gate, L: Log>(
         &mut self,
         arena: &Arena<G, L>,
@@ -93,11 +93,11 @@ impl Seat {
         }
     }
 
-    /// What [`Seat::free`] does, where no other thread has the lock of whoever has the key's span.
+    /// What [`Seat::free`] does, where no other thread has a lock that it asks for, which are those of [`Seat::try_get`].
     ///
     /// # Errors
     ///
-    /// [`Busy`] where another thread has it, or the span moved on each of eight times that it was followed.
+    /// [`Busy`] as that of [`Seat::try_get`].
     pub fn try_free<G: Gate, L: Log>(
         &mut self,
         arena: &Arena<G, L>,
@@ -226,22 +226,5 @@ impl Seat {
         ensures busy { OnErr result (self.new ≡ self.old) }
     {
         self.adopt_within(&Tries, arena)
-    }
-
-    // Looks the key up, where no other thread has the lock of whoever has its span, and the span does not move on each time that it is
-    // followed.
-    fn try_get_wherever<G: Gate, L: Log>(
-        &self,
-        arena: &Arena<G, L>,
-        key: &Key,
-    ) -> Result<Receipt, Busy>
-        ensures { IfOk result (IsGetBy self.now.worker self.now.section key.now) }
-    {
-        for _ in 0..MOST_MOVES {
-            if let Some(receipt) = self.get_once(&Tries, arena, key)? {
-                return Ok(receipt);
-            }
-        }
-        Err(Busy)
     }
 }

@@ -1,0 +1,61 @@
+// Spans that can never be live again, which an arena forgets.
+ghost use Rattle.std.specs.Prelude.{◌≡◌, ◌↔◌, IfOk, IsErr, IsSome};
+
+use crate::arena::Arena;
+use crate::error::PlanOpen;
+use crate::gate::Gate;
+use crate::locks::forget_all;
+use crate::patience::{Patience, Tries, Waits};
+use crate::steward::Steward;
+use latch::Busy;
+use span::Counted;
+use std::sync::Wait;
+
+impl<G: Gate> Arena<G, Counted> {
+    /// Forgets each guest of the shards' groups in which no slot is live, with its generations, under all locks, and answers how many
+    /// went. A guest takes no put, so none of its keys can be live again: it finds nothing, as before. Nothing else that a caller sees
+    /// changes; that this is of what the locks guard no clause can name. It takes no memory.
+    ///
+    /// Only an arena whose logs are counted forgets, since an audit reads all logs. The receipt of a look-up, a set or a free of a key
+    /// whose span was forgotten says that nothing was found, after no change: its log is gone.
+    ///
+    /// # Errors
+    ///
+    /// [`PlanOpen`] exactly while the steward has a plan. Nothing is forgotten then.
+    pub fn forget<R: Wait>(&self, rt: &R, steward: &Steward) -> Result<usize, PlanOpen>
+        requires { steward.now.limits ≡ self.now.limits }
+        ensures plan_open { IsErr result ↔ IsSome steward.now.plan }
+    {
+        let Ok(forgotten) = self.forget_within(&Waits { rt }, steward);
+        forgotten
+    }
+
+    /// What [`Arena::forget`] does, where no other thread has a lock.
+    ///
+    /// # Errors
+    ///
+    /// [`Busy`] where another thread has one. Else the forgetting, whose error is that of [`Arena::forget`].
+    pub fn try_forget(&self, steward: &Steward) -> Result<Result<usize, PlanOpen>, Busy>
+        requires { steward.now.limits ≡ self.now.limits }
+        ensures plan_open { IfOk result
+            (λ forgotten. IsErr forgotten ↔ IsSome steward.now.plan) }
+    {
+        self.forget_within(&Tries, steward)
+    }
+
+    // Has the shards forget, where no plan is open.
+    fn forget_within<P: Patience>(
+        &self,
+        patience: &P,
+        steward: &Steward,
+    ) -> Result<Result<usize, PlanOpen>, P::Busy>
+        ensures plan_open { IfOk result
+            (λ forgotten. IsErr forgotten ↔ IsSome steward.now.plan) }
+    {
+        if steward.plan.is_open() {
+            return Ok(Err(PlanOpen));
+        }
+        let _pool = patience.lock(&self.pool)?;
+        Ok(Ok(forget_all(patience, &self.shards)?))
+    }
+}

@@ -1,0 +1,232 @@
+// Where each span may be, in memory that does not grow with the spans that are opened.
+ghost use Rattle.std.proofs.Props.{props};
+ghost use Rattle.std.specs.Prelude.{◌≡◌, ◌*◌, ◌+◌, ◌<◌, ◌≤◌, ◌^◌, ◌↔◌, IfOk, IfSome, None, vec_len};
+ghost use Rattle.arena.specs.Hints.{IsPlace, hint_word, place_code};
+ghost use Rattle.span.specs.declared.limits.TheConstants.{MOST_PAGES, MOST_SHARDS};
+
+use shard::Shard;
+use span::{Log, SpanId};
+use std::alloc::{AllocError, Global};
+use std::sync::atomic::Ordering::SeqCst;
+use std::sync::atomic::{AtomicIn, Rule};
+
+// How many hints of a shard's spans are kept for each page that the shard may have. A power of two.
+const HINTS_A_PAGE: usize = 4;
+
+// How many serials there are: the serial stands in the lower half of a hint's word.
+const SERIALS: u64 = 1 << 32;
+
+// The word that says nothing.
+const NO_HINT: u64 = 0;
+
+/// Where a span may be.
+#[derive(Clone, Copy, PartialEq, Eq, Debug)]
+pub(crate) enum Place {
+    /// Nowhere, for now or for good: it was not opened yet, or it was forgotten.
+    Nowhere,
+    /// In the pool.
+    Pool,
+    /// In the shard of this number.
+    Shard(u32),
+}
+
+/// What a word says: in which place the span of the serial may be.
+#[derive(Clone, Copy, PartialEq, Eq, Debug)]
+pub(crate) struct Hint {
+    pub(crate) serial: u32,
+    pub(crate) place: Place,
+}
+
+/// The rule of a count of the spans that a shard has opened, whoever writes it.
+#[derive(Clone, Copy)]
+pub(crate) struct OpenedCount;
+
+impl Rule for OpenedCount {
+    ghost invariant = { λ word. word ≤ 2 ^ 32 };
+}
+
+/// The rule of a hint's word, whoever writes it: in its upper half stands a code of the place, of which there are 67, or 0 where it
+/// says nothing.
+#[derive(Clone, Copy)]
+pub(crate) struct HintWord;
+
+impl Rule for HintWord {
+    ghost invariant = { λ word. word < 67 * 2 ^ 32 };
+}
+
+/// How many spans each shard has opened, and where some of them may be. The first is exact, since the first put of a span counts it
+/// before its key is handed out: a serial that was not counted is of no span. The second is a hint, in a table of fixed size for
+/// each shard, in which a serial shares its word with others. Another thread may move the span before the hint is followed, so who
+/// follows it looks whether the span is there; and where no word speaks of a serial, its span may be in the shard that opened it.
+/// A word says 'nowhere' only of a span that was forgotten, which never comes back.
+#[derive(Drop)]
+pub(crate) struct Hints {
+    // By shard.
+    opened: Vec<AtomicIn<OpenedCount>>,
+    // By shard, and then by the last bits of a serial.
+    words: Vec<Vec<AtomicIn<HintWord>>>,
+    // These bits.
+    mask: u32,
+    ghost few: { vec_len opened ≤ MOST_SHARDS },
+}
+
+impl Hints {
+    /// Those of that many shards, of that many pages each, which have opened no span.
+    pub(crate) fn new(alloc: Global, shards: u32, page_limit: usize) -> Result<Hints, AllocError>
+        requires few { shards ≤ MOST_SHARDS }
+        requires pages { page_limit ≤ MOST_PAGES }
+    {
+        let size = (page_limit * HINTS_A_PAGE).next_power_of_two();
+        let mut opened = Vec::with_capacity(alloc, shards as usize)?;
+        let mut words = Vec::with_capacity(alloc, shards as usize)?;
+        for _ in 0..shards {
+            opened.push_reserved(AtomicIn::new(0));
+            words.push_reserved(no_hints(alloc, size)?);
+        }
+        Ok(Hints {
+            opened,
+            words,
+            mask: size as u32 - 1,
+        })
+    }
+
+    /// Where the span may be: two loads. It is nowhere where it was not opened, as one of a shard that is not of this arena.
+    #[inline]
+    pub(crate) fn place_of(&self, id: SpanId) -> Place
+        ensures { IsPlace result }
+    {
+        let SpanId { shard, serial } = id;
+        let Some(opened) = self.opened.get(shard as usize) else {
+            return Place::Nowhere;
+        };
+        if u64::from(serial) >= opened.load(SeqCst) {
+            return Place::Nowhere;
+        }
+        match self.hint_of(id) {
+            Some(hint) => hint.place,
+            None => Place::Shard(shard),
+        }
+    }
+
+    /// Says from now on that the span is opened, with all that its shard opened before it.
+    #[inline]
+    pub(crate) fn count_opened(&self, id: SpanId) {
+        let SpanId { shard, serial } = id;
+        if let Some(opened) = self.opened.get(shard as usize) {
+            opened.store(u64::from(serial) + 1, SeqCst);
+        }
+    }
+
+    /// Says from now on that the span may be in this place. Where that is the shard that opened it, the hint goes: none says the same.
+    pub(crate) fn note(&self, id: SpanId, place: Place)
+        requires { IsPlace place }
+    {
+        let SpanId { shard, serial } = id;
+        let Some(word) = self.word_of(id) else {
+            return;
+        };
+        if place != Place::Shard(shard) {
+            word.store(word_from(Hint { serial, place }), SeqCst);
+        } else if self.hint_of(id).is_some() {
+            word.store(NO_HINT, SeqCst);
+        }
+    }
+
+    /// Says so of all spans of the head's group, where the shard has it.
+    pub(crate) fn note_group<L: Log>(&self, shard: &Shard<L>, head: SpanId, place: Place)
+        requires { IsPlace place }
+    {
+        if let Some(group) = shard.brief(head) {
+            for at in 0..group.spans {
+                if let Some(id) = shard.span_at(head, at) {
+                    self.note(id, place);
+                }
+            }
+        }
+    }
+
+    // The hint of this span, if there is one: its word may speak of another.
+    #[inline]
+    fn hint_of(&self, id: SpanId) -> Option<Hint>
+        ensures { IfSome result (λ hint. IsPlace hint.place) }
+    {
+        let word = self.word_of(id)?;
+        let hint = hint_from(word.load(SeqCst))?;
+        if hint.serial == id.serial {
+            Some(hint)
+        } else {
+            None
+        }
+    }
+
+    // The word that may speak of the span. A shard that is not of this arena has none.
+    #[inline]
+    fn word_of(&self, id: SpanId) -> Option<&AtomicIn<HintWord>> {
+        let SpanId { shard, serial } = id;
+        let words = self.words.get(shard as usize)?;
+        words.get((serial & self.mask) as usize)
+    }
+}
+
+// That many words, which say nothing.
+fn no_hints(alloc: Global, size: usize) -> Result<Vec<AtomicIn<HintWord>>, AllocError> {
+    let mut words = Vec::with_capacity(alloc, size)?;
+    for _ in 0..size {
+        words.push_reserved(AtomicIn::new(NO_HINT));
+    }
+    Ok(words)
+}
+
+// What the word says, or `None` where it says nothing.
+#[inline]
+fn hint_from(word: u64) -> Option<Hint>
+    requires { word < 67 * 2 ^ 32 }
+    ensures place { IfSome result (λ hint. IsPlace hint.place) }
+    ensures said { IfSome result (λ hint. hint_word hint ≡ word) }
+    ensures none { result ≡ None → word < 2 ^ 32 }
+{
+    let place = place_from(word / SERIALS)?;
+    let serial = (word % SERIALS) as u32;
+    Some(Hint { serial, place })
+}
+
+// The word that says this.
+#[inline]
+fn word_from(hint: Hint) -> u64
+    requires { IsPlace hint.place }
+    ensures said { result ≡ hint_word hint }
+    ensures rule { result < 67 * 2 ^ 32 }
+{
+    let Hint { serial, place } = hint;
+    code_from(place) * SERIALS + u64::from(serial)
+}
+
+// The place that the code names, or `None` for 0, which names none.
+#[inline]
+fn place_from(code: u64) -> Option<Place>
+    requires { code < 67 }
+    ensures place { IfSome result IsPlace }
+    ensures code { IfSome result (λ place. place_code place ≡ code) }
+    ensures none { (result ≡ None) ↔ (code ≡ 0) }
+{
+    match code {
+        0 => None,
+        1 => Some(Place::Nowhere),
+        2 => Some(Place::Pool),
+        _ => Some(Place::Shard(code as u32 - 3)),
+    }
+}
+
+// The code that names the place.
+#[inline]
+fn code_from(place: Place) -> u64
+    requires { IsPlace place }
+    ensures code { result ≡ place_code place }
+    ensures few { result < 67 }
+{
+    match place {
+        Place::Nowhere => 1,
+        Place::Pool => 2,
+        Place::Shard(number) => 3 + u64::from(number),
+    }
+}
