@@ -222,8 +222,8 @@ impl<T> Arena<T> {
         }
     }
 
-    /// Forgets what folds have brought to shards and can never be live again, with its generations, and says how many spans went: it
-    /// holds all locks meanwhile. Nothing that a caller sees changes, but the memory that is kept. It takes none.
+    /// Forgets what folds have brought to shards, and what the pool keeps, that can never be live again, with its generations, and says how
+    /// many spans went: it holds all locks meanwhile. Nothing that a caller sees changes, but the memory that is kept. It takes none.
     ///
     /// # Errors
     ///

@@ -12,8 +12,9 @@ use span::Counted;
 use std::sync::Wait;
 
 impl<G: Gate> Arena<G, Counted> {
-    /// Forgets each guest of the shards' groups in which no slot is live, with its generations, under all locks, and answers how many
-    /// went. A guest takes no put, so none of its keys can be live again: it finds nothing, as before. Nothing else that a caller sees
+    /// Forgets the spans that can never be live again, with their generations, under all locks, and answers how many went: each guest of
+    /// the shards' groups in which no slot is live, and in the pool each such guest and all spans of groups in which no slot is live. They
+    /// take no put, so none of their keys can be live again: each finds nothing, as before. Nothing else that a caller sees
     /// changes; that this is of what the locks guard no clause can name. It takes no memory.
     ///
     /// Only an arena whose logs are counted forgets, since an audit reads all logs. The receipt of a look-up, a set or a free of a key
@@ -43,7 +44,7 @@ impl<G: Gate> Arena<G, Counted> {
         self.forget_within(&Tries, steward)
     }
 
-    // Has the shards forget, where no plan is open.
+    // Has the shards and the pool forget, where no plan is open. The pool does so once no lock of a shard can be refused any more.
     fn forget_within<P: Patience>(
         &self,
         patience: &P,
@@ -55,7 +56,8 @@ impl<G: Gate> Arena<G, Counted> {
         if steward.plan.is_open() {
             return Ok(Err(PlanOpen));
         }
-        let _pool = patience.lock(&self.pool)?;
-        Ok(Ok(forget_all(patience, &self.shards)?))
+        let mut pool = patience.lock(&self.pool)?;
+        let owned = forget_all(patience, &self.shards)?;
+        Ok(Ok(owned.saturating_add(pool.forget())))
     }
 }

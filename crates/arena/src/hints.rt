@@ -2,7 +2,7 @@
 ghost use Rattle.std.proofs.Props.{props};
 ghost use Rattle.std.specs.Prelude.{◌≡◌, ◌*◌, ◌+◌, ◌<◌, ◌≤◌, ◌^◌, ◌↔◌, IfOk, IfSome, None, vec_len};
 ghost use Rattle.arena.specs.Hints.{IsPlace, hint_word, place_code};
-ghost use Rattle.span.specs.declared.limits.TheConstants.{MOST_PAGES, MOST_SHARDS};
+ghost use Rattle.span.specs.declared.limits.TheConstants.{MOST_SHARDS};
 
 use shard::Shard;
 use span::{Log, SpanId};
@@ -12,6 +12,9 @@ use std::sync::atomic::{AtomicIn, Rule};
 
 // How many hints of a shard's spans are kept for each page that the shard may have. A power of two.
 const HINTS_A_PAGE: usize = 4;
+
+// For how many pages of a shard hints are kept at most: 512 KB a shard, whatever number of pages it may have.
+const MOST_HINTED_PAGES: usize = 16_384;
 
 // How many serials there are: the serial stands in the lower half of a hint's word.
 const SERIALS: u64 = 1 << 32;
@@ -71,12 +74,12 @@ pub(crate) struct Hints {
 }
 
 impl Hints {
-    /// Those of that many shards, of that many pages each, which have opened no span.
+    /// Those of that many shards, of that many pages each, which have opened no span. Of a shard of more than [`MOST_HINTED_PAGES`] pages
+    /// more spans share a word, since the table is made whole.
     pub(crate) fn new(alloc: Global, shards: u32, page_limit: usize) -> Result<Hints, AllocError>
         requires few { shards ≤ MOST_SHARDS }
-        requires pages { page_limit ≤ MOST_PAGES }
     {
-        let size = (page_limit * HINTS_A_PAGE).next_power_of_two();
+        let size = (page_limit.min(MOST_HINTED_PAGES) * HINTS_A_PAGE).next_power_of_two();
         let mut opened = Vec::with_capacity(alloc, shards as usize)?;
         let mut words = Vec::with_capacity(alloc, shards as usize)?;
         for _ in 0..shards {

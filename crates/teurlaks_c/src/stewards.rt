@@ -236,8 +236,8 @@ pub extern "C" fn teurlaks_steward_close(alloc: Global, handle: &mut ShareHandle
     closed_reply(at_steward(alloc, handle, &Close))
 }
 
-/// Forgets the guests of the shards' groups in which no slot is live, with their generations; the count is how many went. Nothing else
-/// changes that a caller sees. Refused with `BUSY`, or with `PLAN_OPEN` while a plan is open; nothing has changed then. It takes no
+/// Forgets the spans that can never be live again, with their generations, as `Arena::forget` does; the count is how many went. Nothing
+/// else changes that a caller sees. Refused with `BUSY`, or with `PLAN_OPEN` while a plan is open; nothing has changed then. It takes no
 /// memory.
 #[unsafe(no_mangle)]
 pub extern "C" fn teurlaks_steward_forget(alloc: Global, handle: &mut ShareHandle) -> ForgetReply
