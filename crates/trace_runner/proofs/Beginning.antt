@@ -1,5 +1,5 @@
 -- The call by which a thread begins again.
-use Rattle.std.proofs.Common.{◌≡◌, ℕ, Bool, true, false, List, [], ◌∷◌, refl}
+use Rattle.std.proofs.Common.{◌≡◌, ℕ, true, false, List, [], ◌∷◌, refl}
 use Rattle.arena_core.specs.declared.event.Event.TheVariants as event
 use Rattle.trace_runner.specs.Made.{Calls, Did}
 use Rattle.trace_runner.specs.Runs.{asked_by_call}

@@ -411,7 +411,10 @@ impl<'t> Run<'t> {
         ensures trace { self.new.trace.now ≡ self.old.trace.now }
     {
         match self.core.begin(thread) {
-            Ok(()) => self.replies.tell(number, &Answer::Begun),
+            Ok(()) => {
+                self.replies.tell(number, &Answer::Begun)?;
+                Ok(())
+            }
             // The shard is there, and has ended.
             Err(_) => unreachable!(),
         }

@@ -1,4 +1,4 @@
-use Rattle.std.proofs.Common.{◌≡◌, ◌&&◌, ◌∙◌, ap, not, sym, true}
+use Rattle.std.proofs.Common.{◌&&◌, ◌∙◌, ap, not, sym, true}
 use Rattle.std.specs.Prelude.{nat_le}
 use Rattle.trace_text.specs.Causes.{awaits_mark, begins_again, comes_early, has_ended, is_call_over, reads_unknown}
 use Rattle.trace_text.specs.Places.{place_by}
