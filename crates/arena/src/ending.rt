@@ -1,5 +1,5 @@
 // The end of an arena.
-ghost use Rattle.std.specs.Prelude.{◌≡◌, ◌<◌, ℕ, IfErr, IfOk, OnErr, length, map, slice_index_or, vec_len};
+ghost use Rattle.std.specs.Prelude.{◌≡◌, ◌<◌, ℕ, IfErr, IfOk, OnErr, OnOk, length, map, slice_index_or, vec_len};
 ghost use Rattle.span.specs.SpanLogs.{AreLegal};
 ghost use Rattle.arena.specs.Seats.{AreLinked, AreSeatsOf};
 ghost use Rattle.arena.specs.Settled.{AreSameSeats, IsSettled, greatest_section};
@@ -58,6 +58,7 @@ pub fn finish<G: Gate, K: Receipts>(
         (slice_index_or finished.counts.items shard c).items
         (K.told (slice_index_or receipts.old shard d))
         (K.told (slice_index_or receipts.new shard e))) }
+    ensures rings { OnOk result (AreLinked seats.items) }
 
     // What a refusal hands back.
     ensures arena { IfErr result (λ back. (back.arena.limits ≡ arena.limits)
@@ -95,6 +96,7 @@ fn settled<G: Gate, K: Receipts>(
         (slice_index_or ended.1.items shard c).items
         (K.told (slice_index_or receipts.old shard d))
         (K.told (slice_index_or receipts.new shard e))) }
+    ensures rings { OnOk result (AreLinked seats.old) }
 
     // What a refusal hands back.
     ensures arena { (arena.new.limits ≡ arena.old.limits) × (arena.new.table ≡ arena.old.table) }

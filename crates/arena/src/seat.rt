@@ -243,9 +243,11 @@ impl Seat {
         (done_in(&receipt), receipt)
     }
 
-    /// Whether the shard that opened the key's span is one of the arena's, as [`Seat::free_later`] asks.
+    /// Whether the shard that opened the key's span is one of the arena's, as [`Seat::free_later`] asks. The seat has then an end of
+    /// the ring to it.
     pub fn has_shard_of(&self, key: &Key) -> bool
-        ensures { IsTrue result ↔ (key.now.span.shard < self.now.limits.shards) }
+        ensures shard { IsTrue result ↔ (key.now.span.shard < self.now.limits.shards) }
+        ensures end { IsTrue result → key.now.span.shard < length self.now.outboxes }
     {
         key.span.shard < self.limits.shards()
     }

@@ -11,6 +11,8 @@ use Rattle.trace_text.specs.declared.header.Header.{Header}
 use Rattle.trace_text.specs.declared.line.Call.{Call}
 use Rattle.trace_text.specs.declared.line.Line.{Line}
 use Rattle.trace_text.specs.declared.line.Line.TheVariants as line
+use Rattle.arena.specs.Seats.{SeatState}
+use Rattle.thread_runner.specs.Followed.{carried_by}
 use Rattle.thread_runner.specs.Grown.{AreDiaries, IsDiaryOf}
 use Rattle.thread_runner.specs.declared.diary.Diary.{Diary}
 use Rattle.thread_runner.specs.Asked.{GivenKeys, is_line_of, places_from, places_of, replies_at, replies_by as replies_by_call, replies_in, replies_on}
@@ -99,6 +101,14 @@ lines-below n (l ∷ lines) of =
     below-add (λ thread. if is_line_of thread l then replies_at l else 0) (λ thread. replies_by thread lines) n
     ∙ omega (arith, line-below n l (λ thread call is. of 0 thread call (ap Some is)), lines-below n lines (λ place thread call at. of (suc place) thread call at))
 
+-- where there are as many of both, each of the one stands beside one of the other
+beside : {X Y : Type 0} (xs : List X) (ys : List Y) (at : ℕ) (y : Y) → length xs ≡ length ys → slice_get ys at ≡ Some y → (x : X) × (slice_get xs at ≡ Some x)
+beside [] [] at y same there = absurd cc
+beside [] (z ∷ ys) at y same there = absurd (omega arith)
+beside (x ∷ xs) [] at y same there = absurd (omega arith)
+beside (x ∷ xs) (z ∷ ys) zero y same there = (x, refl)
+beside (x ∷ xs) (z ∷ ys) (suc at) y same there = beside xs ys at y (omega arith) there
+
 diaries-below : (f : ℕ → ℕ) (diaries : List Diary) → ((thread : ℕ) (diary : Diary) → slice_get diaries thread ≡ Some diary → diary.calls ≡ f thread) → sum_by (λ (diary : Diary). diary.calls) diaries ≡ below f (length diaries)
 unfolding below
 diaries-below f [] each = refl
@@ -113,9 +123,9 @@ AreBelow-sound header lines sound place thread call here =
     let e : nat_le header.shards thread ≡ false = (all_fine header (take place lines) (line.Call thread call) (sound place (line.Call thread call) here)).thread in grind (arith, nat_tests)
 
 -- the diaries of all threads count the replies of all lines
-pub AreDiaries-counted : (lines : List Line) (shown : Bool) (given : GivenKeys) (threads : ℕ) (diaries : List Diary) → AreBelow threads lines → AreDiaries lines shown given threads diaries → sum_by (λ (diary : Diary). diary.calls) diaries ≡ replies_in lines
-AreDiaries-counted lines shown given threads diaries of are =
-    diaries-below (λ thread. replies_by thread lines) diaries (λ thread diary at. (are.follow thread diary at).counted ∙ sum-places thread lines)
+pub AreDiaries-counted : (lines : List Line) (shown : Bool) (given : GivenKeys) (threads : ℕ) (seats : List SeatState) (diaries : List Diary) → AreBelow threads lines → AreDiaries lines shown given threads seats diaries → sum_by (λ (diary : Diary). diary.calls) diaries ≡ replies_in lines
+AreDiaries-counted lines shown given threads seats diaries of are =
+    diaries-below (λ thread. replies_by thread lines) diaries (λ thread diary at. let (seat, sits) = beside seats diaries thread diary (are.each_seat ∙ sym are.each_thread) at in (are.follow thread seat diary sits at).counted ∙ sum-places thread lines)
     ∙ ap (below (λ thread. replies_by thread lines)) are.each_thread ∙ lines-below threads lines of
 
 -- all that stands in a list at its place, after one more of these
@@ -125,9 +135,21 @@ each_at-push P [] x each it (suc at) y there = absurd cc
 each_at-push P (z ∷ xs) x each it zero y there = each 0 y there
 each_at-push P (z ∷ xs) x each it (suc at) y there = each_at-push (λ k. P (suc k)) xs x (λ k w. each (suc k) w) it at y there
 
--- the diary of the next thread
-pub AreDiaries-push : (lines : List Line) (shown : Bool) (given : GivenKeys) (threads : ℕ) (diaries : List Diary) (diary : Diary) → AreDiaries lines shown given threads diaries → IsDiaryOf lines shown given threads diary → AreDiaries lines shown given (threads + 1) (diaries ++ diary ∷ [])
-AreDiaries-push lines shown given threads diaries diary are is = record {
+-- all that stands in two lists at one place, after one more in each
+pub each_beside-push : {X Y : Type 0} (P : ℕ → X → Y → Type 0) (xs : List X) (ys : List Y) (x : X) (y : Y) → length xs ≡ length ys → ((at : ℕ) (u : X) (v : Y) → slice_get xs at ≡ Some u → slice_get ys at ≡ Some v → P at u v)
+    → P (length xs) x y → (at : ℕ) (u : X) (v : Y) → slice_get (xs ++ x ∷ []) at ≡ Some u → slice_get (ys ++ y ∷ []) at ≡ Some v → P at u v
+each_beside-push P [] [] x y same each it zero u v there here = let left : x ≡ u = cc in let right : y ≡ v = cc in subst (λ z. P 0 z v) left (subst (P 0 x) right it)
+each_beside-push P [] [] x y same each it (suc at) u v there here = absurd cc
+each_beside-push P [] (w ∷ ys) x y same each it at u v there here = absurd (omega arith)
+each_beside-push P (z ∷ xs) [] x y same each it at u v there here = absurd (omega arith)
+each_beside-push P (z ∷ xs) (w ∷ ys) x y same each it zero u v there here = each 0 u v there here
+each_beside-push P (z ∷ xs) (w ∷ ys) x y same each it (suc at) u v there here = each_beside-push (λ k. P (suc k)) xs ys x y (omega arith) (λ k a b. each (suc k) a b) it at u v there here
+
+-- the seat and the diary of the next thread
+pub AreDiaries-push : (lines : List Line) (shown : Bool) (given : GivenKeys) (threads : ℕ) (seats : List SeatState) (diaries : List Diary) (seat : SeatState) (diary : Diary) → AreDiaries lines shown given threads seats diaries
+    → IsDiaryOf lines shown given threads diary (carried_by seat) → AreDiaries lines shown given (threads + 1) (seats ++ seat ∷ []) (diaries ++ diary ∷ [])
+AreDiaries-push lines shown given threads seats diaries seat diary are is = record {
   each_thread = length-append diaries (diary ∷ []) ∙ ap (λ n. n + 1) are.each_thread;
-  follow = each_at-push (IsDiaryOf lines shown given) diaries diary are.follow (subst (λ n. IsDiaryOf lines shown given n diary) (sym are.each_thread) is);
+  each_seat = length-append seats (seat ∷ []) ∙ ap (λ n. n + 1) are.each_seat;
+  follow = each_beside-push (λ n s d. IsDiaryOf lines shown given n d (carried_by s)) seats diaries seat diary (are.each_seat ∙ sym are.each_thread) are.follow (subst (λ n. IsDiaryOf lines shown given n diary (carried_by seat)) (sym are.each_seat) is);
 }

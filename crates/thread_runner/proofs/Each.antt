@@ -18,12 +18,12 @@ pub each-weaker : {X : Type 0} (P Q : X → Type 0) (xs : List X) → ((x : X) �
 each-weaker P Q [] less each = tt
 each-weaker P Q (x ∷ xs) less each = (less x each.0, each-weaker P Q xs less each.1)
 
--- seats that stand in the first section, each beside what else holds of it
-pub each-first : (limits : Limits) (P : SeatState → Type 0) (seats : List SeatState) (ns : List ℕ) → map standing seats ≡ map (first_standing limits) ns → AllByRecursion P seats
-    → AllByRecursion (λ seat. P seat × (seat.section ≡ 0)) seats
-each-first limits P [] ns same each = tt
-each-first limits P (seat ∷ seats) [] same each = absurd cc
-each-first limits P (seat ∷ seats) (n ∷ ns) same each =
+-- seats that stand in the first section, each between what else holds of it
+pub each-first : (limits : Limits) (P Q : SeatState → Type 0) (seats : List SeatState) (ns : List ℕ) → map standing seats ≡ map (first_standing limits) ns → AllByRecursion P seats → AllByRecursion Q seats
+    → AllByRecursion (λ seat. P seat × (seat.section ≡ 0) × Q seat) seats
+each-first limits P Q [] ns same each others = tt
+each-first limits P Q (seat ∷ seats) [] same each others = absurd cc
+each-first limits P Q (seat ∷ seats) (n ∷ ns) same each others =
     let here : standing seat ≡ first_standing limits n = cc in
     let rest : map standing seats ≡ map (first_standing limits) ns = cc in
-    ((each.0, ap (λ (s : Standing). s.section) here), each-first limits P seats ns rest each.1)
+    ((each.0, ap (λ (s : Standing). s.section) here, others.0), each-first limits P Q seats ns rest each.1 others.1)

@@ -3,14 +3,16 @@ use Rattle.span.specs.ReceiptLists.{kept_receipts}
 use Rattle.std.proofs.Common.{◌∙◌, ◌+◌, ◌++◌, ℕ, List, [], ◌∷◌, ap, append-nil, append_assoc, arith, length, length-append, refl, subst, sym}
 use Rattle.std.specs.List.{flat_map}
 use Rattle.std.proofs.lemmas.Grind.{flat_map-append}
+use Rattle.span.specs.declared.key.Key.{Key}
 use Rattle.span.specs.declared.receipt.Receipt.{Receipt}
 use Rattle.thread_runner.specs.Asked.{Answers, AreAnswers, Asked, GivenKeys, Outcome, Tends, Took}
-use Rattle.thread_runner.specs.Followed.{entries_on, receipts_from}
-use Rattle.thread_runner.specs.Grown.{Grows, TakesIn, Tells}
+use Rattle.thread_runner.specs.Followed.{Carried, entries_on, receipts_from, sent_by, taken_by}
+use Rattle.thread_runner.specs.Grown.{Carries, Grows, TakesIn, Tells}
 use Rattle.thread_runner.specs.declared.diary.Diary.{Diary}
 use Rattle.thread_runner.specs.declared.diary.Entry.{Entry}
 use Rattle.thread_runner.specs.declared.diary.Entry.TheVariants as entry
 use Rattle.thread_runner.specs.declared.diary.Other.TheVariants as other
+use Rattle.thread_runner.proofs.Carrying.{Carries-append, Carries-none}
 
 pub Grows-none : (diary : Diary) → Grows [] [] 0 diary diary
 Grows-none diary = record {
@@ -37,39 +39,46 @@ AreAnswers-append given section thread (asked ∷ first) second [] more before a
 AreAnswers-append given section thread (asked ∷ first) second (outcome ∷ some) more before after = (before.0, AreAnswers-append given section thread first second some more before.1 after)
 
 -- nothing was asked
-pub Tells-none : (section thread number : ℕ) (knows : GivenKeys → Type 0) (diary : Diary) → Tells section thread number [] knows knows diary diary
-Tells-none section thread number knows diary = record { outcomes = []; answered = λ given known. tt; known = λ given known. known; grows = Grows-none diary }
+pub Tells-none : (section thread number : ℕ) (knows : GivenKeys → Type 0) (diary : Diary) (carried : Carried) → Tells section thread number [] knows knows diary diary carried carried
+Tells-none section thread number knows diary carried = record { outcomes = []; answered = λ given known. tt; known = λ given known. known; grows = Grows-none diary; carries = Carries-none carried carried refl }
 
 -- one thing was asked, and this came of it
-pub Tells-one : (section thread number : ℕ) (asked : Asked) (outcome : Outcome) (knew knows : GivenKeys → Type 0) (old new : Diary) → ((given : GivenKeys) → knows given → Answers given section thread asked outcome)
-    → ((given : GivenKeys) → knows given → knew given) → Grows (entries_on number outcome) (receipts_from outcome) 1 old new → Tells section thread number (asked ∷ []) knew knows old new
-Tells-one section thread number asked outcome knew knows old new answers known grows = record {
+pub Tells-one : (section thread number : ℕ) (asked : Asked) (outcome : Outcome) (knew knows : GivenKeys → Type 0) (old new : Diary) (before after : Carried) → ((given : GivenKeys) → knows given → Answers given section thread asked outcome)
+    → ((given : GivenKeys) → knows given → knew given) → Grows (entries_on number outcome) (receipts_from outcome) 1 old new → Carries (sent_by outcome) (taken_by outcome) before after
+    → Tells section thread number (asked ∷ []) knew knows old new before after
+Tells-one section thread number asked outcome knew knows old new before after answers known grows carries = record {
   outcomes = outcome ∷ [];
   answered = λ given is. (answers given is, tt);
   known = known;
   grows = subst (λ (e : List Entry). Grows e (flat_map receipts_from (outcome ∷ [])) 1 old new) (sym (append-nil (entries_on number outcome)))
       (subst (λ (r : List Receipt). Grows (entries_on number outcome) r 1 old new) (sym (append-nil (receipts_from outcome))) grows);
+  carries = subst (λ (k : List Key). Carries k (flat_map taken_by (outcome ∷ [])) before after) (sym (append-nil (sent_by outcome)))
+      (subst (λ (k : List Key). Carries (sent_by outcome) k before after) (sym (append-nil (taken_by outcome))) carries);
 }
 
 -- first some things, and then others
-module _ (section thread number : ℕ) (first second : List Asked) (knew meanwhile knows : GivenKeys → Type 0) (old mid new : Diary) (before : Tells section thread number first knew meanwhile old mid)
-    (after : Tells section thread number second meanwhile knows mid new) where
-  pub Tells-append : Tells section thread number (first ++ second) knew knows old new
+module _ (section thread number : ℕ) (first second : List Asked) (knew meanwhile knows : GivenKeys → Type 0) (old mid new : Diary) (was then_is now_is : Carried) (before : Tells section thread number first knew meanwhile old mid was then_is)
+    (after : Tells section thread number second meanwhile knows mid new then_is now_is) where
+  pub Tells-append : Tells section thread number (first ++ second) knew knows old new was now_is
   Tells-append =
       let entries = flat_map-append (entries_on number) before.outcomes after.outcomes in
       let receipts = flat_map-append receipts_from before.outcomes after.outcomes in
       let both = Grows-append _ _ _ _ (length first) (length second) old mid new before.grows after.grows in
+      let sent = flat_map-append sent_by before.outcomes after.outcomes in
+      let taken = flat_map-append taken_by before.outcomes after.outcomes in
+      let carried = Carries-append _ _ _ _ was then_is now_is before.carries after.carries in
       record {
         outcomes = before.outcomes ++ after.outcomes;
         answered = λ given is. AreAnswers-append given section thread first second before.outcomes after.outcomes (before.answered given (after.known given is)) (after.answered given is);
         known = λ given is. before.known given (after.known given is);
         grows = rw (entries, receipts, length-append) both;
+        carries = rw (sent, taken) carried;
       }
 
 -- the rings were tended
-pub Tells-tended : (section thread number count : ℕ) (knows : GivenKeys → Type 0) (old mid new : Diary) → TakesIn section thread count old mid
-    → Grows (entry.Said (record { line = number; other = other.Settled count }) ∷ []) [] 1 mid new → Tells section thread number (Tends ∷ []) knows knows old new
-Tells-tended section thread number count knows old mid new takes grows =
+pub Tells-tended : (section thread number count : ℕ) (knows : GivenKeys → Type 0) (old mid new : Diary) (before after : Carried) → TakesIn section thread count old mid before after
+    → Grows (entry.Said (record { line = number; other = other.Settled count }) ∷ []) [] 1 mid new → Tells section thread number (Tends ∷ []) knows knows old new before after
+Tells-tended section thread number count knows old mid new before after takes grows =
     let both = Grows-append _ _ takes.receipts [] 0 1 old mid new takes.grows grows in
-    Tells-one section thread number Tends (Took takes.receipts) knows knows old new (λ given is. takes.are_frees) (λ given is. is)
-    (rw (← takes.count_is) (subst (λ (r : List Receipt). Grows (entry.Incoming count ∷ entry.Said (record { line = number; other = other.Settled count }) ∷ []) r 1 old new) (append-nil takes.receipts) both))
+    Tells-one section thread number Tends (Took takes.receipts) knows knows old new before after (λ given is. takes.are_frees) (λ given is. is)
+    (rw (← takes.count_is) (subst (λ (r : List Receipt). Grows (entry.Incoming count ∷ entry.Said (record { line = number; other = other.Settled count }) ∷ []) r 1 old new) (append-nil takes.receipts) both)) takes.carries

@@ -6,13 +6,12 @@ use Rattle.arena.specs.Receipts.{free_receipt, get_receipt, put_receipt, set_rec
 use Rattle.span.specs.Receipts.{look_up, set as set_call}
 use Rattle.span.specs.declared.key.Key.{Key}
 use Rattle.span.specs.declared.receipt.Receipt.{Receipt}
-use Rattle.thread_runner.specs.Asked.{Answers, Asked, Called, Frees, Gets, GivenKeys, IsLeft, IsSetTo, Outcome, Puts, Sets, is_look_up, is_sending}
-use Rattle.thread_runner.specs.Followed.{entries_on, receipts_from}
-use Rattle.thread_runner.specs.Grown.{Grows, Tells}
+use Rattle.thread_runner.specs.Asked.{Answers, Asked, Called, Frees, Gets, GivenKeys, IsKeptBack, IsSetTo, Outcome, Puts, Sets, is_look_up}
+use Rattle.thread_runner.specs.Followed.{Carried, entries_on, receipts_from, sent_by, taken_by}
+use Rattle.thread_runner.specs.Grown.{Carries, Grows, Tells}
 use Rattle.thread_runner.specs.Known.{AreFresh, AreKnown}
 use Rattle.thread_runner.specs.Told.{is_free}
 use Rattle.thread_runner.specs.declared.diary.Diary.{Diary}
-use Rattle.thread_runner.specs.declared.diary.Other.{Other}
 use Rattle.thread_runner.specs.declared.diary.Other.TheVariants as other
 use Rattle.thread_runner.specs.declared.keys.Given.{Given}
 use Rattle.thread_runner.proofs.Growing.{Tells-one}
@@ -23,12 +22,12 @@ pub None-not_some : {X : Type 0} (o : Option X) → ((x : X) → o ≡ Some x �
 None-not_some None not = refl
 None-not_some (Some x) not = absurd (not x refl)
 
--- a key that is to be freed later
-pub IsLeft-none : (key : Option Key) → key ≡ None → IsLeft key other.Unbound
-IsLeft-none key none = subst (λ k. IsLeft k other.Unbound) (sym none) refl
+-- a key that is to be freed later, and was not sent off
+pub IsKeptBack-none : (key : Option Key) → key ≡ None → IsKeptBack key other.Unbound
+IsKeptBack-none key none = subst (λ k. IsKeptBack k other.Unbound) (sym none) refl
 
-pub IsLeft-some : (key : Option Key) (one : Key) (what : Other) → key ≡ Some one → is_sending what ≡ true → IsLeft key what
-IsLeft-some key one what some sending = subst (λ k. IsLeft k what) (sym some) sending
+pub IsKeptBack-some : (key : Option Key) (one : Key) → key ≡ Some one → IsKeptBack key other.RingFull
+IsKeptBack-some key one some = subst (λ k. IsKeptBack k other.RingFull) (sym some) refl
 
 -- of two lists in a row, what holds of each holds in both
 pub each-parts : {X : Type 0} (P : X → Type 0) (xs ys : List X) → AllByRecursion P (xs ++ ys) → AllByRecursion P xs × AllByRecursion P ys
@@ -36,20 +35,21 @@ each-parts P [] ys each = (tt, each)
 each-parts P (x ∷ xs) ys each = let (left, right) = each-parts P xs ys each.1 in ((each.0, left), right)
 
 -- one thing was asked that changes nothing of what is known of keys
-pub Tells-still : (section thread number : ℕ) (asked : Asked) (outcome : Outcome) (kept : List Given) (fresh later : List Given) (old new : Diary) → later ≡ fresh
-    → ((given : GivenKeys) → AreKnown kept fresh given → Answers given section thread asked outcome) → Grows (entries_on number outcome) (receipts_from outcome) 1 old new
-    → Tells section thread number (asked ∷ []) (AreKnown kept fresh) (AreKnown kept later) old new
-Tells-still section thread number asked outcome kept fresh later old new same answers grows =
+pub Tells-still : (section thread number : ℕ) (asked : Asked) (outcome : Outcome) (kept : List Given) (fresh later : List Given) (old new : Diary) (before after : Carried) → later ≡ fresh
+    → ((given : GivenKeys) → AreKnown kept fresh given → Answers given section thread asked outcome) → Carries (sent_by outcome) (taken_by outcome) before after → Grows (entries_on number outcome) (receipts_from outcome) 1 old new
+    → Tells section thread number (asked ∷ []) (AreKnown kept fresh) (AreKnown kept later) old new before after
+Tells-still section thread number asked outcome kept fresh later old new before after same answers carries grows =
     let fits : (given : GivenKeys) → AreKnown kept later given → AreKnown kept fresh given = λ given known. subst (λ f. AreKnown kept f given) same known in
-    Tells-one section thread number asked outcome (AreKnown kept fresh) (AreKnown kept later) old new (λ given known. answers given (fits given known)) fits grows
+    Tells-one section thread number asked outcome (AreKnown kept fresh) (AreKnown kept later) old new before after (λ given known. answers given (fits given known)) fits grows carries
 
 -- a put is kept with what it gave
-pub Tells-put : (section thread number place : ℕ) (value : Value) (outcome : Outcome) (key : Option Key) (kept : List Given) (fresh later : List Given) (old new : Diary)
+pub Tells-put : (section thread number place : ℕ) (value : Value) (outcome : Outcome) (key : Option Key) (kept : List Given) (fresh later : List Given) (old new : Diary) (before after : Carried)
     → ((given : GivenKeys) → AreFresh later given → AreFresh fresh given × (given place ≡ key)) → ((given : GivenKeys) → given place ≡ key → Answers given section thread (Puts place value) outcome)
-    → Grows (entries_on number outcome) (receipts_from outcome) 1 old new → Tells section thread number (Puts place value ∷ []) (AreKnown kept fresh) (AreKnown kept later) old new
-Tells-put section thread number place value outcome key kept fresh later old new entered answers grows =
-    Tells-one section thread number (Puts place value) outcome (AreKnown kept fresh) (AreKnown kept later) old new
-    (λ given known. answers given (entered given known.1).1) (λ given known. (known.0, (entered given known.1).0)) grows
+    → Carries (sent_by outcome) (taken_by outcome) before after → Grows (entries_on number outcome) (receipts_from outcome) 1 old new
+    → Tells section thread number (Puts place value ∷ []) (AreKnown kept fresh) (AreKnown kept later) old new before after
+Tells-put section thread number place value outcome key kept fresh later old new before after entered answers carries grows =
+    Tells-one section thread number (Puts place value) outcome (AreKnown kept fresh) (AreKnown kept later) old new before after
+    (λ given known. answers given (entered given known.1).1) (λ given known. (known.0, (entered given known.1).0)) grows carries
 
 -- the receipt of a put
 pub Answers-put : (given : GivenKeys) (section thread place : ℕ) (value : Value) (key : Key) (receipt : Receipt) → receipt ≡ put_receipt thread section value key receipt.at → given place ≡ Some key

@@ -5,6 +5,8 @@ mod Growing
 mod Taking
 mod Following
 mod Counting
+mod Carrying
+mod Delivering
 mod Each
 mod Knowing
 mod LiveSlots

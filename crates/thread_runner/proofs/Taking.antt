@@ -6,13 +6,15 @@ use Rattle.std.proofs.lemmas.List.{length-map}
 use Rattle.span.specs.declared.receipt.Receipt.{Receipt}
 use Rattle.span.specs.Receipts.{free}
 use Rattle.arena.specs.Receipts.{IsFreeBy as IsKeyFreeBy, done_by}
-use Rattle.arena.specs.Seats.{SeatState}
+use Rattle.arena.specs.Seats.{KeepsEnds, SeatState, sending_side}
 use Rattle.arena.specs.Tended.{IsTended}
 use Rattle.thread_runner.specs.Asked.{IsFreeBy}
+use Rattle.thread_runner.specs.Followed.{carried_by}
 use Rattle.thread_runner.specs.Grown.{Grows, TakesIn}
 use Rattle.thread_runner.specs.Told.{is_free}
 use Rattle.thread_runner.specs.declared.diary.Diary.{Diary}
 use Rattle.thread_runner.specs.declared.diary.Entry.TheVariants as entry
+use Rattle.thread_runner.proofs.Carrying.{Carries-tended}
 
 pub is_free-free : (done : Bool) → is_free (free done) ≡ true
 is_free-free true = refl
@@ -28,8 +30,8 @@ frees-each worker section (receipt ∷ receipts) all = (IsFreeBy-key worker sect
 
 -- a diary goes on by what a seat took
 pub TakesIn-tended : (most count : ℕ) (before after : SeatState) (old mid new : Diary) → mid ≡ record old { receipts = mid.receipts } → IsTended most before after (kept_receipts old.receipts) (kept_receipts mid.receipts) count
-    → Grows (entry.Incoming count ∷ []) [] 0 mid new → TakesIn before.section before.worker count old new
-TakesIn-tended most count before after old mid new is tended grows = record {
+    → KeepsEnds before after → sending_side after ≡ sending_side before → Grows (entry.Incoming count ∷ []) [] 0 mid new → TakesIn before.section before.worker count old new (carried_by before) (carried_by after)
+TakesIn-tended most count before after old mid new is tended ends sending grows = record {
   receipts = tended.freed.added;
   count_is = tended.total_is ∙ sym (ap length tended.freed.of_keys) ∙ length-map tended.freed.added (λ receipt. receipt.key);
   are_frees = frees-each before.worker before.section tended.freed.added tended.freed.are_frees;
@@ -39,4 +41,5 @@ TakesIn-tended most count before after old mid new is tended grows = record {
     entries_are = λ shown. grows.entries_are (ap (λ (d : Diary). d.replies) is ∙ shown) ∙ ap (λ (d : Diary). d.entries.items ++ entry.Incoming count ∷ []) is;
     calls_is = grows.calls_is ∙ ap (λ (d : Diary). d.calls + 0) is;
   };
+  carries = Carries-tended most count before after (kept_receipts old.receipts) (kept_receipts mid.receipts) tended ends sending;
 }

@@ -1,6 +1,6 @@
 -- What diaries say, and the report that follows.
 use Rattle.span.specs.ReceiptLists.{kept_receipts}
-use Rattle.std.proofs.Common.{◌≡◌, ◌∙◌, ◌+◌, ◌++◌, ◌&&◌, ℕ, Bool, List, [], ◌∷◌, None, Option, Some, ap, arith, map, not, refl, slice_get, subst, sym}
+use Rattle.std.proofs.Common.{◌≡◌, ◌∙◌, ◌+◌, ◌++◌, ◌&&◌, ℕ, Bool, List, [], ◌∷◌, None, Option, Some, ap, arith, length, map, not, refl, slice_get, subst, sym}
 use Rattle.std.specs.Prelude.{◌==◌, codes, filter, option_map}
 use Rattle.std.specs.List.{flat_map}
 use Rattle.std.specs.List.Sorted.{IsNonDecreasingBy, IsPermutation, IsStableByKey, ties}
@@ -22,7 +22,8 @@ use Rattle.groups.specs.Spans.{live_count}
 use Rattle.audit.specs.Agreement.{Agreement}
 use Rattle.audit.specs.History.{HaveHistories}
 use Rattle.thread_runner.specs.Asked.{GivenKeys, places_of, replies_in}
-use Rattle.thread_runner.specs.Followed.{AreVoices, Follows}
+use Rattle.arena.specs.Seats.{SeatState}
+use Rattle.thread_runner.specs.Followed.{AreDelivered, AreVoices, Carried, Follows, carried_by}
 use Rattle.thread_runner.specs.Grown.{AreDiaries, IsDiaryOf}
 use Rattle.thread_runner.specs.Marked.{AreNotesOf}
 use Rattle.thread_runner.specs.Threaded.{AreByLine, IsAuditStop, IsRunStop, IsThreadedReport, StopsThreads, TellsAll, is_on}
@@ -59,20 +60,28 @@ pub map-voices : (diaries : List Diary) → map (λ (voice : Voice). voice.recei
 map-voices [] = refl
 map-voices (diary ∷ diaries) = ap (λ lists. (kept_receipts diary.receipts) ∷ lists) (map-voices diaries)
 
--- what stands in diaries stands in what they have
-AreVoices-at : (lines : List Line) (shown : Bool) (given : GivenKeys) (thread : ℕ) (voice : Voice) (diary : Option Diary) → ((d : Diary) → diary ≡ Some d → IsDiaryOf lines shown given thread d)
-    → option_map voice_of diary ≡ Some voice → ∥ Follows lines given thread (places_of thread lines) (marks lines + 1) shown voice ∥₁
-AreVoices-at lines shown given thread voice None each at = absurd cc
-AreVoices-at lines shown given thread voice (Some diary) each at =
+-- what stands in seats and diaries stands in what they have
+AreVoices-at : (lines : List Line) (shown : Bool) (given : GivenKeys) (thread : ℕ) (voice : Voice) (its : Carried) (seat : Option SeatState) (diary : Option Diary)
+    → ((s : SeatState) (d : Diary) → seat ≡ Some s → diary ≡ Some d → IsDiaryOf lines shown given thread d (carried_by s)) → option_map voice_of diary ≡ Some voice → option_map carried_by seat ≡ Some its
+    → ∥ Follows lines given thread (places_of thread lines) (marks lines + 1) shown voice its ∥₁
+AreVoices-at lines shown given thread voice its seat None each at sits = absurd cc
+AreVoices-at lines shown given thread voice its None (Some diary) each at sits = absurd cc
+AreVoices-at lines shown given thread voice its (Some seat) (Some diary) each at sits =
     let same : voice_of diary ≡ voice = same_Some _ _ at in
-    subst (λ v. ∥ Follows lines given thread (places_of thread lines) (marks lines + 1) shown v ∥₁) same (each diary refl).follows
+    let rings : carried_by seat ≡ its = same_Some _ _ sits in
+    subst (λ v. ∥ Follows lines given thread (places_of thread lines) (marks lines + 1) shown v its ∥₁) same
+    (subst (λ c. ∥ Follows lines given thread (places_of thread lines) (marks lines + 1) shown (voice_of diary) c ∥₁) rings (each seat diary refl refl).follows)
 
 -- what the diaries of all threads have follows their lines
-pub AreVoices-diaries : (trace : Trace) (shown : Bool) (given : GivenKeys) (diaries : List Diary) → AreDiaries trace.lines.items shown given trace.header.shards diaries → AreVoices trace shown (map voice_of diaries)
-AreVoices-diaries trace shown given diaries are = record {
+pub AreVoices-diaries : (trace : Trace) (shown : Bool) (given : GivenKeys) (seats : List SeatState) (diaries : List Diary) → AreDiaries trace.lines.items shown given trace.header.shards seats diaries
+    → AreDelivered (length seats) (map carried_by seats) → AreVoices trace shown (map voice_of diaries)
+AreVoices-diaries trace shown given seats diaries are delivered = record {
   given = given;
+  carried = map carried_by seats;
   each_thread = length-map diaries voice_of ∙ are.each_thread;
-  follows = λ thread voice at. AreVoices-at trace.lines.items shown given thread voice (slice_get diaries thread) (are.follow thread) (sym (slice_get-map voice_of diaries thread) ∙ at);
+  delivered = subst (λ n. AreDelivered n (map carried_by seats)) are.each_seat delivered;
+  follows = λ thread voice its at sits. AreVoices-at trace.lines.items shown given thread voice its (slice_get seats thread) (slice_get diaries thread) (are.follow thread)
+      (sym (slice_get-map voice_of diaries thread) ∙ at) (sym (slice_get-map carried_by seats thread) ∙ sits);
 }
 
 -- where the receipts of diaries agree with logs, what they tell is the report

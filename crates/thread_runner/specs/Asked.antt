@@ -113,6 +113,8 @@ places_of thread lines = places_from thread 0 lines
 pub data Outcome : Type 0 where
   -- a call on a key, which left this receipt
   Called : Receipt → Outcome
+  -- the key was sent off to the thread of its shard, which frees it later
+  Left : Key → Outcome
   -- keys that had come in on the rings were taken and freed, which left these receipts
   Took : List Receipt → Outcome
   -- something else
@@ -129,12 +131,6 @@ abbrev pub IsSetTo : Value → Call → Type 0
 IsSetTo value (call.Set to) = to ≡ value
 IsSetTo value (call.NotSet to) = to ≡ value
 IsSetTo value call = ⊥
-
--- a key was sent off, or its ring had no room
-abbrev pub is_sending : Other → Bool
-is_sending other.Sent = true
-is_sending other.RingFull = true
-is_sending other = false
 
 -- so many pages went
 abbrev pub is_trim : Other → Bool
@@ -170,13 +166,13 @@ pub record IsCallOn (given : GivenKeys) (section thread place : ℕ) (receipt : 
   pub in_section : receipt.section ≡ section
   pub of_key : given place ≡ Some receipt.key
 
--- a key that was to be freed later was sent off, or its ring had no room; one that was never given out was not
-abbrev pub IsLeft : Option Key → Other → Type 0
-IsLeft None what = what ≡ other.Unbound
-IsLeft (Some key) what = is_sending what ≡ true
+-- a key that was to be freed later was not sent off: its ring had no room, or it was never given out
+abbrev pub IsKeptBack : Option Key → Other → Type 0
+IsKeptBack None what = what ≡ other.Unbound
+IsKeptBack (Some key) what = what ≡ other.RingFull
 
--- this may come of what a line asks the thread for in that section, where those keys were given: the receipt of that call, on the key of that place; of a put that no page was left; and of a call on a key that it was
--- never given out
+-- this may come of what a line asks the thread for in that section, where those keys were given: the receipt of that call, on the key of that place; of a put that no page was left; of a free that is left for later
+-- that the key of that place was sent off, or that its ring had no room; and of a call on a key that it was never given out
 abbrev pub Answers : GivenKeys → (section thread : ℕ) → Asked → Outcome → Type 0
 Answers given section thread (Puts place value) (Called receipt) = IsCallOn given section thread place receipt × (receipt.call ≡ call.Put value)
 Answers given section thread (Puts place value) (Said what) = (given place ≡ None) × (what ≡ other.PagesSpent)
@@ -186,7 +182,8 @@ Answers given section thread (Sets place value) (Called receipt) = IsCallOn give
 Answers given section thread (Sets place value) (Said what) = (given place ≡ None) × (what ≡ other.Unbound)
 Answers given section thread (Frees place) (Called receipt) = IsCallOn given section thread place receipt × (is_free receipt.call ≡ true)
 Answers given section thread (Frees place) (Said what) = (given place ≡ None) × (what ≡ other.Unbound)
-Answers given section thread (Leaves place) (Said what) = IsLeft (given place) what
+Answers given section thread (Leaves place) (Left key) = given place ≡ Some key
+Answers given section thread (Leaves place) (Said what) = IsKeptBack (given place) what
 Answers given section thread Tends (Took receipts) = AllByRecursion (IsFreeBy section thread) receipts
 Answers given section thread Trims (Said what) = is_trim what ≡ true
 Answers given section thread (Retires most) (Said what) = IsRetirement most what

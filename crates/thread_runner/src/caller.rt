@@ -9,7 +9,7 @@ ghost use Rattle.trace_text.specs.Causes.{is_adopt, is_call_over, keys_in};
 ghost use Rattle.trace_text.specs.Objects.{counted_from, last_word};
 ghost use Rattle.trace_text.specs.Places.{place_by};
 ghost use Rattle.thread_runner.specs.Asked.{Begins, Called, Frees, Gets, GivenKeys, IsRetirement, Leaves, Puts, Retires, Said, Sets, Tends, Trims, asked_at, asked_by, is_adoption};
-ghost use Rattle.thread_runner.specs.Followed.{entries_on};
+ghost use Rattle.thread_runner.specs.Followed.{carried_by, entries_on};
 ghost use Rattle.thread_runner.specs.Grown.{Grows, IsEmptyDiary, TakesIn, Tells, TellsAdoption};
 ghost use Rattle.thread_runner.specs.Known.{AreFresh, AreKnown};
 ghost use Rattle.thread_runner.specs.declared.keys.Given.{Given};
@@ -122,6 +122,7 @@ impl<'a, G: Gate> Caller<'a, G> {
         ensures thread { self.new.seat.worker ≡ self.old.seat.worker }
         ensures table { self.new.seat.table ≡ self.old.seat.table }
         ensures section { self.new.seat.section ≡ self.old.seat.section }
+        ensures carried { carried_by self.new.seat ≡ carried_by self.old.seat }
         ensures fresh { self.new.fresh ≡ self.old.fresh }
     {
         self.diary.reserve(calls)
@@ -142,7 +143,8 @@ impl<'a, G: Gate> Caller<'a, G> {
             (asked_at (take place text.now.trace.now.lines.items) line)
             (AreKnown keys.now.kept.items self.old.fresh.items)
             (AreKnown keys.now.kept.items self.new.fresh.items)
-            self.old.diary self.new.diary) }
+            self.old.diary self.new.diary
+            (carried_by self.old.seat) (carried_by self.new.seat)) }
         ensures thread { self.new.seat.worker ≡ self.old.seat.worker }
         ensures table { self.new.seat.table ≡ self.old.seat.table }
         ensures section { self.new.seat.section ≡ self.old.seat.section }
@@ -181,7 +183,8 @@ impl<'a, G: Gate> Caller<'a, G> {
             (asked_by above call.now)
             (AreKnown keys.now.kept.items self.old.fresh.items)
             (AreKnown keys.now.kept.items self.new.fresh.items)
-            self.old.diary self.new.diary) }
+            self.old.diary self.new.diary
+            (carried_by self.old.seat) (carried_by self.new.seat)) }
         ensures thread { self.new.seat.worker ≡ self.old.seat.worker }
         ensures table { self.new.seat.table ≡ self.old.seat.table }
         ensures section { self.new.seat.section ≡ self.old.seat.section }
@@ -272,7 +275,8 @@ impl<'a, G: Gate> Caller<'a, G> {
             (Puts place (counted_from class base) ∷ [])
             (AreKnown kept self.old.fresh.items)
             (AreKnown kept self.new.fresh.items)
-            self.old.diary self.new.diary) }
+            self.old.diary self.new.diary
+            (carried_by self.old.seat) (carried_by self.new.seat)) }
         ensures thread { self.new.seat.worker ≡ self.old.seat.worker }
         ensures table { self.new.seat.table ≡ self.old.seat.table }
         ensures section { self.new.seat.section ≡ self.old.seat.section }
@@ -311,7 +315,8 @@ impl<'a, G: Gate> Caller<'a, G> {
             (range_with_len 0 count))
             (AreKnown kept self.old.fresh.items)
             (AreKnown kept self.new.fresh.items)
-            self.old.diary self.new.diary) }
+            self.old.diary self.new.diary
+            (carried_by self.old.seat) (carried_by self.new.seat)) }
         ensures thread { self.new.seat.worker ≡ self.old.seat.worker }
         ensures table { self.new.seat.table ≡ self.old.seat.table }
         ensures section { self.new.seat.section ≡ self.old.seat.section }
@@ -329,7 +334,8 @@ impl<'a, G: Gate> Caller<'a, G> {
             (Gets place ∷ [])
             (AreKnown keys.now.kept.items self.old.fresh.items)
             (AreKnown keys.now.kept.items self.new.fresh.items)
-            self.old.diary self.new.diary) }
+            self.old.diary self.new.diary
+            (carried_by self.old.seat) (carried_by self.new.seat)) }
         ensures thread { self.new.seat.worker ≡ self.old.seat.worker }
         ensures table { self.new.seat.table ≡ self.old.seat.table }
         ensures section { self.new.seat.section ≡ self.old.seat.section }
@@ -354,7 +360,8 @@ impl<'a, G: Gate> Caller<'a, G> {
             (Sets place value ∷ [])
             (AreKnown keys.now.kept.items self.old.fresh.items)
             (AreKnown keys.now.kept.items self.new.fresh.items)
-            self.old.diary self.new.diary) }
+            self.old.diary self.new.diary
+            (carried_by self.old.seat) (carried_by self.new.seat)) }
         ensures thread { self.new.seat.worker ≡ self.old.seat.worker }
         ensures table { self.new.seat.table ≡ self.old.seat.table }
         ensures section { self.new.seat.section ≡ self.old.seat.section }
@@ -378,7 +385,8 @@ impl<'a, G: Gate> Caller<'a, G> {
             (Frees place ∷ [])
             (AreKnown keys.now.kept.items self.old.fresh.items)
             (AreKnown keys.now.kept.items self.new.fresh.items)
-            self.old.diary self.new.diary) }
+            self.old.diary self.new.diary
+            (carried_by self.old.seat) (carried_by self.new.seat)) }
         ensures thread { self.new.seat.worker ≡ self.old.seat.worker }
         ensures table { self.new.seat.table ≡ self.old.seat.table }
         ensures section { self.new.seat.section ≡ self.old.seat.section }
@@ -404,7 +412,8 @@ impl<'a, G: Gate> Caller<'a, G> {
             (range_with_len indices.start (indices.end - indices.start)))
             (AreKnown keys.now.kept.items self.old.fresh.items)
             (AreKnown keys.now.kept.items self.new.fresh.items)
-            self.old.diary self.new.diary) }
+            self.old.diary self.new.diary
+            (carried_by self.old.seat) (carried_by self.new.seat)) }
         ensures thread { self.new.seat.worker ≡ self.old.seat.worker }
         ensures table { self.new.seat.table ≡ self.old.seat.table }
         ensures section { self.new.seat.section ≡ self.old.seat.section }
@@ -422,7 +431,8 @@ impl<'a, G: Gate> Caller<'a, G> {
             (Leaves place ∷ [])
             (AreKnown keys.now.kept.items self.old.fresh.items)
             (AreKnown keys.now.kept.items self.new.fresh.items)
-            self.old.diary self.new.diary) }
+            self.old.diary self.new.diary
+            (carried_by self.old.seat) (carried_by self.new.seat)) }
         ensures thread { self.new.seat.worker ≡ self.old.seat.worker }
         ensures table { self.new.seat.table ≡ self.old.seat.table }
         ensures section { self.new.seat.section ≡ self.old.seat.section }
@@ -445,7 +455,8 @@ impl<'a, G: Gate> Caller<'a, G> {
             → OnOk result (Tells self.old.seat.section self.old.seat.worker number (Tends ∷ [])
             (AreKnown kept self.old.fresh.items)
             (AreKnown kept self.new.fresh.items)
-            self.old.diary self.new.diary) }
+            self.old.diary self.new.diary
+            (carried_by self.old.seat) (carried_by self.new.seat)) }
         ensures thread { self.new.seat.worker ≡ self.old.seat.worker }
         ensures table { self.new.seat.table ≡ self.old.seat.table }
         ensures section { self.new.seat.section ≡ self.old.seat.section }
@@ -461,7 +472,8 @@ impl<'a, G: Gate> Caller<'a, G> {
             → OnOk result (Tells self.old.seat.section self.old.seat.worker number (Trims ∷ [])
             (AreKnown kept self.old.fresh.items)
             (AreKnown kept self.new.fresh.items)
-            self.old.diary self.new.diary) }
+            self.old.diary self.new.diary
+            (carried_by self.old.seat) (carried_by self.new.seat)) }
         ensures thread { self.new.seat.worker ≡ self.old.seat.worker }
         ensures table { self.new.seat.table ≡ self.old.seat.table }
         ensures section { self.new.seat.section ≡ self.old.seat.section }
@@ -477,7 +489,8 @@ impl<'a, G: Gate> Caller<'a, G> {
             (Retires most ∷ [])
             (AreKnown kept self.old.fresh.items)
             (AreKnown kept self.new.fresh.items)
-            self.old.diary self.new.diary) }
+            self.old.diary self.new.diary
+            (carried_by self.old.seat) (carried_by self.new.seat)) }
         ensures thread { self.new.seat.worker ≡ self.old.seat.worker }
         ensures table { self.new.seat.table ≡ self.old.seat.table }
         ensures section { self.new.seat.section ≡ self.old.seat.section }
@@ -493,7 +506,8 @@ impl<'a, G: Gate> Caller<'a, G> {
             → OnOk result (Tells self.old.seat.section self.old.seat.worker number (Begins ∷ [])
             (AreKnown kept self.old.fresh.items)
             (AreKnown kept self.new.fresh.items)
-            self.old.diary self.new.diary) }
+            self.old.diary self.new.diary
+            (carried_by self.old.seat) (carried_by self.new.seat)) }
         ensures thread { self.new.seat.worker ≡ self.old.seat.worker }
         ensures table { self.new.seat.table ≡ self.old.seat.table }
         ensures section { self.new.seat.section ≡ self.old.seat.section }
@@ -511,6 +525,7 @@ impl<'a, G: Gate> Caller<'a, G> {
         ensures thread { self.new.seat.worker ≡ self.old.seat.worker }
         ensures table { self.new.seat.table ≡ self.old.seat.table }
         ensures section { self.new.seat.section ≡ self.old.seat.section }
+        ensures carried { carried_by self.new.seat ≡ carried_by self.old.seat }
         ensures none { HasNoneWaiting self.new.seat }
     {
         self.seat.hand_over();
@@ -520,7 +535,8 @@ impl<'a, G: Gate> Caller<'a, G> {
     /// meanwhile, so one look at each ring takes them all.
     pub(crate) fn settle<R: Wait>(&mut self, rt: &R) -> Result<usize, AllocError>
         ensures told { IfOk result (λ count. TakesIn self.old.seat.section
-            self.old.seat.worker count self.old.diary self.new.diary) }
+            self.old.seat.worker count self.old.diary self.new.diary
+            (carried_by self.old.seat) (carried_by self.new.seat)) }
         ensures fresh { self.new.fresh ≡ self.old.fresh }
         ensures thread { self.new.seat.worker ≡ self.old.seat.worker }
         ensures table { self.new.seat.table ≡ self.old.seat.table }
@@ -537,6 +553,7 @@ impl<'a, G: Gate> Caller<'a, G> {
         ensures thread { self.new.seat.worker ≡ self.old.seat.worker }
         ensures table { self.new.seat.table ≡ self.old.seat.table }
         ensures section { self.new.seat.section ≡ self.old.seat.section }
+        ensures carried { carried_by self.new.seat ≡ carried_by self.old.seat }
     {
         if !self.leaves {
             return Ok(());
@@ -558,6 +575,7 @@ impl<'a, G: Gate> Caller<'a, G> {
         ensures thread { self.new.seat.worker ≡ self.old.seat.worker }
         ensures table { self.new.seat.table ≡ self.old.seat.table }
         ensures section { self.new.seat.section ≡ self.old.seat.section }
+        ensures carried { carried_by self.new.seat ≡ carried_by self.old.seat }
     {
         let other = adoption(self.seat.adopt(rt, self.arena))?;
         self.diary.keep_adoption(number, other)?;
@@ -571,6 +589,7 @@ impl<'a, G: Gate> Caller<'a, G> {
         ensures thread { self.new.seat.worker ≡ self.old.seat.worker }
         ensures table { self.new.seat.table ≡ self.old.seat.table }
         ensures section { OnOk result (self.new.seat.section ≡ self.old.seat.section + 1) }
+        ensures carried { carried_by self.new.seat ≡ carried_by self.old.seat }
         ensures before { (given : GivenKeys) → AreFresh latest.new.items given
             → OnOk result (AreFresh latest.old.items given) }
         ensures kept { (given : GivenKeys) → AreFresh latest.new.items given

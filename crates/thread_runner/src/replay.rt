@@ -1,5 +1,5 @@
 // Replays a trace by threads, and holds what its calls were told against the logs.
-ghost use Rattle.std.specs.Prelude.{◌≡◌, ◌<◌, ◌-◌, ◌^◌, IfOk, IfErr, List, None, OnErr, OnOk, map, vec_len};
+ghost use Rattle.std.specs.Prelude.{◌≡◌, ◌<◌, ◌-◌, ◌^◌, All, IfOk, IfErr, IsTrue, List, None, OnErr, OnOk, length, map, vec_len};
 ghost use Rattle.std.specs.List.{AllByRecursion, sum_by};
 ghost use Rattle.span.specs.ReceiptLists.{kept_receipts};
 ghost use Rattle.span.specs.SpanLogs.{span_of_log};
@@ -10,7 +10,8 @@ ghost use Rattle.trace_text.specs.Trace.{Spells};
 ghost use Rattle.trace_text.specs.declared.header.Header.{Header};
 ghost use Rattle.trace_text.specs.declared.line.Line.{Line};
 ghost use Rattle.thread_runner.specs.Asked.{replies_in};
-ghost use Rattle.thread_runner.specs.Followed.{AreVoices};
+ghost use Rattle.thread_runner.specs.Followed.{AreDelivered, AreVoices, carried_by};
+ghost use Rattle.thread_runner.specs.Grown.{HaveNothing};
 ghost use Rattle.thread_runner.specs.Marked.{AreNotesOf};
 ghost use Rattle.thread_runner.specs.Threaded.{IsAuditStop, IsNoFault, IsRunStop, IsThreadedReport, StopsThreads, TellsAll, WritesThreadedReport};
 ghost use Rattle.thread_runner.specs.Told.{voice_of};
@@ -142,15 +143,35 @@ fn no_receipts(alloc: Global, count: usize) -> Result<Vec<ReceiptList>, AllocErr
     Ok(lists)
 }
 
+// Whether none of a shard's rings had a key, by the count of each.
+fn was_empty(counts: &[usize]) -> bool
+    ensures { IsTrue result → All (λ count. count ≡ 0) counts.now }
+{
+    for from in 0..counts.len() {
+        if counts[from] != 0 {
+            return false;
+        }
+    }
+    true
+}
+
 // Whether no ring had a key, by the counts of each.
-fn were_empty(counts: &[Vec<usize>]) -> bool {
-    counts.iter().all(|row| row.iter().all(|count| *count == 0))
+fn were_empty(counts: &[Vec<usize>]) -> bool
+    ensures { IsTrue result → All (λ row. All (λ count. count ≡ 0) row.items) counts.now }
+{
+    for shard in 0..counts.len() {
+        if !was_empty(counts[shard].as_slice()) {
+            return false;
+        }
+    }
+    true
 }
 
 // The logs of all spans of an arena that comes to its end with these seats, whose rings were settled: no key is left on one, and so no
-// receipt is left out.
+// receipt is left out, and what was taken from each ring is what was sent on it.
 fn logs_of<G: Gate>(alloc: Global, arena: Arena<G>, seats: Vec<Seat>) -> Result<Vec<SpanLog>, Halt>
     requires { AllByRecursion (λ seat. seat.table ≡ arena.table) seats.items }
+    ensures { OnOk result (AreDelivered (length seats.items) (map carried_by seats.items)) }
 {
     if !arena.has_all(seats.as_slice()) {
         return Err(Halt::Doubled);
@@ -179,8 +200,8 @@ fn replay_at<R: Threads + Wait + Sync, G: Gate + Sync, J: Reading>(
     requires lines { trace.now.lines.items ≡ J.lines }
     requires shown { shown ≡ J.shown }
     requires table { arena.table ≡ J.table }
-    requires seats { AllByRecursion (λ seat. (seat.table ≡ J.table) × (seat.section ≡ 0))
-        seats.items }
+    requires seats { AllByRecursion (λ seat. (seat.table ≡ J.table) × (seat.section ≡ 0)
+        × HaveNothing (carried_by seat)) seats.items }
     ensures ok { IfOk result (λ replayed. IsThreadedReport trace.now shown
         replayed.report.items replayed.certificate.items) }
     ensures err { IfErr result (IsRunStop trace.now shown) }

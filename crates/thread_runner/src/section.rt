@@ -6,7 +6,8 @@ ghost use Rattle.trace_text.specs.Causes.{is_adopt, marks};
 ghost use Rattle.trace_text.specs.declared.line.Line.{Line};
 ghost use Rattle.trace_text.specs.Barrier.{is_barrier};
 ghost use Rattle.thread_runner.specs.Asked.{GivenKeys};
-ghost use Rattle.thread_runner.specs.Grown.{AreDiaries, Rests};
+ghost use Rattle.thread_runner.specs.Followed.{carried_by};
+ghost use Rattle.thread_runner.specs.Grown.{AreDiaries, HaveNothing, Rests};
 ghost use Rattle.thread_runner.specs.Known.{AreKept, AreKnown};
 ghost use Rattle.thread_runner.specs.declared.keys.Given.{Given};
 ghost use Rattle.thread_runner.specs.Marked.{AreNotesOf, barrier_from, is_mark, is_mark_at, marks_above};
@@ -88,8 +89,8 @@ fn threads_in<'a, G: Gate, J: Reading>(
 ) -> Result<Vec<Resting<'a, G>>, AllocError>
     requires lines { text.now.trace.now.lines.items ≡ J.lines }
     requires shown { text.now.replies ≡ J.shown }
-    requires seats { AllByRecursion (λ seat. (seat.table ≡ J.table) × (seat.section ≡ 0))
-        seats.items }
+    requires seats { AllByRecursion (λ seat. (seat.table ≡ J.table) × (seat.section ≡ 0)
+        × HaveNothing (carried_by seat)) seats.items }
     ensures { (kept : List Given) → IfOk result (λ threads.
         AllByRecursion (λ one. Rests J.lines J.shown J.table (AreKept kept) 0
         one.caller.seat one.done one.caller.diary) threads.items) }
@@ -326,7 +327,7 @@ fn seats_and_diaries<'a, G: Gate, J: Reading, K: Known>(
     ensures seats { IfOk result (λ parts. AllByRecursion (λ seat. seat.table ≡ J.table)
         parts.0.items) }
     ensures diaries { (given : GivenKeys) → AreKept K.kept given
-        → IfOk result (λ parts. AreDiaries J.lines J.shown given threads parts.1.items) }
+        → IfOk result (λ parts. AreDiaries J.lines J.shown given threads parts.0.items parts.1.items) }
 {
     let mut workers = workers;
     let mut seats = Vec::with_capacity(alloc, workers.len())?;
@@ -579,7 +580,7 @@ impl<'a, G: Gate + Sync, J: Reading> Crew<'a, G, J> {
         ensures seats { IfOk result (λ parts. AllByRecursion (λ seat. seat.table ≡ J.table)
             parts.0.items) }
         ensures diaries { (given : GivenKeys) → AreKept K.kept given
-            → IfOk result (λ parts. AreDiaries J.lines J.shown given threads parts.1.items) }
+            → IfOk result (λ parts. AreDiaries J.lines J.shown given threads parts.0.items parts.1.items) }
     {
         let Crew {
             alloc,
@@ -597,7 +598,7 @@ impl<'a, G: Gate + Sync, J: Reading> Crew<'a, G, J> {
         ensures seats { IfOk result (λ ran. AllByRecursion (λ seat. seat.table ≡ J.table)
             ran.seats.items) }
         ensures diaries { IfOk result (λ ran. (given : GivenKeys)
-            × AreDiaries J.lines J.shown given threads ran.told.diaries.items) }
+            × AreDiaries J.lines J.shown given threads ran.seats.items ran.told.diaries.items) }
         ensures notes { IfOk result (λ ran. ran.told.notes ≡ keeper.entry.minutes.notes) }
         ensures certificate { IfOk result (λ ran. ran.told.certificate
             ≡ keeper.entry.minutes.certificate) }
@@ -632,12 +633,12 @@ pub(crate) fn run_sections<'a, R: Threads + Wait + Sync, G: Gate + Sync, J: Read
     requires lines { text.now.trace.now.lines.items ≡ J.lines }
     requires shown { text.now.replies ≡ J.shown }
     requires unplanned { steward.plan ≡ None }
-    requires seats { AllByRecursion (λ seat. (seat.table ≡ J.table) × (seat.section ≡ 0))
-        seats.items }
+    requires seats { AllByRecursion (λ seat. (seat.table ≡ J.table) × (seat.section ≡ 0)
+        × HaveNothing (carried_by seat)) seats.items }
     ensures seats { IfOk result (λ ran. AllByRecursion (λ seat. seat.table ≡ J.table)
         ran.seats.items) }
     ensures diaries { IfOk result (λ ran. (given : GivenKeys) × AreDiaries J.lines J.shown given
-        text.now.trace.now.header.shards ran.told.diaries.items) }
+        text.now.trace.now.header.shards ran.seats.items ran.told.diaries.items) }
     ensures notes { IfOk result (λ ran. AreNotesOf text.now.trace.now.lines.items
         ran.told.notes.items ran.told.certificate.items) }
 {

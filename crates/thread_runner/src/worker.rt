@@ -6,7 +6,8 @@ ghost use Rattle.arena.specs.Seats.{Table};
 ghost use Rattle.trace_text.specs.Causes.{is_adopt, marks};
 ghost use Rattle.trace_text.specs.declared.line.Line.{Line};
 ghost use Rattle.thread_runner.specs.Asked.{GivenKeys};
-ghost use Rattle.thread_runner.specs.Grown.{IsDiaryOf, Rests, Tracks};
+ghost use Rattle.thread_runner.specs.Followed.{carried_by};
+ghost use Rattle.thread_runner.specs.Grown.{HaveNothing, IsDiaryOf, Rests, Tracks};
 ghost use Rattle.thread_runner.specs.Known.{AreFresh, AreKept, AreKnown};
 ghost use Rattle.thread_runner.specs.declared.keys.Given.{Given};
 
@@ -89,7 +90,7 @@ impl<'a, G: Gate> Resting<'a, G> {
         text: &Text<'_>,
         seat: Seat,
     ) -> Option<Resting<'a, G>>
-        ensures { (kept : List Given) → seat.section ≡ 0
+        ensures { (kept : List Given) → seat.section ≡ 0 → HaveNothing (carried_by seat)
             → IfSome result (λ resting. Rests text.now.trace.now.lines.items text.now.replies
             seat.table (AreKept kept) 0 resting.caller.seat resting.done resting.caller.diary) }
     {
@@ -111,7 +112,7 @@ pub(crate) struct Worker<'a, G: Gate, J: Reading, K: Known> {
     ghost columns: { caller.seat.table.columns ≡ J.table.columns } by { Prim.hlevel props },
     ghost reads: { text.now.trace.now.lines.items ≡ J.lines } by { Prim.hlevel props },
     ghost section: { caller.seat.section ≡ K.section } by { Prim.hlevel props },
-    ghost tracks: { Tracks J.lines J.shown (AreKnown K.kept caller.fresh.items) caller.seat.worker done K.section caller.diary } by { Prim.hlevel props },
+    ghost tracks: { Tracks J.lines J.shown (AreKnown K.kept caller.fresh.items) caller.seat.worker done K.section caller.diary (carried_by caller.seat) } by { Prim.hlevel props },
 }
 
 /// A worker at the barrier that ends a section, which has taken and freed the keys that had come in on its rings.
@@ -127,7 +128,7 @@ pub(crate) struct Settled<'a, G: Gate, J: Reading, K: Known> {
     ghost columns: { caller.seat.table.columns ≡ J.table.columns } by { Prim.hlevel props },
     ghost reads: { text.now.trace.now.lines.items ≡ J.lines } by { Prim.hlevel props },
     ghost section: { caller.seat.section ≡ K.section } by { Prim.hlevel props },
-    ghost tracks: { Tracks J.lines J.shown (AreKnown K.kept caller.fresh.items) caller.seat.worker done (K.section + 1) caller.diary } by { Prim.hlevel props },
+    ghost tracks: { Tracks J.lines J.shown (AreKnown K.kept caller.fresh.items) caller.seat.worker done (K.section + 1) caller.diary (carried_by caller.seat) } by { Prim.hlevel props },
 }
 
 /// A worker at a barrier that has handed over the keys that its lines left to the threads of shards: none waits at its seat.
@@ -249,7 +250,7 @@ impl<'a, G: Gate, J: Reading, K: Known> Worker<'a, G, J, K> {
         ensures seat { IfOk result (λ parts. parts.0.table ≡ J.table) }
         ensures diary { (given : GivenKeys) → AreKept K.kept given
             → IfOk result (λ parts. IsDiaryOf J.lines J.shown given
-            self.entry.caller.seat.worker parts.1) }
+            self.entry.caller.seat.worker parts.1 (carried_by parts.0)) }
     {
         let Worker {
             text,

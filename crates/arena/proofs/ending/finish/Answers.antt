@@ -29,3 +29,6 @@ returns-in-Err-clause-linked g c =
     let same = rw c.as_mut_slice.ensures.value at c.in-Err.ensures.err in
     let long = same_length sending_side c.args.seats.items c.settled.new.seats same.0.sending in
     subst AreLinked (sym (written_back c.args.seats.len c.settled.new.seats _ (c.args.seats.ok.0 ∙ sym long))) c.in-Err.ensures.linked
+
+pub returns-in-Ok-clause-rings : goal.returns-in-Ok-clause-rings
+returns-in-Ok-clause-rings g c = rw c.as_mut_slice.ensures.value at c.in-Ok.ensures.rings

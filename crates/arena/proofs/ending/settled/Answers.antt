@@ -21,3 +21,6 @@ pub returns-clause-settled : goal.returns-clause-settled
 returns-clause-settled g c =
     all_settled g.K.Receipts.told vec_items c.args.seats.now c.make_room.new.seats c.greatest-section.result c.in_ok-counts.counts.items c.args.receipts.now c.make_room.new.receipts c.settle_seats.new.receipts
     (record { worker = 0; section = 0; limits = c.args.arena.now.limits; table = c.args.arena.now.table; delay = None; outboxes = []; inboxes = [] }) c.greatest-section.ensures c.make_room.ensures.same c.make_room.ensures.told c.requires.lists c.in_ok-counts.ensures.counted c.settle_seats.ensures.freed
+
+pub returns-clause-rings : goal.returns-clause-rings
+returns-clause-rings g c = AreLinked-seats c.args.arena.now.limits c.args.arena.now.table c.args.seats.now c.requires.seats c.args.arena.now.rings_are c.know_rings.ensures

@@ -1,11 +1,13 @@
-use Rattle.std.proofs.Common.{◌≡◌, ◌+◌, OnOk, map, refl, subst, sym}
+use Rattle.std.proofs.Common.{◌≡◌, ◌+◌, OnOk, ap, map, refl, subst, sym}
 use Rattle.std.specs.List.{range_with_len}
 use Rattle.std.proofs.lemmas.Result.{on_ok_weaker}
 use Rattle.trace_text.specs.Objects.{counted_from}
 use Rattle.thread_runner.specs.Asked.{Ends, GivenKeys, Puts, Said, asked_by}
+use Rattle.thread_runner.specs.Followed.{carried_by}
 use Rattle.thread_runner.specs.Grown.{Tells}
 use Rattle.thread_runner.specs.Known.{AreKnown}
 use Rattle.thread_runner.specs.declared.diary.Other.TheVariants as other
+use Rattle.thread_runner.proofs.Carrying.{Carries-none}
 use Rattle.thread_runner.proofs.Knowing.{Tells-still}
 use Rattle.thread_runner.proofs.caller.Caller.call.Goals as goal
 
@@ -16,8 +18,8 @@ returns-in-Fill-clause-told g c above binds reads =
     let kept = c.args.keys.now.kept.items in
     let knew : GivenKeys → Type 0 = AreKnown kept self.fresh.items in
     let knows : GivenKeys → Type 0 = AreKnown kept later.fresh.items in
-    subst (λ l. OnOk c.fill.result (Tells self.seat.section self.seat.worker c.args.spot.number (asked_by above l) knew knows self.diary later.diary)) (sym c.in-Fill.is)
-    (subst (λ n. OnOk c.fill.result (Tells self.seat.section self.seat.worker c.args.spot.number (map (λ i. Puts (n + i) (counted_from c.in-Fill.class (c.in-Fill.value + i))) (range_with_len 0 c.in-Fill.count)) knew knows self.diary later.diary)) binds
+    subst (λ l. OnOk c.fill.result (Tells self.seat.section self.seat.worker c.args.spot.number (asked_by above l) knew knows self.diary later.diary (carried_by self.seat) (carried_by later.seat))) (sym c.in-Fill.is)
+    (subst (λ n. OnOk c.fill.result (Tells self.seat.section self.seat.worker c.args.spot.number (map (λ i. Puts (n + i) (counted_from c.in-Fill.class (c.in-Fill.value + i))) (range_with_len 0 c.in-Fill.count)) knew knows self.diary later.diary (carried_by self.seat) (carried_by later.seat))) binds
     (c.fill.ensures.told kept))
 
 pub returns-in-End-clause-told : goal.returns-in-End-clause-told
@@ -27,8 +29,8 @@ returns-in-End-clause-told g c above binds reads =
     let kept = c.args.keys.now.kept.items in
     let knew : GivenKeys → Type 0 = AreKnown kept self.fresh.items in
     let knows : GivenKeys → Type 0 = AreKnown kept later.fresh.items in
-    subst (λ l. OnOk c.other.result (Tells self.seat.section self.seat.worker c.args.spot.number (asked_by above l) knew knows self.diary later.diary)) (sym c.in-End.is)
+    subst (λ l. OnOk c.other.result (Tells self.seat.section self.seat.worker c.args.spot.number (asked_by above l) knew knows self.diary later.diary (carried_by self.seat) (carried_by later.seat))) (sym c.in-End.is)
     (on_ok_weaker c.other.result
-    (Tells-still self.seat.section self.seat.worker c.args.spot.number Ends (Said other.Ended) kept self.fresh.items later.fresh.items self.diary later.diary
-    (subst (λ f. f.items ≡ self.fresh.items) (sym c.other.ensures.fresh) refl) (λ given known. refl))
+    (Tells-still self.seat.section self.seat.worker c.args.spot.number Ends (Said other.Ended) kept self.fresh.items later.fresh.items self.diary later.diary (carried_by self.seat) (carried_by later.seat)
+    (subst (λ f. f.items ≡ self.fresh.items) (sym c.other.ensures.fresh) refl) (λ given known. refl) (Carries-none (carried_by self.seat) (carried_by later.seat) (ap carried_by c.other.ensures.seat)))
     c.other.ensures.told)

@@ -2,6 +2,7 @@ use Rattle.std.proofs.Common.{◌≡◌, ◌∙◌, ◌+◌, OnOk, Some, slice_g
 use Rattle.std.proofs.lemmas.Option.{same_Some}
 use Rattle.trace_text.proofs.Clips.{all_fine}
 use Rattle.thread_runner.specs.Asked.{asked_at}
+use Rattle.thread_runner.specs.Followed.{carried_by}
 use Rattle.thread_runner.specs.Grown.{Tells}
 use Rattle.thread_runner.specs.Known.{AreKnown}
 use Rattle.thread_runner.proofs.caller.Caller.line.Goals as goal
@@ -24,5 +25,5 @@ returns-clause-told g c line there =
     let same : c.line_at.result.now ≡ line = same_Some _ _ (sym here ∙ there) in
     let first = c.in-Some.ensures trace.lines.items c.args.text.now.numbered in
     let reads = c.place.ensures c.line_at.result.now here in
-    subst (λ l. OnOk c.call.result (Tells self.seat.section self.seat.worker (c.args.place + 6) (asked_at above l) (AreKnown kept self.fresh.items) (AreKnown kept later.fresh.items) self.diary later.diary)) (sym c.in-Call.is ∙ same)
+    subst (λ l. OnOk c.call.result (Tells self.seat.section self.seat.worker (c.args.place + 6) (asked_at above l) (AreKnown kept self.fresh.items) (AreKnown kept later.fresh.items) self.diary later.diary (carried_by self.seat) (carried_by later.seat))) (sym c.in-Call.is ∙ same)
     (c.call.ensures.told above first (rw c.in-Call.is at reads))

@@ -1,6 +1,7 @@
 use Rattle.std.proofs.Common.{◌≡◌, ◌∙◌, ◌+◌, Some, ap, slice_get, subst, sym}
 use Rattle.arena.specs.Seats.{Table}
 use Rattle.thread_runner.specs.Asked.{places_of}
+use Rattle.thread_runner.specs.Followed.{carried_by}
 use Rattle.thread_runner.specs.Grown.{Tracks}
 use Rattle.thread_runner.specs.Known.{AreKnown}
 use Rattle.thread_runner.proofs.Following.{Tracks-adoption}
@@ -27,6 +28,6 @@ invariant_of-result g c =
       columns = ap (λ (t : Table). t.columns) c.adopt.ensures.table ∙ c.args.self.columns;
       reads = c.args.self.reads;
       section = c.adopt.ensures.section ∙ c.args.self.section;
-      tracks = Tracks-adoption lines shown (AreKnown kept new.fresh.items) section worker new.seat.worker done place l old.diary new.diary c.adopt.ensures.thread (sym c.requires.section) next here own (c.requires.adopts l here)
-          c.in_ok-adopt.ensures.told (subst (λ f. Tracks lines shown (AreKnown kept f.items) worker done (section + 1) old.diary) (sym c.adopt.ensures.fresh) c.args.self.tracks);
+      tracks = Tracks-adoption lines shown (AreKnown kept new.fresh.items) section worker new.seat.worker done place l old.diary new.diary (carried_by old.seat) (carried_by new.seat) c.adopt.ensures.thread c.adopt.ensures.carried (sym c.requires.section) next here own (c.requires.adopts l here)
+          c.in_ok-adopt.ensures.told (subst (λ f. Tracks lines shown (AreKnown kept f.items) worker done (section + 1) old.diary (carried_by old.seat)) (sym c.adopt.ensures.fresh) c.args.self.tracks);
     }

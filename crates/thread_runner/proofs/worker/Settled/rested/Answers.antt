@@ -1,6 +1,7 @@
 use Rattle.std.proofs.Common.{◌∙◌, ◌+◌, ap, subst, sym}
 use Rattle.arena.specs.Seats.{Table}
 use Rattle.thread_runner.specs.Asked.{GivenKeys}
+use Rattle.thread_runner.specs.Followed.{carried_by}
 use Rattle.thread_runner.specs.Grown.{Tracks}
 use Rattle.thread_runner.specs.Known.{AreKnown}
 use Rattle.thread_runner.proofs.Following.{Tracks-known}
@@ -18,7 +19,9 @@ returns-clause-rests g c =
       rows_are = ap (λ (t : Table). t.rows) c.go_on.ensures.table ∙ worker.rows;
       columns_are = ap (λ (t : Table). t.columns) c.go_on.ensures.table ∙ worker.columns;
       section_is = c.in_ok-go_on.ensures.section ∙ ap (λ n. n + 1) worker.section;
-      tracks = subst (λ d. Tracks lines shown knows later.seat.worker worker.done next d) (sym c.go_on.ensures.diary) (subst (λ t. Tracks lines shown knows t worker.done next worker.caller.diary) (sym c.go_on.ensures.thread)
-          (Tracks-known lines shown (AreKnown g.K.Known.kept worker.caller.fresh.items) knows worker.caller.seat.worker worker.done next worker.caller.diary
-          (λ given are. (are.0, c.in_ok-go_on.ensures.kept given are.1)) worker.tracks));
+      tracks = subst (λ r. Tracks lines shown knows later.seat.worker worker.done next later.diary r) (sym c.go_on.ensures.carried)
+          (subst (λ d. Tracks lines shown knows later.seat.worker worker.done next d (carried_by worker.caller.seat)) (sym c.go_on.ensures.diary)
+          (subst (λ t. Tracks lines shown knows t worker.done next worker.caller.diary (carried_by worker.caller.seat)) (sym c.go_on.ensures.thread)
+          (Tracks-known lines shown (AreKnown g.K.Known.kept worker.caller.fresh.items) knows worker.caller.seat.worker worker.done next worker.caller.diary (carried_by worker.caller.seat)
+          (λ given are. (are.0, c.in_ok-go_on.ensures.kept given are.1)) worker.tracks)));
     }
