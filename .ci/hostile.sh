@@ -180,7 +180,7 @@ refused_calls() {
         expect_threads "$examples/$name.replies" "$examples/$name.cert" --replies "$examples/$name.trace"
     done
     under=()
-    for name in adoption fold_twice set_wherever_it_is trimmed_pages; do
+    for name in adoption fold_twice set_wherever_it_is trimmed_pages service_without_end begins_again; do
         audited "$examples/$name.report" >report
         expect_memory "$examples/$name.report" "$examples/$name.cert" run --serial "$examples/$name.trace" --certificate f
         expect_memory report "$examples/$name.cert" run "$examples/$name.trace" --certificate f

@@ -94,6 +94,10 @@ fn words_of(class: Class, slot: u8) -> Range<usize> {
 #[derive(Clone, Copy, Debug)]
 pub struct PagesSpent;
 
+/// A group of the shard is closed, so none of its groups may go.
+#[derive(Clone, Copy, Debug)]
+pub struct PlanOpen;
+
 #[derive(Clone, Copy, Debug)]
 pub enum AdoptError {
     PagesSpent,
@@ -368,6 +372,34 @@ impl<const LOG: bool> Core<LOG> {
                 self.drop_page(place);
             }
         }
+    }
+
+    /// The shard of an ended thread runs again, with no group.
+    pub fn begin(&mut self, shard: usize) {
+        self.shards[shard] = Shard::default();
+    }
+
+    /// Up to `most` groups of the shard with something live go to the pool, those with the least first; how many.
+    pub fn retire(&mut self, shard: usize, most: usize) -> Result<usize, PlanOpen> {
+        let mut live = Vec::new();
+        for place in &self.shards[shard].groups {
+            let group = &self.groups[*place];
+            if group.closed {
+                return Err(PlanOpen);
+            }
+            if !group.occupied.is_empty() {
+                live.push((group.occupied.iter().count(), group.spans[0], *place));
+            }
+        }
+        live.sort_unstable();
+        live.truncate(most);
+        for (_, head, place) in &live {
+            self.shards[shard].groups.retain(|group| group != place);
+            self.groups[*place].home = Home::Pool;
+            self.pool.insert(*head, *place);
+        }
+        self.renumber(shard);
+        Ok(live.len())
     }
 
     /// The pages of the shard's open groups with nothing live go; how many.

@@ -21,9 +21,12 @@ struct Draw {
     sets: bool,
     /// Whether it has trims.
     trims: bool,
+    /// Whether it has retirements and begins.
+    begins: bool,
     text: String,
     shards: usize,
-    ended: Vec<bool>,
+    /// The section in which each thread ended, if it has not begun again since.
+    ended: Vec<Option<usize>>,
     bound: Vec<Bound>,
     section: usize,
     /// Whether a thread may ask for what it can't know.
@@ -43,16 +46,17 @@ pub fn text(seed: u64) -> Vec<u8> {
     let gens = [1, 2, 3, 9, u32::MAX][random.below(5)];
     let ring = 1 + random.below(3);
     let lines = 5 + random.below(80);
-    let version = [4, 4, 3, 2, 1][(seed / 5) as usize % 5];
+    let version = [5, 5, 5, 4, 4, 3, 2, 1][(seed / 5) as usize % 8];
     let classes: &[&str] = if version > 1 { &["", "", "64", "256"] } else { &[""] };
     let mut draw = Draw {
         random,
         classes,
         sets: version > 2,
         trims: version > 3,
+        begins: version > 4,
         text: header_with(version, shards, pages, ring, gens),
         shards,
-        ended: vec![false; shards],
+        ended: vec![None; shards],
         bound: Vec::new(),
         section: 0,
         careless: seed % 12 == 0,
@@ -91,6 +95,13 @@ impl Draw {
                     self.say(format_args!("{thread} {verb}"));
                 }
             }
+            16 | 17 if self.begins => self.begin(),
+            18 | 19 if self.begins => {
+                if let Some(thread) = self.running() {
+                    let most = 1 + self.random.below(3);
+                    self.say(format_args!("{thread} retire {most}"));
+                }
+            }
             5..=12 => {
                 if let Some(thread) = self.running() {
                     self.part(thread);
@@ -112,7 +123,7 @@ impl Draw {
     }
 
     fn running(&mut self) -> Option<usize> {
-        let running: Vec<usize> = (0..self.shards).filter(|t| !self.ended[*t]).collect();
+        let running: Vec<usize> = (0..self.shards).filter(|t| self.ended[*t].is_none()).collect();
         (!running.is_empty()).then(|| running[self.random.below(running.len())])
     }
 
@@ -158,8 +169,21 @@ impl Draw {
 
     fn end(&mut self) {
         if let Some(thread) = self.running() {
-            self.ended[thread] = true;
+            self.ended[thread] = Some(self.section);
             self.say(format_args!("{thread} end"));
+        }
+    }
+
+    /// A thread begins again whose shard was abandoned; or, where threads are careless, any thread.
+    fn begin(&mut self) {
+        let careless = self.careless && self.random.one_in(8);
+        let may_begin = |ended: Option<usize>| careless || ended.is_some_and(|section| section < self.section);
+        let resting: Vec<usize> = (0..self.shards).filter(|t| may_begin(self.ended[*t])).collect();
+        if !resting.is_empty() {
+            let thread = resting[self.random.below(resting.len())];
+            self.ended[thread] = None;
+            self.say(format_args!("{thread} begin"));
+            self.part(thread);
         }
     }
 
@@ -228,7 +252,7 @@ impl Draw {
 }
 
 /// Words that stand where others should.
-const WORDS: [&str; 32] = [
+const WORDS: [&str; 34] = [
     "0",
     "1",
     "63",
@@ -250,6 +274,8 @@ const WORDS: [&str; 32] = [
     "later",
     "tend",
     "trim",
+    "retire",
+    "begin",
     "mark",
     "adopt",
     "n0",

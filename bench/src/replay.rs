@@ -1,7 +1,7 @@
 //! Runs a trace, and builds its report.
 
 use crate::class::Class;
-use crate::core::{AdoptError, Core, MarkError, PagesSpent, Stepped};
+use crate::core::{AdoptError, Core, MarkError, PagesSpent, PlanOpen, Stepped};
 use crate::ids::{Key, SpanId};
 use crate::report::{push_id, push_ids, push_key, push_number};
 use crate::trace::{Call, Line, Trace};
@@ -113,9 +113,23 @@ impl Run<'_> {
                     push_number(out, count as u64);
                 });
             }
+            Call::Retire { most } => {
+                let retired = self.core.retire(thread, most);
+                self.reply(number, |out| match retired {
+                    Ok(count) => {
+                        out.extend_from_slice(b"retired ");
+                        push_number(out, count as u64);
+                    }
+                    Err(PlanOpen) => out.extend_from_slice(b"refused plan"),
+                });
+            }
             Call::End => {
                 self.leaving.push(thread);
                 self.reply(number, |out| out.extend_from_slice(b"ended"));
+            }
+            Call::Begin => {
+                self.core.begin(thread);
+                self.reply(number, |out| out.extend_from_slice(b"begun"));
             }
         }
     }

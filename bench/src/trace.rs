@@ -8,6 +8,9 @@ use std::ops::RangeInclusive;
 /// The most puts of one `fill`.
 const LONGEST_FILL: u128 = 262_144;
 
+/// The most groups that a `retire` asks for.
+const MOST_RETIRED: u128 = 1_048_576;
+
 /// Why a line is refused. The first that holds, in this order, is told.
 #[derive(Clone, Copy, Debug, PartialEq, Eq)]
 pub enum Cause {
@@ -88,7 +91,11 @@ pub enum Call {
     },
     Tend,
     Trim,
+    Retire {
+        most: usize,
+    },
     End,
+    Begin,
 }
 
 #[derive(Clone, Copy, Debug)]
@@ -164,7 +171,9 @@ enum Spelled<'t> {
     Later(Reference<'t>),
     Tend,
     Trim,
+    Retire(Number),
     End,
+    Begin,
 }
 
 /// A line as it is spelled.
@@ -204,8 +213,10 @@ fn form_of(line: &[u8], version: Version) -> Option<Form<'_>> {
         [_, b"sweep", name, from, to] => Spelled::Sweep(name_of(name)?, Number::of(from)?, Number::of(to)?),
         [_, b"later", key] => Spelled::Later(Reference::of(key)?),
         [_, b"tend"] => Spelled::Tend,
-        [_, b"trim"] if version == Version::Four => Spelled::Trim,
+        [_, b"trim"] if version >= Version::Four => Spelled::Trim,
+        [_, b"retire", most] if version == Version::Five => Spelled::Retire(Number::of(most)?),
         [_, b"end"] => Spelled::End,
+        [_, b"begin"] if version == Version::Five => Spelled::Begin,
         [_, verb, rest @ ..] => match (binding_verb(verb, version)?, rest) {
             ((b"put", class), [name, value]) => Spelled::Put(class, name_of(name)?, Number::of(value)?),
             ((b"fill", class), [name, count, value]) => {
@@ -231,7 +242,8 @@ struct Binding {
 struct Reader<'t> {
     header: Header,
     names: HashMap<&'t [u8], Binding>,
-    ended: Vec<bool>,
+    /// The section in which each thread ended, if it has not begun again since.
+    ended: Vec<Option<usize>>,
     section: usize,
     awaits_mark: bool,
     keys: usize,
@@ -240,11 +252,15 @@ struct Reader<'t> {
 impl<'t> Reader<'t> {
     fn thread(&self, number: Number) -> Result<usize, Cause> {
         let below = self.header.shards as u128 - 1;
-        let thread = number.within(0..=below).ok_or(Cause::Thread)? as usize;
-        if self.ended[thread] {
-            return Err(Cause::Ended);
+        Ok(number.within(0..=below).ok_or(Cause::Thread)? as usize)
+    }
+
+    fn running(&self, number: Number) -> Result<usize, Cause> {
+        let thread = self.thread(number)?;
+        match self.ended[thread] {
+            Some(_) => Err(Cause::Ended),
+            None => Ok(thread),
         }
-        Ok(thread)
     }
 
     fn bind(&mut self, name: &'t [u8], count: Option<u32>, class: Class, thread: usize) -> Result<usize, Cause> {
@@ -343,9 +359,19 @@ impl<'t> Reader<'t> {
             },
             Spelled::Tend => Call::Tend,
             Spelled::Trim => Call::Trim,
+            Spelled::Retire(most) => Call::Retire {
+                most: retired(most).ok_or(Cause::Limit)?,
+            },
             Spelled::End => {
-                self.ended[thread] = true;
+                self.ended[thread] = Some(self.section);
                 Call::End
+            }
+            Spelled::Begin => {
+                if self.ended[thread].is_none_or(|section| section == self.section) {
+                    return Err(Cause::Early);
+                }
+                self.ended[thread] = None;
+                Call::Begin
             }
         })
     }
@@ -356,6 +382,7 @@ impl<'t> Reader<'t> {
             Spelled::Put(class, _, value) => base(*class, *value).is_some(),
             Spelled::Fill(class, _, count, value) => fill_numbers(*class, *count, *value).is_some(),
             Spelled::Set(key, value) => base(self.class(*key), *value).is_some(),
+            Spelled::Retire(most) => retired(*most).is_some(),
             _ => true,
         };
         within.then_some(()).ok_or(Cause::Limit)
@@ -369,13 +396,16 @@ impl<'t> Reader<'t> {
                 Ok(Line::Mark)
             }
             Form::Adopt(shard) => {
-                let shard = self.thread(shard)?;
+                let shard = self.running(shard)?;
                 self.awaits_mark = true;
                 Ok(Line::Adopt { shard })
             }
             Form::Call(thread, spelled) => {
                 self.check_limits(&spelled)?;
-                let thread = self.thread(thread)?;
+                let thread = match spelled {
+                    Spelled::Begin => self.thread(thread)?,
+                    _ => self.running(thread)?,
+                };
                 if self.awaits_mark {
                     return Err(Cause::Adopt);
                 }
@@ -389,6 +419,10 @@ impl<'t> Reader<'t> {
 /// The base of an object whose last word is within the range of words.
 fn base(class: Class, value: Number) -> Option<u128> {
     value.within(0..=u128::MAX - (class.words() as u128 - 1))
+}
+
+fn retired(most: Number) -> Option<usize> {
+    most.within(1..=MOST_RETIRED).map(|most| most as usize)
 }
 
 fn fill_numbers(class: Class, count: Number, value: Number) -> Option<(u32, u128)> {
@@ -409,6 +443,7 @@ enum Version {
     Two,
     Three,
     Four,
+    Five,
 }
 
 fn header<'t>(lines: &mut impl Iterator<Item = &'t [u8]>) -> Result<(Version, Header), Fault> {
@@ -417,6 +452,7 @@ fn header<'t>(lines: &mut impl Iterator<Item = &'t [u8]>) -> Result<(Version, He
         Some(b"mesh 2") => Version::Two,
         Some(b"mesh 3") => Version::Three,
         Some(b"mesh 4") => Version::Four,
+        Some(b"mesh 5") => Version::Five,
         _ => {
             return Err(Fault {
                 line: 1,
@@ -455,7 +491,7 @@ pub fn read(text: &[u8]) -> Result<Trace, Fault> {
     let mut reader = Reader {
         header,
         names: HashMap::new(),
-        ended: vec![false; header.shards],
+        ended: vec![None; header.shards],
         section: 0,
         awaits_mark: false,
         keys: 0,

@@ -19,7 +19,7 @@ use Rattle.span.specs.declared.key.Key.{Key}
 use Rattle.trace_text.specs.Causes.{is_adopt, keys_in, marks}
 use Rattle.trace_text.specs.Places.{first_of}
 use Rattle.trace_text.specs.declared.line.Call.{Call}
-use Rattle.trace_text.specs.declared.line.Call.TheVariants.{Put, Fill, Get, Set, Free, Sweep, Later, Tend, Trim, End}
+use Rattle.trace_text.specs.declared.line.Call.TheVariants.{Put, Fill, Get, Set, Free, Sweep, Later, Tend, Trim, Retire, End, Begin}
 use Rattle.trace_text.specs.declared.line.Line.{Line}
 use Rattle.trace_text.specs.declared.line.Line.TheVariants as line
 use Rattle.thread_runner.specs.Asked.{AreAnswers, Frees, GivenKeys, Outcome, Puts, Said, asked_at, asked_by, is_adoption, is_line_of, places_of, replies_at, replies_by, replies_on}
@@ -137,7 +137,9 @@ length-asked_by above (Sweep name from to) = length-map (range_with_len from (to
 length-asked_by above (Later key) = refl
 length-asked_by above Tend = refl
 length-asked_by above Trim = refl
+length-asked_by above (Retire most) = refl
 length-asked_by above End = refl
+length-asked_by above Begin = refl
 
 length-asked_at : (above : List Line) (l : Line) → is_adopt l ≡ false → length (asked_at above l) ≡ replies_at l
 length-asked_at above line.Silent is = refl

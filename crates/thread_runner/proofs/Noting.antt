@@ -20,7 +20,7 @@ use Rattle.marks.specs.Plans.{OpenPlan, next_pair, with_next_done}
 use Rattle.span.specs.declared.id.SpanId.{SpanId}
 use Rattle.trace_text.specs.declared.line.Line.{Line}
 use Rattle.trace_text.specs.declared.line.Line.TheVariants as line
-use Rattle.trace_runner.specs.Barrier.{is_barrier}
+use Rattle.trace_text.specs.Barrier.{is_barrier}
 use Rattle.trace_runner.specs.declared.report.PlanNews.TheVariants.{Marked, TooMany, Closed}
 use Rattle.trace_runner.specs.declared.report.TakenStep.{TakenStep}
 use Rattle.thread_runner.specs.Marked.{AreNotesTo, IsCarriedOut, IsMarkMade, IsShown, MarkMade, PlanMade, barrier_from, certificate_after, is_mark, is_mark_at, mark_notes, mark_number, marks_above, news_marked, note_at, note_closed, note_planned, place_marked, plan_notes, taken_pair, text_after}

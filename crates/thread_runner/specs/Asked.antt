@@ -1,5 +1,5 @@
 -- What the lines of a thread ask it for, and what may come of it.
-use Rattle.std.specs.Prelude.{◌≡◌, ℕ, ◌+◌, ◌-◌, ◌==◌, Bool, true, false, List, [], ◌∷◌, map, slice_get, Option, None, Some, unwrap_or, if◌then◌else◌}
+use Rattle.std.specs.Prelude.{◌≡◌, ◌≤◌, ℕ, ◌+◌, ◌-◌, ◌==◌, Bool, true, false, List, [], ◌∷◌, map, slice_get, Option, None, Some, unwrap_or, if◌then◌else◌}
 use Rattle.std.specs.List.{AllByRecursion, range_with_len}
 use Rattle.std.specs.Option.{option_map_or}
 use Rattle.span.specs.declared.key.Key.{Key}
@@ -11,7 +11,7 @@ use Rattle.trace_text.specs.Causes.{keys_in}
 use Rattle.trace_text.specs.Objects.{counted_from}
 use Rattle.trace_text.specs.Places.{first_of}
 use Rattle.trace_text.specs.declared.line.Call.{Call as LineCall}
-use Rattle.trace_text.specs.declared.line.Call.TheVariants.{Put, Fill, Get, Set, Free, Sweep, Later, Tend, Trim, End}
+use Rattle.trace_text.specs.declared.line.Call.TheVariants.{Put, Fill, Get, Set, Free, Sweep, Later, Tend, Trim, Retire, End, Begin}
 use Rattle.trace_text.specs.declared.line.Line.{Line}
 use Rattle.trace_text.specs.declared.line.Line.TheVariants as line
 use Rattle.trace_text.specs.declared.name.Reference.{Reference}
@@ -37,8 +37,12 @@ pub data Asked : Type 0 where
   Tends : Asked
   -- that its shard give back the pages on which nothing is live
   Trims : Asked
+  -- that its shard let up to so many groups go to the pool
+  Retires : (most : ℕ) → Asked
   -- the end of the thread
   Ends : Asked
+  -- that its shard, which has ended, run again
+  Begins : Asked
   -- that its shard adopt a group
   Adopts : Asked
 
@@ -57,7 +61,9 @@ asked_by above (Sweep name from to) = map (λ i. Frees (first_of above name + i)
 asked_by above (Later key) = Leaves (place_named above key) ∷ []
 asked_by above Tend = Tends ∷ []
 asked_by above Trim = Trims ∷ []
+asked_by above (Retire most) = Retires most ∷ []
 asked_by above End = Ends ∷ []
+asked_by above Begin = Begins ∷ []
 
 -- what a line below those asks for, of the thread that calls or whose shard adopts
 abbrev pub asked_at : List Line → Line → List Asked
@@ -131,6 +137,12 @@ abbrev pub is_trim : Other → Bool
 is_trim (other.Trimmed count) = true
 is_trim other = false
 
+-- no more groups went than were to, or none did, since a plan was open
+abbrev pub IsRetirement : (most : ℕ) → Other → Type 0
+IsRetirement most (other.Retired count) = count ≤ most
+IsRetirement most other.PlanOpen = Unit {0}
+IsRetirement most other = ⊥
+
 -- a group was adopted, or the adoption was refused: its shard had as many groups as it may have pages, or there was none to adopt
 abbrev pub is_adoption : Other → Bool
 is_adoption (other.Adopted head) = true
@@ -174,7 +186,9 @@ Answers given section thread (Leaves place) (Left key) = given place ≡ Some ke
 Answers given section thread (Leaves place) (Said what) = IsKeptBack (given place) what
 Answers given section thread Tends (Took receipts) = AllByRecursion (IsFreeBy section thread) receipts
 Answers given section thread Trims (Said what) = is_trim what ≡ true
+Answers given section thread (Retires most) (Said what) = IsRetirement most what
 Answers given section thread Ends (Said what) = what ≡ other.Ended
+Answers given section thread Begins (Said what) = what ≡ other.Begun
 Answers given section thread Adopts (Said what) = is_adoption what ≡ true
 Answers given section thread asked outcome = ⊥
 

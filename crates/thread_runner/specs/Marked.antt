@@ -8,7 +8,7 @@ use Rattle.certificate.specs.Text.{certificate_text}
 use Rattle.certificate.specs.declared.certificate.Certificate.{Certificate}
 use Rattle.trace_text.specs.declared.line.Line.{Line}
 use Rattle.trace_text.specs.declared.line.Line.TheVariants as line
-use Rattle.trace_runner.specs.Barrier.{is_barrier}
+use Rattle.trace_text.specs.Barrier.{is_barrier}
 use Rattle.trace_runner.specs.declared.report.MarkNews.{MarkNews}
 use Rattle.trace_runner.specs.declared.report.PlanNews.{PlanNews}
 use Rattle.trace_runner.specs.declared.report.PlanNews.TheVariants.{Marked, TooMany, Closed}

@@ -55,6 +55,9 @@ answer_without other.Sent = answer.Sent
 answer_without other.RingFull = answer.RingFull
 answer_without (other.Settled count) = answer.Settled count
 answer_without (other.Trimmed count) = answer.Trimmed count
+answer_without (other.Retired count) = answer.Retired count
+answer_without other.PlanOpen = answer.PlanOpen
+answer_without other.Begun = answer.Begun
 
 -- its reply
 abbrev pub other_line : OtherLine → LineAnswer

@@ -1,5 +1,5 @@
 // Who makes the calls of a thread, and keeps what they are told.
-ghost use Rattle.std.specs.Prelude.{◌≡◌, ◌+◌, ◌-◌, ◌≤◌, ◌<◌, ◌^◌, ◌∷◌, [], IfOk, IfSome, List, OnOk, Option, Some, false, map, slice_get, take, true, unwrap_or};
+ghost use Rattle.std.specs.Prelude.{◌≡◌, ◌+◌, ◌-◌, ◌≤◌, ◌<◌, ◌^◌, ◌∷◌, [], ℕ, IfOk, IfSome, List, OnOk, Option, Some, false, map, slice_get, take, true, unwrap_or};
 ghost use Rattle.std.specs.List.{range_with_len};
 ghost use Rattle.arena.specs.Delays.{HasNoneWaiting};
 ghost use Rattle.span.specs.declared.key.Key.{Key};
@@ -8,7 +8,7 @@ ghost use Rattle.trace_text.specs.declared.line.Line.{Line};
 ghost use Rattle.trace_text.specs.Causes.{is_adopt, is_call_over, keys_in};
 ghost use Rattle.trace_text.specs.Objects.{counted_from, last_word};
 ghost use Rattle.trace_text.specs.Places.{place_by};
-ghost use Rattle.thread_runner.specs.Asked.{Called, Frees, Gets, GivenKeys, Leaves, Puts, Said, Sets, Tends, Trims, asked_at, asked_by, is_adoption};
+ghost use Rattle.thread_runner.specs.Asked.{Begins, Called, Frees, Gets, GivenKeys, IsRetirement, Leaves, Puts, Retires, Said, Sets, Tends, Trims, asked_at, asked_by, is_adoption};
 ghost use Rattle.thread_runner.specs.Followed.{carried_by, entries_on};
 ghost use Rattle.thread_runner.specs.Grown.{Grows, IsEmptyDiary, TakesIn, Tells, TellsAdoption};
 ghost use Rattle.thread_runner.specs.Known.{AreFresh, AreKnown};
@@ -70,6 +70,19 @@ fn adoption(adopted: Result<SpanId, AdoptError>) -> Result<Other, Halt>
         Err(AdoptError::NothingToAdopt) => Ok(Other::NothingToAdopt),
         Err(AdoptError::OutOfMemory) => Err(Halt::OutOfMemory),
         Err(AdoptError::Doubled | AdoptError::Ended | AdoptError::PlanOpen) => Err(Halt::Doubled),
+    }
+}
+
+// What the retirement came to, where the run goes on.
+fn retirement(retired: Result<usize, ReceiveError>) -> Result<Other, Halt>
+    ensures { (most : ℕ) → IfOk retired (λ count. count ≤ most)
+        → IfOk result (IsRetirement most) }
+{
+    match retired {
+        Ok(count) => Ok(Other::Retired(count)),
+        Err(ReceiveError::PlanOpen) => Ok(Other::PlanOpen),
+        Err(ReceiveError::OutOfMemory) => Err(Halt::OutOfMemory),
+        Err(ReceiveError::Doubled | ReceiveError::Ended) => Err(Halt::Doubled),
     }
 }
 
@@ -199,10 +212,12 @@ impl<'a, G: Gate> Caller<'a, G> {
             Call::Later { key } => self.later(keys, number, place_of(reads, key.index)?),
             Call::Tend => self.tend(rt, number),
             Call::Trim => self.trim(rt, number),
+            Call::Retire { most } => self.retire(rt, number, *most),
             Call::End => {
                 self.leaves = true;
                 self.other(number, Other::Ended)
             }
+            Call::Begin => self.begin(rt, number),
         }
     }
 
@@ -465,6 +480,42 @@ impl<'a, G: Gate> Caller<'a, G> {
     {
         let count = self.seat.trim(rt, self.arena);
         self.other(number, Other::Trimmed(count))
+    }
+
+    // Lets up to that many groups of its shard go to the pool.
+    fn retire<R: Wait>(&mut self, rt: &R, number: usize, most: u32) -> Result<(), Halt>
+        ensures told { (kept : List Given)
+            → OnOk result (Tells self.old.seat.section self.old.seat.worker number
+            (Retires most ∷ [])
+            (AreKnown kept self.old.fresh.items)
+            (AreKnown kept self.new.fresh.items)
+            self.old.diary self.new.diary
+            (carried_by self.old.seat) (carried_by self.new.seat)) }
+        ensures thread { self.new.seat.worker ≡ self.old.seat.worker }
+        ensures table { self.new.seat.table ≡ self.old.seat.table }
+        ensures section { self.new.seat.section ≡ self.old.seat.section }
+    {
+        let most = most as usize;
+        let said = retirement(self.seat.retire(rt, self.arena, most))?;
+        self.other(number, said)
+    }
+
+    // Lets its shard, which has ended, run again.
+    fn begin<R: Wait>(&mut self, rt: &R, number: usize) -> Result<(), Halt>
+        ensures told { (kept : List Given)
+            → OnOk result (Tells self.old.seat.section self.old.seat.worker number (Begins ∷ [])
+            (AreKnown kept self.old.fresh.items)
+            (AreKnown kept self.new.fresh.items)
+            self.old.diary self.new.diary
+            (carried_by self.old.seat) (carried_by self.new.seat)) }
+        ensures thread { self.new.seat.worker ≡ self.old.seat.worker }
+        ensures table { self.new.seat.table ≡ self.old.seat.table }
+        ensures section { self.new.seat.section ≡ self.old.seat.section }
+    {
+        if !self.seat.begin(rt, self.arena) {
+            return Err(Halt::Doubled);
+        }
+        self.other(number, Other::Begun)
     }
 
     /// Hands over the keys that its lines left to the threads of their shards.

@@ -36,6 +36,12 @@ pub enum Other {
     Settled(usize),
     /// Its shard gave that many pages back, on which nothing was live.
     Trimmed(usize),
+    /// That many groups of its shard went to the pool.
+    Retired(usize),
+    /// None did, since the open plan folds onto a group of its shard.
+    PlanOpen,
+    /// Its shard, which had ended, runs again.
+    Begun,
 }
 
 /// What a line came to other than by a call on a key, with its place in the trace.
@@ -329,6 +335,9 @@ fn answer_without(other: &Other) -> Answer
         Other::RingFull => Answer::RingFull,
         Other::Settled(count) => Answer::Settled(*count),
         Other::Trimmed(count) => Answer::Trimmed(*count),
+        Other::Retired(count) => Answer::Retired(*count),
+        Other::PlanOpen => Answer::PlanOpen,
+        Other::Begun => Answer::Begun,
     }
 }
 

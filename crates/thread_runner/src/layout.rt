@@ -204,7 +204,8 @@ fn keys_by(call: &Call) -> usize
         Call::Put { .. } => 1,
         Call::Fill { count, .. } => *count as usize,
         Call::Get { .. } | Call::Set { .. } | Call::Free { .. } | Call::Sweep { .. } => 0,
-        Call::Later { .. } | Call::Tend | Call::Trim | Call::End => 0,
+        Call::Later { .. } | Call::Tend | Call::Trim | Call::Retire { .. } => 0,
+        Call::End | Call::Begin => 0,
     }
 }
 

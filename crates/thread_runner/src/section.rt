@@ -4,7 +4,7 @@ ghost use Rattle.std.specs.List.{AllByRecursion};
 ghost use Rattle.std.proofs.Props.{props};
 ghost use Rattle.trace_text.specs.Causes.{is_adopt, marks};
 ghost use Rattle.trace_text.specs.declared.line.Line.{Line};
-ghost use Rattle.trace_runner.specs.Barrier.{is_barrier};
+ghost use Rattle.trace_text.specs.Barrier.{is_barrier};
 ghost use Rattle.thread_runner.specs.Asked.{GivenKeys};
 ghost use Rattle.thread_runner.specs.Followed.{carried_by};
 ghost use Rattle.thread_runner.specs.Grown.{AreDiaries, HaveNothing, Rests};

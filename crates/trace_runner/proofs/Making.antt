@@ -15,7 +15,7 @@ use Rattle.trace_runner.specs.News.{News, with_all_made, with_called, with_made}
 use Rattle.trace_runner.specs.Kept.{Kept, keeping}
 use Rattle.trace_runner.specs.Recalls.{Carries, Makes, MakesLine, news_at, settling_with}
 use Rattle.trace_runner.proofs.Recalling.{keeping-append, keeping-none}
-use Rattle.trace_runner.specs.Runs.{AreSteps, Happens, IsAnswered, IsTold, ends_asked, finishing, rings_asked, stepping}
+use Rattle.trace_runner.specs.Runs.{AreSteps, Happens, IsAnswered, IsCallTold, IsTold, ends_asked, finishing, rings_asked, stepping}
 use Rattle.trace_runner.specs.declared.plans.Plans.{Plans}
 use Rattle.trace_text.specs.declared.line.Call.{Call}
 use Rattle.trace_text.specs.declared.line.Line.TheVariants as line
@@ -84,7 +84,7 @@ erased-one limits a b Close reply step = step
 pub AreSteps-none : (core : CoreState) → AreSteps core [] core
 AreSteps-none core = record { each = tt; last = refl; core = refl; plain = refl; told = tt }
 
-pub AreSteps-one : (event : Event) (reply : Reply) (old new : CoreState) → CoreStep old event reply new → IsSound new → ErasedStep old.limits (shown old) event reply (shown new) → IsTold reply
+pub AreSteps-one : (event : Event) (reply : Reply) (old new : CoreState) → CoreStep old event reply new → IsSound new → ErasedStep old.limits (shown old) event reply (shown new) → IsTold event reply
     → AreSteps old (Called event reply new ∷ []) new
 AreSteps-one event reply old new step sound plain told = record { each = (step, tt); last = refl; core = (new, step, sound, refl); plain = erased-one old.limits (shown old) (shown new) event reply plain; told = (told, tt) }
 
@@ -98,7 +98,7 @@ AreSteps-append a b c first second before after =
       core = rw (events, replies) (CoreRun-append a b c (events_of first) (events_of second) (replies_of first) (replies_of second) before.core after.core);
       plain = rw (events, replies, erased-append (events_of first) (events_of second) (replies_of first) (replies_of second) (replies-length first)) (PlainRun-append a.limits (shown a) (shown b) (shown c) (erased (events_of first) (replies_of first)) (erased (events_of second) (replies_of second)) before.plain
           (subst (λ limits. PlainRun limits (shown b) (erased (events_of second) (replies_of second)) (shown c)) (limits-CoreRun a b (events_of first) (replies_of first) before.core) after.plain));
-      told = rw replies (each-append IsTold (replies_of first) (replies_of second) before.told after.told);
+      told = each-append IsCallTold first second before.told after.told;
     }
 
 pub IsAnswered-none : (core : CoreState) → IsAnswered core [] core
@@ -108,7 +108,7 @@ IsAnswered-none core = record { steps = AreSteps-none core; asked = tt }
 pub IsAnswered-no_call : (asked : Asked) (core : CoreState) → IsAsAsked (no_call asked) → IsAnswered core (no_call asked ∷ []) core
 IsAnswered-no_call asked core fits = record { steps = AreSteps-none core; asked = (fits, tt) }
 
-pub IsAnswered-one : (event : Event) (reply : Reply) (old new : CoreState) → CoreStep old event reply new → IsSound new → ErasedStep old.limits (shown old) event reply (shown new) → IsTold reply
+pub IsAnswered-one : (event : Event) (reply : Reply) (old new : CoreState) → CoreStep old event reply new → IsSound new → ErasedStep old.limits (shown old) event reply (shown new) → IsTold event reply
     → IsAnswered old (one_call event reply new ∷ []) new
 IsAnswered-one event reply old new step sound plain told = record { steps = AreSteps-one event reply old new step sound plain told; asked = ((refl, tt), tt) }
 
@@ -120,7 +120,7 @@ IsAnswered-append a b c first second before after = record {
 
 -- one call, of which the answer is kept
 pub Makes-called : (number : ℕ) (event : Event) (reply : Reply) (old new : CoreState) (before after : Kept)
-    → CoreStep old event reply new → IsSound new → ErasedStep old.limits (shown old) event reply (shown new) → IsTold reply → after ≡ keeping number before (one_call event reply new ∷ [])
+    → CoreStep old event reply new → IsSound new → ErasedStep old.limits (shown old) event reply (shown new) → IsTold event reply → after ≡ keeping number before (one_call event reply new ∷ [])
     → Makes number (Calls event ∷ []) old before new after
 Makes-called number event reply old new before after step sound plain told kept =
     (one_call event reply new ∷ [], refl, IsAnswered-one event reply old new step sound plain told, kept)
@@ -151,7 +151,7 @@ pub Carries-none : (core : CoreState) (news : News) → Carries [] core news cor
 Carries-none core news = ([], refl, IsAnswered-none core, refl)
 
 -- one event, and the news with what it tells
-pub Carries-one : (event : Event) (reply : Reply) (old new : CoreState) (before after : News) → CoreStep old event reply new → IsSound new → ErasedStep old.limits (shown old) event reply (shown new) → IsTold reply
+pub Carries-one : (event : Event) (reply : Reply) (old new : CoreState) (before after : News) → CoreStep old event reply new → IsSound new → ErasedStep old.limits (shown old) event reply (shown new) → IsTold event reply
     → after ≡ with_called before (Called event reply new) → Carries (Calls event ∷ []) old before new after
 Carries-one event reply old new before after step sound plain told news = (one_call event reply new ∷ [], refl, IsAnswered-one event reply old new step sound plain told, news)
 

@@ -1,9 +1,9 @@
 -- One more line is run.
-use Rattle.std.proofs.Common.{◌≡◌, ℕ, ◌+◌, ◌<◌, ◌≤◌, ◌&&◌, ◌||◌, nat_lt, nat_le, not, Bool, true, false, filter, List, [], ◌∷◌, ◌++◌, length, take, Some, None, slice_get, refl, sym, ap, ap₂, subst, ◌∙◌, arith, inl, inr, append_assoc, length-append, add-zero}
+use Rattle.std.proofs.Common.{◌≡◌, ℕ, ◌+◌, ◌<◌, ◌≤◌, ◌==◌, ◌&&◌, ◌||◌, nat_lt, nat_le, not, Bool, true, false, filter, List, [], ◌∷◌, ◌++◌, length, take, Some, None, slice_get, refl, sym, ap, ap₂, subst, ◌∙◌, arith, inl, inr, append_assoc, length-append, add-zero}
 use Rattle.std.proofs.Math.Seq.{take-length}
 use Rattle.std.specs.List.{flat_map, range_with_len}
 use Rattle.std.specs.Option.{option_map, option_map_or}
-use Rattle.std.proofs.lemmas.Bool.{cases_Bool, eqb-true}
+use Rattle.std.proofs.lemmas.Bool.{and_parts, cases_Bool, eqb-true}
 use Rattle.std.proofs.lemmas.Bool.Decides.{nat_tests}
 use Rattle.std.proofs.lemmas.Grind.{flat_map-append}
 use Rattle.std.proofs.lemmas.List.Elements.{filter-append}
@@ -12,9 +12,10 @@ use Rattle.arena_core.specs.State.{CoreState}
 use Rattle.marks.specs.Numbers.{Limits}
 use Rattle.arena_core.proofs.Limits.{limits-CoreRun}
 use Rattle.arena_core.proofs.Lists.{each-append}
-use Rattle.trace_runner.specs.Barrier.{is_barrier, leavers, open_lines}
-use Rattle.trace_text.specs.Causes.{ends, has_ended, first_cause, is_adopt, thread_of}
-use Rattle.trace_runner.specs.Recalls.{CanLeave, Carries, EndsBelow, HasCome, IsReady, KnowsPlan, MakesLine, Serves, news_at, settling_with}
+use Rattle.trace_runner.specs.Barrier.{leavers}
+use Rattle.trace_text.specs.Barrier.{is_barrier, open_lines}
+use Rattle.trace_text.specs.Causes.{begins, begins_again, comes_early, ends, has_ended, first_cause, is_abandoned, is_adopt, is_call, is_call_of, reads_early, thread_of}
+use Rattle.trace_runner.specs.Recalls.{CanLeave, Carries, TurnsBelow, HasCome, IsReady, KnowsPlan, MakesLine, Serves, news_at, settling_with}
 use Rattle.trace_runner.specs.Kept.{AreHome, FindsAt, IsHome, Kept, keeping, kept_none, keys_of}
 use Rattle.trace_text.specs.Places.{place_at}
 use Rattle.trace_runner.specs.Answers.{told_of}
@@ -23,12 +24,12 @@ use Rattle.trace_runner.specs.News.{News, news_of, no_news, with_all_made, with_
 use Rattle.trace_runner.specs.Runs.{DoLines, Does, IsRun, asked_by, calls_at, calls_in, ends_asked, finishing, pairs_left_of, planning_at, rings_asked, settling_at}
 use Rattle.trace_runner.specs.declared.plans.Plans.{Plans}
 use Rattle.trace_text.specs.declared.header.Header.{Header}
-use Rattle.trace_text.specs.declared.line.Call.TheVariants.{Put, Fill, Get, Set, Free, Sweep, Later, Tend, Trim, End}
+use Rattle.trace_text.specs.declared.line.Call.TheVariants.{Put, Fill, Get, Set, Free, Sweep, Later, Tend, Trim, Retire, End, Begin}
 use Rattle.trace_text.specs.declared.line.Line.{Line}
 use Rattle.trace_text.specs.declared.line.Line.TheVariants as line
-use Rattle.trace_runner.proofs.Barriers.{has_ended-open, has_ended-open-push}
+use Rattle.trace_text.proofs.Barriers.{begins-ending, has_ended-open, has_ended-open-push, has_ended-push}
 use Rattle.trace_text.proofs.Clips.{AllFine, all_fine}
-use Rattle.trace_text.proofs.Knowing.{has_ended-push, keys_in-push}
+use Rattle.trace_text.proofs.Knowing.{keys_in-push}
 use Rattle.trace_runner.proofs.Making.{IsAnswered-append, IsAnswered-none}
 use Rattle.trace_runner.proofs.Homes.{AreHome-answered}
 use Rattle.trace_runner.proofs.Told.{news_of-push, replies-all_made}
@@ -66,6 +67,31 @@ flags false false true false bound waiting fresh = refl
 flags false false false true bound waiting fresh = refl
 flags false false false false bound waiting fresh = refl
 
+-- the same where a thread that begins again has neither ended nor waits
+flags_turned : (above waits ends barrier begins : Bool) → (barrier ≡ true → ends ≡ false) → (waits ≡ true → above ≡ true) → (ends ≡ true → above ≡ false)
+    → (not begins && ((barrier && waits) || (above && not waits))) ≡ ((not begins && (ends || above)) && not (not barrier && (not begins && (ends || waits))))
+flags_turned above waits ends barrier true bound waiting fresh = refl
+flags_turned above waits ends barrier false bound waiting fresh = flags above waits ends barrier bound waiting fresh
+
+waits_turned : (waits ends begins : Bool) → (ends ≡ true → begins ≡ false) → (begins ≡ true → waits ≡ false) → (ends || waits) ≡ (not begins && (ends || waits))
+waits_turned waits ends false apart rests = refl
+waits_turned waits true true apart rests = let bad = apart refl in cc
+waits_turned waits false true apart rests = rests refl
+
+and_true : (b : Bool) → (b && true) ≡ b
+and_true true = refl
+and_true false = refl
+
+not_true : (b : Bool) → not b ≡ true → b ≡ false
+not_true true e = cc
+not_true false e = refl
+
+-- a call that begins again and comes in time is of a thread that rests
+in_time : (begins rests reads : Bool) → ((begins && not rests) || reads) ≡ false → begins ≡ true → rests ≡ true
+in_time true true reads e is = refl
+in_time true false reads e is = cc
+in_time false rests reads e is = cc
+
 -- a line of a barrier ends no thread
 ends-barrier : (l : Line) (t : ℕ) → is_barrier l ≡ true → ends t l ≡ false
 ends-barrier line.Silent t e = refl
@@ -78,8 +104,20 @@ module _ (h : Header) (above : List Line) (l : Line) (fine : first_cause h above
   fine_of = all_fine h above l fine
 
   -- the thread of a line has not ended above it, and is one of the header's
-  running_above : (t : ℕ) → thread_of l ≡ Some t → has_ended above t ≡ false
-  running_above t is = sym (ap (λ o. option_map_or (has_ended above) o false) is) ∙ fine_of.ended
+  running_above : (t : ℕ) → thread_of l ≡ Some t → is_call begins_again l ≡ false → has_ended above t ≡ false
+  running_above t is runs = sym (and_true (has_ended above t)) ∙ sym (ap₂ (λ o b. option_map_or (has_ended above) o false && not b) is runs) ∙ fine_of.ended
+
+  -- that of a line by which it begins again rests
+  resting_above : (t : ℕ) → thread_of l ≡ Some t → is_call begins_again l ≡ true → is_abandoned above t ≡ true
+  resting_above t is again = by_line l fine_of.in_time is again
+    where
+      by_line : (m : Line) → is_call_of (comes_early above) m ≡ false → thread_of m ≡ Some t → is_call begins_again m ≡ true → is_abandoned above t ≡ true
+      by_line line.Silent late of again = cc
+      by_line line.Mark late of again = cc
+      by_line (line.Adopt s) late of again = cc
+      by_line (line.Call thread call) late of again =
+          let same : thread ≡ t = cc of in
+          subst (λ n. is_abandoned above n ≡ true) same (in_time (begins_again call) (is_abandoned above thread) (reads_early above thread call) late again)
 
   thread_below : (t : ℕ) → thread_of l ≡ Some t → t < h.shards
   thread_below t is = let e : nat_le h.shards t ≡ false = sym (ap (λ o. option_map_or (nat_le h.shards) o false) is) ∙ fine_of.thread in grind (arith, nat_tests)
@@ -96,9 +134,36 @@ ends-thread (line.Call thread (Sweep name from to)) t e = cc
 ends-thread (line.Call thread (Later key)) t e = cc
 ends-thread (line.Call thread Tend) t e = cc
 ends-thread (line.Call thread Trim) t e = cc
+ends-thread (line.Call thread (Retire most)) t e = cc
+ends-thread (line.Call thread Begin) t e = cc
 ends-thread (line.Call thread End) t e = ap Some (eqb-true thread t e)
 ends-thread (line.Adopt s) t e = cc
 ends-thread line.Mark t e = cc
+
+-- and that line does not let it begin again
+ends-runs : (l : Line) (t : ℕ) → ends t l ≡ true → is_call begins_again l ≡ false
+ends-runs line.Silent t e = cc
+ends-runs (line.Call thread (Put name class v)) t e = cc
+ends-runs (line.Call thread (Fill name class n v)) t e = cc
+ends-runs (line.Call thread (Get key)) t e = cc
+ends-runs (line.Call thread (Set key class v)) t e = cc
+ends-runs (line.Call thread (Free key)) t e = cc
+ends-runs (line.Call thread (Sweep name from to)) t e = cc
+ends-runs (line.Call thread (Later key)) t e = cc
+ends-runs (line.Call thread Tend) t e = cc
+ends-runs (line.Call thread Trim) t e = cc
+ends-runs (line.Call thread (Retire most)) t e = cc
+ends-runs (line.Call thread End) t e = refl
+ends-runs (line.Call thread Begin) t e = cc
+ends-runs (line.Adopt s) t e = cc
+ends-runs line.Mark t e = cc
+
+-- a thread that a line lets begin again is the line's
+begins-thread : (l : Line) (t : ℕ) → begins t l ≡ true → (thread_of l ≡ Some t) × (is_call begins_again l ≡ true)
+begins-thread line.Silent t e = cc
+begins-thread (line.Call thread call) t e = let parts = and_parts (begins_again call) (thread == t) e in (ap Some (eqb-true thread t parts.1), parts.0)
+begins-thread (line.Adopt s) t e = cc
+begins-thread line.Mark t e = cc
 
 -- the answers of a line, as many as it is a thread's and one more for an adoption
 calls_of_line : (shards : ℕ) (all : List Line) (start : CoreState) (done : List Did) (l : Line) (did : Did) → Does shards all start done l did → length did.calls ≡ calls_at l did + length (filter is_adopt (l ∷ []))
@@ -131,6 +196,12 @@ module _ (h : Header) (replies : Bool) (lines : List Line) (count : ℕ) (old co
   waiting_ended : (t : ℕ) → has_ended (open_lines (take count lines)) t ≡ true → has_ended (take count lines) t ≡ true
   waiting_ended t = has_ended-open (take count lines) t
 
+  -- a thread that begins again does not wait
+  resting_waits : (l : Line) → first_cause h (take count lines) l ≡ None → (t : ℕ) → thread_of l ≡ Some t → is_call begins_again l ≡ true → has_ended (open_lines (take count lines)) t ≡ false
+  resting_waits l fine t is again =
+      not_true (has_ended (open_lines (take count lines)) t)
+      (and_parts (has_ended (take count lines) t) (not (has_ended (open_lines (take count lines)) t)) (resting_above h (take count lines) l fine t is again)).1
+
   pub HasCome-CanLeave : CanLeave h.shards core leaving
   HasCome-CanLeave t below leaves = record {
     within = omega (arith, below, come.enough);
@@ -141,14 +212,21 @@ module _ (h : Header) (replies : Bool) (lines : List Line) (count : ℕ) (old co
   pub HasCome-IsReady : (l : Line) → first_cause h (take count lines) l ≡ None → IsReady h.shards core leaving l
   HasCome-IsReady l fine = record {
     within = (take count lines, (fine_of h (take count lines) l fine).within);
-    running = λ t is. record {
+    running = λ t is runs. record {
       within = omega (arith, thread_below h (take count lines) l fine t is, come.enough);
-      running = come.ended_are t (thread_below h (take count lines) l fine t is) ∙ rw (running_above h (take count lines) l fine t is) refl;
+      running = come.ended_are t (thread_below h (take count lines) l fine t is) ∙ rw (running_above h (take count lines) l fine t is runs) refl;
     };
-    stays = λ t is. elim (cases_Bool (leaving t)) [
-      | inl leaves ↦
-          let bad : true ≡ false = sym (waiting_ended t (sym (come.leaving_are t) ∙ leaves)) ∙ running_above h (take count lines) l fine t is in cc
-      | inr stays ↦ stays
+    resting = λ t is again. record {
+      within = omega (arith, thread_below h (take count lines) l fine t is, come.enough);
+      ended = come.ended_are t (thread_below h (take count lines) l fine t is) ∙ resting_above h (take count lines) l fine t is again;
+    };
+    stays = λ t is. elim (cases_Bool (is_call begins_again l)) [
+      | inl again ↦ come.leaving_are t ∙ resting_waits l fine t is again
+      | inr runs ↦ elim (cases_Bool (leaving t)) [
+        | inl leaves ↦
+            let bad : true ≡ false = sym (waiting_ended t (sym (come.leaving_are t) ∙ leaves)) ∙ running_above h (take count lines) l fine t is runs in cc
+        | inr stays ↦ stays
+      ]
     ];
     leavers = HasCome-CanLeave;
     enough = come.enough;
@@ -160,7 +238,7 @@ module _ (h : Header) (replies : Bool) (lines : List Line) (count : ℕ) (old co
   -- once the next line was run
   pub HasCome-more : (l : Line) (new : CoreState) (after : Kept) (now : ℕ → Bool) (plans_now : Plans) → slice_get lines count ≡ Some l → first_cause h (take count lines) l ≡ None
       → MakesLine (count + 6) (settling_with h.shards (filter leaving (range_with_len 0 h.shards)) core l) (asked_by h.shards lines come.done l) l core kept (news_at kept plans) new after (news_at after plans_now)
-      → EndsBelow core h.shards (λ t. is_barrier l && leaving t) new → ((t : ℕ) → now t ≡ (not (is_barrier l) && (ends t l || leaving t)))
+      → TurnsBelow core h.shards (λ t. is_barrier l && leaving t) (λ t. begins t l) new → ((t : ℕ) → now t ≡ (not (is_barrier l) && (ends t l || leaving t)))
       → KnowsPlan plans_now new → plans_now.marks ≤ plans.marks + 1
       → HasCome replies h.shards lines (count + 1) old new after now plans_now
   HasCome-more l new after now plans_now here fine makes ended left knows marks =
@@ -189,7 +267,7 @@ module _ (h : Header) (replies : Bool) (lines : List Line) (count : ℕ) (old co
       news_planned ∙ ap₂ (λ b text. with_all_made (record makes.news { replies = b; text = text }) planned) replied answered_text
       ∙ ap (λ n. with_all_made (with_answers (count + 6) made n) planned) (news_settled ∙ ap (λ n. with_all_made n settled) come.news_are)
       ∙ ap (λ k. with_line k (news_of replies come.done) did) number ∙ sym (news_of-push replies come.done did) in
-      let waits : (t : ℕ) → has_ended (open_lines (take (count + 1) lines)) t ≡ (not (is_barrier l) && (ends t l || has_ended (open_lines (take count lines)) t)) =
+      let waits : (t : ℕ) → has_ended (open_lines (take (count + 1) lines)) t ≡ (not (is_barrier l) && (not (begins t l) && (ends t l || has_ended (open_lines (take count lines)) t))) =
       λ t. ap (λ ls. has_ended (open_lines ls) t) next.0 ∙ has_ended-open-push (take count lines) l t in
       record {
         done = come.done ++ did ∷ [];
@@ -207,12 +285,15 @@ module _ (h : Header) (replies : Bool) (lines : List Line) (count : ℕ) (old co
         enough = rw ended.limits come.enough;
         home = rw (ended.limits, keys) (each-append (IsHome core.limits.shards) kept.keys (keys_of made) come.home
             (subst (λ (limits : Limits). AreHome limits.shards (keys_of made)) (limits-CoreRun core makes.settled_core _ _ answered_settled.steps.core) (AreHome-answered makes.settled_core makes.called_core made answered)));
-        leaving_are = λ t. left t ∙ ap (λ b. not (is_barrier l) && (ends t l || b)) (come.leaving_are t) ∙ sym (waits t);
+        leaving_are = λ t. left t ∙ ap (λ b. not (is_barrier l) && (ends t l || b)) (come.leaving_are t)
+            ∙ ap (λ b. not (is_barrier l) && b) (waits_turned (has_ended (open_lines (take count lines)) t) (ends t l) (begins t l) (begins-ending t l)
+            (λ again. let of = begins-thread l t again in resting_waits l fine t of.0 of.1))
+            ∙ sym (waits t);
         ended_are = λ t below.
             let less : nat_lt t h.shards ≡ true = grind (arith, nat_tests, below) in
-            ended.ended t ∙ rw less (ap₂ (λ a b. (is_barrier l && a) || b) (come.leaving_are t) (come.ended_are t below))
-            ∙ flags (has_ended (take count lines) t) (has_ended (open_lines (take count lines)) t) (ends t l) (is_barrier l)
-            (ends-barrier l t) (waiting_ended t) (λ ends_here. running_above h (take count lines) l fine t (ends-thread l t ends_here))
+            ended.ended t ∙ rw less (ap₂ (λ a b. not (begins t l) && ((is_barrier l && a) || b)) (come.leaving_are t) (come.ended_are t below))
+            ∙ flags_turned (has_ended (take count lines) t) (has_ended (open_lines (take count lines)) t) (ends t l) (is_barrier l) (begins t l)
+            (ends-barrier l t) (waiting_ended t) (λ ends_here. running_above h (take count lines) l fine t (ends-thread l t ends_here) (ends-runs l t ends_here))
             ∙ ap₂ (λ a b. a && not b) (sym (ap (λ ls. has_ended ls t) next.0 ∙ has_ended-push t (take count lines) l)) (sym (waits t));
       }
 

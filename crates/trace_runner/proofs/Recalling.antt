@@ -31,7 +31,7 @@ use Rattle.trace_text.specs.Places.{first_of, place_at}
 use Rattle.trace_text.specs.declared.header.Header.{Header}
 use Rattle.trace_text.specs.declared.line.Binding.{Binding}
 use Rattle.trace_text.specs.Objects.{counted_from}
-use Rattle.trace_text.specs.declared.line.Call.TheVariants.{Put, Fill, Get, Set, Free, Sweep, Later, Tend, Trim, End}
+use Rattle.trace_text.specs.declared.line.Call.TheVariants.{Put, Fill, Get, Set, Free, Sweep, Later, Tend, Trim, Retire, End, Begin}
 use Rattle.trace_text.specs.declared.line.Keys.{Keys}
 use Rattle.trace_text.specs.declared.line.Keys.TheVariants.{One, Many}
 use Rattle.trace_text.specs.declared.line.Line.{Line}
@@ -220,7 +220,9 @@ Keyed-asked shards all done (line.Call t (Sweep name from to)) made is = asks_no
 Keyed-asked shards all done (line.Call t (Later key)) made is = asks_none made _ is (later_is_no_put t _, tt)
 Keyed-asked shards all done (line.Call t Tend) made is = asks_none made _ is (refl, tt)
 Keyed-asked shards all done (line.Call t Trim) made is = asks_none made _ is (refl, tt)
+Keyed-asked shards all done (line.Call t (Retire most)) made is = asks_none made _ is (refl, tt)
 Keyed-asked shards all done (line.Call t End) made is = asks_none made _ is (refl, tt)
+Keyed-asked shards all done (line.Call t Begin) made is = asks_none made _ is (refl, tt)
 
 as_many : (made : List Made) (n : ℕ) → (keys_of made ≡ map key_made made) × (length made ≡ n) → length (keys_of made) ≡ n
 as_many made n keyed = ap length keyed.0 ∙ length-map made key_made ∙ keyed.1
@@ -238,7 +240,9 @@ length-Keyed (line.Call t (Sweep name from to)) made keyed = ap length keyed
 length-Keyed (line.Call t (Later key)) made keyed = ap length keyed
 length-Keyed (line.Call t Tend) made keyed = ap length keyed
 length-Keyed (line.Call t Trim) made keyed = ap length keyed
+length-Keyed (line.Call t (Retire most)) made keyed = ap length keyed
 length-Keyed (line.Call t End) made keyed = ap length keyed
+length-Keyed (line.Call t Begin) made keyed = ap length keyed
 
 -- ---- the keys of a name
 
@@ -295,7 +299,9 @@ IsBound-at place section first name (line.Call t (Sweep bound from to)) made b k
 IsBound-at place section first name (line.Call t (Later key)) made b keyed e = cc
 IsBound-at place section first name (line.Call t Tend) made b keyed e = cc
 IsBound-at place section first name (line.Call t Trim) made b keyed e = cc
+IsBound-at place section first name (line.Call t (Retire most)) made b keyed e = cc
 IsBound-at place section first name (line.Call t End) made b keyed e = cc
+IsBound-at place section first name (line.Call t Begin) made b keyed e = cc
 
 pub Recalls-none : (keys : List (Option Key)) → Recalls [] [] keys
 Recalls-none keys name b place is less = cc
@@ -383,7 +389,9 @@ module _ (h : Header) (lines : List Line) (n : ℕ) (done : List Did) (keys : Li
   FindsAt-fine (line.Call t (Fill name class m v)) fine = tt
   FindsAt-fine (line.Call t Tend) fine = tt
   FindsAt-fine (line.Call t Trim) fine = tt
+  FindsAt-fine (line.Call t (Retire most)) fine = tt
   FindsAt-fine (line.Call t End) fine = tt
+  FindsAt-fine (line.Call t Begin) fine = tt
   FindsAt-fine (line.Call t (Later key)) fine =
       let (b, is, has) = known (has_key key.index) (binding_of key.name (take n lines)) (all_fine h (take n lines) (line.Call t (Later key)) fine).known in
       one_found key.name b (unwrap_or key.index 0) is (below_count key.index b.keys has)

@@ -3,7 +3,10 @@ use Rattle.std.proofs.Common.{◌≡◌, ◌==◌, ℕ, zero, suc, Bool, true, f
 use Rattle.std.specs.Option.{option_map_or}
 use Rattle.std.proofs.lemmas.Bool.Decides.{nat_tests}
 use Rattle.std.proofs.lemmas.Bool.{cases_Bool, eqb-true}
-use Rattle.shard.specs.State.{ShardState}
+use Rattle.abandoned.specs.Calls.{with_rooms}
+use Rattle.abandoned.specs.Retires.{MovesSparse, Retires}
+use Rattle.abandoned.specs.State.{PoolState}
+use Rattle.shard.specs.State.{ShardState, begun}
 use Rattle.shard.specs.Calls.{Puts, Frees, Sets}
 use Rattle.shard.specs.declared.shard.Freed.TheVariants.{Yes}
 use Rattle.shard.specs.declared.shard.replacing.Replaced.TheVariants as replaced
@@ -13,13 +16,13 @@ use Rattle.span.specs.declared.class.Class.{Class}
 use Rattle.span.specs.declared.key.Key.{Key}
 use Rattle.arena_core.specs.State.{CoreState, with_shard}
 use Rattle.arena_core.specs.Step.{CoreStep}
-use Rattle.trace_runner.specs.Recalls.{EndsOne, IsOpen, IsPutServed, IsServed, IsSetServed, KeepsPlan, KeepsShards, MayCall, ended_at, reply_to_put}
+use Rattle.trace_runner.specs.Recalls.{EndsOne, IsAtRest, IsOpen, IsPutServed, IsServed, IsSetServed, KeepsPlan, KeepsShards, MayCall, MeetsPlan, Resumes, ended_at, reply_to_put}
 use Rattle.arena_core.specs.declared.event.Event.{Event}
 use Rattle.arena_core.specs.declared.event.Event.TheVariants.{Put, Get, Set, Free, Later, Settle, End, Begin, Retire, Trim, Adopt, Mark, MarkSome, Step, Close}
 use Rattle.arena_core.specs.declared.reply.Reply.{Reply}
-use Rattle.arena_core.specs.declared.reply.Reply.TheVariants.{Issued, Found, Replaced, Freed, Sent, ShardEnded, Trimmed, Adopted, Refused}
+use Rattle.arena_core.specs.declared.reply.Reply.TheVariants.{Issued, Found, Replaced, Freed, Sent, ShardEnded, ShardBegun, Retired, Trimmed, Adopted, Refused}
 use Rattle.arena_core.specs.declared.reply.Refusal.{Refusal}
-use Rattle.arena_core.specs.declared.reply.Refusal.TheVariants.{OutOfMemory, PagesSpent, Ended, PlanOpen, NothingToAdopt, RingFull, Config}
+use Rattle.arena_core.specs.declared.reply.Refusal.TheVariants.{OutOfMemory, PagesSpent, Ended, Running, PlanOpen, NothingToAdopt, RingFull, Config}
 
 -- the shard of this number is there and has ended
 abbrev pub ended_in : List ShardState → ℕ → Bool
@@ -77,6 +80,13 @@ ended-Sets old new key value at (index, place, group, span, here, settable, coun
 ended-Frees : (old new : ShardState) (key : Key) (at : ℕ) → Frees old key (Yes at) new → new.ended ≡ old.ended
 ended-Frees old new key at (index, place, group, span, here, holds, count, is) = ap (λ (s : ShardState). s.ended) is
 
+ended-MovesSparse : (count : ℕ) (old new : PoolState) (shard left : ShardState) → MovesSparse count old shard new left → left.ended ≡ shard.ended
+ended-MovesSparse zero old new shard left moves = ap (λ (s : ShardState). s.ended) moves.1
+ended-MovesSparse (suc count) old new shard left (mid, others, moves, last) = ap (λ (s : ShardState). s.ended) last.after ∙ ended-MovesSparse count old mid shard others moves
+
+ended-Retires : (old new : PoolState) (shard left : ShardState) (most count : ℕ) → Retires old shard most count new left → left.ended ≡ shard.ended
+ended-Retires old new shard left most count retires = ended-MovesSparse count (with_rooms old retires.group_room retires.span_room) new shard left retires.moved
+
 -- what holds of both answers of a put holds of the reply that its answer stands for
 pub reply_to_put-each : (P : Reply → Type 0) (put : Result Key Refusal) → MatchResult put (λ key. P (Issued key)) (λ refusal. P (Refused refusal)) → P (reply_to_put put)
 reply_to_put-each P (Ok key) is = is
@@ -103,7 +113,13 @@ KeepsPlan-step old new (Later worker key) (Refused Config) may step = KeepsPlan-
 KeepsPlan-step old new (Settle worker shard) reply may step = absurd may
 KeepsPlan-step old new (End shard) reply may step = absurd may
 KeepsPlan-step old new (Begin shard) reply may step = absurd may
-KeepsPlan-step old new (Retire shard most) reply may step = absurd may
+KeepsPlan-step old new (Retire shard most) (Retired count) may step =
+    let keeps = KeepsShards-with_shard old shard step.before step.after step.here (ended-Retires old.pool step.pool step.before step.after most count step.retires) in
+    subst (KeepsPlan old) (sym step.rest) (record { shards = record { limits = keeps.limits; ended = keeps.ended }; plan = refl })
+KeepsPlan-step old new (Retire shard most) (Refused Config) may step = KeepsPlan-same old new step.1
+KeepsPlan-step old new (Retire shard most) (Refused Ended) may step = KeepsPlan-same old new step.1
+KeepsPlan-step old new (Retire shard most) (Refused PlanOpen) may step = KeepsPlan-same old new step.2
+KeepsPlan-step old new (Retire shard most) (Refused OutOfMemory) may step = KeepsPlan-same old new step.1
 KeepsPlan-step old new (Trim shard) (Trimmed count) may step = subst (KeepsPlan old) (sym step.rest) (record { shards = KeepsShards-with_shard old shard step.before step.after step.here (ap (λ (s : ShardState). s.ended) step.trims.after); plan = refl })
 KeepsPlan-step old new (Trim shard) (Refused Config) may step = KeepsPlan-same old new step.1
 KeepsPlan-step old new (Adopt shard) (Adopted head) may step =
@@ -138,6 +154,9 @@ clash e = cc
 has_ended-clash : (core : CoreState) (number : ℕ) (shard : ShardState) → IsOpen core number → slice_get core.shards number ≡ Some shard → shard.ended ≡ true → ⊥
 has_ended-clash core number shard is_open here ended = clash (sym ended ∙ sym (ap (λ o. option_map_or (λ (s : ShardState). s.ended) o false) here) ∙ is_open.running)
 
+runs_clash : (core : CoreState) (number : ℕ) (shard : ShardState) → IsAtRest core number → slice_get core.shards number ≡ Some shard → shard.ended ≡ false → ⊥
+runs_clash core number shard rests here runs = clash (sym rests.ended ∙ ap (λ o. option_map_or (λ (s : ShardState). s.ended) o false) here ∙ runs)
+
 pub IsServed-step : (old new : CoreState) (event : Event) (reply : Reply) → MayCall old event → CoreStep old event reply new → IsServed reply
 IsServed-step old new (Put shard value) (Refused Config) may step = omega (arith, may.within, step.0)
 IsServed-step old new (Put shard value) (Refused Ended) may step = has_ended-clash old shard step.0.0 may step.0.1 step.0.2
@@ -154,12 +173,16 @@ IsServed-step old new (Later worker key) (Refused Config) may step = elim step.0
 IsServed-step old new (Settle worker shard) reply may step = absurd may
 IsServed-step old new (End shard) reply may step = absurd may
 IsServed-step old new (Begin shard) reply may step = absurd may
-IsServed-step old new (Retire shard most) reply may step = absurd may
+IsServed-step old new (Retire shard most) (Refused Config) may step = omega (arith, may.within, step.0)
+IsServed-step old new (Retire shard most) (Refused Ended) may step = has_ended-clash old shard step.0.0 may step.0.1 step.0.2
+IsServed-step old new (Retire shard most) (Refused PlanOpen) may step = tt
+IsServed-step old new (Retire shard most) (Refused OutOfMemory) may step = tt
+IsServed-step old new (Retire shard most) (Retired count) may step = tt
 IsServed-step old new (Trim shard) (Refused Config) may step = omega (arith, may.within, step.0)
 IsServed-step old new (Trim shard) (Trimmed count) may step = tt
 IsServed-step old new (Adopt shard) (Refused Config) may step = omega (arith, may.0.within, step.0)
 IsServed-step old new (Adopt shard) (Refused Ended) may step = has_ended-clash old shard step.0.0 may.0 step.0.1 step.0.2
-IsServed-step old new (Adopt shard) (Refused PlanOpen) may step = clash (sym step.1 ∙ ap is_some may.1)
+IsServed-step old new (Adopt shard) (Refused PlanOpen) may step = tt
 IsServed-step old new (Adopt shard) (Refused PagesSpent) may step = tt
 IsServed-step old new (Adopt shard) (Refused NothingToAdopt) may step = tt
 IsServed-step old new (Adopt shard) (Refused OutOfMemory) may step = tt
@@ -169,6 +192,47 @@ IsServed-step old new MarkSome reply may step = absurd may
 IsServed-step old new Step reply may step = absurd may
 IsServed-step old new Close reply may step = absurd may
 IsServed-step old new event reply may step = absurd step
+
+-- an open plan is in the way of no other call of a line than a retirement
+pub MeetsPlan-step : (old new : CoreState) (event : Event) (reply : Reply) → MayCall old event → CoreStep old event reply new → MeetsPlan event reply
+MeetsPlan-step old new (Put shard value) (Refused PlanOpen) may step = absurd step
+MeetsPlan-step old new (Get key) (Refused PlanOpen) may step = absurd step
+MeetsPlan-step old new (Set key value) (Refused PlanOpen) may step = absurd step
+MeetsPlan-step old new (Free key) (Refused PlanOpen) may step = absurd step
+MeetsPlan-step old new (Later worker key) (Refused PlanOpen) may step = absurd step
+MeetsPlan-step old new (Settle worker shard) (Refused PlanOpen) may step = absurd may
+MeetsPlan-step old new (End shard) (Refused PlanOpen) may step = absurd may
+MeetsPlan-step old new (Begin shard) (Refused PlanOpen) may step = absurd may
+MeetsPlan-step old new (Retire shard most) (Refused PlanOpen) may step = tt
+MeetsPlan-step old new (Trim shard) (Refused PlanOpen) may step = absurd step
+MeetsPlan-step old new (Adopt shard) (Refused PlanOpen) may step = clash (sym step.1 ∙ ap is_some may.1)
+MeetsPlan-step old new Mark (Refused PlanOpen) may step = absurd may
+MeetsPlan-step old new MarkSome (Refused PlanOpen) may step = absurd may
+MeetsPlan-step old new Step (Refused PlanOpen) may step = absurd may
+MeetsPlan-step old new Close (Refused PlanOpen) may step = absurd may
+MeetsPlan-step old new event reply may step = tt
+
+-- ---- a shard that begins again
+
+module _ (old : CoreState) (number : ℕ) (before after : ShardState) (here : slice_get old.shards number ≡ Some before) where
+  Resumes-with_shard : after.ended ≡ false → Resumes old (λ other. number == other) (with_shard old number after)
+  Resumes-with_shard runs = record {
+    limits = refl;
+    ended = λ other. ended_in-set old.shards number before after here other ∙ elim (cases_Bool (number == other)) [
+      | inl is ↦ rw is runs
+      | inr differs ↦ rw differs refl
+    ];
+    plan = refl;
+  }
+
+pub Resumes-begin : (old new : CoreState) (shard : ℕ) → CoreStep old (Begin shard) ShardBegun new → Resumes old (λ other. shard == other) new
+Resumes-begin old new shard step = subst (Resumes old (λ other. shard == other)) (sym step.rest) (Resumes-with_shard old shard step.before (begun step.before) step.here refl)
+
+-- nothing refuses it where its shard has ended
+pub Begin-refused : (old new : CoreState) (shard : ℕ) (refusal : Refusal) → IsAtRest old shard → CoreStep old (Begin shard) (Refused refusal) new → ⊥
+Begin-refused old new shard Running rests step = runs_clash old shard step.0.0 rests step.0.1.here step.0.1.running
+Begin-refused old new shard Config rests step = omega (arith, rests.within, step.0)
+Begin-refused old new shard refusal rests step = absurd step
 
 -- ---- the core's own call of a put
 

@@ -1,5 +1,6 @@
 -- Which shards have ended, after several steps.
-use Rattle.std.proofs.Common.{◌≡◌, ◌==◌, ◌&&◌, ◌||◌, ◌+◌, ℕ, Bool, true, false, cond, nat_lt, List, [], ◌∷◌, ◌++◌, map, filter, refl, sym, ap, ap₂, subst, ◌∙◌, arith, inl, inr, zero-add, append-nil}
+use Rattle.std.proofs.Common.{◌≡◌, ◌==◌, ◌&&◌, ◌||◌, ◌+◌, ℕ, Bool, true, false, not, cond, nat_lt, List, [], ◌∷◌, ◌++◌, map, filter, refl, sym, ap, ap₂, subst, ◌∙◌, arith, inl, inr, zero-add, append-nil}
+use Rattle.std.specs.Prelude.{Err, Ok, OnOk, Result}
 use Rattle.std.proofs.lemmas.List.{map-append}
 use Rattle.std.specs.List.{range_with_len}
 use Rattle.std.proofs.lemmas.List.FromFn.{filter_of_map_range_with_len_more}
@@ -7,12 +8,17 @@ use Rattle.std.proofs.lemmas.Bool.Decides.{nat_tests}
 use Rattle.std.proofs.lemmas.Bool.{cases_Bool}
 use Rattle.std.proofs.Math.Bool.{and-false}
 use Rattle.arena_core.specs.State.{CoreState}
-use Rattle.trace_runner.specs.Recalls.{CanLeave, Carries, EndsBelow, EndsOne, IsOpen, KeepsPlan, KeepsShards, ended_at}
+use Rattle.trace_runner.specs.Recalls.{CanLeave, Carries, EndsBelow, EndsOne, IsOpen, KeepsPlan, KeepsShards, Resumes, TurnsBelow, ended_at}
 use Rattle.trace_runner.specs.Made.{Asked, Calls}
 use Rattle.trace_runner.specs.News.{News}
 use Rattle.trace_runner.specs.Runs.{ends_asked}
 use Rattle.arena_core.specs.declared.event.Event.TheVariants.{End}
 use Rattle.trace_runner.proofs.Making.{Carries-append}
+
+-- what holds in any case holds where a call is done
+pub on_ok_always : {A E P : Type 0} (result : Result A E) → P → OnOk result P
+on_ok_always (Ok a) p = p
+on_ok_always (Err e) p = tt
 
 pub KeepsShards-refl : (core : CoreState) → KeepsShards core core
 KeepsShards-refl core = record { limits = refl; ended = λ number. refl }
@@ -37,6 +43,24 @@ EndsBelow-before old mid new bound test ended keeps = record { limits = keeps.li
 
 pub EndsBelow-none : (core : CoreState) (test : ℕ → Bool) → EndsBelow core 0 test core
 EndsBelow-none core test = record { limits = refl; ended = λ number. let e : nat_lt number 0 ≡ false = grind (arith, nat_tests) in rw e refl }
+
+-- where nothing begins again, shards turn as they end
+pub TurnsBelow-ends : (old new : CoreState) (bound : ℕ) (test : ℕ → Bool) → EndsBelow old bound test new → TurnsBelow old bound test (λ number. false) new
+TurnsBelow-ends old new bound test ended = record { limits = ended.limits; ended = ended.ended }
+
+-- and where none ends, as they begin
+pub TurnsBelow-begins : (old mid new : CoreState) (bound : ℕ) (test : ℕ → Bool) → Resumes old test mid → KeepsShards mid new → TurnsBelow old bound (λ number. false) test new
+TurnsBelow-begins old mid new bound test resumes keeps = record {
+  limits = keeps.limits ∙ resumes.limits;
+  ended = λ number. keeps.ended number ∙ resumes.ended number ∙ ap (λ b. not (test number) && (b || ended_at old number)) (sym (and-false (nat_lt number bound)));
+}
+
+pub TurnsBelow-none : (core : CoreState) (bound : ℕ) → TurnsBelow core bound (λ number. false) (λ number. false) core
+TurnsBelow-none core bound = record { limits = refl; ended = λ number. ap (λ b. b || ended_at core number) (sym (and-false (nat_lt number bound))) }
+
+-- a call that leaves shards and plan lets none begin
+pub Resumes-kept : (old new : CoreState) → KeepsPlan old new → Resumes old (λ number. false) new
+Resumes-kept old new keeps = record { limits = keeps.shards.limits; ended = keeps.shards.ended; plan = keeps.plan }
 
 module _ (old mid : CoreState) (bound : ℕ) (test : ℕ → Bool) (below : EndsBelow old bound test mid) where
   -- a shard that passes no test is open as before

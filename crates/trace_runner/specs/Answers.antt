@@ -1,9 +1,9 @@
 -- What the report tells of the replies to what lines ask for.
 use Rattle.std.specs.Prelude.{ℕ, Bool, true, false, List, ◌∷◌, map, Option, Some, None}
 use Rattle.span.specs.declared.key.Key.{Key}
-use Rattle.arena_core.specs.declared.reply.Refusal.TheVariants.{NothingToAdopt, RingFull}
+use Rattle.arena_core.specs.declared.reply.Refusal.TheVariants.{NothingToAdopt, PlanOpen, RingFull}
 use Rattle.arena_core.specs.declared.reply.Reply.{Reply}
-use Rattle.arena_core.specs.declared.reply.Reply.TheVariants.{Issued, Found, Replaced, Freed, Sent, ShardEnded, Trimmed, Adopted, Refused}
+use Rattle.arena_core.specs.declared.reply.Reply.TheVariants.{Issued, Found, Replaced, Freed, Sent, ShardEnded, ShardBegun, Retired, Trimmed, Adopted, Refused}
 use Rattle.trace_runner.specs.Made.{Asked, Calls, Leaves, Tends, CalledEvent, Called, Made, keys_taken}
 use Rattle.trace_runner.specs.Report.{answers_text}
 use Rattle.trace_runner.specs.declared.report.Answer.{Answer}
@@ -21,10 +21,13 @@ answer_told (Freed true) = answer.Freed
 answer_told (Freed false) = answer.NotFreed
 answer_told Sent = answer.Sent
 answer_told ShardEnded = answer.Ended
+answer_told ShardBegun = answer.Begun
+answer_told (Retired count) = answer.Retired count
 answer_told (Trimmed count) = answer.Trimmed count
 answer_told (Adopted head) = answer.Adopted head
 answer_told (Refused NothingToAdopt) = answer.NothingToAdopt
 answer_told (Refused RingFull) = answer.RingFull
+answer_told (Refused PlanOpen) = answer.PlanOpen
 answer_told (Refused cause) = answer.PagesSpent
 -- no event of a line has another reply
 answer_told reply = answer.Unbound

@@ -1,20 +1,10 @@
--- The barrier between two sections: the adoptions that wait for a mark, and the mark.
-use Rattle.std.specs.Prelude.{Bool, true, false, not, ℕ, List, filter, reverse}
-use Rattle.std.specs.List.{range_with_len, take_while}
+-- The threads that leave at the barrier between two sections.
+use Rattle.std.specs.Prelude.{ℕ, List, filter}
+use Rattle.std.specs.List.{range_with_len}
+use Rattle.trace_text.specs.Barrier.{open_lines}
 use Rattle.trace_text.specs.Causes.{has_ended}
 use Rattle.trace_text.specs.declared.line.Line.{Line}
-use Rattle.trace_text.specs.declared.line.Line.TheVariants as line
 
--- the line is one of a barrier; no thread's line stands between an adoption and its mark
-abbrev pub is_barrier : Line → Bool
-is_barrier (line.Adopt shard) = true
-is_barrier line.Mark = true
-is_barrier _ = false
-
--- the lines after the last line of a barrier
-abbrev pub open_lines : List Line → List Line
-open_lines lines = reverse (take_while (λ line. not (is_barrier line)) (reverse lines))
-
--- the threads that end in those lines, ascending
+-- the threads that have ended by those lines below the last line of a barrier, ascending
 abbrev pub leavers : (shards : ℕ) → List Line → List ℕ
 leavers shards lines = filter (has_ended (open_lines lines)) (range_with_len 0 shards)

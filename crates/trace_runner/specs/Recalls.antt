@@ -4,18 +4,18 @@ use Rattle.std.specs.HashSet as bag
 use Rattle.std.specs.HashSet.{HashSet}
 use Rattle.std.specs.Option.{option_map, option_map_or}
 use Rattle.span.specs.declared.key.Key.{Key}
-use Rattle.trace_runner.specs.Barrier.{is_barrier, open_lines}
-use Rattle.trace_text.specs.Causes.{has_ended, is_call, is_call_over, keys_in, thread_of}
+use Rattle.trace_text.specs.Barrier.{is_barrier, open_lines}
+use Rattle.trace_text.specs.Causes.{begins_again, has_ended, is_call, is_call_over, keys_in, thread_of}
 use Rattle.arena_core.specs.State.{CoreState}
 use Rattle.trace_runner.specs.Made.{Asked, AreAsRequested, CalledEvent, Called, Did, Made, Request, all_made, asked_of, keys_taken}
 use Rattle.trace_runner.specs.Kept.{AreHome, Kept, Recalls, keeping, kept_of}
 use Rattle.trace_runner.specs.News.{News, news_of, with_all_made}
-use Rattle.trace_runner.specs.Runs.{AreSteps, DoLines, IsAnswered, ends_asked, finishing, pairs_left_of, planning_at, rings_asked}
+use Rattle.trace_runner.specs.Runs.{AreSteps, DoLines, IsAnswered, MayMeetPlan, ends_asked, finishing, pairs_left_of, planning_at, rings_asked}
 use Rattle.trace_runner.specs.declared.plans.Plans.{Plans}
 use Rattle.arena_core.specs.declared.event.Event.{Event}
 use Rattle.arena_core.specs.declared.event.Event.TheVariants.{Put, Later, Settle, End, Begin, Retire, Trim, Adopt, Mark, MarkSome, Step, Close}
 use Rattle.arena_core.specs.declared.reply.Reply.{Reply}
-use Rattle.arena_core.specs.declared.reply.Reply.TheVariants.{Issued, Settled, ShardBegun, Retired, Marked, Stepped, NoPairLeft, Closed, NoPlan, Refused}
+use Rattle.arena_core.specs.declared.reply.Reply.TheVariants.{Issued, Settled, Marked, Stepped, NoPairLeft, Closed, NoPlan, Refused}
 use Rattle.arena_core.specs.declared.reply.Refusal.{Refusal}
 use Rattle.arena_core.specs.declared.reply.Refusal.TheVariants.{OutOfMemory, PagesSpent, Ended, Running, PlanOpen, TooMany, Config}
 use Rattle.trace_text.specs.declared.line.Line.{Line}
@@ -68,6 +68,11 @@ pub record IsOpen (core : CoreState) (number : ℕ) : Type 0 where
   pub within : number < core.limits.shards
   pub running : ended_at core number ≡ false
 
+-- the shard of this number is one of the core's, and has ended
+pub record IsAtRest (core : CoreState) (number : ℕ) : Type 0 where
+  pub within : number < core.limits.shards
+  pub ended : ended_at core number ≡ true
+
 -- no shard came and none ended
 pub record KeepsShards (old new : CoreState) : Type 0 where
   pub limits : new.limits ≡ old.limits
@@ -88,7 +93,18 @@ pub record EndsBelow (old : CoreState) (bound : ℕ) (test : ℕ → Bool) (new 
   pub limits : new.limits ≡ old.limits
   pub ended : (number : ℕ) → ended_at new number ≡ ((nat_lt number bound && test number) || ended_at old number)
 
--- the event may be called for a line: its shard is open, or its worker and shard are there, and no plan is where it would be in the way; the barrier alone ends shards, steps and closes, and no line begins a shard again or retires
+-- no shard came, none ended and the plan did not change, but those that pass the test run
+pub record Resumes (old : CoreState) (test : ℕ → Bool) (new : CoreState) : Type 0 where
+  pub limits : new.limits ≡ old.limits
+  pub ended : (number : ℕ) → ended_at new number ≡ (not (test number) && ended_at old number)
+  pub plan : new.plan ≡ old.plan
+
+-- of the shards below a number, those that pass the first test ended, but those that pass the second run
+pub record TurnsBelow (old : CoreState) (bound : ℕ) (ends begins : ℕ → Bool) (new : CoreState) : Type 0 where
+  pub limits : new.limits ≡ old.limits
+  pub ended : (number : ℕ) → ended_at new number ≡ (not (begins number) && ((nat_lt number bound && ends number) || ended_at old number))
+
+-- the event may be called for a line and leaves what has ended: its shard is open, or its worker and shard are there, and no plan is where it would be in the way of an adoption; the barrier alone ends shards, steps and closes
 abbrev pub MayCall : CoreState → Event → Type 0
 MayCall core (Put shard value) = IsOpen core shard
 MayCall core (Trim shard) = IsOpen core shard
@@ -97,7 +113,7 @@ MayCall core (Later worker key) = (worker < core.limits.shards) × (key.span.sha
 MayCall core (Settle worker shard) = ⊥
 MayCall core (End shard) = ⊥
 MayCall core (Begin shard) = ⊥
-MayCall core (Retire shard most) = ⊥
+MayCall core (Retire shard most) = IsOpen core shard
 MayCall core Mark = ⊥
 MayCall core MarkSome = ⊥
 MayCall core Step = ⊥
@@ -122,22 +138,24 @@ IsSetServed (Ok done) = Unit {0}
 IsSetServed (Err OutOfMemory) = Unit {0}
 IsSetServed (Err cause) = ⊥
 
--- the shard that was asked for is there and has not ended, and no plan is spoken of
+-- the shard that was asked for is there and has not ended, and of a plan only that it is in the way
 abbrev pub IsServed : Reply → Type 0
 IsServed (Refused Ended) = ⊥
 IsServed (Refused Running) = ⊥
-IsServed (Refused PlanOpen) = ⊥
 IsServed (Refused TooMany) = ⊥
 IsServed (Refused Config) = ⊥
 IsServed (Settled key) = ⊥
-IsServed ShardBegun = ⊥
-IsServed (Retired count) = ⊥
 IsServed (Marked certificate) = ⊥
 IsServed (Stepped abandoned owned step) = ⊥
 IsServed NoPairLeft = ⊥
 IsServed Closed = ⊥
 IsServed NoPlan = ⊥
 IsServed reply = Unit {0}
+
+-- that an open plan is in the way is said where it may be
+abbrev pub MeetsPlan : Event → Reply → Type 0
+MeetsPlan event (Refused PlanOpen) = MayMeetPlan event
+MeetsPlan event reply = Unit {0}
 
 -- the news of a run
 abbrev pub news_at : Kept → Plans → News
@@ -157,10 +175,11 @@ has set thread = bag.contains nat_eq set thread
 abbrev pub CanLeave : (shards : ℕ) → CoreState → (leaving : ℕ → Bool) → Type 0
 CanLeave shards core leaving = (thread : ℕ) → thread < shards → leaving thread ≡ true → IsOpen core thread
 
--- the line may be run: its numbers are within their ranges, its thread or shard is open and does not leave, and the core has all shards
+-- the line may be run: its numbers are within their ranges, its thread or shard is open, or has ended where it begins again, and does not leave, and the core has all shards
 pub record IsReady (shards : ℕ) (core : CoreState) (leaving : ℕ → Bool) (line : Line) : Type 0 where
   pub within : (above : List Line) × (is_call (is_call_over above) line ≡ false)
-  pub running : (thread : ℕ) → thread_of line ≡ Some thread → IsOpen core thread
+  pub running : (thread : ℕ) → thread_of line ≡ Some thread → is_call begins_again line ≡ false → IsOpen core thread
+  pub resting : (thread : ℕ) → thread_of line ≡ Some thread → is_call begins_again line ≡ true → IsAtRest core thread
   pub stays : (thread : ℕ) → thread_of line ≡ Some thread → leaving thread ≡ false
   pub leavers : CanLeave shards core leaving
   pub enough : shards ≤ core.limits.shards
@@ -178,7 +197,7 @@ pub record HasCome (replies : Bool) (shards : ℕ) (lines : List Line) (count : 
   pub long : length kept.keys ≡ keys_in (take count lines)
   pub enough : shards ≤ core.limits.shards
   pub home : AreHome core.limits.shards kept.keys
-  -- the threads that leave are those that ended after the last barrier, and the shards of those that ended above it have ended
+  -- the threads that leave are those that ended after the last barrier, and the shards of those that ended above it have ended, but where they began again
   pub leaving_are : (thread : ℕ) → leaving thread ≡ has_ended (open_lines (take count lines)) thread
   pub ended_are : (thread : ℕ) → thread < shards → ended_at core thread ≡ (has_ended (take count lines) thread && not (has_ended (open_lines (take count lines)) thread))
   -- the news is that of the lines, and the open plan is known

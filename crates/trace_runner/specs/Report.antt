@@ -38,6 +38,9 @@ answer_text answer.Sent = codes "sent"
 answer_text answer.RingFull = codes "full"
 answer_text (answer.Settled count) = codes "settled " ++ decimal count
 answer_text (answer.Trimmed count) = codes "trimmed " ++ decimal count
+answer_text (answer.Retired count) = codes "retired " ++ decimal count
+answer_text answer.PlanOpen = codes "refused plan"
+answer_text answer.Begun = codes "begun"
 
 -- the line's number, a space, the answer
 abbrev pub answer_line : LineAnswer → List ℕ

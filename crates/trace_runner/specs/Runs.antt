@@ -2,7 +2,8 @@
 use Rattle.std.specs.Prelude.{◌≡◌, ◌+◌, ◌-◌, ℕ, Bool, nat_lt, List, [], ◌∷◌, ◌++◌, length, map, replicate, take, slice_get, Option, Some, None, option_and_then, unwrap_or, if◌then◌else◌}
 use Rattle.std.specs.List.{AllByRecursion, range_with_len}
 use Rattle.span.specs.declared.key.Key.{Key}
-use Rattle.trace_runner.specs.Barrier.{is_barrier, leavers}
+use Rattle.trace_runner.specs.Barrier.{leavers}
+use Rattle.trace_text.specs.Barrier.{is_barrier}
 use Rattle.trace_runner.specs.Made.{Asked, Calls, Keyless, Leaves, Tends, CalledEvent, Called, Made, Did, IsAsAsked, all_called, all_made, asked_of, core_after, core_called, events_of, replies_of}
 use Rattle.trace_runner.specs.News.{News, all_news}
 use Rattle.trace_text.specs.Causes.{binding_of}
@@ -13,12 +14,12 @@ use Rattle.arena_core.specs.Step.{CoreRun, CoreStep}
 use Rattle.arena_core.specs.Plain.{PlainRun, erased}
 use Rattle.arena_core.specs.declared.event.Event.{Event}
 use Rattle.arena_core.specs.declared.event.Event.TheVariants as event
-use Rattle.arena_core.specs.declared.reply.Refusal.TheVariants.{PagesSpent, TooMany, NothingToAdopt, RingFull}
+use Rattle.arena_core.specs.declared.reply.Refusal.TheVariants.{PagesSpent, PlanOpen, TooMany, NothingToAdopt, RingFull}
 use Rattle.arena_core.specs.declared.reply.Reply.{Reply}
 use Rattle.arena_core.specs.declared.reply.Reply.TheVariants.{Issued, NoPairLeft, NoPlan, Refused}
 use Rattle.trace_text.specs.declared.line.Binding.{Binding}
 use Rattle.trace_text.specs.declared.line.Call.{Call}
-use Rattle.trace_text.specs.declared.line.Call.TheVariants.{Put, Fill, Get, Set, Free, Sweep, Later, Tend, Trim, End}
+use Rattle.trace_text.specs.declared.line.Call.TheVariants.{Put, Fill, Get, Set, Free, Sweep, Later, Tend, Trim, Retire, End, Begin}
 use Rattle.trace_text.specs.declared.line.Line.{Line}
 use Rattle.trace_text.specs.declared.line.Line.TheVariants as line
 use Rattle.trace_text.specs.declared.name.Reference.{Reference}
@@ -62,7 +63,9 @@ asked_by_call shards lines done thread (Sweep name from to) = map (λ place. on_
 asked_by_call shards lines done thread (Later key) = on_key (event.Later thread) (key_of lines done key) ∷ []
 asked_by_call shards lines done thread Tend = Tends shards thread ∷ []
 asked_by_call shards lines done thread Trim = Calls (event.Trim thread) ∷ []
+asked_by_call shards lines done thread (Retire most) = Calls (event.Retire thread most) ∷ []
 asked_by_call shards lines done thread End = Leaves ∷ []
+asked_by_call shards lines done thread Begin = Calls (event.Begin thread) ∷ []
 
 -- the same for a line; an adoption is made at the barrier that it begins or goes on with
 abbrev pub asked_by : (shards : ℕ) → List Line → List Did → Line → List Asked
@@ -112,29 +115,39 @@ planning_at core _ = []
 
 -- ---- what a line did
 
--- no refused allocation, no shard that is not there or has ended, and no plan that is missed or in the way: of the refusals, only those of a page, of an adoption that finds nothing, of a mark that sees too much and of a ring that is full come
-abbrev pub IsTold : Reply → Type 0
-IsTold (Refused PagesSpent) = Unit {0}
-IsTold (Refused TooMany) = Unit {0}
-IsTold (Refused NothingToAdopt) = Unit {0}
-IsTold (Refused RingFull) = Unit {0}
-IsTold (Refused cause) = ⊥
-IsTold NoPairLeft = ⊥
-IsTold NoPlan = ⊥
-IsTold reply = Unit {0}
+-- an open plan may be in the way of the event: of a retirement alone
+abbrev pub MayMeetPlan : Event → Type 0
+MayMeetPlan (event.Retire shard most) = Unit {0}
+MayMeetPlan event = ⊥
+
+-- no refused allocation, no shard that is not there, has ended where it is to run or runs where it is to begin, and no plan that is missed or in the way of more than a retirement: of the refusals, only those of a page, of an adoption that finds nothing, of a mark that sees too much, of a ring that is full and of a retirement while a plan is open come
+abbrev pub IsTold : Event → Reply → Type 0
+IsTold event (Refused PagesSpent) = Unit {0}
+IsTold event (Refused TooMany) = Unit {0}
+IsTold event (Refused NothingToAdopt) = Unit {0}
+IsTold event (Refused RingFull) = Unit {0}
+IsTold event (Refused PlanOpen) = MayMeetPlan event
+IsTold event (Refused cause) = ⊥
+IsTold event NoPairLeft = ⊥
+IsTold event NoPlan = ⊥
+IsTold event reply = Unit {0}
+
+-- the same of an event that was called
+abbrev pub IsCallTold : CalledEvent → Type 0
+IsCallTold (Called event reply core) = IsTold event reply
 
 -- each event was a step of the core, which left it as it says
 abbrev pub Happens : CoreState → List CalledEvent → Type 0
 Happens core [] = Unit {0}
 Happens core (Called event reply after ∷ called) = CoreStep core event reply after × Happens after called
 
--- the core answers the events so, which without ends, trims, adoptions and what is done with plans is a run of the plain map that it shows
+-- the core answers the events so, which without ends, begins, retirements, trims, adoptions and what is done with plans is a run of the plain map that it shows
 pub record AreSteps (old : CoreState) (called : List CalledEvent) (new : CoreState) : Type 0 where
   pub each : Happens old called
   pub last : new ≡ core_called old called
   pub core : CoreRun old (events_of called) (replies_of called) new
   pub plain : PlainRun old.limits (shown old) (erased (events_of called) (replies_of called)) (shown new)
-  pub told : AllByRecursion IsTold (replies_of called)
+  pub told : AllByRecursion IsCallTold called
 
 -- for all that was asked the core was called as often as its replies decide, and answered so
 pub record IsAnswered (old : CoreState) (made : List Made) (new : CoreState) : Type 0 where

@@ -44,6 +44,12 @@ pub enum Answer {
     Settled(usize),
     /// A shard gave that many pages back, on which nothing was live.
     Trimmed(usize),
+    /// That many groups of a shard went to the pool.
+    Retired(usize),
+    /// None did, since the open plan folds onto a group of the shard.
+    PlanOpen,
+    /// The shard of a thread that had ended runs again.
+    Begun,
 }
 
 /// An answer with its place in the trace.

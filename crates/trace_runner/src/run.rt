@@ -3,18 +3,19 @@
 ghost use Rattle.std.specs.Prelude.{◌≡◌, ◌+◌, ◌-◌, ◌≤◌, ◌^◌, ◌<◌, ◌&&◌, ◌||◌, ◌==◌, ◌++◌, [], ◌∷◌, true, false, not, List, ℕ, Bool, Some, None, filter, map, OnOk, IfOk, Ok, length, nat_lt, slice_get, take, unwrap_or, if◌then◌else◌};
 ghost use Rattle.std.specs.List.{range_with_len};
 ghost use Rattle.arena_core.specs.State.{CoreState};
-ghost use Rattle.trace_runner.specs.Barrier.{is_barrier};
+ghost use Rattle.trace_text.specs.Barrier.{is_barrier};
 ghost use Rattle.trace_runner.specs.Kept.{AreHome, Finds, FindsAt, FindsOne, IsHome, is_put, kept_in};
-ghost use Rattle.trace_runner.specs.Recalls.{CanLeave, Carries, EndsBelow, EndsOne, HasCome, IsOpen, IsPutServed, IsReady, IsServed, IsSetServed, KeepsPlan, KnowsPlan, Makes, MakesLine, MayCall, Serves, has, news_at, reply_to_put, settling_with};
+ghost use Rattle.trace_runner.specs.Recalls.{CanLeave, Carries, EndsBelow, EndsOne, HasCome, IsAtRest, IsOpen, IsPutServed, IsReady, IsServed, IsSetServed, KeepsPlan, KnowsPlan, Makes, MakesLine, MayCall, MeetsPlan, Resumes, Serves, TurnsBelow, has, news_at, reply_to_put, settling_with};
 ghost use Rattle.span.specs.Classes.{width_of};
 ghost use Rattle.trace_text.specs.Objects.{counted_from, last_word};
 ghost use Rattle.trace_text.specs.Places.{place_at};
 ghost use Rattle.trace_text.specs.declared.line.Line.{Line};
-ghost use Rattle.trace_text.specs.Causes.{call_ends, ends, first_cause, is_adopt, is_call_over};
+ghost use Rattle.trace_text.specs.Causes.{begins, begins_again, call_ends, ends, first_cause, is_adopt, is_call_over};
 ghost use Rattle.trace_runner.specs.Made.{Did, Calls, Keyless, Leaves, Tends};
 ghost use Rattle.trace_runner.specs.Answers.{answer_told, put_told};
 ghost use Rattle.trace_runner.specs.News.{News};
 ghost use Rattle.trace_runner.specs.Runs.{IsRun, asked_by, asked_by_call, ends_asked, finishing, on_key, IsTold, key_at, key_of, rings_asked};
+ghost use Rattle.arena_core.specs.declared.event.Event.{Event};
 ghost use Rattle.arena_core.specs.declared.event.Event.TheVariants as event;
 ghost use Rattle.arena_core.specs.declared.reply.Reply.TheVariants as reply;
 
@@ -377,6 +378,48 @@ impl<'t> Run<'t> {
         self.call(number, Event::Trim { shard: thread })
     }
 
+    /// Lets up to that many groups of the thread's shard go to the pool. It stays out of line, as an adoption does.
+    #[inline(never)]
+    fn retire(&mut self, number: usize, thread: u32, most: u32) -> Result<(), AllocError>
+        requires { IsOpen self.old.core thread }
+        ensures made { OnOk result (Makes number (Calls (event.Retire thread most) ∷ [])
+            self.old.core (kept_in self.old.replies) self.new.core (kept_in self.new.replies)) }
+        ensures shards { KeepsPlan self.old.core self.new.core }
+        ensures plans { self.new.plans ≡ self.old.plans }
+        ensures leaving { self.new.leaving ≡ self.old.leaving }
+        ensures trace { self.new.trace.now ≡ self.old.trace.now }
+    {
+        let most = most as usize;
+        self.call(
+            number,
+            Event::Retire {
+                shard: thread,
+                most,
+            },
+        )
+    }
+
+    /// Lets the shard of a thread that has ended run again.
+    #[inline(never)]
+    fn begin(&mut self, number: usize, thread: u32) -> Result<(), AllocError>
+        requires { IsAtRest self.old.core thread }
+        ensures made { OnOk result (Makes number (Calls (event.Begin thread) ∷ [])
+            self.old.core (kept_in self.old.replies) self.new.core (kept_in self.new.replies)) }
+        ensures shards { Resumes self.old.core (λ number. thread == number) self.new.core }
+        ensures plans { self.new.plans ≡ self.old.plans }
+        ensures leaving { self.new.leaving ≡ self.old.leaving }
+        ensures trace { self.new.trace.now ≡ self.old.trace.now }
+    {
+        match self.core.begin(thread) {
+            Ok(()) => {
+                self.replies.tell(number, &Answer::Begun)?;
+                Ok(())
+            }
+            // The shard is there, and has ended.
+            Err(_) => unreachable!(),
+        }
+    }
+
     /// Keeps that the thread has ended. Its shard is abandoned at the barrier.
     fn leave(&mut self, number: usize, thread: u32) -> Result<(), AllocError>
         ensures made { OnOk result (Makes number (Leaves ∷ []) self.old.core
@@ -392,7 +435,8 @@ impl<'t> Run<'t> {
         Ok(())
     }
 
-    /// Makes the calls of a thread on the line of that number. The first key of the name that it reads has that place.
+    /// Makes the calls of a thread on the line of that number, which does not begin again. The first key of the name that it reads
+    /// has that place.
     fn thread_call(
         &mut self,
         number: usize,
@@ -402,6 +446,7 @@ impl<'t> Run<'t> {
     ) -> Result<(), AllocError>
         // The call is that of a trace.
         requires thread { IsOpen self.old.core thread }
+        requires runs { begins_again call.now ≡ false }
         requires within { (above : List Line) × (is_call_over above call.now ≡ false) }
         requires home { AreHome self.old.core.limits.shards self.old.replies.keys.items }
         requires enough { self.old.trace.now.header.shards ≤ self.old.core.limits.shards }
@@ -448,8 +493,47 @@ impl<'t> Run<'t> {
             }
             Call::Tend => self.tend(number, thread),
             Call::Trim => self.trim(number, thread),
+            Call::Retire { most } => self.retire(number, thread, *most),
             Call::End => self.leave(number, thread),
+            Call::Begin => unreachable!(),
         }
+    }
+
+    /// Does what a thread's line of that number asks for. The first key of the name that it reads has that place.
+    fn thread_line(
+        &mut self,
+        number: usize,
+        thread: u32,
+        first: usize,
+        call: &Call,
+    ) -> Result<(), AllocError>
+        // The call is that of a trace.
+        requires thread { begins_again call.now ≡ false → IsOpen self.old.core thread }
+        requires rests { begins_again call.now ≡ true → IsAtRest self.old.core thread }
+        requires within { (above : List Line) × (is_call_over above call.now ≡ false) }
+        requires home { AreHome self.old.core.limits.shards self.old.replies.keys.items }
+        requires enough { self.old.trace.now.header.shards ≤ self.old.core.limits.shards }
+
+        // What it asks for is made.
+        ensures made { (done : List Did)
+            → Finds self.old.trace.now.lines.items done self.old.replies.keys.items first call.now
+            → OnOk result (Makes number (asked_by_call self.old.trace.now.header.shards
+            self.old.trace.now.lines.items done thread call.now)
+            self.old.core (kept_in self.old.replies)
+            self.new.core (kept_in self.new.replies)) }
+
+        // All else stays.
+        ensures shards { Resumes self.old.core (λ other. begins_again call.now && thread == other)
+            self.new.core }
+        ensures plans { self.new.plans ≡ self.old.plans }
+        ensures leaving { OnOk result ((other : ℕ) → has self.new.leaving other
+            ≡ (call_ends other thread call.now || has self.old.leaving other)) }
+        ensures trace { self.new.trace.now ≡ self.old.trace.now }
+    {
+        if call.begins_again() {
+            return self.begin(number, thread);
+        }
+        self.thread_call(number, thread, first, call)
     }
 
     /// Abandons the shard of a thread that has ended.
@@ -573,8 +657,9 @@ impl<'t> Run<'t> {
         // The run is ready for the line after it.
         ensures knows { OnOk result (KnowsPlan self.new.plans self.new.core) }
         ensures marks { OnOk result (self.new.plans.marks ≤ self.old.plans.marks + 1) }
-        ensures shards { OnOk result (EndsBelow self.old.core self.old.trace.now.header.shards
-            (λ thread. is_barrier line.now && has self.old.leaving thread) self.new.core) }
+        ensures shards { OnOk result (TurnsBelow self.old.core self.old.trace.now.header.shards
+            (λ thread. is_barrier line.now && has self.old.leaving thread)
+            (λ thread. begins thread line.now) self.new.core) }
         ensures leaving { OnOk result ((other : ℕ) → has self.new.leaving other
             ≡ (not (is_barrier line.now) && (ends other line.now || has self.old.leaving other))) }
         ensures trace { self.new.trace.now ≡ self.old.trace.now }
@@ -583,7 +668,7 @@ impl<'t> Run<'t> {
             Line::Silent => Ok(()),
             Line::Call { thread, call } => {
                 let first = self.trace.place(place);
-                self.thread_call(place + 6, *thread, first, call)?;
+                self.thread_line(place + 6, *thread, first, call)?;
                 self.plans.follow(&mut self.core)
             }
             Line::Adopt { shard } => {
@@ -693,7 +778,7 @@ fn adoptions_by(line: &Line) -> usize
 /// What the report tells of the reply to a call.
 fn answer_to(reply: Reply) -> Result<Answer, AllocError>
     requires { IsServed reply }
-    ensures told { OnOk result (IsTold reply) }
+    ensures told { (event : Event) → MeetsPlan event reply → OnOk result (IsTold event reply) }
     ensures answer { IfOk result (λ answer. answer ≡ answer_told reply) }
 {
     match reply {
@@ -703,39 +788,41 @@ fn answer_to(reply: Reply) -> Result<Answer, AllocError>
         Reply::Freed(freed) => Ok(answer_to_free(freed)),
         Reply::Sent => Ok(Answer::Sent),
         Reply::ShardEnded => Ok(Answer::Ended),
+        Reply::ShardBegun => Ok(Answer::Begun),
+        Reply::Retired(count) => Ok(Answer::Retired(count)),
         Reply::Trimmed(count) => Ok(Answer::Trimmed(count)),
         Reply::Adopted(head) => Ok(Answer::Adopted(head)),
         Reply::Refused(refusal) => answer_to_refusal(refusal),
         // The others come of events that rings and plans are asked by.
         Reply::Settled(_) | Reply::Marked(_) | Reply::Stepped(..) => unreachable!(),
         Reply::NoPairLeft | Reply::Closed | Reply::NoPlan => unreachable!(),
-        // No line of a trace retires, or begins a shard again.
-        Reply::Retired(_) | Reply::ShardBegun => unreachable!(),
     }
 }
 
-/// What the report tells of a refusal: only that of a page, that of an adoption which finds nothing and that of a full ring.
-/// Running out of memory ends the run.
+/// What the report tells of a refusal: only that of a page, that of an adoption which finds nothing, that of a full ring and that of
+/// a retirement while a plan is open. Running out of memory ends the run.
 fn answer_to_refusal(refusal: Refusal) -> Result<Answer, AllocError>
     requires { IsServed (reply.Refused refusal) }
-    ensures told { OnOk result (IsTold (reply.Refused refusal)) }
+    ensures told { (event : Event) → MeetsPlan event (reply.Refused refusal)
+        → OnOk result (IsTold event (reply.Refused refusal)) }
     ensures answer { IfOk result (λ answer. answer ≡ answer_told (reply.Refused refusal)) }
 {
     match refusal {
         Refusal::PagesSpent => Ok(Answer::PagesSpent),
         Refusal::NothingToAdopt => Ok(Answer::NothingToAdopt),
         Refusal::RingFull => Ok(Answer::RingFull),
+        Refusal::PlanOpen => Ok(Answer::PlanOpen),
         Refusal::OutOfMemory => Err(AllocError),
-        // A trace asks for its own shards alone, for none that has ended, begins none again, and adopts where no plan is open.
+        // A trace asks for its own shards alone, for none that has ended but to begin it, and for a mark by another way.
         Refusal::Ended | Refusal::Running => unreachable!(),
-        Refusal::PlanOpen | Refusal::TooMany | Refusal::Config => unreachable!(),
+        Refusal::TooMany | Refusal::Config => unreachable!(),
     }
 }
 
 /// The key that a put gave out; none where its shard may have no further page. Running out of memory ends the run.
 fn key_of_put(put: Result<Key, Refusal>) -> Result<Option<Key>, AllocError>
     requires { IsPutServed put }
-    ensures told { OnOk result (IsTold (reply_to_put put)) }
+    ensures told { (event : Event) → OnOk result (IsTold event (reply_to_put put)) }
     ensures key { IfOk result (λ key. put_told key ≡ answer_told (reply_to_put put)) }
 {
     match put {

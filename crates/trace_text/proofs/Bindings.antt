@@ -9,7 +9,7 @@ use Rattle.trace_text.specs.Earlier.{Few, IsFew}
 use Rattle.trace_text.specs.Causes.{binding_at, binding_from, binding_of, binds_again, call_binding, first_cause, is_call, is_call_over, keys_at, keys_in, marks, marks_at}
 use Rattle.trace_text.specs.declared.header.Header.{Header}
 use Rattle.trace_text.specs.declared.line.Call.{Call}
-use Rattle.trace_text.specs.declared.line.Call.TheVariants.{Put, Fill, Get, Set, Free, Sweep, Later, Tend, Trim, End}
+use Rattle.trace_text.specs.declared.line.Call.TheVariants.{Put, Fill, Get, Set, Free, Sweep, Later, Tend, Trim, Retire, End, Begin}
 use Rattle.trace_text.specs.declared.line.Line.{Line}
 use Rattle.trace_text.specs.declared.line.Line.TheVariants as line
 use Rattle.trace_text.specs.declared.line.Keys.TheVariants.{One, Many}
@@ -65,7 +65,9 @@ fresh_name ls place section first thread name (Sweep bound from to) b free e = c
 fresh_name ls place section first thread name (Later key) b free e = cc
 fresh_name ls place section first thread name Tend b free e = cc
 fresh_name ls place section first thread name Trim b free e = cc
+fresh_name ls place section first thread name (Retire most) b free e = cc
 fresh_name ls place section first thread name End b free e = cc
+fresh_name ls place section first thread name Begin b free e = cc
 
 -- so does a line
 pub fresh : (h : Header) (ls : List Line) (place section first : ℕ) (name : List ℕ) (l : Line) (b : Binding) → first_cause h ls l ≡ None → binding_at place section first name l ≡ Some b → binding_of name ls ≡ None
@@ -95,7 +97,9 @@ few_call before place section first thread name (Sweep bound from to) b within e
 few_call before place section first thread name (Later key) b within e = cc
 few_call before place section first thread name Tend b within e = cc
 few_call before place section first thread name Trim b within e = cc
+few_call before place section first thread name (Retire most) b within e = cc
 few_call before place section first thread name End b within e = cc
+few_call before place section first thread name Begin b within e = cc
 
 few_at : (before : List Line) (place section first : ℕ) (name : List ℕ) (l : Line) (b : Binding) → is_call (is_call_over before) l ≡ false → binding_at place section first name l ≡ Some b → IsFew b.keys
 few_at before place section first name line.Silent b within e = cc

@@ -1,15 +1,16 @@
 -- The first cause of a line, where it is asked last whether the line binds a name again.
-use Rattle.std.proofs.Common.{◌≡◌, Bool, true, false, List, ℕ, Option, Some, None, Ok, refl}
+use Rattle.std.proofs.Common.{◌≡◌, Bool, true, false, List, ℕ, Option, Some, None, Ok, Err, refl}
 use Rattle.std.specs.Prelude.{if◌then◌else◌}
-use Rattle.trace_text.specs.Causes.{binds_again, classed, first_cause, is_call, is_call_of, reads_early, reads_unknown}
+use Rattle.trace_text.specs.Causes.{binds_again, classed, comes_early, first_cause, is_call, is_call_of, reads_unknown}
 use Rattle.trace_text.specs.Earlier.{Few}
 use Rattle.trace_text.specs.Form.{form_of}
 use Rattle.trace_text.specs.Header.{IsWithinLimits}
+use Rattle.trace_text.specs.Places.{unless}
 use Rattle.trace_text.specs.Within.{IsNextUnlessBound, cause_but_bound, within}
 use Rattle.trace_text.specs.declared.cause.Cause.{Cause}
 use Rattle.trace_text.specs.declared.cause.Cause.TheVariants.{Limit, Thread, Ended, Adopt, Bound, Unknown, Early}
 use Rattle.trace_text.specs.declared.header.Header.{Header}
-use Rattle.trace_text.specs.declared.line.Call.TheVariants.{Put, Fill, Get, Set, Free, Sweep, Later, Tend, Trim, End}
+use Rattle.trace_text.specs.declared.line.Call.TheVariants.{Put, Fill, Get, Set, Free, Sweep, Later, Tend, Trim, Retire, End, Begin}
 use Rattle.trace_text.specs.declared.line.Line.{Line}
 use Rattle.trace_text.specs.declared.line.Line.TheVariants as line
 use Rattle.trace_text.proofs.Texts.{fine_line, refused_line}
@@ -55,6 +56,23 @@ all-other false false false false true true early c known late some = let clash 
 all-other false false false false true false true c known late some = let clash : true ≡ false = late refl in cc
 all-other false false false false true false false c known late some = cc
 
+-- what is wrong with the thread that calls is the first cause, where no number is outside its range
+pub unless-caller : (limit thread ended adopt unknown early : Bool) (place : ℕ) (c : Cause) → limit ≡ false → (if thread then Some Thread else (if ended then Some Ended else None)) ≡ Some c
+    → Err c ≡ unless (others limit thread ended adopt unknown early) place
+unless-caller true thread ended adopt unknown early place c within is = cc
+unless-caller false true ended adopt unknown early place c within is = cc
+unless-caller false false true adopt unknown early place c within is = cc
+unless-caller false false false adopt unknown early place c within is = cc
+
+-- and where nothing is wrong with that either, and no mark must follow, what is wrong with what it reads
+pub unless-no_caller : (limit thread ended adopt unknown early : Bool) (place : ℕ) → limit ≡ false → (if thread then Some Thread else (if ended then Some Ended else None)) ≡ None → adopt ≡ false
+    → unless (if unknown then Some Unknown else (if early then Some Early else None)) place ≡ unless (others limit thread ended adopt unknown early) place
+unless-no_caller true thread ended adopt unknown early place within is free = cc
+unless-no_caller false true ended adopt unknown early place within is free = cc
+unless-no_caller false false true adopt unknown early place within is free = cc
+unless-no_caller false false false true unknown early place within is free = cc
+unless-no_caller false false false false unknown early place within is free = refl
+
 -- a line that binds a name reads none
 known : (before : List Line) (l : Line) → is_call (binds_again before) l ≡ true → is_call (reads_unknown before) l ≡ false
 known before line.Silent binds = refl
@@ -69,9 +87,11 @@ known before (line.Call t (Sweep n a b)) binds = cc
 known before (line.Call t (Later k)) binds = cc
 known before (line.Call t Tend) binds = refl
 known before (line.Call t Trim) binds = refl
+known before (line.Call t (Retire most)) binds = refl
 known before (line.Call t End) binds = refl
+known before (line.Call t Begin) binds = cc
 
-late : (before : List Line) (l : Line) → is_call (binds_again before) l ≡ true → is_call_of (reads_early before) l ≡ false
+late : (before : List Line) (l : Line) → is_call (binds_again before) l ≡ true → is_call_of (comes_early before) l ≡ false
 late before line.Silent binds = refl
 late before line.Mark binds = refl
 late before (line.Adopt s) binds = refl
@@ -84,7 +104,9 @@ late before (line.Call t (Sweep n a b)) binds = cc
 late before (line.Call t (Later k)) binds = cc
 late before (line.Call t Tend) binds = refl
 late before (line.Call t Trim) binds = refl
+late before (line.Call t (Retire most)) binds = refl
 late before (line.Call t End) binds = refl
+late before (line.Call t Begin) binds = cc
 
 -- another cause is the first of all
 pub first_cause-other : (h : Header) (before : List Line) (l : Line) (c : Cause) → cause_but_bound h before l ≡ Some c → first_cause h before l ≡ Some c

@@ -10,7 +10,7 @@ use Rattle.trace_text.specs.Within.{clip_line, is_value_over}
 use Rattle.trace_text.specs.declared.header.Version.{Version}
 use Rattle.trace_text.specs.declared.name.Reference.{Reference}
 use Rattle.trace_text.specs.declared.line.Binding.{Binding}
-use Rattle.trace_text.specs.declared.line.Call.TheVariants.{Put, Fill, Get, Set, Free, Sweep, Later, Tend, Trim, End}
+use Rattle.trace_text.specs.declared.line.Call.TheVariants.{Put, Fill, Get, Set, Free, Sweep, Later, Tend, Trim, Retire, End, Begin}
 use Rattle.trace_text.specs.declared.line.Keys.{Keys}
 use Rattle.trace_text.specs.declared.line.Keys.TheVariants.{One, Many}
 use Rattle.trace_text.specs.declared.line.Line.{Line}
@@ -31,7 +31,9 @@ HasForm-classed version before bytes (line.Call t (Sweep name from to)) form = f
 HasForm-classed version before bytes (line.Call t (Later key)) form = form
 HasForm-classed version before bytes (line.Call t Tend) form = form
 HasForm-classed version before bytes (line.Call t Trim) form = form
+HasForm-classed version before bytes (line.Call t (Retire most)) form = form
 HasForm-classed version before bytes (line.Call t End) form = form
+HasForm-classed version before bytes (line.Call t Begin) form = form
 
 -- a class that is given twice is the one that is given once
 pub classed-again : (before : List Line) (w : Line) → classed before (classed before w) ≡ classed before w
@@ -47,7 +49,9 @@ classed-again before (line.Call t (Sweep name from to)) = refl
 classed-again before (line.Call t (Later key)) = refl
 classed-again before (line.Call t Tend) = refl
 classed-again before (line.Call t Trim) = refl
+classed-again before (line.Call t (Retire most)) = refl
 classed-again before (line.Call t End) = refl
+classed-again before (line.Call t Begin) = refl
 
 -- and the one that stood there before is nothing to it
 pub classed-plain : (before : List Line) (w : Line) → classed before (plain w) ≡ classed before w
@@ -63,7 +67,9 @@ classed-plain before (line.Call t (Sweep name from to)) = refl
 classed-plain before (line.Call t (Later key)) = refl
 classed-plain before (line.Call t Tend) = refl
 classed-plain before (line.Call t Trim) = refl
+classed-plain before (line.Call t (Retire most)) = refl
 classed-plain before (line.Call t End) = refl
+classed-plain before (line.Call t Begin) = refl
 
 -- a value is over in any class
 pub value_over-classed : (before : List Line) (w : Line) → is_call is_value_over (classed before w) ≡ is_call is_value_over w
@@ -79,7 +85,9 @@ value_over-classed before (line.Call t (Sweep name from to)) = refl
 value_over-classed before (line.Call t (Later key)) = refl
 value_over-classed before (line.Call t Tend) = refl
 value_over-classed before (line.Call t Trim) = refl
+value_over-classed before (line.Call t (Retire most)) = refl
 value_over-classed before (line.Call t End) = refl
+value_over-classed before (line.Call t Begin) = refl
 
 -- ---- clipping an index changes no class
 
@@ -109,4 +117,6 @@ classed-clip before (line.Call t (Sweep name from to)) = refl
 classed-clip before (line.Call t (Later key)) = refl
 classed-clip before (line.Call t Tend) = refl
 classed-clip before (line.Call t Trim) = refl
+classed-clip before (line.Call t (Retire most)) = refl
 classed-clip before (line.Call t End) = refl
+classed-clip before (line.Call t Begin) = refl

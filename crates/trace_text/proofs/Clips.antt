@@ -13,11 +13,11 @@ use Rattle.certificate.specs.Number.{clip}
 use Rattle.trace_text.specs.Reference.{clip_reference}
 use Rattle.trace_text.specs.Within.{clip_call, clip_line, is_value_over}
 use Rattle.trace_text.specs.Earlier.{IsFew, Few}
-use Rattle.trace_text.specs.Causes.{bound_name, read_name, has_key, has_range, has_keys, binding_of, first_cause, is_call, is_call_over, reads_unknown, holds}
+use Rattle.trace_text.specs.Causes.{begins_again, bound_name, read_name, has_key, has_range, has_keys, binding_of, first_cause, is_call, is_call_over, reads_unknown, holds}
 use Rattle.trace_text.specs.declared.header.Header.{Header}
 use Rattle.trace_text.specs.declared.name.Reference.{Reference}
 use Rattle.trace_text.specs.declared.line.Call.{Call}
-use Rattle.trace_text.specs.declared.line.Call.TheVariants.{Put, Fill, Get, Set, Free, Sweep, Later, Tend, Trim, End}
+use Rattle.trace_text.specs.declared.line.Call.TheVariants.{Put, Fill, Get, Set, Free, Sweep, Later, Tend, Trim, Retire, End, Begin}
 use Rattle.trace_text.specs.declared.line.Line.{Line}
 use Rattle.trace_text.specs.declared.line.Line.TheVariants as line
 use Rattle.trace_text.specs.declared.line.Keys.{Keys}
@@ -63,6 +63,19 @@ clip-count class n v = elim (cases_Bool (nat_le n 262144)) [
 clip-count_near : (class : Class) (n v : ℕ) → is_fill_over class (clip n) v ≡ false → clip n ≡ n
 clip-count_near class n v fine = grind (arith, nat_tests)
 
+-- how many groups may go
+abbrev is_retire_over : ℕ → Bool
+is_retire_over most = not (nat_le 1 most && nat_le most 1048576)
+
+clip-most : (n : ℕ) → is_retire_over (clip n) ≡ is_retire_over n
+clip-most n = elim (cases_Bool (nat_le n 1048576)) [
+  | inl few ↦ let same : clip n ≡ n = grind (arith, nat_tests) in ap is_retire_over same
+  | inr many ↦ let large : nat_le (clip n) 1048576 ≡ false = grind (arith, nat_tests) in rw (many, large, and_false (nat_le 1 n), and_false (nat_le 1 (clip n))) refl
+]
+
+clip-most_near : (n : ℕ) → is_retire_over (clip n) ≡ false → clip n ≡ n
+clip-most_near n fine = grind (arith, nat_tests)
+
 -- a base that is over makes the last word so
 word-over : (class : Class) (v : ℕ) → nat_le (2 ^ 128) v ≡ true → nat_le (2 ^ 128) (last_word class v) ≡ true
 word-over C16 v over = grind (arith, nat_tests)
@@ -96,7 +109,9 @@ has_keys-clip (Sweep name from to) keys few = has_range-clip from to keys few
 has_keys-clip (Later key) keys few = has_key-clip key.index keys few
 has_keys-clip Tend keys few = refl
 has_keys-clip Trim keys few = refl
+has_keys-clip (Retire most) keys few = refl
 has_keys-clip End keys few = refl
+has_keys-clip Begin keys few = refl
 
 read_name-clip : (c : Call) → read_name (clip_call c) ≡ read_name c
 read_name-clip (Put name class v) = refl
@@ -108,7 +123,9 @@ read_name-clip (Sweep name from to) = refl
 read_name-clip (Later key) = refl
 read_name-clip Tend = refl
 read_name-clip Trim = refl
+read_name-clip (Retire most) = refl
 read_name-clip End = refl
+read_name-clip Begin = refl
 
 bound_name-clip : (c : Call) → bound_name (clip_call c) ≡ bound_name c
 bound_name-clip (Put name class v) = refl
@@ -120,7 +137,23 @@ bound_name-clip (Sweep name from to) = refl
 bound_name-clip (Later key) = refl
 bound_name-clip Tend = refl
 bound_name-clip Trim = refl
+bound_name-clip (Retire most) = refl
 bound_name-clip End = refl
+bound_name-clip Begin = refl
+
+begins_again-clip : (c : Call) → begins_again (clip_call c) ≡ begins_again c
+begins_again-clip (Put name class v) = refl
+begins_again-clip (Fill name class n v) = refl
+begins_again-clip (Get key) = refl
+begins_again-clip (Set key class v) = refl
+begins_again-clip (Free key) = refl
+begins_again-clip (Sweep name from to) = refl
+begins_again-clip (Later key) = refl
+begins_again-clip Tend = refl
+begins_again-clip Trim = refl
+begins_again-clip (Retire most) = refl
+begins_again-clip End = refl
+begins_again-clip Begin = refl
 
 over-clip : (before : List Line) (c : Call) → is_call_over before (clip_call c) ≡ is_call_over before c
 over-clip before (Put name class v) = refl
@@ -132,7 +165,9 @@ over-clip before (Sweep name from to) = refl
 over-clip before (Later key) = refl
 over-clip before Tend = refl
 over-clip before Trim = refl
+over-clip before (Retire most) = clip-most most
 over-clip before End = refl
+over-clip before Begin = refl
 
 -- a value that is over makes its call so
 pub over-value : (before : List Line) (w : Line) → is_call is_value_over w ≡ true → is_call (is_call_over before) w ≡ true
@@ -148,7 +183,9 @@ over-value before (line.Call t (Sweep name from to)) over = cc
 over-value before (line.Call t (Later key)) over = cc
 over-value before (line.Call t Tend) over = cc
 over-value before (line.Call t Trim) over = cc
+over-value before (line.Call t (Retire most)) over = cc
 over-value before (line.Call t End) over = cc
+over-value before (line.Call t Begin) over = cc
 
 -- ---- causes
 
@@ -165,11 +202,11 @@ holds-clip h before t c few cause.Header = refl
 holds-clip h before t c few cause.Form = refl
 holds-clip h before t c few cause.Limit = over-clip before c
 holds-clip h before t c few cause.Thread = refl
-holds-clip h before t c few cause.Ended = refl
+holds-clip h before t c few cause.Ended = rw (begins_again-clip c) refl
 holds-clip h before t c few cause.Adopt = refl
 holds-clip h before t c few cause.Bound = rw (bound_name-clip c) refl
 holds-clip h before t c few cause.Unknown = rw (read_name-clip c) (same_unknown before c (read_name c) few)
-holds-clip h before t c few cause.Early = rw (read_name-clip c) refl
+holds-clip h before t c few cause.Early = rw (begins_again-clip c, read_name-clip c) refl
 
 find_same : (p q : Cause → Bool) → ((k : Cause) → p k ≡ q k) → (ks : List Cause) → find p ks ≡ find q ks
 find_same p q same [] = refl
@@ -204,6 +241,7 @@ pub record AllFine (h : Header) (before : List Line) (w : Line) : Type 0 where
   pub ended : holds h before w cause.Ended ≡ false
   pub bound : holds h before w cause.Bound ≡ false
   pub known : holds h before w cause.Unknown ≡ false
+  pub in_time : holds h before w cause.Early ≡ false
 
 pub all_fine : (h : Header) (before : List Line) (w : Line) → first_cause h before w ≡ None → AllFine h before w
 all_fine h before w none =
@@ -214,7 +252,8 @@ all_fine h before w none =
     let adopt = none_found p cause.Adopt (cause.Bound ∷ cause.Unknown ∷ cause.Early ∷ []) ended.1 in
     let bound = none_found p cause.Bound (cause.Unknown ∷ cause.Early ∷ []) adopt.1 in
     let unknown = none_found p cause.Unknown (cause.Early ∷ []) bound.1 in
-    record { within = limit.0; thread = thread.0; ended = ended.0; bound = bound.0; known = unknown.0 }
+    let early = none_found p cause.Early [] unknown.1 in
+    record { within = limit.0; thread = thread.0; ended = ended.0; bound = bound.0; known = unknown.0; in_time = early.0 }
 
 key_near : (i : Option ℕ) (keys : Keys) → IsFew keys → has_key (option_map clip i) keys ≡ true → option_map clip i ≡ i
 key_near None keys few has = refl
@@ -251,7 +290,9 @@ call_known before (Free key) few within known = ap Free (same_reference key (key
 call_known before (Later key) few within known = ap Later (same_reference key (key_known key.index (binding_of key.name before) (few key.name) known))
 call_known before Tend few within known = refl
 call_known before Trim few within known = refl
+call_known before (Retire most) few within known = ap Retire (clip-most_near most within)
 call_known before End few within known = refl
+call_known before Begin few within known = refl
 call_known before (Sweep name from to) few within known = let near = range_known from to (binding_of name before) (few name) known in ap₂ (λ a b. Sweep name a b) near.0 near.1
 
 pub clip_line-fine : (h : Header) (before : List Line) (w : Line) → IsWithinLimits h → Few before → first_cause h before (clip_line w) ≡ None → clip_line w ≡ w

@@ -11,7 +11,7 @@ use Rattle.trace_text.specs.Number.{IsOutside, KeepsNumber}
 use Rattle.trace_text.specs.Words.{words_of}
 use Rattle.trace_text.specs.declared.header.Header.{Header}
 use Rattle.trace_text.specs.declared.header.Version.{Version}
-use Rattle.trace_text.specs.declared.header.Version.TheVariants.{One, Two, Three, Four}
+use Rattle.trace_text.specs.declared.header.Version.TheVariants.{One, Two, Three, Four, Five}
 use Rattle.trace_text.specs.declared.numeral.Number.{Number}
 use Rattle.trace_text.specs.declared.cause.Cause.{Cause}
 use Rattle.trace_text.specs.declared.cause.Cause.TheVariants as cause
@@ -74,13 +74,14 @@ size_range word most n (line ∷ lines) below begin = begin.0.1
 
 -- the version of a number
 abbrev of_number : ℕ → Version
-of_number n = if n == 4 then Four else (if n == 3 then Three else (if n == 2 then Two else One))
+of_number n = if n == 5 then Five else (if n == 4 then Four else (if n == 3 then Three else (if n == 2 then Two else One)))
 
 of_number_of : (version : Version) → of_number (number_of version) ≡ version
 of_number_of One = refl
 of_number_of Two = refl
 of_number_of Three = refl
 of_number_of Four = refl
+of_number_of Five = refl
 
 -- the last byte of each first line is its version's digit
 digit_of-opening : (version : Version) → get_or (opening_of version) 5 0 ≡ 48 + number_of version
@@ -88,6 +89,7 @@ digit_of-opening One = refl
 digit_of-opening Two = refl
 digit_of-opening Three = refl
 digit_of-opening Four = refl
+digit_of-opening Five = refl
 
 -- so each version has its own first line
 opening_of-same : (version other : Version) → opening_of version ≡ opening_of other → version ≡ other

@@ -8,6 +8,7 @@ pub mod Clips
 pub mod Bindings
 mod BoundAgain
 mod Classed
+pub mod Barriers
 pub mod Knowing
 pub mod Placing
 pub mod Keeping

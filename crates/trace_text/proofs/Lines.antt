@@ -15,14 +15,14 @@ use Rattle.span.specs.declared.class.Class.TheVariants.{C16, C64, C256}
 use Rattle.trace_text.specs.declared.header.Version.{Version}
 use Rattle.trace_text.specs.declared.name.Reference.{Reference}
 use Rattle.trace_text.specs.declared.line.Call.{Call}
-use Rattle.trace_text.specs.declared.line.Call.TheVariants.{Put, Fill, Get, Set, Free, Sweep, Later, Tend, Trim, End}
+use Rattle.trace_text.specs.declared.line.Call.TheVariants.{Put, Fill, Get, Set, Free, Sweep, Later, Tend, Trim, Retire, End, Begin}
 use Rattle.trace_text.specs.declared.line.Line.{Line}
 use Rattle.trace_text.specs.declared.line.Line.TheVariants as line
 use Rattle.certificate.specs.Number.{number_in, is_numeral}
 use Rattle.trace_text.specs.Name.{is_name}
 use Rattle.trace_text.specs.Reference.{reference_in}
 use Rattle.trace_text.specs.Words.{words_of}
-use Rattle.trace_text.specs.Form.{Word, Verb, Number, Named, Refers, IsWord, AreWords, SaysLine, HasForm, has_verb, class_filled, class_put, fill_verb, put_verb, set_verb, trim_verb, verb_of, words_of_call, bare_call, key_call, with_name, value_call, set_call, valued_call, with_two, counted_call, thread_line, one_word, two_words, form_of_words, form_of}
+use Rattle.trace_text.specs.Form.{Word, Verb, Number, Named, Refers, IsWord, AreWords, SaysLine, HasForm, has_verb, class_filled, class_put, fill_verb, put_verb, set_verb, trim_verb, retire_verb, begin_verb, verb_of, words_of_call, bare_call, key_call, retire_call, aimed_call, with_name, value_call, set_call, valued_call, with_two, counted_call, thread_line, one_word, two_words, form_of_words, form_of}
 
 -- which way a test went
 pub chosen : {X : Type 0} (b : Bool) (x y z : X) → cond b x y ≡ z → ((b ≡ true) × (x ≡ z)) ⊎ ((b ≡ false) × (y ≡ z))
@@ -49,7 +49,10 @@ bare_found verb w e = elim (chosen (bytes_eq verb (codes "end")) _ _ (Some w) e)
     | inl q ↦ let is : Tend ≡ w = cc q.1 in subst (SaysCall (verb ∷ [])) is (same_bytes verb (codes "tend") q.0, tt)
     | inr q ↦ elim (chosen (bytes_eq verb trim_verb) _ _ (Some w) q.1) [
       | inl r ↦ let is : Trim ≡ w = cc r.1 in subst (SaysCall (verb ∷ [])) is (same_bytes verb trim_verb r.0, tt)
-      | inr r ↦ cc
+      | inr r ↦ elim (chosen (bytes_eq verb begin_verb) _ _ (Some w) r.1) [
+        | inl s ↦ let is : Begin ≡ w = cc s.1 in subst (SaysCall (verb ∷ [])) is (same_bytes verb begin_verb s.0, tt)
+        | inr s ↦ cc
+      ]
     ]
   ]
 ]
@@ -69,6 +72,16 @@ key_found verb key w e = elim (chosen (bytes_eq verb (codes "get")) _ _ (Some w)
       | inr r ↦ cc
     ]
   ]
+]
+
+retire_found : (verb most : List ℕ) (w : Call) → verb ≡ retire_verb → retire_call most ≡ Some w → SaysCall (verb ∷ most ∷ []) w
+retire_found verb most w is e = let parts = mapped Retire (number_in most) w e in
+    subst (SaysCall (verb ∷ most ∷ [])) parts.2 (is, (parts.1, tt))
+
+aimed_found : (verb word : List ℕ) (w : Call) → aimed_call verb word ≡ Some w → SaysCall (verb ∷ word ∷ []) w
+aimed_found verb word w e = elim (chosen (bytes_eq verb retire_verb) _ _ (Some w) e) [
+  | inl p ↦ retire_found verb word w (same_bytes verb retire_verb p.0) p.1
+  | inr p ↦ key_found verb word w p.1
 ]
 
 -- the class of a verb is one whose verb it is
@@ -156,7 +169,7 @@ words_found : (version : Version) (words : List (List ℕ)) (w : Line) → form_
 words_found version [] w e = cc
 words_found version (a ∷ []) w e = one_found version a w e
 words_found version (a ∷ b ∷ []) w e = two_words_found version a b w e
-words_found version (a ∷ b ∷ c ∷ []) w e = thread_found version a b (key_call b c) (c ∷ []) w e (key_found b c)
+words_found version (a ∷ b ∷ c ∷ []) w e = thread_found version a b (aimed_call b c) (c ∷ []) w e (aimed_found b c)
 words_found version (a ∷ b ∷ c ∷ d ∷ []) w e = thread_found version a b (valued_call b c d) (c ∷ d ∷ []) w e (valued_found b c d)
 words_found version (a ∷ b ∷ c ∷ d ∷ f ∷ []) w e = thread_found version a b (counted_call b c d f) (c ∷ d ∷ f ∷ []) w e (counted_found b c d f)
 words_found version (a ∷ b ∷ c ∷ d ∷ f ∷ g ∷ more) w e = cc
@@ -292,6 +305,10 @@ call_again version words t Tend says = let w = one_more words (Number t) _ says.
     rw (w.2, u.1, u.2, not_adopt w.0 t w.3) (thread_again version w.0 _ t _ Tend says.0 refl w.3 refl)
 call_again version words t Trim says = let w = one_more words (Number t) _ says.1 in let u = one w.1 _ w.4 in
     rw (w.2, u.1, u.2, not_adopt w.0 t w.3) (thread_again version w.0 _ t _ Trim says.0 refl w.3 refl)
+call_again version words t (Retire most) says = let w = one_more words (Number t) _ says.1 in let u = two w.1 _ _ w.4 in
+    rw (w.2, u.2, u.3) (thread_again version w.0 _ t _ (Retire most) says.0 refl w.3 (rw u.4 refl))
+call_again version words t Begin says = let w = one_more words (Number t) _ says.1 in let u = one w.1 _ w.4 in
+    rw (w.2, u.1, u.2, not_adopt w.0 t w.3) (thread_again version w.0 _ t _ Begin says.0 refl w.3 refl)
 call_again version words t End says = let w = one_more words (Number t) _ says.1 in let u = one w.1 _ w.4 in
     rw (w.2, u.1, u.2, not_adopt w.0 t w.3) (thread_again version w.0 _ t _ End says.0 refl w.3 refl)
 

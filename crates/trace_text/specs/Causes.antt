@@ -1,8 +1,8 @@
 -- What is wrong with a line, from the header and the lines before it.
 use Rattle.std.specs.Prelude.{◌≡◌, ◌+◌, ◌-◌, ◌^◌, ◌==◌, ◌&&◌, ◌||◌, ◌⊎◌, ℕ, Bool, true, false, not, nat_le, nat_lt, List, [], ◌∷◌, ◌++◌, length, take, reverse, slice_get, Option, Some, None, is_some, find, codes, if◌then◌else◌}
-use Rattle.std.specs.List.{list_any}
 use Rattle.std.specs.Option.{option_map_or, option_or}
 use Rattle.std.specs.Str.{bytes_eq}
+use Rattle.trace_text.specs.Barrier.{open_lines}
 use Rattle.trace_text.specs.Form.{HasForm}
 use Rattle.trace_text.specs.Objects.{last_word}
 use Rattle.span.specs.declared.class.Class.{Class}
@@ -11,7 +11,7 @@ use Rattle.trace_text.specs.declared.header.Version.{Version}
 use Rattle.trace_text.specs.declared.name.Reference.{Reference}
 use Rattle.trace_text.specs.declared.header.Header.{Header}
 use Rattle.trace_text.specs.declared.line.Call.{Call}
-use Rattle.trace_text.specs.declared.line.Call.TheVariants.{Put, Fill, Get, Set, Free, Sweep, Later, End}
+use Rattle.trace_text.specs.declared.line.Call.TheVariants.{Put, Fill, Get, Set, Free, Sweep, Later, Retire, End, Begin}
 use Rattle.trace_text.specs.declared.line.Line.{Line}
 use Rattle.trace_text.specs.declared.line.Line.TheVariants as line
 use Rattle.trace_text.specs.declared.line.Keys.{Keys}
@@ -20,7 +20,7 @@ use Rattle.trace_text.specs.declared.line.Binding.{Binding}
 use Rattle.trace_text.specs.declared.cause.Cause.{Cause}
 use Rattle.trace_text.specs.declared.cause.Cause.TheVariants as cause
 use Rattle.trace_text.specs.declared.cause.Cause.TheVariants.{Form, Limit, Thread, Ended, Adopt, Bound, Unknown, Early}
-use Rattle.trace_text.specs.declared.earlier.TheConstants.{MOST_KEYS}
+use Rattle.trace_text.specs.declared.earlier.TheConstants.{MOST_KEYS, MOST_RETIRED}
 
 -- ---- what a line says of threads and names
 
@@ -147,9 +147,27 @@ abbrev pub ends : (asked : ℕ) → Line → Bool
 ends asked (line.Call thread call) = call_ends asked thread call
 ends asked _ = false
 
--- one of those lines ends the thread
+-- the call lets its thread begin again
+abbrev pub begins_again : Call → Bool
+begins_again Begin = true
+begins_again _ = false
+
+-- the line lets the thread that is asked for begin again
+abbrev pub begins : (asked : ℕ) → Line → Bool
+begins asked (line.Call thread call) = begins_again call && thread == asked
+begins asked _ = false
+
+-- the line ends the thread that is asked for, or lets it begin again
+abbrev pub turns : (asked : ℕ) → Line → Bool
+turns asked line = ends asked line || begins asked line
+
+-- the last of those lines by which the thread ends or begins again ends it
 abbrev pub has_ended : List Line → ℕ → Bool
-has_ended before thread = list_any (ends thread) before
+has_ended before thread = option_map_or (ends thread) (find (turns thread) (reverse before)) false
+
+-- so it is, and a barrier stands below that line: the thread's shard is abandoned
+abbrev pub is_abandoned : List Line → ℕ → Bool
+is_abandoned before thread = has_ended before thread && not (has_ended (open_lines before) thread)
 
 -- the line is neither empty nor a remark
 abbrev pub speaks : Line → Bool
@@ -172,11 +190,12 @@ may_follow_adopt _ = true
 
 -- ---- what is wrong with a line
 
--- after those lines a count, or the last word of the last object that the call puts or sets, is outside its range
+-- after those lines a count, how many groups may go, or the last word of the last object that the call puts or sets, is outside its range
 abbrev pub is_call_over : List Line → Call → Bool
 is_call_over before (Put name class value) = nat_le (2 ^ 128) (last_word class value)
 is_call_over before (Fill name class count value) = not (nat_le 1 count && nat_le count MOST_KEYS) || nat_le (2 ^ 128) (last_word class (value + count - 1))
 is_call_over before (Set key class value) = nat_le (2 ^ 128) (last_word class value)
+is_call_over before (Retire most) = not (nat_le 1 most && nat_le most MOST_RETIRED)
 is_call_over before _ = false
 
 -- the call binds a name that those lines bind
@@ -194,6 +213,14 @@ is_early section thread b = b.section == section && not (b.thread == thread)
 -- the thread's call reads, sets, frees or sends off keys of a name that another thread binds in the same section
 abbrev pub reads_early : List Line → ℕ → Call → Bool
 reads_early before thread call = option_map_or (λ name. option_map_or (is_early (marks before) thread) (binding_of name before) false) (read_name call) false
+
+-- the call lets a thread begin again whose shard those lines do not abandon
+abbrev pub begins_early : List Line → ℕ → Call → Bool
+begins_early before thread call = begins_again call && not (is_abandoned before thread)
+
+-- the thread's call comes before a mark that it needs
+abbrev pub comes_early : List Line → ℕ → Call → Bool
+comes_early before thread call = begins_early before thread call || reads_early before thread call
 
 -- the line is a call that passes the test
 abbrev pub is_call : (Call → Bool) → Line → Bool
@@ -213,11 +240,11 @@ is_of test line = option_map_or test (thread_of line) false
 abbrev pub holds : Header → List Line → Line → Cause → Bool
 holds h before line Limit = is_call (is_call_over before) line
 holds h before line Thread = is_of (nat_le h.shards) line
-holds h before line Ended = is_of (has_ended before) line
+holds h before line Ended = is_of (has_ended before) line && not (is_call begins_again line)
 holds h before line Adopt = awaits_mark before && not (may_follow_adopt line)
 holds h before line Bound = is_call (binds_again before) line
 holds h before line Unknown = is_call (reads_unknown before) line
-holds h before line Early = is_call_of (reads_early before) line
+holds h before line Early = is_call_of (comes_early before) line
 holds h before line _ = false
 
 -- the first cause that holds of a line that has a form

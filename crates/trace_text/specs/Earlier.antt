@@ -1,10 +1,11 @@
 -- What is kept of the lines before a line. No public clause cites this module.
-use Rattle.std.specs.Prelude.{◌≡◌, ◌≤◌, ◌||◌, ℕ, Bool, List, Option, Some, nat_eq, if◌then◌else◌}
+use Rattle.std.specs.Prelude.{◌≡◌, ◌≤◌, ◌&&◌, ◌||◌, ℕ, Bool, not, List, Option, Some, nat_eq, if◌then◌else◌}
 use Rattle.std.specs.HashMap as hash
 use Rattle.std.specs.HashSet as bag
 use Rattle.std.specs.Option.{option_or}
 use Rattle.std.specs.Cmp.Lexicographic.{pointwise}
-use Rattle.trace_text.specs.Causes.{awaits_mark, binding_at, binding_of, ends, has_ended, is_adopt, keys_in, marks, speaks}
+use Rattle.trace_text.specs.Barrier.{is_barrier, open_lines}
+use Rattle.trace_text.specs.Causes.{awaits_mark, begins, binding_at, binding_of, ends, has_ended, is_adopt, keys_in, marks, speaks}
 use Rattle.trace_text.specs.declared.line.Line.{Line}
 use Rattle.trace_text.specs.declared.line.Keys.{Keys}
 use Rattle.trace_text.specs.declared.line.Keys.TheVariants.{One, Many}
@@ -20,6 +21,10 @@ bound_in e name = hash.get (λ s t. pointwise nat_eq s t) e.names name
 abbrev pub ended_in : Earlier → ℕ → Bool
 ended_in e thread = bag.contains nat_eq e.ended thread
 
+-- the set of those that leave has the thread
+abbrev pub leaving_in : Earlier → ℕ → Bool
+leaving_in e thread = bag.contains nat_eq e.leaving thread
+
 -- how many keys these are
 abbrev pub key_count : Keys → ℕ
 key_count One = 1
@@ -33,10 +38,11 @@ IsFew keys = key_count keys ≤ MOST_KEYS
 abbrev pub Few : List Line → Type 0
 Few lines = (name : List ℕ) (b : Binding) → binding_of name lines ≡ Some b → IsFew b.keys
 
--- it has what those lines bind, which threads they end, how many marks they have, how many keys they bind, and whether a mark must follow
+-- it has what those lines bind, which threads they end, and which of these below the last barrier, how many marks they have, how many keys they bind, and whether a mark must follow
 pub record Knows (lines : List Line) (e : Earlier) : Type 0 where
   pub names : (name : List ℕ) → bound_in e name ≡ binding_of name lines
   pub ended : (thread : ℕ) → ended_in e thread ≡ has_ended lines thread
+  pub leaving : (thread : ℕ) → leaving_in e thread ≡ has_ended (open_lines lines) thread
   pub section : e.section ≡ marks lines
   pub keys : e.keys ≡ keys_in lines
   pub awaits : e.awaits_mark ≡ awaits_mark lines
@@ -46,9 +52,13 @@ pub record Knows (lines : List Line) (e : Earlier) : Type 0 where
 abbrev pub NotesNames : (old new : Earlier) (place : ℕ) → Line → Type 0
 NotesNames old new place line = (name : List ℕ) → bound_in new name ≡ option_or (binding_at place old.section old.keys name line) (bound_in old name)
 
--- the new set has the thread that the line ends, and beside it those of the old one
+-- the new set has the thread that the line ends, and beside it those of the old one, but for that which the line lets begin again
 abbrev pub NotesEnd : (old new : Earlier) → Line → Type 0
-NotesEnd old new line = (thread : ℕ) → ended_in new thread ≡ (ends thread line || ended_in old thread)
+NotesEnd old new line = (thread : ℕ) → ended_in new thread ≡ (not (begins thread line) && (ends thread line || ended_in old thread))
+
+-- so has the set of those that leave, until a barrier comes
+abbrev pub NotesLeaving : (old new : Earlier) → Line → Type 0
+NotesLeaving old new line = (thread : ℕ) → leaving_in new thread ≡ (not (is_barrier line) && (not (begins thread line) && (ends thread line || leaving_in old thread)))
 
 -- a line that is neither empty nor a remark decides whether a mark must follow
 abbrev pub awaits_after : (old : Bool) → Line → Bool

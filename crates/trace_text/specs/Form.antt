@@ -9,10 +9,10 @@ use Rattle.trace_text.specs.Words.{words_of}
 use Rattle.span.specs.declared.class.Class.{Class}
 use Rattle.span.specs.declared.class.Class.TheVariants.{C16, C64, C256}
 use Rattle.trace_text.specs.declared.header.Version.{Version}
-use Rattle.trace_text.specs.declared.header.Version.TheVariants.{One, Two, Three, Four}
+use Rattle.trace_text.specs.declared.header.Version.TheVariants.{One, Two, Three, Four, Five}
 use Rattle.trace_text.specs.declared.name.Reference.{Reference}
 use Rattle.trace_text.specs.declared.line.Call.{Call}
-use Rattle.trace_text.specs.declared.line.Call.TheVariants.{Put, Fill, Get, Set, Free, Sweep, Later, Tend, Trim, End}
+use Rattle.trace_text.specs.declared.line.Call.TheVariants.{Put, Fill, Get, Set, Free, Sweep, Later, Tend, Trim, Retire, End, Begin}
 use Rattle.trace_text.specs.declared.line.Line.{Line}
 use Rattle.trace_text.specs.declared.line.Line.TheVariants as line
 
@@ -55,6 +55,14 @@ set_verb = codes "set"
 abbrev pub trim_verb : List ℕ
 trim_verb = codes "trim"
 
+-- the verb of calls that let groups go to the pool
+abbrev pub retire_verb : List ℕ
+retire_verb = codes "retire"
+
+-- the verb of calls that let a shard begin again
+abbrev pub begin_verb : List ℕ
+begin_verb = codes "begin"
+
 -- the verbs of calls with no more words, which every version has
 abbrev pub bare_verbs : List (List ℕ)
 bare_verbs = codes "tend" ∷ codes "end" ∷ []
@@ -63,12 +71,13 @@ bare_verbs = codes "tend" ∷ codes "end" ∷ []
 abbrev pub is_common_verb : List ℕ → Bool
 is_common_verb verb = list_any (bytes_eq verb) binding_verbs || (list_any (bytes_eq verb) reading_verbs || list_any (bytes_eq verb) bare_verbs)
 
--- a thread's call may have the verb, in a trace of each version; the second adds the verbs of objects of more words, the third that of sets, and the fourth that of trims
+-- a thread's call may have the verb, in a trace of each version; the second adds the verbs of objects of more words, the third that of sets, the fourth that of trims, and the fifth those of retirements and of begins
 abbrev pub has_verb : Version → List ℕ → Bool
 has_verb One verb = is_common_verb verb
 has_verb Two verb = is_common_verb verb || list_any (bytes_eq verb) wide_verbs
 has_verb Three verb = is_common_verb verb || (list_any (bytes_eq verb) wide_verbs || bytes_eq verb set_verb)
 has_verb Four verb = is_common_verb verb || (list_any (bytes_eq verb) wide_verbs || (bytes_eq verb set_verb || bytes_eq verb trim_verb))
+has_verb Five verb = is_common_verb verb || (list_any (bytes_eq verb) wide_verbs || (bytes_eq verb set_verb || (bytes_eq verb trim_verb || (bytes_eq verb retire_verb || bytes_eq verb begin_verb))))
 
 -- the verb of each call
 abbrev pub verb_of : Call → List ℕ
@@ -81,7 +90,9 @@ verb_of (Sweep name from to) = codes "sweep"
 verb_of (Later key) = codes "later"
 verb_of Tend = codes "tend"
 verb_of Trim = trim_verb
+verb_of (Retire most) = retire_verb
 verb_of End = codes "end"
+verb_of Begin = begin_verb
 
 -- the words of each call, after its verb; the class of a set is in none of them
 abbrev pub words_behind : Call → List Word
@@ -94,7 +105,9 @@ words_behind (Sweep name from to) = Named name ∷ Number from ∷ Number to ∷
 words_behind (Later key) = Refers key ∷ []
 words_behind Tend = []
 words_behind Trim = []
+words_behind (Retire most) = Number most ∷ []
 words_behind End = []
+words_behind Begin = []
 
 -- the words of each call, after its thread's number
 abbrev pub words_of_call : Call → List Word
@@ -136,7 +149,8 @@ abbrev pub bare_call : List ℕ → Option Call
 bare_call verb =
     if bytes_eq verb (codes "end") then Some End
     else (if bytes_eq verb (codes "tend") then Some Tend
-    else (if bytes_eq verb trim_verb then Some Trim else None))
+    else (if bytes_eq verb trim_verb then Some Trim
+    else (if bytes_eq verb begin_verb then Some Begin else None)))
 
 -- a call on a key
 abbrev pub key_call : List ℕ → List ℕ → Option Call
@@ -144,6 +158,16 @@ key_call verb key =
     if bytes_eq verb (codes "get") then option_map Get (reference_in key)
     else (if bytes_eq verb (codes "free") then option_map Free (reference_in key)
     else (if bytes_eq verb (codes "later") then option_map Later (reference_in key) else None))
+
+-- a retirement of up to this many groups
+abbrev pub retire_call : List ℕ → Option Call
+retire_call most = option_map Retire (number_in most)
+
+-- a call with one word behind its verb: a number or a key
+abbrev pub aimed_call : List ℕ → List ℕ → Option Call
+aimed_call verb word =
+    if bytes_eq verb retire_verb then retire_call word
+    else key_call verb word
 
 -- the class of the object that a call of that verb puts
 abbrev pub class_put : List ℕ → Option Class
@@ -205,7 +229,7 @@ two_words version first second =
 abbrev pub form_of_words : Version → List (List ℕ) → Option Line
 form_of_words version (word ∷ []) = one_word word
 form_of_words version (first ∷ second ∷ []) = two_words version first second
-form_of_words version (thread ∷ verb ∷ key ∷ []) = thread_line version thread verb (key_call verb key)
+form_of_words version (thread ∷ verb ∷ word ∷ []) = thread_line version thread verb (aimed_call verb word)
 form_of_words version (thread ∷ verb ∷ target ∷ value ∷ []) = thread_line version thread verb (valued_call verb target value)
 form_of_words version (thread ∷ verb ∷ name ∷ first ∷ second ∷ []) = thread_line version thread verb (counted_call verb name first second)
 form_of_words version _ = None

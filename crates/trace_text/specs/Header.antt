@@ -7,7 +7,7 @@ use Rattle.trace_text.specs.Form.{AreWords, Number, Verb}
 use Rattle.trace_text.specs.Words.{words_of}
 use Rattle.trace_text.specs.declared.header.Header.{Header}
 use Rattle.trace_text.specs.declared.header.Version.{Version}
-use Rattle.trace_text.specs.declared.header.Version.TheVariants.{One, Two, Three, Four}
+use Rattle.trace_text.specs.declared.header.Version.TheVariants.{One, Two, Three, Four, Five}
 use Rattle.trace_text.specs.declared.cause.Cause.{Cause}
 use Rattle.trace_text.specs.declared.cause.Cause.TheVariants as cause
 use Rattle.trace_text.specs.declared.cause.ParseError.{ParseError}
@@ -21,6 +21,7 @@ opening_of One = codes "mesh 1"
 opening_of Two = codes "mesh 2"
 opening_of Three = codes "mesh 3"
 opening_of Four = codes "mesh 4"
+opening_of Five = codes "mesh 5"
 
 -- the number of each version
 abbrev pub number_of : Version → ℕ
@@ -28,6 +29,7 @@ number_of One = 1
 number_of Two = 2
 number_of Three = 3
 number_of Four = 4
+number_of Five = 5
 
 -- what a line of the header says: that a trace begins, or a size, by its word and the greatest number it may be
 pub data Field : Type 0 where

@@ -1,11 +1,11 @@
 -- Lines as the parser keeps them: a number that does not fit is clipped, and a value that does not is refused before anything else is asked. No public clause cites this module.
-use Rattle.std.specs.Prelude.{◌≡◌, ℕ, Bool, true, false, nat_le, ◌^◌, List, [], ◌∷◌, Option, Some, None, find, Result, Ok, Err, if◌then◌else◌}
+use Rattle.std.specs.Prelude.{◌≡◌, ◌&&◌, ℕ, Bool, true, false, not, nat_le, ◌^◌, List, [], ◌∷◌, Option, Some, None, find, Result, Ok, Err, if◌then◌else◌}
 use Rattle.certificate.specs.Number.{clip}
 use Rattle.trace_text.specs.Reference.{clip_reference}
-use Rattle.trace_text.specs.Causes.{HasCause, IsNextLine, binds_again, has_ended, holds, is_call, reads_early, reads_unknown}
+use Rattle.trace_text.specs.Causes.{HasCause, IsNextLine, begins_again, binds_again, comes_early, has_ended, holds, is_call, reads_unknown}
 use Rattle.trace_text.specs.declared.header.Header.{Header}
 use Rattle.trace_text.specs.declared.line.Call.{Call}
-use Rattle.trace_text.specs.declared.line.Call.TheVariants.{Put, Fill, Get, Set, Free, Sweep, Later}
+use Rattle.trace_text.specs.declared.line.Call.TheVariants.{Put, Fill, Get, Set, Free, Sweep, Later, Retire}
 use Rattle.trace_text.specs.declared.line.Line.{Line}
 use Rattle.trace_text.specs.declared.line.Line.TheVariants as line
 use Rattle.trace_text.specs.declared.cause.Cause.{Cause}
@@ -19,6 +19,7 @@ clip_call (Free key) = Free (clip_reference key)
 clip_call (Sweep name from to) = Sweep name (clip from) (clip to)
 clip_call (Fill name class count value) = Fill name class (clip count) value
 clip_call (Later key) = Later (clip_reference key)
+clip_call (Retire most) = Retire (clip most)
 clip_call call = call
 
 -- so is the number of a thread or a shard
@@ -50,11 +51,17 @@ thread_cause h before thread =
     if nat_le h.shards thread then Some Thread
     else (if has_ended before thread then Some Ended else None)
 
--- what is wrong with the name that a thread's call reads
+-- what is wrong with the number of the thread that makes the call
+abbrev pub caller_cause : Header → List Line → ℕ → Call → Option Cause
+caller_cause h before thread call =
+    if nat_le h.shards thread then Some Thread
+    else (if has_ended before thread && not (begins_again call) then Some Ended else None)
+
+-- what is wrong with the name that a thread's call reads, or with when it comes
 abbrev pub read_cause : List Line → ℕ → Call → Option Cause
 read_cause before thread call =
     if reads_unknown before call then Some Unknown
-    else (if reads_early before thread call then Some Early else None)
+    else (if comes_early before thread call then Some Early else None)
 
 -- the first cause that holds of a line that has a form, where none is that it binds a name again
 abbrev pub cause_but_bound : Header → List Line → Line → Option Cause

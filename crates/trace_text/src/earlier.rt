@@ -1,10 +1,10 @@
 //! What is kept of the lines before a line.
 
 ghost use Rattle.std.specs.Prelude.{◌≡◌, ◌+◌, ◌-◌, ◌<◌, ◌^◌, List, IfOk, OnOk, is_some, nat_le};
-ghost use Rattle.trace_text.specs.Causes.{binds_again, call_ends, class_named, classed, classed_call, is_call, is_call_over, keys_at, marks_at};
+ghost use Rattle.trace_text.specs.Causes.{binds_again, class_named, classed, classed_call, is_abandoned, is_call, is_call_over, keys_at, marks_at};
 ghost use Rattle.trace_text.specs.Objects.{last_word};
 ghost use Rattle.trace_text.specs.Places.{place_at, place_by, unless};
-ghost use Rattle.trace_text.specs.Within.{cause_but_bound, read_cause, thread_cause};
+ghost use Rattle.trace_text.specs.Within.{caller_cause, cause_but_bound, read_cause, thread_cause};
 ghost use Rattle.trace_text.specs.declared.line.Line.{Line};
 ghost use Rattle.trace_text.specs.declared.line.Line.TheVariants as line;
 
@@ -19,6 +19,9 @@ use std::collections::{HashMap, HashSet};
 
 /// The greatest count of a fill: as many keys as a shard has room for at once.
 const MOST_KEYS: u32 = 262_144;
+
+/// The greatest number of groups that a retirement may ask for: more than a shard has at any time.
+const MOST_RETIRED: u32 = 1_048_576;
 
 /// Whether the last word of the last of that many objects of the class is above every word, where the first counts up from that
 /// value, and each other one from one more than the one before it.
@@ -36,8 +39,10 @@ fn ends_over(class: Class, count: u32, value: u128) -> bool
 pub struct Earlier {
     /// What each name is bound to.
     names: HashMap<Name, Binding, TextSeed>,
-    /// The threads that have ended.
+    /// The threads that have ended, and have not begun again since.
     ended: HashSet<u32>,
+    /// Those of them that ended below the last barrier, so that their shards are not abandoned yet.
+    leaving: HashSet<u32>,
     /// How many marks there are.
     section: usize,
     /// How many keys the names are bound to.
@@ -47,7 +52,7 @@ pub struct Earlier {
 }
 
 impl Earlier {
-    ghost use Rattle.trace_text.specs.Earlier.{Knows, NotesEnd, NotesNames, awaits_after, bound_in};
+    ghost use Rattle.trace_text.specs.Earlier.{Knows, NotesEnd, NotesLeaving, NotesNames, awaits_after, bound_in};
     ghost use Rattle.trace_text.specs.Causes.{awaits_mark};
     ghost use Rattle.std.specs.Prelude.{[], ℕ, Some, None, if◌then◌else◌};
     ghost use Rattle.std.specs.Option.{option_or};
@@ -60,6 +65,7 @@ impl Earlier {
         Earlier {
             names: HashMap::with_hasher(alloc, seed),
             ended: HashSet::new(alloc),
+            leaving: HashSet::new(alloc),
             section: 0,
             keys: 0,
             awaits_mark: false,
@@ -129,6 +135,7 @@ impl Earlier {
                 ..
             } => *count == 0 || *count > MOST_KEYS || ends_over(*class, *count, *value),
             Call::Set { class, value, .. } => ends_over(*class, 1, *value),
+            Call::Retire { most } => *most == 0 || *most > MOST_RETIRED,
             _ => false,
         }
     }
@@ -147,11 +154,41 @@ impl Earlier {
         }
     }
 
-    /// The place of the first key that a thread's call reads, 0 where it reads none; or what is wrong with what it reads.
+    /// Whether the shard of the thread was abandoned, and has not begun again since.
+    fn is_abandoned(&self, thread: u32) -> bool
+        ensures { (before : List Line) → Knows before self.now
+            → result ≡ is_abandoned before thread }
+    {
+        self.ended.contains(&thread) && !self.leaving.contains(&thread)
+    }
+
+    /// What is wrong with the number of the thread that makes a call.
+    fn caller_cause(&self, header: &Header, thread: u32, call: &Call) -> Option<Cause>
+        ensures { (before : List Line) → Knows before self.now
+            → result ≡ caller_cause header.now before thread call.now }
+    {
+        if thread >= header.shards {
+            Some(Cause::Thread)
+        } else if self.ended.contains(&thread) && !call.begins_again() {
+            Some(Cause::Ended)
+        } else {
+            None
+        }
+    }
+
+    /// The place of the first key that a thread's call reads, 0 where it reads none; or what is wrong with what it reads, or
+    /// with when it comes.
     fn read_place(&self, thread: u32, call: &Call) -> Result<usize, Cause>
         ensures { (before : List Line) → Knows before self.now
             → result ≡ unless (read_cause before thread call.now) (place_by before call.now) }
     {
+        if call.begins_again() {
+            return if self.is_abandoned(thread) {
+                Ok(0)
+            } else {
+                Err(Cause::Early)
+            };
+        }
         let Some(name) = call.read_name() else {
             return Ok(0);
         };
@@ -177,13 +214,15 @@ impl Earlier {
         if self.is_over(call) {
             return Err(Cause::Limit);
         }
-        if let Some(cause) = self.thread_cause(header, thread) {
-            return Err(cause);
+        match self.caller_cause(header, thread, call) {
+            Some(cause) => Err(cause),
+            None => {
+                if self.awaits_mark {
+                    return Err(Cause::Adopt);
+                }
+                self.read_place(thread, call)
+            }
         }
-        if self.awaits_mark {
-            return Err(Cause::Adopt);
-        }
-        self.read_place(thread, call)
     }
 
     /// The place of the first key that a line after those reads, 0 where it reads none; or what is wrong with the line,
@@ -211,6 +250,7 @@ impl Earlier {
             (if bytes_eq name.now other then Some binding else None) (bound_in self.old other)) }
         ensures keys { OnOk result (self.new.keys ≡ self.old.keys + count) }
         ensures ended { self.new.ended ≡ self.old.ended }
+        ensures leaving { self.new.leaving ≡ self.old.leaving }
         ensures section { self.new.section ≡ self.old.section }
         ensures awaits { self.new.awaits_mark ≡ self.old.awaits_mark }
     {
@@ -221,7 +261,7 @@ impl Earlier {
         Ok(before.is_some())
     }
 
-    /// Keeps what a thread's call binds or ends. It answers whether the call binds a name again.
+    /// Keeps what a thread's call binds, ends or lets begin again. It answers whether the call binds a name again.
     fn note_call(&mut self, place: usize, thread: u32, call: &Call) -> Result<bool, AllocError>
         ensures again { (before : List Line) → Knows before self.old
             → IfOk result (λ again. again ≡ binds_again before call.now) }
@@ -230,6 +270,8 @@ impl Earlier {
         ensures keys { OnOk result (self.new.keys ≡ self.old.keys + keys_at
             (line.Call thread call.now)) }
         ensures ended { OnOk result (NotesEnd self.old self.new (line.Call thread call.now)) }
+        ensures leaving { OnOk result (NotesLeaving self.old self.new
+            (line.Call thread call.now)) }
         ensures section { self.new.section ≡ self.old.section }
         ensures awaits { self.new.awaits_mark ≡ self.old.awaits_mark }
     {
@@ -253,6 +295,12 @@ impl Earlier {
             } => self.bind(name, binding(Keys::Many(*count), *class), *count as usize),
             Call::End => {
                 self.ended.insert(thread)?;
+                self.leaving.insert(thread)?;
+                Ok(false)
+            }
+            Call::Begin => {
+                self.ended.remove(&thread);
+                self.leaving.remove(&thread);
                 Ok(false)
             }
             _ => Ok(false),
@@ -266,6 +314,7 @@ impl Earlier {
             → IfOk result (λ again. again ≡ is_call (binds_again before) line.now) }
         ensures names { OnOk result (NotesNames self.old self.new place line.now) }
         ensures ended { OnOk result (NotesEnd self.old self.new line.now) }
+        ensures leaving { OnOk result (NotesLeaving self.old self.new line.now) }
         ensures section { OnOk result (self.new.section ≡ self.old.section + marks_at line.now) }
         ensures keys { OnOk result (self.new.keys ≡ self.old.keys + keys_at line.now) }
         ensures awaits { OnOk result (self.new.awaits_mark
@@ -273,8 +322,12 @@ impl Earlier {
     {
         match line {
             Line::Silent => {}
-            Line::Adopt { .. } => self.awaits_mark = true,
+            Line::Adopt { .. } => {
+                self.leaving.clear();
+                self.awaits_mark = true;
+            }
             Line::Mark => {
+                self.leaving.clear();
                 self.awaits_mark = false;
                 self.section += 1;
             }

@@ -5,7 +5,7 @@ ghost use Rattle.std.specs.Int.{IsInRange};
 ghost use Rattle.certificate.specs.Words.{contents_of};
 ghost use Rattle.std.specs.List.{list_any};
 ghost use Rattle.std.specs.Str.{bytes_eq};
-ghost use Rattle.trace_text.specs.Form.{bare_verbs, binding_verbs, reading_verbs, set_verb, trim_verb, wide_verbs};
+ghost use Rattle.trace_text.specs.Form.{bare_verbs, begin_verb, binding_verbs, reading_verbs, retire_verb, set_verb, trim_verb, wide_verbs};
 ghost use Rattle.trace_text.specs.Header.{BeginWith, FailsField, FailsHeader, HasHeader, IsWithinLimits, Opening, Size, field_in, number_of, opening_of};
 ghost use Rattle.trace_text.specs.Number.{IsOutside, KeepsNumber};
 ghost use Rattle.trace_text.specs.Words.{lines_of, words_of};
@@ -32,6 +32,8 @@ pub enum Version {
     Three,
     /// The first line is `mesh 4`: as `mesh 3`, and shards give pages with no live slot back.
     Four,
+    /// The first line is `mesh 5`: as `mesh 4`, and shards let groups go to the pool, and begin again once they have ended.
+    Five,
 }
 
 /// Whether the verb is one of a call that binds a name to objects of one word.
@@ -79,6 +81,20 @@ fn trims(verb: &[u8]) -> bool
     verb == b"trim".as_slice()
 }
 
+/// Whether the verb is that of a call that lets groups go to the pool.
+fn retires(verb: &[u8]) -> bool
+    ensures { result ≡ bytes_eq verb.now retire_verb }
+{
+    verb == b"retire".as_slice()
+}
+
+/// Whether the verb is that of a call that lets a shard begin again.
+fn begins(verb: &[u8]) -> bool
+    ensures { result ≡ bytes_eq verb.now begin_verb }
+{
+    verb == b"begin".as_slice()
+}
+
 impl Version {
     ghost use Rattle.std.specs.Prelude.{◌≡◌};
     ghost use Rattle.trace_text.specs.Form.{has_verb};
@@ -95,6 +111,14 @@ impl Version {
             Version::Two => in_each || binds_wide(verb),
             Version::Three => in_each || binds_wide(verb) || sets(verb),
             Version::Four => in_each || binds_wide(verb) || sets(verb) || trims(verb),
+            Version::Five => {
+                in_each
+                    || binds_wide(verb)
+                    || sets(verb)
+                    || trims(verb)
+                    || retires(verb)
+                    || begins(verb)
+            }
         }
     }
 }
@@ -155,6 +179,7 @@ fn version_of(line: &[u8]) -> Option<Version>
         b"mesh 2" => Some(Version::Two),
         b"mesh 3" => Some(Version::Three),
         b"mesh 4" => Some(Version::Four),
+        b"mesh 5" => Some(Version::Five),
         _ => None,
     }
 }

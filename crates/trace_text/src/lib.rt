@@ -22,7 +22,7 @@
 //! Other threads may use the name only after the next mark, since threads meet at marks alone.
 //!
 //! There are 1 to 64 shards, each with one thread of its number, from 0 on. A thread that has ended
-//! calls no more, and its shard doesn't adopt. After an adoption stand adoptions and then a mark,
+//! calls no more until it begins again, and its shard doesn't adopt. After an adoption stand adoptions and then a mark,
 //! with nothing between them but empty lines and remarks.
 //!
 //! A trace whose first line is `mesh 2` may also have `put64`, `put256`, `fill64` and `fill256` where others have `put` and
@@ -35,8 +35,11 @@
 //! A trace whose first line is `mesh 4` may have all of these, and also `0 trim`, which gives back the pages of the open groups of the
 //! thread's shard that have no live slot.
 //!
+//! A trace whose first line is `mesh 5` may have all of these, and also `0 retire 3`, which lets up to 3 groups of the thread's shard
+//! with a live slot go to the pool, and `0 begin`, by which a thread begins again that has ended above an earlier mark.
+//!
 //! A shard has 1 to 1,024 pages, a ring 1 to 1,024 places, and a slot 1 to 4,294,967,295
-//! generations. A fill has 1 to 262,144 keys. Each word of an object, the last one of a fill or of a set too, is below 2^128.
+//! generations. A fill has 1 to 262,144 keys, and a retirement is of up to 1 to 1,048,576 groups. Each word of an object, the last one of a fill or of a set too, is below 2^128.
 //!
 //! `parse` gives the trace that a text spells, or the first line at fault and, of the causes that
 //! hold of it, the first in the order of `Cause`.

@@ -49,8 +49,15 @@ pub enum Call {
     Tend,
     /// Gives back the pages of the open groups of the thread's shard that have no live slot.
     Trim,
+    /// Lets up to `most` open groups of the thread's shard go to the pool, of those with a live slot: those with the fewest
+    /// first.
+    Retire {
+        most: u32,
+    },
     /// Ends the thread. Its shard is abandoned at the next barrier.
     End,
+    /// Lets the shard of the thread, which was abandoned, run again.
+    Begin,
 }
 
 /// A line below the header.
@@ -119,8 +126,16 @@ impl Reference {
 }
 
 impl Call {
-    ghost use Rattle.std.specs.Prelude.{◌≡◌, IfSome, option_map};
-    ghost use Rattle.trace_text.specs.Causes.{bound_name, has_keys, read_name};
+    ghost use Rattle.std.specs.Prelude.{◌≡◌, None, option_map, true};
+    ghost use Rattle.trace_text.specs.Causes.{begins_again, bound_name, has_keys, read_name};
+
+    /// Whether the call lets its thread begin again.
+    pub fn begins_again(&self) -> bool
+        ensures begins { result ≡ begins_again self.now }
+        ensures nameless { result ≡ true → read_name self.now ≡ None }
+    {
+        matches!(self, Call::Begin)
+    }
 
     /// The name that the call binds.
     pub fn bound_name(&self) -> Option<&Name>

@@ -1,7 +1,7 @@
 //! Reads lines.
 
 ghost use Rattle.std.specs.Prelude.{◌≡◌, Option};
-ghost use Rattle.trace_text.specs.Form.{adopt_line, bare_call, class_filled, class_put, counted_call, form_of, form_of_words, key_call, one_word, set_call, thread_line, two_words, value_call, valued_call, with_two};
+ghost use Rattle.trace_text.specs.Form.{adopt_line, aimed_call, bare_call, class_filled, class_put, counted_call, form_of, form_of_words, key_call, one_word, retire_call, set_call, thread_line, two_words, value_call, valued_call, with_two};
 ghost use Rattle.certificate.specs.Words.{contents_of};
 ghost use Rattle.trace_text.specs.Within.{within, within_call};
 ghost use Rattle.trace_text.specs.declared.line.Call.{Call};
@@ -23,6 +23,7 @@ fn bare_call(verb: &[u8]) -> Result<Call, Cause>
         b"end" => Ok(Call::End),
         b"tend" => Ok(Call::Tend),
         b"trim" => Ok(Call::Trim),
+        b"begin" => Ok(Call::Begin),
         _ => Err(Cause::Form),
     }
 }
@@ -37,6 +38,27 @@ fn key_call(verb: &[u8], key: &[u8]) -> Result<Call, Cause>
         b"free" => Ok(Call::Free { key }),
         b"later" => Ok(Call::Later { key }),
         _ => Err(Cause::Form),
+    }
+}
+
+/// A retirement. A number that does not fit is kept as the greatest that does, since no line may ask for so many groups. It stays
+/// out of the reader of lines, of which most are others.
+#[inline(never)]
+fn retire_call(most: &[u8]) -> Result<Call, Cause>
+    ensures { result ≡ within_call (retire_call most.now) }
+{
+    let most = clipped_number(most).ok_or(Cause::Form)?;
+    Ok(Call::Retire { most })
+}
+
+/// A call with one word behind its verb: a number or a key.
+fn aimed_call(verb: &[u8], word: &[u8]) -> Result<Call, Cause>
+    ensures { result ≡ within_call (aimed_call verb.now word.now) }
+{
+    if verb == b"retire".as_slice() {
+        retire_call(word)
+    } else {
+        key_call(verb, word)
     }
 }
 
@@ -211,7 +233,7 @@ fn line_of_words(version: Version, words: &[&[u8]]) -> Result<Line, Cause>
     match words {
         [word] => one_word(word),
         [first, second] => two_words(version, first, second),
-        [thread, verb, key] => thread_line(version, thread, verb, key_call(verb, key)),
+        [thread, verb, word] => thread_line(version, thread, verb, aimed_call(verb, word)),
         [thread, verb, target, value] => {
             thread_line(version, thread, verb, valued_call(verb, target, value))
         }

@@ -55,12 +55,14 @@ The other lines, where T is a thread and S a shard:
   adopt S                at the next mark the shard takes a group of the pool
   mark                   all threads meet, and as many folds as possible are planned
 
-Where the first line is mesh 2, mesh 3 or mesh 4, put64, put256, fill64 and fill256 put objects of 4
-and of 16 words, which hold V, V+1, .., and are found so. Where it is mesh 3 or mesh 4, there is one
-line more, and where it is mesh 4 another:
+Where the first line is mesh 2, 3, 4 or 5, put64, put256, fill64 and fill256 put objects of 4 and of
+16 words, which hold V, V+1, .., and are found so. There is one line more from mesh 3 on, another from
+mesh 4 on, and two more where it is mesh 5:
 
   T set NAME V           replaces the value of the key by V, or by V, V+1, .., as wide as before
   T trim                 gives back the pages of the thread's shard on which nothing is live
+  T retire K             the K groups of the thread's shard with the fewest live keys go to the pool
+  T begin                lets a thread go on that has ended above an earlier mark
 
 docs/FORMATS.md describes traces and reports, and examples/ has some of each.
 

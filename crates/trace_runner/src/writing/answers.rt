@@ -59,6 +59,12 @@ fn push_answer(out: &mut Vec<u8>, answer: &Answer) -> Result<(), AllocError>
             out.extend_from_slice(b"trimmed ")?;
             push_number(out, *count)
         }
+        Answer::Retired(count) => {
+            out.extend_from_slice(b"retired ")?;
+            push_number(out, *count)
+        }
+        Answer::PlanOpen => out.extend_from_slice(b"refused plan"),
+        Answer::Begun => out.extend_from_slice(b"begun"),
     }
 }
 

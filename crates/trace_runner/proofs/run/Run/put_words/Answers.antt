@@ -26,7 +26,7 @@ returns-clause-made c =
     let answered = c.in_ok-key.ensures.key in
     (Makes-called c.args.number put reply old new (kept_in c.args.self.now.replies) (kept_in c.tell_put.new.self)
     (CoreStep-put old new c.args.thread c.args.words.now c.put_words-put.result c.put_words-put.ensures.exact) c.put_words-put.ensures.sound
-    (reply_to_put-each (λ r. PlainStep old.limits (shown old) put r (shown new)) c.put_words-put.result c.put_words-put.ensures.plain) c.in_ok-key.ensures.told
+    (reply_to_put-each (λ r. PlainStep old.limits (shown old) put r (shown new)) c.put_words-put.result c.put_words-put.ensures.plain) (c.in_ok-key.ensures.told put)
     (keeping-put c.args.number (kept_in c.args.self.now.replies) (kept_in c.tell_put.new.self) (one_call put reply new)
     c.in_ok-tell_put.ensures.count c.tell_put.ensures.asked (rw answered at c.in_ok-tell_put.ensures.text) refl
     (c.in_ok-tell_put.ensures.keys ∙ ap (λ k. c.args.self.now.replies.keys.items ++ k ∷ []) (sym (answer_key-put_told c.in_ok-key.key) ∙ (ap answer_key answered ∙ answer_key-told put reply new)))))
