@@ -212,6 +212,11 @@ static inline struct teurlaks_adopt_reply teurlaks_tested_seat_adopt(struct teur
     return handle ? teurlaks_seat_adopt(handle) : none;
 }
 
+static inline struct teurlaks_mark_reply teurlaks_tested_steward_mark(struct teurlaks_share_handle *handle) {
+    struct teurlaks_mark_reply none = {TEURLAKS_NO_CORE, 0, 0, 0, 0};
+    return handle ? teurlaks_steward_mark(handle) : none;
+}
+
 static inline struct teurlaks_mark_reply teurlaks_tested_steward_mark_some(struct teurlaks_share_handle *handle) {
     struct teurlaks_mark_reply none = {TEURLAKS_NO_CORE, 0, 0, 0, 0};
     return handle ? teurlaks_steward_mark_some(handle) : none;
@@ -224,6 +229,12 @@ static inline struct teurlaks_step_reply teurlaks_tested_steward_step(struct teu
 
 static inline uint32_t teurlaks_tested_steward_close(struct teurlaks_share_handle *handle) {
     return handle ? teurlaks_steward_close(handle) : (uint32_t)TEURLAKS_NO_CORE;
+}
+
+static inline struct teurlaks_certificate_reply teurlaks_tested_steward_certificate(struct teurlaks_share_handle *handle, uint8_t *text, size_t text_len) {
+    struct teurlaks_certificate_reply none = {TEURLAKS_NO_CORE, 0};
+    uint8_t no_text = 0;
+    return handle ? teurlaks_steward_certificate(handle, text ? text : &no_text, text ? text_len : 0) : none;
 }
 
 static inline struct teurlaks_arena_totals_reply teurlaks_tested_steward_totals(struct teurlaks_share_handle *handle) {
@@ -268,9 +279,11 @@ static inline struct teurlaks_arena_totals_reply teurlaks_tested_steward_totals(
 #define teurlaks_seat_retire teurlaks_tested_seat_retire
 #define teurlaks_seat_trim teurlaks_tested_seat_trim
 #define teurlaks_seat_adopt teurlaks_tested_seat_adopt
+#define teurlaks_steward_mark teurlaks_tested_steward_mark
 #define teurlaks_steward_mark_some teurlaks_tested_steward_mark_some
 #define teurlaks_steward_step teurlaks_tested_steward_step
 #define teurlaks_steward_close teurlaks_tested_steward_close
+#define teurlaks_steward_certificate teurlaks_tested_steward_certificate
 #define teurlaks_steward_totals teurlaks_tested_steward_totals
 
 #endif

@@ -221,7 +221,7 @@ fn exported() -> Declarations {
             &mut declarations,
         );
     }
-    assert_eq!(declarations.functions.len(), 41);
+    assert_eq!(declarations.functions.len(), 43);
     assert_eq!(declarations.structs.len(), 19);
     declarations
 }

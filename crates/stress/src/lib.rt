@@ -47,4 +47,6 @@ mod tries;
 #[cfg(test)]
 mod trims;
 #[cfg(test)]
+mod untold;
+#[cfg(test)]
 mod worker;
