@@ -17,6 +17,7 @@ use std::alloc::AllocError;
 
 impl<G: Gate, L: Log> Arena<G, L> {
     // Writes the words of the key's object into the room, and tells how many they are, and how many changes its span's log has.
+    // The first try is inlined where it is called. The others, for a span that moves meanwhile, are kept out of its way.
     #[inline(always)]
     pub(crate) fn try_get_words_wherever<W: Word>(
         &self,
@@ -27,7 +28,24 @@ impl<G: Gate, L: Log> Arena<G, L> {
             × WritesFound W.word found room.old got.0 room.new) }
         ensures busy { OnErr result (room.new ≡ room.old) }
     {
-        for _ in 0..MOST_MOVES {
+        match self.get_words_once(key, room)? {
+            Some(got) => Ok(got),
+            None => self.try_get_words_again(key, room),
+        }
+    }
+
+    // The same, where the span has moved once.
+    #[inline(never)]
+    fn try_get_words_again<W: Word>(
+        &self,
+        key: &Key,
+        room: &mut [W],
+    ) -> Result<(Option<usize>, usize), Busy>
+        ensures words { IfOk result (λ got. (found : Option Value)
+            × WritesFound W.word found room.old got.0 room.new) }
+        ensures busy { OnErr result (room.new ≡ room.old) }
+    {
+        for _ in 1..MOST_MOVES {
             if let Some(got) = self.get_words_once(key, room)? {
                 return Ok(got);
             }
@@ -55,7 +73,6 @@ impl<G: Gate, L: Log> Arena<G, L> {
     }
 
     // Sets the key's object to these words in place, and tells whether it did, and how many changes stood in its span's log before.
-    #[inline(always)]
     pub(crate) fn try_set_words_wherever(
         &self,
         key: &Key,
@@ -72,7 +89,6 @@ impl<G: Gate, L: Log> Arena<G, L> {
     }
 
     // The same where its word says that the span is, if the span is there.
-    #[inline(always)]
     fn set_words_once(
         &self,
         key: &Key,
@@ -89,7 +105,16 @@ impl<G: Gate, L: Log> Arena<G, L> {
     // Frees the key, and tells whether it was live, and how many changes stood in its span's log before.
     #[inline(always)]
     pub(crate) fn try_free_untold_wherever(&self, key: &Key) -> Result<(bool, usize), Busy> {
-        for _ in 0..MOST_MOVES {
+        match self.free_untold_once(key)? {
+            Some(freed) => Ok(freed),
+            None => self.try_free_untold_again(key),
+        }
+    }
+
+    // The same, where the span has moved once.
+    #[inline(never)]
+    fn try_free_untold_again(&self, key: &Key) -> Result<(bool, usize), Busy> {
+        for _ in 1..MOST_MOVES {
             if let Some(freed) = self.free_untold_once(key)? {
                 return Ok(freed);
             }

@@ -41,6 +41,14 @@ pub extern "C" fn teurlaks_seat_put_words(
     if let [word] = words {
         return put(alloc, handle, Class::C16, &[value_of(*word)]);
     }
+    put_wide(alloc, handle, words)
+}
+
+// The seat keeps an object of more than one word. It has room for the widest, which is kept out of the way of one word.
+#[inline(never)]
+fn put_wide(alloc: Global, handle: &mut ShareHandle, words: &[RawWord]) -> PutReply
+    ensures { PutsWords handle.old.share (words_of words.now) result handle.new.share }
+{
     let Some(class) = class_for(words) else {
         return PutReply {
             status: or_no_seat(CONFIG, alloc, handle),

@@ -39,12 +39,16 @@ impl Seat {
         let mut shard = Tries.lock(&arena.shards[self.worker as usize])?;
         arena.gate.inside(self.worker);
         self.count_call();
-        let put = shard.put_words(class, words);
-        if let Ok((key, 0)) = put {
-            // The span is new: whoever is handed its key finds it from now on.
-            arena.words.set(key.span, Place::Shard(self.worker));
+        match shard.put_words(class, words) {
+            Ok((key, at)) => {
+                if at == 0 {
+                    // The span is new: whoever is handed its key finds it from now on.
+                    arena.words.set(key.span, Place::Shard(self.worker));
+                }
+                Ok(Ok((key, at)))
+            }
+            Err(refused) => Ok(Err(refused)),
         }
-        Ok(put)
     }
 
     /// What [`Seat::try_get`] does, but that the words of what is found are written into `room`, from its first place on, where there is
@@ -78,7 +82,6 @@ impl Seat {
     /// # Errors
     ///
     /// As those of [`Seat::try_set`].
-    #[inline(always)]
     pub fn try_set_words<G: Gate, L: Log>(
         &mut self,
         arena: &Arena<G, L>,

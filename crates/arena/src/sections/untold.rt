@@ -37,7 +37,7 @@ pub fn get_words_in<L: Log, W: Word>(
 }
 
 /// Looks the key up in the pool, as [`get_words_in`] does in a shard.
-#[inline(always)]
+#[inline(never)]
 pub fn get_words_pool<L: Log, W: Word>(
     pool: &Pool<L>,
     key: &Key,
@@ -104,7 +104,7 @@ pub fn set_words_in<L: Log>(
 ///
 /// As that of [`Pool::set`]: `AllocError` in place of a set that would be done, where the span's log could not grow. The pool is
 /// then as it was.
-#[inline(always)]
+#[inline(never)]
 pub fn set_words_pool<L: Log>(
     pool: &mut Pool<L>,
     key: &Key,
@@ -140,7 +140,7 @@ pub fn free_untold_in<L: Log>(shard: &mut Shard<L>, key: &Key) -> Option<(bool, 
 }
 
 /// Frees the key in the pool, as [`free_untold_in`] does in a shard.
-#[inline(always)]
+#[inline(never)]
 pub fn free_untold_pool<L: Log>(pool: &mut Pool<L>, key: &Key) -> Option<(bool, usize)>
     ensures told { (what : Freed) × FreesPooled pool.old key.now what pool.new
         × (result ≡ free_told what) }
