@@ -47,6 +47,4 @@ mod tries;
 #[cfg(test)]
 mod trims;
 #[cfg(test)]
-mod untold;
-#[cfg(test)]
 mod worker;
