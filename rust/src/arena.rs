@@ -62,8 +62,8 @@ const RING: u32 = 256;
 /// call at a time is made on a handle its types see to, which are `Send` and not `Sync`.
 ///
 /// A [`SharedStore`](crate::SharedStore) is called by any thread through `&self`, and has locks of the standard library. An arena has proved ones,
-/// frees that wait for nobody, and folds between shards; in return each thread needs a seat, and calls take longer: a look-up some five times as
-/// long, a free with a put three times (`bench/README.md`).
+/// frees that wait for nobody, and folds between shards; in return each thread needs a seat. A look-up takes as long as there, a free with a put a
+/// quarter longer, and a look-up of what other threads keep three times as long where four threads do nothing else (`bench/README.md`).
 pub struct Arena<T> {
     share: Share,
     turn: Turn,
