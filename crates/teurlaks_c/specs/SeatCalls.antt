@@ -76,6 +76,10 @@ put_told value seat (Err b) = Err b
 put_told value seat (Ok (Err error)) = Ok (Err error)
 put_told value seat (Ok (Ok put)) = Ok (Ok (put.0, put_receipt seat.worker seat.section value put.0 put.1))
 
+-- a put that answers so
+abbrev pub PutsUntold : Value → SeatState → Result (Result (Key × ℕ) PutError) Busy → SeatState → Type 0
+PutsUntold value before answer after = Puts value before (put_told value before answer) after
+
 -- the same of a set
 abbrev pub set_told : Key → Value → SeatState → Result (Result (Bool × ℕ) AllocError) Busy → Result (Result (Bool × Receipt) AllocError) Busy
 set_told key value seat (Err b) = Err b

@@ -3,7 +3,7 @@ ghost use Rattle.std.specs.Prelude.{◌≡◌, MatchOption, Some, length};
 ghost use Rattle.arena.specs.Delays.{HandsOver};
 ghost use Rattle.arena.specs.Seats.{SeatState};
 ghost use Rattle.span.specs.Classes.{width_of};
-ghost use Rattle.teurlaks_c.specs.SeatCalls.{Asks, AtSeat, Ends, Frees, FreesLater, Gets, HasNoSeat, IsOneCall, Puts, Retires, SaysGot, SaysLooked, Sets, Stays, Tends, free_told, put_told, set_told};
+ghost use Rattle.teurlaks_c.specs.SeatCalls.{Asks, AtSeat, Ends, Frees, FreesLater, Gets, HasNoSeat, IsOneCall, PutsUntold, Retires, SaysGot, SaysLooked, Sets, Stays, Tends, free_told, set_told};
 
 use crate::replies::{RawWord, WordsReply};
 use crate::share::{Shards, Share, SharedSeat};
@@ -161,8 +161,7 @@ pub(crate) struct Put<'a> {
 impl SeatCall for Put<'_> {
     type Answer = Result<Result<(Key, usize), PutError>, Busy>;
 
-    ghost does = { λ call before answer after. Puts call.words.now before
-        (put_told call.words.now before answer) after };
+    ghost does = { λ call. PutsUntold call.words.now };
 
     #[inline(always)]
     fn ask(&self, seat: &mut Seat, arena: &Shards) -> Result<Result<(Key, usize), PutError>, Busy> {

@@ -1,8 +1,8 @@
 // The calls of a seat, for the thread that has its handle.
-ghost use Rattle.std.specs.Prelude.{◌≡◌, length};
+ghost use Rattle.std.specs.Prelude.{◌≡◌, ◌∷◌, [], length};
 ghost use Rattle.arena.specs.Delays.{HandsOver};
 ghost use Rattle.span.specs.Classes.{width_of};
-ghost use Rattle.teurlaks_c.specs.SeatCalls.{Asks, AsksNothing, Ends, Frees, FreesKey, GetsWords, IsOneCall, LeavesKey, Puts, PutsWords, Retires, SaysAdopted, SaysBegun, SaysEnded, SaysFreed, SaysHandedOver, SaysLeft, SaysPut, SaysRetired, SaysSet, SaysTended, SaysTrimmed, Sets, SetsWords, Tends};
+ghost use Rattle.teurlaks_c.specs.SeatCalls.{Asks, AsksNothing, Ends, Frees, FreesKey, GetsWords, IsOneCall, LeavesKey, PutsUntold, PutsWords, Retires, SaysAdopted, SaysBegun, SaysEnded, SaysFreed, SaysHandedOver, SaysLeft, SaysPut, SaysRetired, SaysSet, SaysTended, SaysTrimmed, Sets, SetsWords, Tends};
 ghost use Rattle.teurlaks_c.specs.Status.{adopt_status, put_status, receive_status};
 ghost use Rattle.teurlaks_c.specs.Words.{words_of};
 
@@ -38,27 +38,13 @@ pub extern "C" fn teurlaks_seat_put_words(
 ) -> PutReply
     ensures { PutsWords handle.old.share (words_of words.now) result handle.new.share }
 {
-    if let [word] = words {
-        return put(alloc, handle, Class::C16, &[value_of(*word)]);
-    }
-    put_wide(alloc, handle, words)
-}
-
-// The seat keeps an object of more than one word. It has room for the widest, which is kept out of the way of one word.
-#[inline(never)]
-fn put_wide(alloc: Global, handle: &mut ShareHandle, words: &[RawWord]) -> PutReply
-    ensures { PutsWords handle.old.share (words_of words.now) result handle.new.share }
-{
     let Some(class) = class_for(words) else {
         return PutReply {
             status: or_no_seat(CONFIG, alloc, handle),
             key: no_key(),
         };
     };
-    let mut room = [0; 16];
-    let values = &mut room[..words.len()];
-    join_all(values, words);
-    put(alloc, handle, class, values)
+    put_reply(put(alloc, handle, class, words))
 }
 
 /// Writes the words of the key's object, where it is live, into `words`, from its first on, and answers how many they are. `BUSY` where
@@ -208,14 +194,66 @@ pub extern "C" fn teurlaks_seat_tend(alloc: Global, handle: &mut ShareHandle) ->
     tended_reply(at_seat(alloc, handle, &Tend))
 }
 
-// The seat keeps the object of these words.
+// The seat keeps the object of these words, which are as many as the class has. One word is by far the most frequent.
 #[inline(always)]
-fn put(alloc: Global, handle: &mut ShareHandle, class: Class, words: &[u128]) -> PutReply
-    requires { length words.now ≡ width_of class }
-    ensures { (answer : _) × Asks (Puts words.now) handle.old.share answer handle.new.share
-        × SaysPut result answer }
+fn put(
+    alloc: Global,
+    handle: &mut ShareHandle,
+    class: Class,
+    words: &[RawWord],
+) -> Option<Result<Result<(Key, usize), PutError>, Busy>>
+    requires { length (words_of words.now) ≡ width_of class }
+    ensures { Asks (PutsUntold (words_of words.now)) handle.old.share result handle.new.share }
 {
-    put_reply(at_seat(alloc, handle, &Put { class, words }))
+    if let [word] = words {
+        return put_one(alloc, handle, *word);
+    }
+    put_wide(alloc, handle, class, words)
+}
+
+// The seat keeps the object of this word.
+#[inline(always)]
+fn put_one(
+    alloc: Global,
+    handle: &mut ShareHandle,
+    word: RawWord,
+) -> Option<Result<Result<(Key, usize), PutError>, Busy>>
+    ensures { Asks (PutsUntold (words_of (word ∷ []))) handle.old.share result handle.new.share }
+{
+    let words = [value_of(word)];
+    at_seat(
+        alloc,
+        handle,
+        &Put {
+            class: Class::C16,
+            words: &words,
+        },
+    )
+}
+
+// The same of an object of any class. It has room for the widest, which is kept out of the way of one word.
+#[inline(never)]
+fn put_wide(
+    alloc: Global,
+    handle: &mut ShareHandle,
+    class: Class,
+    words: &[RawWord],
+) -> Option<Result<Result<(Key, usize), PutError>, Busy>>
+    requires { length (words_of words.now) ≡ width_of class }
+    ensures { Asks (PutsUntold (words_of words.now)) handle.old.share result handle.new.share }
+{
+    let mut room = [0; 16];
+    let words_len = words.len();
+    let values = &mut room[..words_len];
+    join_all(values, words);
+    at_seat(
+        alloc,
+        handle,
+        &Put {
+            class,
+            words: values,
+        },
+    )
 }
 
 // The seat sets the key to the object of these words.
