@@ -83,10 +83,14 @@ static void each_call_of_a_seat(struct teurlaks_share_handle *none, struct teurl
 static void each_call_of_a_steward(struct teurlaks_share_handle *none) {
     struct teurlaks_share_handle out = {0};
     WANT(teurlaks_steward_seat(none, &out) == TEURLAKS_NO_CORE && !out.at);
+    WANT(teurlaks_steward_mark(none).status == TEURLAKS_NO_CORE);
     WANT(teurlaks_steward_mark_some(none).status == TEURLAKS_NO_CORE);
     WANT(teurlaks_steward_step(none).status == TEURLAKS_NO_CORE);
     WANT(teurlaks_steward_close(none) == TEURLAKS_NO_CORE);
     WANT(teurlaks_steward_forget(none).status == TEURLAKS_NO_CORE && teurlaks_steward_forget(none).count == 0);
+    uint8_t text = 7;
+    struct teurlaks_certificate_reply certificate = teurlaks_steward_certificate(none, &text, 1);
+    WANT(certificate.status == TEURLAKS_NO_CORE && certificate.len == 0 && text == 7);
     struct teurlaks_arena_totals_reply totals = teurlaks_steward_totals(none);
     WANT(totals.status == TEURLAKS_NO_CORE && totals.pages == 0 && totals.live == 0);
 }

@@ -319,6 +319,9 @@ struct teurlaks_trim_reply teurlaks_seat_trim(struct teurlaks_share_handle *hand
 /* As teurlaks_adopt, for the seat's shard. */
 struct teurlaks_adopt_reply teurlaks_seat_adopt(struct teurlaks_share_handle *handle);
 
+/* As teurlaks_mark, of all shards at one time. */
+struct teurlaks_mark_reply teurlaks_steward_mark(struct teurlaks_share_handle *handle);
+
 /* As teurlaks_mark_some, of all shards at one time. */
 struct teurlaks_mark_reply teurlaks_steward_mark_some(struct teurlaks_share_handle *handle);
 
@@ -330,6 +333,9 @@ uint32_t teurlaks_steward_close(struct teurlaks_share_handle *handle);
 
 /* As teurlaks_forget, of all shards at one time. */
 struct teurlaks_forget_reply teurlaks_steward_forget(struct teurlaks_share_handle *handle);
+
+/* As teurlaks_certificate, of the last mark of this steward. It takes no lock, and so is never TEURLAKS_BUSY. */
+struct teurlaks_certificate_reply teurlaks_steward_certificate(struct teurlaks_share_handle *handle, uint8_t *text, size_t text_len);
 
 /* How much the arena keeps, at one time. */
 struct teurlaks_arena_totals_reply teurlaks_steward_totals(struct teurlaks_share_handle *handle);

@@ -212,6 +212,11 @@ TEURLAKS_INLINE struct teurlaks_adopt_reply teurlaks_tested_seat_adopt(struct te
     return handle ? teurlaks_seat_adopt(handle) : none;
 }
 
+TEURLAKS_INLINE struct teurlaks_mark_reply teurlaks_tested_steward_mark(struct teurlaks_share_handle *handle) {
+    struct teurlaks_mark_reply none = {TEURLAKS_NO_CORE, 0, 0, 0, 0};
+    return handle ? teurlaks_steward_mark(handle) : none;
+}
+
 TEURLAKS_INLINE struct teurlaks_mark_reply teurlaks_tested_steward_mark_some(struct teurlaks_share_handle *handle) {
     struct teurlaks_mark_reply none = {TEURLAKS_NO_CORE, 0, 0, 0, 0};
     return handle ? teurlaks_steward_mark_some(handle) : none;
@@ -229,6 +234,12 @@ TEURLAKS_INLINE uint32_t teurlaks_tested_steward_close(struct teurlaks_share_han
 TEURLAKS_INLINE struct teurlaks_forget_reply teurlaks_tested_steward_forget(struct teurlaks_share_handle *handle) {
     struct teurlaks_forget_reply none = {TEURLAKS_NO_CORE, 0};
     return handle ? teurlaks_steward_forget(handle) : none;
+}
+
+TEURLAKS_INLINE struct teurlaks_certificate_reply teurlaks_tested_steward_certificate(struct teurlaks_share_handle *handle, uint8_t *text, size_t text_len) {
+    struct teurlaks_certificate_reply none = {TEURLAKS_NO_CORE, 0};
+    uint8_t no_text = 0;
+    return handle ? teurlaks_steward_certificate(handle, text ? text : &no_text, text ? text_len : 0) : none;
 }
 
 TEURLAKS_INLINE struct teurlaks_arena_totals_reply teurlaks_tested_steward_totals(struct teurlaks_share_handle *handle) {
@@ -273,10 +284,12 @@ TEURLAKS_INLINE struct teurlaks_arena_totals_reply teurlaks_tested_steward_total
 #define teurlaks_seat_retire teurlaks_tested_seat_retire
 #define teurlaks_seat_trim teurlaks_tested_seat_trim
 #define teurlaks_seat_adopt teurlaks_tested_seat_adopt
+#define teurlaks_steward_mark teurlaks_tested_steward_mark
 #define teurlaks_steward_mark_some teurlaks_tested_steward_mark_some
 #define teurlaks_steward_step teurlaks_tested_steward_step
 #define teurlaks_steward_close teurlaks_tested_steward_close
 #define teurlaks_steward_forget teurlaks_tested_steward_forget
+#define teurlaks_steward_certificate teurlaks_tested_steward_certificate
 #define teurlaks_steward_totals teurlaks_tested_steward_totals
 
 #endif

@@ -8,6 +8,7 @@
 #include <stdatomic.h>
 #include <stdio.h>
 #include <stdlib.h>
+#include <string.h>
 #include <time.h>
 
 #ifndef ROUNDS
@@ -190,14 +191,27 @@ static void *work(void *at) {
     return NULL;
 }
 
-/* A mark, its steps and a close; it answers how many folds there were. */
-static size_t mesh(struct teurlaks_share_handle *steward) {
+/* The text of the last mark's certificate has the head that its format says. */
+static void certificate(struct teurlaks_share_handle *steward) {
+    static const char head[] = "meshcert 2\nabandoned ";
+    struct teurlaks_certificate_reply asked = teurlaks_steward_certificate(steward, NULL, 0);
+    WANT(asked.status == TEURLAKS_TOO_SMALL && asked.len > strlen(head));
+    uint8_t *text = malloc(asked.len);
+    WANT(text);
+    struct teurlaks_certificate_reply told = teurlaks_steward_certificate(steward, text, asked.len);
+    WANT(told.status == TEURLAKS_OK && told.len == asked.len && !memcmp(text, head, strlen(head)));
+    free(text);
+}
+
+/* A mark, of all groups or of the sparsest, its steps and a close; it answers how many folds there were. */
+static size_t mesh(struct teurlaks_share_handle *steward, int sees_all) {
     struct teurlaks_mark_reply mark;
     struct teurlaks_step_reply step;
     uint32_t status;
     size_t folds = 0;
-    PATIENTLY(mark, mark.status, teurlaks_steward_mark_some(steward));
+    PATIENTLY(mark, mark.status, sees_all ? teurlaks_steward_mark(steward) : teurlaks_steward_mark_some(steward));
     WANT(mark.status == TEURLAKS_OK);
+    certificate(steward);
     do {
         PATIENTLY(step, step.status, teurlaks_steward_step(steward));
         folds += step.status == TEURLAKS_OK;
@@ -254,9 +268,10 @@ int main(void) {
     WANT(teurlaks_steward_seat(&steward, &none) == TEURLAKS_NONE);
     for (int i = 0; i < THREADS; i++) WANT(!pthread_create(&workers[i].thread, NULL, work, &workers[i]));
 
+    WANT(teurlaks_steward_certificate(&steward, NULL, 0).status == TEURLAKS_NONE);
     size_t folds = 0;
-    while (atomic_load(&ended) < THREADS) {
-        folds += mesh(&steward);
+    for (int marks = 0; atomic_load(&ended) < THREADS; marks++) {
+        folds += mesh(&steward, marks % 2);
         forget(&steward);
         nanosleep(&(struct timespec){0, 1000000}, NULL);
     }

@@ -6,7 +6,7 @@ mod share;
 pub use seat::Seat;
 
 use crate::bytes::MOST_BYTES;
-use crate::core::{done, marked, stepped, Limits, Marked, Stepped};
+use crate::core::{certificate_text, done, marked, stepped, Limits, Marked, Stepped};
 use crate::raw;
 use crate::refused::Refused;
 use share::{Share, Turn};
@@ -62,8 +62,8 @@ const RING: u32 = 256;
 /// call at a time is made on a handle its types see to, which are `Send` and not `Sync`.
 ///
 /// A [`SharedStore`](crate::SharedStore) is called by any thread through `&self`, and has locks of the standard library. An arena has proved ones,
-/// frees that wait for nobody, and folds between shards; in return each thread needs a seat, and calls take longer: a look-up some five times as
-/// long, a free with a put three times (`bench/README.md`).
+/// frees that wait for nobody, and folds between shards; in return each thread needs a seat. A look-up takes as long as there, a free with a put a
+/// quarter longer, and a look-up of what other threads keep three times as long where four threads do nothing else (`bench/README.md`).
 pub struct Arena<T> {
     share: Share,
     turn: Turn,
@@ -144,6 +144,22 @@ impl<T> Arena<T> {
         }
     }
 
+    /// Plans folds of the pool's groups onto those of the shards, as many as can be, and opens the plan. Until it is closed, the groups that it
+    /// folds onto take no value, and no group is adopted. It holds all locks for as long as it plans.
+    ///
+    /// # Errors
+    ///
+    /// - [`Refused::PlanOpen`]: a plan is open;
+    /// - [`Refused::TooMany`]: a side has more than 4,096 groups that have a page, of which [`Arena::mark_some`] takes some;
+    /// - [`Refused::OutOfMemory`]: none of these holds, and memory was refused.
+    pub fn mark(&mut self) -> Result<Marked, Refused> {
+        // SAFETY: the handle has a steward, and no other call runs on it.
+        marked(
+            self.turn
+                .at_steward(|| unsafe { raw::teurlaks_steward_mark(self.share.handle()) }),
+        )
+    }
+
     /// Plans folds of the pool's groups onto those of the shards, as many as can be of the 4,096 of each side with the fewest live keys, and opens
     /// the plan. Until it is closed, the groups that it folds onto take no value, and no group is adopted. It holds all locks for as long as it
     /// plans.
@@ -187,6 +203,17 @@ impl<T> Arena<T> {
         // SAFETY: as in `mark_some`.
         self.turn
             .at_steward(|| unsafe { raw::teurlaks_steward_close(self.share.handle()) })
+    }
+
+    /// The text of the last mark's certificate, which shows that no plan of what it saw has more folds, or `None` before the first mark.
+    /// `meshrun check` checks such a text without trusting who made it. It takes no lock.
+    ///
+    /// # Errors
+    ///
+    /// [`Refused::OutOfMemory`] where memory was refused for the text.
+    pub fn certificate(&self) -> Result<Option<String>, Refused> {
+        // SAFETY: the handle has a steward, no other call runs on it, and so many bytes stand there.
+        certificate_text(|text, len| unsafe { raw::teurlaks_steward_certificate(self.share.handle(), text, len) })
     }
 
     /// Marks, takes all steps and closes, and says how many folds there were, each of which gave a page back. The mark is that of

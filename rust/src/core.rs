@@ -2,7 +2,7 @@
 
 mod meshing;
 
-pub(crate) use meshing::{done, letting_go, marked, meshing, stepped};
+pub(crate) use meshing::{certificate_text, done, letting_go, marked, meshing, stepped};
 pub use meshing::{Marked, Stepped};
 
 use crate::bytes::{words_for, Bytes, BytesKey, Words, MOST_BYTES, MOST_WORDS};

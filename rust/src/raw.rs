@@ -193,10 +193,12 @@ extern "C" {
     pub fn teurlaks_seat_retire(handle: *mut ShareHandle, most: usize) -> RetireReply;
     pub fn teurlaks_seat_trim(handle: *mut ShareHandle) -> TrimReply;
     pub fn teurlaks_seat_adopt(handle: *mut ShareHandle) -> AdoptReply;
+    pub fn teurlaks_steward_mark(handle: *mut ShareHandle) -> MarkReply;
     pub fn teurlaks_steward_mark_some(handle: *mut ShareHandle) -> MarkReply;
     pub fn teurlaks_steward_step(handle: *mut ShareHandle) -> StepReply;
     pub fn teurlaks_steward_close(handle: *mut ShareHandle) -> u32;
     pub fn teurlaks_steward_forget(handle: *mut ShareHandle) -> ForgetReply;
+    pub fn teurlaks_steward_certificate(handle: *mut ShareHandle, text: *mut u8, text_len: usize) -> CertificateReply;
     pub fn teurlaks_steward_totals(handle: *mut ShareHandle) -> ArenaTotalsReply;
 }
 

@@ -507,6 +507,43 @@ fn calls_are_refused_as_they_say() -> Result<(), Refused> {
     Ok(())
 }
 
+/// As of a core (`tests/tour.rs`): a slot of its own on each side, in the text that `docs/FORMATS.md` describes.
+#[test]
+fn a_mark_of_all_groups_leaves_its_certificate() -> Result<(), Refused> {
+    let mut arena = Arena::open(limits(2, 4))?;
+    let (mut here, mut there) = (arena.seat()?, arena.seat()?);
+    assert_eq!(arena.certificate(), Ok(None));
+    let keys = [
+        here.insert(10_u128)?,
+        here.insert(11)?,
+        there.insert(7)?,
+        there.insert(8)?,
+    ];
+    let (first, second) = (keys[0].shard(), keys[2].shard());
+    here.end()?;
+    assert!(here.free(keys[1]) && here.free(keys[2]));
+    let marked = arena.mark()?;
+    assert_eq!(
+        (marked.abandoned, marked.owned, marked.folds, marked.short_set),
+        (1, 1, 1, 0)
+    );
+    assert_eq!(arena.mark(), Err(Refused::PlanOpen));
+    // The first of the 64 digits' bytes has the slots 0 to 7.
+    let (slot_0, slot_1) = (format!("01{}", "0".repeat(62)), format!("02{}", "0".repeat(62)));
+    let text = format!(
+        "meshcert 2\nabandoned 1\n{first}.0 16 {slot_0}\nowned 1\n{second}.0 16 {slot_1}\nfolds 1\n{first}.0 {second}.0\nshort 0\nend\n"
+    );
+    assert_eq!(arena.certificate(), Ok(Some(text.clone())));
+    assert!(matches!(arena.step(), Ok(Stepped::Folded(..))));
+    assert_eq!(arena.close(), Ok(()));
+    // That of the last mark stays until the next one.
+    assert_eq!(arena.certificate(), Ok(Some(text)));
+    assert_eq!((arena.mark()?.folds, arena.close()), (0, Ok(())));
+    assert!(arena.certificate()?.is_some_and(|text| text.contains("folds 0\n")));
+    assert_eq!((there.get(keys[0]), here.get(keys[3])), (Some(10), Some(8)));
+    Ok(())
+}
+
 /// What is left when the handles of an arena go, in each order.
 #[test]
 fn handles_go_in_any_order() -> Result<(), Refused> {

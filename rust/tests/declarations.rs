@@ -221,7 +221,7 @@ fn exported() -> Declarations {
             &mut declarations,
         );
     }
-    assert_eq!(declarations.functions.len(), 42);
+    assert_eq!(declarations.functions.len(), 44);
     assert_eq!(declarations.structs.len(), 19);
     declarations
 }

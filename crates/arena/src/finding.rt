@@ -77,7 +77,7 @@ impl<G: Gate, L: Log> Arena<G, L> {
     // Does so in the pool or else in the first of the shards that has the span, and notes where that was. Every call that moves a span
     // holds the pool's lock, and so does this one while it asks one after the other: a span that none of them has is nowhere, and no
     // span comes back from there.
-    fn visit_all<P: Patience, V: Visit>(
+    pub(crate) fn visit_all<P: Patience, V: Visit>(
         &self,
         patience: &P,
         id: SpanId,

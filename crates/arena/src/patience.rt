@@ -34,7 +34,7 @@ pub(crate) struct Tries;
 impl Patience for Tries {
     type Busy = Busy;
 
-    #[inline]
+    #[inline(always)]
     fn lock<'a, T: Drop>(&self, latch: &'a Latch<T>) -> Result<LatchGuard<'a, T>, Busy> {
         latch.try_lock()
     }

@@ -30,6 +30,7 @@ use std::mem::swap;
 use std::sync::Wait;
 
 mod trying;
+mod untold;
 
 pub use trying::Tended;
 

@@ -19,6 +19,12 @@ use shard::{Found, Freed, PutError, Replaced, Shard};
 use span::{Call, Key, Log, Object, Receipt};
 use std::alloc::AllocError;
 
+mod untold;
+
+pub use untold::{
+    free_untold_in, free_untold_pool, get_words_in, get_words_pool, set_words_in, set_words_pool,
+};
+
 /// Puts the object into the shard, as [`Shard::put`] does, and makes the receipt of that put. Its key is the receipt's.
 ///
 /// # Errors

@@ -42,7 +42,7 @@ impl<T: Drop> DerefMut for LatchGuard<'_, T> {
 }
 
 impl<T: Drop> Drop for LatchGuard<'_, T> {
-    #[inline]
+    #[inline(always)]
     fn drop(self) {
         let Self { latch, turn, value } = self;
         latch.give(turn, value);

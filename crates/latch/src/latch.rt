@@ -107,7 +107,8 @@ impl<T: Drop> Latch<T> {
     /// # Errors
     ///
     /// [`Busy`] where another thread has the value at each look.
-    #[inline]
+    // Inlined, the guard stays in registers: a call passes it through memory.
+    #[inline(always)]
     pub fn try_lock(&self) -> Result<LatchGuard<'_, T>, Busy> {
         for _ in 0..LOOKS {
             if let Some((value, turn)) = self.take() {
@@ -131,7 +132,7 @@ impl<T: Drop> Latch<T> {
     }
 
     // The value, and the turn at it, where no thread has it now.
-    #[inline]
+    #[inline(always)]
     fn take(&self) -> Option<(Box<T>, Turn<T>)>
         ensures { IfSome result (λ taken. taken.1 ≡ self.now) }
     {
@@ -150,7 +151,7 @@ impl<T: Drop> Latch<T> {
     }
 
     // Gives the value back: from now on any thread may take it.
-    #[inline]
+    #[inline(always)]
     pub(crate) fn give(&self, turn: Turn<T>, value: Box<T>)
         requires { turn ≡ self.now }
     {

@@ -28,7 +28,7 @@ use Rattle.teurlaks_c.specs.declared.share.Share.TheVariants.{Seat}
 use Rattle.teurlaks_c.specs.declared.share.SharedSeat.{SharedSeat}
 use Rattle.teurlaks_c.specs.Calls.{SaysWords}
 use Rattle.teurlaks_c.specs.Keys.{IsKeyOf, IsNoKey, IsSpanOf}
-use Rattle.teurlaks_c.specs.Status.{busy, config, done, no_core, none, out_of_memory, ring_full, still_running, adopt_status, put_status, receive_status}
+use Rattle.teurlaks_c.specs.Status.{busy, config, done, no_core, none, out_of_memory, ring_full, still_running, too_small, adopt_status, put_status, receive_status}
 
 -- the handle has no seat
 abbrev pub HasNoSeat : Option Share → Type 0
@@ -70,6 +70,27 @@ Sets key value before answer after =
 abbrev pub Frees : Key → SeatState → Result (Bool × Receipt) Busy → SeatState → Type 0
 Frees key before answer after = IfOk answer (λ freed. freed.1 ≡ free_receipt before.worker before.section key freed.0 freed.1.at) × IsOneCall before answer after
 
+-- a put's answer, with the receipt that it stands for in place of how many changes stood in the span's log
+abbrev pub put_told : Value → SeatState → Result (Result (Key × ℕ) PutError) Busy → Result (Result (Key × Receipt) PutError) Busy
+put_told value seat (Err b) = Err b
+put_told value seat (Ok (Err error)) = Ok (Err error)
+put_told value seat (Ok (Ok put)) = Ok (Ok (put.0, put_receipt seat.worker seat.section value put.0 put.1))
+
+-- a put that answers so
+abbrev pub PutsUntold : Value → SeatState → Result (Result (Key × ℕ) PutError) Busy → SeatState → Type 0
+PutsUntold value before answer after = Puts value before (put_told value before answer) after
+
+-- the same of a set
+abbrev pub set_told : Key → Value → SeatState → Result (Result (Bool × ℕ) AllocError) Busy → Result (Result (Bool × Receipt) AllocError) Busy
+set_told key value seat (Err b) = Err b
+set_told key value seat (Ok (Err error)) = Ok (Err error)
+set_told key value seat (Ok (Ok set)) = Ok (Ok (set.0, set_receipt seat.worker seat.section key value set.0 set.1))
+
+-- the same of a free
+abbrev pub free_told : Key → SeatState → Result (Bool × ℕ) Busy → Result (Bool × Receipt) Busy
+free_told key seat (Err b) = Err b
+free_told key seat (Ok freed) = Ok (freed.0, free_receipt seat.worker seat.section key freed.0 freed.1)
+
 -- at most that many groups go
 abbrev pub Retires : ℕ → SeatState → Result (Result ℕ ReceiveError) Busy → SeatState → Type 0
 Retires most before answer after = IfOk answer (λ retired. IfOk retired (λ count. count ≤ most)) × IsOneCall before answer after
@@ -109,7 +130,7 @@ abbrev pub AsksNothing : ℕ → Option Share → ℕ → Option Share → Type 
 AsksNothing status old says new = (answer : _) × Asks Stays old answer new × SaysInstead status says answer
 
 -- what C reads of a put
-abbrev pub SaysPut : PutReply → Option (Result (Result (Key × Receipt) PutError) Busy) → Type 0
+abbrev pub SaysPut : {Told : Type 0} → PutReply → Option (Result (Result (Key × Told) PutError) Busy) → Type 0
 SaysPut says None = says.status ≡ no_core
 SaysPut says (Some (Err b)) = says.status ≡ busy
 SaysPut says (Some (Ok (Ok put))) = (says.status ≡ done) × IsKeyOf says.key put.0
@@ -126,13 +147,19 @@ SaysGot room says room_new None = (says.status ≡ no_core) × (says.len ≡ 0) 
 SaysGot room says room_new (Some (Err b)) = (says.status ≡ busy) × (says.len ≡ 0) × (room_new ≡ room)
 SaysGot room says room_new (Some (Ok got)) = SaysWords room says room_new got.0
 
+-- what C reads of a look-up by words, where there is room for so many
+abbrev pub SaysLooked : ℕ → WordsReply → Result (Option ℕ × ℕ) Busy → Type 0
+SaysLooked most says (Err b) = (says.status ≡ busy) × (says.len ≡ 0)
+SaysLooked most says (Ok (None, at)) = (says.len ≡ 0) × (says.status ≡ none)
+SaysLooked most says (Ok (Some count, at)) = (says.len ≡ count) × (((count ≤ most) × (says.status ≡ done)) ⊎ ((most < count) × (says.status ≡ too_small)))
+
 -- the words of the key with these numbers, if it is live
 abbrev pub GetsWords : Option Share → RawKey → List RawWord → WordsReply → List RawWord → Option Share → Type 0
 GetsWords old raw room says room_new new = (IsNoKey raw × AsksNothing none old says.status new × (says.len ≡ 0) × (room_new ≡ room))
     ⊎ ((key : Key) × IsKeyOf raw key × ((answer : _) × Asks (Gets key) old answer new × SaysGot room says room_new answer))
 
 -- what C reads of a free
-abbrev pub SaysFreed : ℕ → Option (Result (Bool × Receipt) Busy) → Type 0
+abbrev pub SaysFreed : {Told : Type 0} → ℕ → Option (Result (Bool × Told) Busy) → Type 0
 SaysFreed says None = says ≡ no_core
 SaysFreed says (Some (Err b)) = says ≡ busy
 SaysFreed says (Some (Ok (true, receipt))) = says ≡ done
@@ -143,7 +170,7 @@ abbrev pub FreesKey : Option Share → RawKey → ℕ → Option Share → Type 
 FreesKey old raw says new = (IsNoKey raw × AsksNothing none old says new) ⊎ ((key : Key) × IsKeyOf raw key × ((answer : _) × Asks (Frees key) old answer new × SaysFreed says answer))
 
 -- what C reads of a set
-abbrev pub SaysSet : ℕ → Option (Result (Result (Bool × Receipt) AllocError) Busy) → Type 0
+abbrev pub SaysSet : {Told : Type 0} → ℕ → Option (Result (Result (Bool × Told) AllocError) Busy) → Type 0
 SaysSet says None = says ≡ no_core
 SaysSet says (Some (Err b)) = says ≡ busy
 SaysSet says (Some (Ok (Err error))) = says ≡ out_of_memory

@@ -1,5 +1,5 @@
 -- What the calls on the steward of an arena do.
-use Rattle.std.specs.Prelude.{◌≡◌, ℕ, Bool, true, false, Option, Some, None, Result, Ok, Err, IfOk, IsErr, IsSome, ◌↔◌, OnErr, OnOk, MatchOption, is_some, ◌++◌, ◌∷◌, [], ◌⊎◌, vec_len}
+use Rattle.std.specs.Prelude.{◌≡◌, ℕ, List, Bool, true, false, Option, Some, None, Result, Ok, Err, IfOk, IsErr, IsSome, ◌↔◌, OnErr, OnOk, MatchOption, is_some, ◌++◌, ◌∷◌, [], ◌⊎◌, vec_len}
 use Rattle.std.specs.declared.alloc.AllocError.{AllocError}
 use Rattle.certificate.specs.declared.certificate.Certificate.{Certificate}
 use Rattle.certificate.specs.Plans.{IsBestPlanOf, IsShortOf}
@@ -12,6 +12,7 @@ use Rattle.arena.specs.Stewards.{Steps, begun}
 use Rattle.arena.specs.declared.arena.Stepped.{Stepped}
 use Rattle.arena.specs.declared.error.PlanOpen.{PlanOpen}
 use Rattle.arena.specs.declared.arena.Stepped.TheVariants.{NoPairLeft, NoPlan, Taken}
+use Rattle.teurlaks_c.specs.declared.replies.CertificateReply.{CertificateReply}
 use Rattle.teurlaks_c.specs.declared.replies.ForgetReply.{ForgetReply}
 use Rattle.teurlaks_c.specs.declared.replies.MarkReply.{MarkReply}
 use Rattle.teurlaks_c.specs.declared.replies.StepReply.{StepReply}
@@ -20,7 +21,7 @@ use Rattle.teurlaks_c.specs.declared.share.Share.{Share}
 use Rattle.teurlaks_c.specs.declared.share.Share.TheVariants.{Seat, Steward}
 use Rattle.teurlaks_c.specs.declared.share.SharedSteward.{SharedSteward}
 use Rattle.std.specs.Arc.{arc_value}
-use Rattle.teurlaks_c.specs.Calls.{CountsOf, kept}
+use Rattle.teurlaks_c.specs.Calls.{CountsOf, Tells, kept}
 use Rattle.teurlaks_c.specs.Keys.{IsSpanOf}
 use Rattle.teurlaks_c.specs.Status.{busy, done, has_core, no_core, no_pair_left, no_plan, out_of_memory, mark_status, refusal_status, status_of_outcome, none}
 
@@ -110,6 +111,11 @@ Keeps before answer after = (after.steward ≡ before.steward) × (after.last �
 -- guests are forgotten, but while a plan is open, or where another thread has a lock
 abbrev pub Forgets : SharedSteward → Result (Result ℕ PlanOpen) Busy → SharedSteward → Type 0
 Forgets before answer after = IfOk answer (λ forgotten. IsErr forgotten ↔ IsSome before.steward.plan) × Keeps before answer after
+
+-- the text of the certificate that is kept is written into the room, where the handle has a steward
+abbrev pub WritesLast : Option Share → List ℕ → CertificateReply → List ℕ → Type 0
+WritesLast (Some (Steward steward)) room says room_new = Tells steward.last room says room_new
+WritesLast held room says room_new = (says.status ≡ no_core) × (says.len ≡ 0) × (room_new ≡ room)
 
 -- what C reads of a mark
 abbrev pub SaysMarked : MarkReply → Option (Result (Result MarkReply MarkError) Busy) → Type 0

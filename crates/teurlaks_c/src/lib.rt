@@ -69,7 +69,7 @@ pub use seats::{
     teurlaks_seat_trim,
 };
 pub use stewards::{
-    teurlaks_arena_open, teurlaks_share_drop, teurlaks_steward_close, teurlaks_steward_forget,
-    teurlaks_steward_mark_some, teurlaks_steward_seat, teurlaks_steward_step,
-    teurlaks_steward_totals,
+    teurlaks_arena_open, teurlaks_share_drop, teurlaks_steward_certificate, teurlaks_steward_close,
+    teurlaks_steward_forget, teurlaks_steward_mark, teurlaks_steward_mark_some,
+    teurlaks_steward_seat, teurlaks_steward_step, teurlaks_steward_totals,
 };

@@ -268,8 +268,8 @@ fn step(alloc: Global, handle: &mut Handle, event: Event) -> Option<Reply>
     Some(reply)
 }
 
-// The text of the certificate, if there is one, written into the room.
-fn write_last(alloc: Global, last: &Option<Witness>, room: &mut [u8]) -> CertificateReply
+/// The text of the certificate, if there is one, written into the room.
+pub(crate) fn write_last(alloc: Global, last: &Option<Witness>, room: &mut [u8]) -> CertificateReply
     ensures { Tells last.now room.old result room.new }
 {
     let Some(witness) = last else {

@@ -1,15 +1,18 @@
 // What is asked of the seat of a handle, and what it answers.
-ghost use Rattle.std.specs.Prelude.{◌≡◌, MatchOption};
+ghost use Rattle.std.specs.Prelude.{◌≡◌, MatchOption, Some, length};
 ghost use Rattle.arena.specs.Delays.{HandsOver};
 ghost use Rattle.arena.specs.Seats.{SeatState};
-ghost use Rattle.teurlaks_c.specs.SeatCalls.{Asks, AtSeat, Ends, Frees, FreesLater, Gets, HasNoSeat, IsOneCall, Puts, Retires, Sets, Stays, Tends};
+ghost use Rattle.span.specs.Classes.{width_of};
+ghost use Rattle.teurlaks_c.specs.SeatCalls.{Asks, AtSeat, Ends, Frees, FreesLater, Gets, HasNoSeat, IsOneCall, PutsUntold, Retires, SaysGot, SaysLooked, Sets, Stays, Tends, free_told, set_told};
 
+use crate::replies::{RawWord, WordsReply};
 use crate::share::{Shards, Share, SharedSeat};
 use crate::share_handle::ShareHandle;
+use crate::status::{BUSY, NO_CORE, NONE, OK, TOO_SMALL};
 use abandoned::{AdoptError, ReceiveError};
 use arena::{Busy, Dropped, Seat, Tended};
 use shard::PutError;
-use span::{Key, Object, Receipt, SpanId};
+use span::{Class, Key, SpanId};
 use std::alloc::{AllocError, Global};
 use std::mem::replace;
 
@@ -29,6 +32,7 @@ pub(crate) trait SeatCall {
 }
 
 /// Asks the seat of the handle, where it has one.
+#[inline(always)]
 pub(crate) fn at_seat<C: SeatCall>(
     alloc: Global,
     handle: &mut ShareHandle,
@@ -45,6 +49,7 @@ pub(crate) fn at_seat<C: SeatCall>(
 }
 
 // Asks the seat, where that is what is shared.
+#[inline(always)]
 fn ask_share<C: SeatCall>(share: &mut Share, call: &C) -> Option<C::Answer>
     ensures { Asks (C.does call.now) (Some share.old) result (Some share.new) }
 {
@@ -55,11 +60,82 @@ fn ask_share<C: SeatCall>(share: &mut Share, call: &C) -> Option<C::Answer>
 }
 
 // Asks the seat.
+#[inline(always)]
 fn ask_seat<C: SeatCall>(shared: &mut SharedSeat, call: &C) -> C::Answer
     ensures arena { shared.new.arena ≡ shared.old.arena }
     ensures does { C.does call.now shared.old.seat result shared.new.seat }
 {
     call.ask(&mut shared.seat, &*shared.arena)
+}
+
+/// Looks the key up at the seat of the handle, where it has one, and writes the words of its object into the room, where there is enough.
+#[inline(always)]
+pub(crate) fn look_up_at_seat(
+    alloc: Global,
+    handle: &mut ShareHandle,
+    key: &Key,
+    room: &mut [RawWord],
+) -> WordsReply
+    ensures { (answer : _) × Asks (Gets key.now) handle.old.share answer handle.new.share
+        × SaysGot room.old result room.new answer }
+{
+    let Some(mut share) = replace(handle, ShareHandle::none()).into_box(alloc) else {
+        return WordsReply {
+            status: NO_CORE,
+            len: 0,
+        };
+    };
+    let says = look_up_at_share(&mut *share, key, room);
+    *handle = ShareHandle::of(share);
+    says
+}
+
+// The same of what is shared.
+#[inline(always)]
+fn look_up_at_share(share: &mut Share, key: &Key, room: &mut [RawWord]) -> WordsReply
+    ensures { (answer : _) × Asks (Gets key.now) (Some share.old) answer (Some share.new)
+        × SaysGot room.old result room.new answer }
+{
+    match share {
+        Share::Seat(seat) => look_up(seat, key, room),
+        Share::Steward(_) => WordsReply {
+            status: NO_CORE,
+            len: 0,
+        },
+    }
+}
+
+// The same of a seat.
+#[inline(always)]
+fn look_up(shared: &mut SharedSeat, key: &Key, room: &mut [RawWord]) -> WordsReply
+    ensures arena { shared.new.arena ≡ shared.old.arena }
+    ensures does { (answer : _) × Gets key.now shared.old.seat answer shared.new.seat
+        × SaysGot room.old result room.new (Some answer) }
+{
+    let most = room.len();
+    let answer = shared.seat.try_get_words(&*shared.arena, key, room);
+    looked_reply(most, answer)
+}
+
+// What C reads of a look-up, where there is room for so many words.
+#[inline(always)]
+fn looked_reply(most: usize, answer: Result<(Option<usize>, usize), Busy>) -> WordsReply
+    ensures { SaysLooked most result answer }
+{
+    match answer {
+        Ok((Some(len), _)) => WordsReply {
+            status: if len <= most { OK } else { TOO_SMALL },
+            len,
+        },
+        Ok((None, _)) => WordsReply {
+            status: NONE,
+            len: 0,
+        },
+        Err(Busy) => WordsReply {
+            status: BUSY,
+            len: 0,
+        },
+    }
 }
 
 /// Nothing, where what is asked for names no key or no object.
@@ -74,60 +150,44 @@ impl SeatCall for Stay {
     fn ask(&self, _seat: &mut Seat, _arena: &Shards) {}
 }
 
-/// A put of the object.
+/// A put of the object of these words.
 #[derive(Drop)]
-pub(crate) struct Put {
-    pub(crate) value: Object,
+pub(crate) struct Put<'a> {
+    pub(crate) class: Class,
+    pub(crate) words: &'a [u128],
+    pub(crate) ghost width: { length words.now ≡ width_of class },
 }
 
-impl SeatCall for Put {
-    type Answer = Result<Result<(Key, Receipt), PutError>, Busy>;
+impl SeatCall for Put<'_> {
+    type Answer = Result<Result<(Key, usize), PutError>, Busy>;
 
-    ghost does = { λ call. Puts call.value };
+    ghost does = { λ call. PutsUntold call.words.now };
+
+    #[inline(always)]
+    fn ask(&self, seat: &mut Seat, arena: &Shards) -> Result<Result<(Key, usize), PutError>, Busy> {
+        seat.try_put_words(arena, self.class, self.words)
+    }
+}
+
+/// A set of the key to the object of these words, in place.
+#[derive(Drop)]
+pub(crate) struct Set<'a> {
+    pub(crate) key: Key,
+    pub(crate) words: &'a [u128],
+}
+
+impl SeatCall for Set<'_> {
+    type Answer = Result<Result<(bool, usize), AllocError>, Busy>;
+
+    ghost does = { λ call before answer after. Sets call.key call.words.now before
+        (set_told call.key call.words.now before answer) after };
 
     fn ask(
         &self,
         seat: &mut Seat,
         arena: &Shards,
-    ) -> Result<Result<(Key, Receipt), PutError>, Busy> {
-        seat.try_put(arena, self.value)
-    }
-}
-
-/// A look-up of the key.
-#[derive(Drop)]
-pub(crate) struct Get {
-    pub(crate) key: Key,
-}
-
-impl SeatCall for Get {
-    type Answer = Result<(Option<Object>, Receipt), Busy>;
-
-    ghost does = { λ call. Gets call.key };
-
-    fn ask(&self, seat: &mut Seat, arena: &Shards) -> Result<(Option<Object>, Receipt), Busy> {
-        seat.try_get(arena, &self.key)
-    }
-}
-
-/// A set of the key to the object, in place.
-#[derive(Drop)]
-pub(crate) struct Set {
-    pub(crate) key: Key,
-    pub(crate) value: Object,
-}
-
-impl SeatCall for Set {
-    type Answer = Result<Result<(bool, Receipt), AllocError>, Busy>;
-
-    ghost does = { λ call. Sets call.key call.value };
-
-    fn ask(
-        &self,
-        seat: &mut Seat,
-        arena: &Shards,
-    ) -> Result<Result<(bool, Receipt), AllocError>, Busy> {
-        seat.try_set(arena, &self.key, self.value)
+    ) -> Result<Result<(bool, usize), AllocError>, Busy> {
+        seat.try_set_words(arena, &self.key, self.words)
     }
 }
 
@@ -138,12 +198,14 @@ pub(crate) struct Free {
 }
 
 impl SeatCall for Free {
-    type Answer = Result<(bool, Receipt), Busy>;
+    type Answer = Result<(bool, usize), Busy>;
 
-    ghost does = { λ call. Frees call.key };
+    ghost does = { λ call before answer after. Frees call.key before
+        (free_told call.key before answer) after };
 
-    fn ask(&self, seat: &mut Seat, arena: &Shards) -> Result<(bool, Receipt), Busy> {
-        seat.try_free(arena, &self.key)
+    #[inline(always)]
+    fn ask(&self, seat: &mut Seat, arena: &Shards) -> Result<(bool, usize), Busy> {
+        seat.try_free_untold(arena, &self.key)
     }
 }
 

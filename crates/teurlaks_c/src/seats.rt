@@ -1,29 +1,31 @@
 // The calls of a seat, for the thread that has its handle.
-ghost use Rattle.std.specs.Prelude.{◌≡◌};
+ghost use Rattle.std.specs.Prelude.{◌≡◌, ◌∷◌, [], length};
 ghost use Rattle.arena.specs.Delays.{HandsOver};
-ghost use Rattle.teurlaks_c.specs.SeatCalls.{Asks, AsksNothing, Ends, FreesKey, GetsWords, IsOneCall, LeavesKey, PutsWords, Retires, SaysAdopted, SaysBegun, SaysEnded, SaysFreed, SaysGot, SaysHandedOver, SaysLeft, SaysPut, SaysRetired, SaysSet, SaysTended, SaysTrimmed, SetsWords, Tends};
+ghost use Rattle.span.specs.Classes.{width_of};
+ghost use Rattle.teurlaks_c.specs.SeatCalls.{Asks, AsksNothing, Ends, Frees, FreesKey, GetsWords, IsOneCall, LeavesKey, PutsUntold, PutsWords, Retires, SaysAdopted, SaysBegun, SaysEnded, SaysFreed, SaysHandedOver, SaysLeft, SaysPut, SaysRetired, SaysSet, SaysTended, SaysTrimmed, Sets, SetsWords, Tends};
 ghost use Rattle.teurlaks_c.specs.Status.{adopt_status, put_status, receive_status};
 ghost use Rattle.teurlaks_c.specs.Words.{words_of};
 
-use crate::calls::{no_key, tell};
+use crate::calls::no_key;
 use crate::keys::{key_of, raw_of, raw_span};
 use crate::meshing::no_span;
 use crate::replies::{
     AdoptReply, PutReply, RawKey, RawWord, RetireReply, TendReply, TrimReply, WordsReply,
 };
 use crate::seat_calls::{
-    Adopt, Begin, End, Free, FreeLater, Get, HandOver, Put, Retire, Set, Stay, Tend, Trim, at_seat,
+    Adopt, Begin, End, Free, FreeLater, HandOver, Put, Retire, Set, Stay, Tend, Trim, at_seat,
+    look_up_at_seat,
 };
 use crate::share_handle::ShareHandle;
 use crate::status::{
     BUSY, CONFIG, ENDED, NO_CORE, NONE, NOTHING_TO_ADOPT, OK, OUT_OF_MEMORY, PAGES_SPENT,
     PLAN_OPEN, RING_FULL, RUNNING,
 };
-use crate::words::object_of;
+use crate::words::{class_for, join_all, value_of};
 use abandoned::{AdoptError, ReceiveError};
 use arena::{Busy, Tended};
 use shard::PutError;
-use span::{Key, Object, Receipt, SpanId};
+use span::{Class, Key, SpanId};
 use std::alloc::{AllocError, Global};
 
 /// Keeps an object of 1, 4 or 16 words in the seat's shard, and answers its key. Refused with `BUSY`, `PAGES_SPENT`, `ENDED` or
@@ -36,13 +38,13 @@ pub extern "C" fn teurlaks_seat_put_words(
 ) -> PutReply
     ensures { PutsWords handle.old.share (words_of words.now) result handle.new.share }
 {
-    let Some(value) = object_of(words) else {
+    let Some(class) = class_for(words) else {
         return PutReply {
             status: or_no_seat(CONFIG, alloc, handle),
             key: no_key(),
         };
     };
-    put_reply(at_seat(alloc, handle, &Put { value }))
+    put_reply(put(alloc, handle, class, words))
 }
 
 /// Writes the words of the key's object, where it is live, into `words`, from its first on, and answers how many they are. `BUSY` where
@@ -63,7 +65,7 @@ pub extern "C" fn teurlaks_seat_get_words(
             len: 0,
         };
     };
-    got_reply(at_seat(alloc, handle, &Get { key }), words)
+    look_up_at_seat(alloc, handle, &key, words)
 }
 
 /// Sets the key to the object of 1, 4 or 16 words, where it is live and its object has as many, which `OK` says; else it answers `NONE`.
@@ -77,13 +79,16 @@ pub extern "C" fn teurlaks_seat_set_words(
 ) -> u32
     ensures { SetsWords handle.old.share key (words_of words.now) result handle.new.share }
 {
-    let Some(value) = object_of(words) else {
+    let Some(_) = class_for(words) else {
         return or_no_seat(CONFIG, alloc, handle);
     };
     let Some(key) = key_of(key) else {
         return or_no_seat(NONE, alloc, handle);
     };
-    set_reply(at_seat(alloc, handle, &Set { key, value }))
+    let mut room = [0; 16];
+    let values = &mut room[..words.len()];
+    join_all(values, words);
+    set(alloc, handle, key, values)
 }
 
 /// Frees the key, where it is live, which `OK` says; else it answers `NONE`, or `BUSY`, and nothing changes. It takes no memory.
@@ -94,7 +99,7 @@ pub extern "C" fn teurlaks_seat_free(alloc: Global, handle: &mut ShareHandle, ke
     let Some(key) = key_of(key) else {
         return or_no_seat(NONE, alloc, handle);
     };
-    freed_reply(at_seat(alloc, handle, &Free { key }))
+    free(alloc, handle, key)
 }
 
 /// Ends the seat's shard: its groups go to the pool, with their pages, and it takes no put until it begins again. Refused with `BUSY`, `ENDED`,
@@ -189,6 +194,85 @@ pub extern "C" fn teurlaks_seat_tend(alloc: Global, handle: &mut ShareHandle) ->
     tended_reply(at_seat(alloc, handle, &Tend))
 }
 
+// The seat keeps the object of these words, which are as many as the class has. One word is by far the most frequent.
+#[inline(always)]
+fn put(
+    alloc: Global,
+    handle: &mut ShareHandle,
+    class: Class,
+    words: &[RawWord],
+) -> Option<Result<Result<(Key, usize), PutError>, Busy>>
+    requires { length (words_of words.now) ≡ width_of class }
+    ensures { Asks (PutsUntold (words_of words.now)) handle.old.share result handle.new.share }
+{
+    if let [word] = words {
+        return put_one(alloc, handle, *word);
+    }
+    put_wide(alloc, handle, class, words)
+}
+
+// The seat keeps the object of this word.
+#[inline(always)]
+fn put_one(
+    alloc: Global,
+    handle: &mut ShareHandle,
+    word: RawWord,
+) -> Option<Result<Result<(Key, usize), PutError>, Busy>>
+    ensures { Asks (PutsUntold (words_of (word ∷ []))) handle.old.share result handle.new.share }
+{
+    let words = [value_of(word)];
+    at_seat(
+        alloc,
+        handle,
+        &Put {
+            class: Class::C16,
+            words: &words,
+        },
+    )
+}
+
+// The same of an object of any class. It has room for the widest, which is kept out of the way of one word.
+#[inline(never)]
+fn put_wide(
+    alloc: Global,
+    handle: &mut ShareHandle,
+    class: Class,
+    words: &[RawWord],
+) -> Option<Result<Result<(Key, usize), PutError>, Busy>>
+    requires { length (words_of words.now) ≡ width_of class }
+    ensures { Asks (PutsUntold (words_of words.now)) handle.old.share result handle.new.share }
+{
+    let mut room = [0; 16];
+    let words_len = words.len();
+    let values = &mut room[..words_len];
+    join_all(values, words);
+    at_seat(
+        alloc,
+        handle,
+        &Put {
+            class,
+            words: values,
+        },
+    )
+}
+
+// The seat sets the key to the object of these words.
+fn set(alloc: Global, handle: &mut ShareHandle, key: Key, words: &[u128]) -> u32
+    ensures { (answer : _) × Asks (Sets key words.now) handle.old.share answer handle.new.share
+        × SaysSet result answer }
+{
+    set_reply(at_seat(alloc, handle, &Set { key, words }))
+}
+
+// The seat frees the key.
+#[inline(always)]
+fn free(alloc: Global, handle: &mut ShareHandle, key: Key) -> u32
+    ensures { (answer : _) × Asks (Frees key) handle.old.share answer handle.new.share
+        × SaysFreed result answer }
+{
+    freed_reply(at_seat(alloc, handle, &Free { key }))
+}
+
 // That status, where the handle has a seat.
 fn or_no_seat(status: u32, alloc: Global, handle: &mut ShareHandle) -> u32
     ensures { AsksNothing status handle.old.share result handle.new.share }
@@ -233,7 +317,7 @@ fn tended_reply(answer: Option<Result<Tended, AllocError>>) -> TendReply
 
 // What C reads of a put.
 #[inline(always)]
-fn put_reply(answer: Option<Result<Result<(Key, Receipt), PutError>, Busy>>) -> PutReply
+fn put_reply(answer: Option<Result<Result<(Key, usize), PutError>, Busy>>) -> PutReply
     ensures { SaysPut result answer }
 {
     let status = match answer {
@@ -253,24 +337,8 @@ fn put_reply(answer: Option<Result<Result<(Key, Receipt), PutError>, Busy>>) -> 
     }
 }
 
-// What C reads of a look-up, whose words are written into the room where there is enough.
-fn got_reply(
-    answer: Option<Result<(Option<Object>, Receipt), Busy>>,
-    room: &mut [RawWord],
-) -> WordsReply
-    ensures { SaysGot room.old result room.new answer }
-{
-    let status = match answer {
-        Some(Ok((Some(value), _))) => return tell(Some(value.words()), room),
-        Some(Ok((None, _))) => NONE,
-        Some(Err(Busy)) => BUSY,
-        None => NO_CORE,
-    };
-    WordsReply { status, len: 0 }
-}
-
 // What C reads of a set.
-fn set_reply(answer: Option<Result<Result<(bool, Receipt), AllocError>, Busy>>) -> u32
+fn set_reply(answer: Option<Result<Result<(bool, usize), AllocError>, Busy>>) -> u32
     ensures { SaysSet result answer }
 {
     match answer {
@@ -284,7 +352,7 @@ fn set_reply(answer: Option<Result<Result<(bool, Receipt), AllocError>, Busy>>) 
 
 // What C reads of a free.
 #[inline(always)]
-fn freed_reply(answer: Option<Result<(bool, Receipt), Busy>>) -> u32
+fn freed_reply(answer: Option<Result<(bool, usize), Busy>>) -> u32
     ensures { SaysFreed result answer }
 {
     match answer {

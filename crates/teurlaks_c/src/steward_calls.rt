@@ -57,6 +57,23 @@ fn ask_share<C: StewardCall>(share: &mut Share, call: &C) -> Option<C::Answer>
     }
 }
 
+/// A mark of all groups.
+#[derive(Drop)]
+pub(crate) struct Mark;
+
+impl StewardCall for Mark {
+    type Answer = Result<Result<MarkReply, MarkError>, Busy>;
+
+    ghost does = { λ call. Marks };
+
+    fn ask(&self, shared: &mut SharedSteward) -> Result<Result<MarkReply, MarkError>, Busy> {
+        match shared.arena.try_mark(&mut shared.steward)? {
+            Ok(certificate) => Ok(Ok(keep(&mut shared.last, certificate))),
+            Err(refusal) => Ok(Err(refusal)),
+        }
+    }
+}
+
 /// A mark of the sparsest groups.
 #[derive(Drop)]
 pub(crate) struct MarkSome;

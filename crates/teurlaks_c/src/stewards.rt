@@ -6,18 +6,18 @@ ghost use Rattle.teurlaks_c.specs.declared.share.SharedSeat.{SharedSeat};
 ghost use Rattle.teurlaks_c.specs.declared.share.Share.TheVariants as shares;
 ghost use Rattle.marks.specs.Numbers.{AreWithin, limits_of};
 ghost use Rattle.teurlaks_c.specs.Status.{config, has_core, mark_status, status_of_outcome};
-ghost use Rattle.teurlaks_c.specs.StewardCalls.{Asks, Closes, Forgets, HandsOutOf, HandsOutSeat, HasNewArena, Keeps, LeavesSeat, Marks, SaysClosed, SaysForgotten, SaysMarked, SaysStepped, SaysTotals, TakesStep};
+ghost use Rattle.teurlaks_c.specs.StewardCalls.{Asks, Closes, Forgets, HandsOutOf, HandsOutSeat, HasNewArena, Keeps, LeavesSeat, Marks, SaysClosed, SaysForgotten, SaysMarked, SaysStepped, SaysTotals, TakesStep, WritesLast};
 
 use crate::keys::raw_span;
-use crate::meshing::{unmarked, unstepped};
-use crate::replies::{ArenaTotalsReply, ForgetReply, MarkReply, StepReply};
+use crate::meshing::{unmarked, unstepped, write_last};
+use crate::replies::{ArenaTotalsReply, CertificateReply, ForgetReply, MarkReply, StepReply};
 use crate::share::{Shards, Share, SharedSeat, SharedSteward};
 use crate::share_handle::ShareHandle;
 use crate::status::{
     BUSY, CONFIG, EMPTIED, HAS_CORE, NO_CORE, NO_PAIR_LEFT, NO_PLAN, NONE, OK, OUT_OF_MEMORY,
     PLAN_OPEN, TOO_MANY,
 };
-use crate::steward_calls::{Close, CountAll, Forget, MarkSome, Step, at_steward};
+use crate::steward_calls::{Close, CountAll, Forget, Mark, MarkSome, Step, at_steward};
 use arena::{Arena, Busy, NoGate, OpenError, PlanOpen, Seat, Stepped, Totals};
 use fold::Step as Outcome;
 use marks::MarkError;
@@ -205,6 +205,17 @@ fn boxed_seat(alloc: Global, arena: &Arc<Shards, Global>, seat: Seat) -> Result<
     }
 }
 
+/// Plans as many folds of the pool's groups onto those of the shards as can be, of all groups, opens the plan, and keeps its certificate.
+/// Refused with `BUSY`, `PLAN_OPEN`, `TOO_MANY` where a side has more than 4,096 groups that have a page, or `OUT_OF_MEMORY`; nothing has
+/// changed then, and the certificate of the mark before is kept.
+#[unsafe(no_mangle)]
+pub extern "C" fn teurlaks_steward_mark(alloc: Global, handle: &mut ShareHandle) -> MarkReply
+    ensures { (answer : _) × Asks Marks handle.old.share answer handle.new.share
+        × SaysMarked result answer }
+{
+    marked_reply(at_steward(alloc, handle, &Mark))
+}
+
 /// Plans as many folds of the pool's groups onto those of the shards as can be, of the 4,096 of each side with the fewest live keys, opens
 /// the plan, and keeps its certificate. Refused with `BUSY`, `PLAN_OPEN` or `OUT_OF_MEMORY`; nothing has changed then, and the
 /// certificate of the mark before is kept.
@@ -245,6 +256,42 @@ pub extern "C" fn teurlaks_steward_forget(alloc: Global, handle: &mut ShareHandl
         × SaysForgotten result answer }
 {
     forgotten_reply(at_steward(alloc, handle, &Forget))
+}
+
+/// Writes the text of the last mark's certificate into `text`, from its first byte on, and answers how long it is. `NONE` where no mark
+/// was made, `TOO_SMALL` where there is no room for all of it, and `OUT_OF_MEMORY`: nothing was written then. The arena stays as it is,
+/// and no lock is taken.
+#[unsafe(no_mangle)]
+pub extern "C" fn teurlaks_steward_certificate(
+    alloc: Global,
+    handle: &mut ShareHandle,
+    text: &mut [u8],
+) -> CertificateReply
+    ensures same { handle.new.share ≡ handle.old.share }
+    ensures writes { WritesLast handle.old.share text.old result text.new }
+{
+    let Some(share) = replace(handle, ShareHandle::none()).into_box(alloc) else {
+        return CertificateReply {
+            status: NO_CORE,
+            len: 0,
+        };
+    };
+    let says = write_last_of(alloc, &*share, text);
+    *handle = ShareHandle::of(share);
+    says
+}
+
+// The same of what is shared.
+fn write_last_of(alloc: Global, share: &Share, room: &mut [u8]) -> CertificateReply
+    ensures { WritesLast (Some share.now) room.old result room.new }
+{
+    match share {
+        Share::Seat(_) => CertificateReply {
+            status: NO_CORE,
+            len: 0,
+        },
+        Share::Steward(steward) => write_last(alloc, &steward.last, room),
+    }
 }
 
 /// How many pages the arena has, and how many keys are live in it, at one time. Refused with `BUSY`. Nothing changes.

@@ -4,7 +4,8 @@ ghost use Rattle.span.specs.Classes.{IsObject, width_of};
 ghost use Rattle.teurlaks_c.specs.Words.{word_of, words_of};
 
 use crate::replies::RawWord;
-use span::{Class, Object};
+use arena::Word;
+use span::Class;
 
 /// The word of these halves.
 #[inline(always)]
@@ -67,16 +68,11 @@ fn split_all(room: &mut [RawWord], values: &[u128])
     }
 }
 
-/// The object of these words, or `None` where they are not 1, 4 or 16.
-pub(crate) fn object_of(words: &[RawWord]) -> Option<Object>
-    ensures { MatchOption result (IsObject (words_of words.now) → ⊥)
-        (λ object. IsObject (words_of words.now) × (object ≡ words_of words.now)) }
-{
-    let Some(_) = class_for(words) else {
-        return None;
-    };
-    let mut room = [0; 16];
-    let values = &mut room[..words.len()];
-    join_all(values, words);
-    Some(Object::from_words(values))
+impl Word for RawWord {
+    ghost word = { word_of };
+
+    #[inline(always)]
+    fn of(value: u128) -> RawWord {
+        raw_word(value)
+    }
 }

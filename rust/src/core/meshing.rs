@@ -319,19 +319,26 @@ impl Core {
     ///
     /// [`Refused::OutOfMemory`] where memory was refused for the text.
     pub fn certificate(&self) -> Result<Option<String>, Refused> {
-        let mut text = Vec::new();
-        loop {
-            // SAFETY: as in `insert`, and the text is not moved meanwhile.
-            let told = unsafe { raw::teurlaks_certificate(self.handle.get(), text.as_mut_ptr(), text.len()) };
-            match told.status {
-                raw::OK => return Ok(Some(String::from_utf8_lossy(&text).into_owned())),
-                raw::NONE => return Ok(None),
-                raw::TOO_SMALL => {
-                    text.try_reserve_exact(told.len).map_err(|_| Refused::OutOfMemory)?;
-                    text.resize(told.len, 0);
-                }
-                other => return Err(Refused::of(other)),
+        // SAFETY: as in `insert`, and so many bytes stand there.
+        certificate_text(|text, len| unsafe { raw::teurlaks_certificate(self.handle.get(), text, len) })
+    }
+}
+
+/// The text that the call writes where there is room for so many bytes; it tells how many there are where there is not.
+pub(crate) fn certificate_text(
+    mut write: impl FnMut(*mut u8, usize) -> raw::CertificateReply,
+) -> Result<Option<String>, Refused> {
+    let mut text = Vec::new();
+    loop {
+        let told = write(text.as_mut_ptr(), text.len());
+        match told.status {
+            raw::OK => return Ok(Some(String::from_utf8_lossy(&text).into_owned())),
+            raw::NONE => return Ok(None),
+            raw::TOO_SMALL => {
+                text.try_reserve_exact(told.len).map_err(|_| Refused::OutOfMemory)?;
+                text.resize(told.len, 0);
             }
+            other => return Err(Refused::of(other)),
         }
     }
 }

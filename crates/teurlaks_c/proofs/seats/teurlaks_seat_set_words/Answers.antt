@@ -1,14 +1,16 @@
 use mathlib.Core.Logic.{inr}
 use Rattle.std.proofs.Common.{subst}
-use Rattle.teurlaks_c.specs.SeatCalls.{Asks, Sets}
+use Rattle.teurlaks_c.specs.SeatCalls.{Asks, SaysSet, Sets}
 use Rattle.teurlaks_c.proofs.seats.teurlaks_seat_set_words.Goals as goal
 
 pub returns : goal.returns
-returns c = inr (inr (
-  c.in-Some.ensures.0,
-  (
-    c.in-Some-key_of.key,
-    c.in-Some-key_of.ensures,
-    (c.at_seat.result, subst (λ words. Asks (Sets c.in-Some-key_of.key words) c.args.handle.now.share c.at_seat.result c.at_seat.new.handle.share) c.in-Some.ensures.1 c.at_seat.ensures, c.set_reply.ensures),
-  ),
-))
+returns c =
+    let key = c.in-Some-key_of.key in
+    inr (inr (
+      c.in-Some.ensures.class.0,
+      (
+        key,
+        c.in-Some-key_of.ensures,
+        subst (λ words. (answer : _) × Asks (Sets key words) c.args.handle.now.share answer c.set.new.handle.share × SaysSet c.set.result answer) c.join_all.ensures c.set.ensures,
+      ),
+    ))

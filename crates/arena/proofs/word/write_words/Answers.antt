@@ -1,0 +1,11 @@
+use Rattle.std.proofs.Common.{length, ap, sym, ◌∙◌, ◌++◌, map}
+use Rattle.std.specs.Prelude.{drop}
+use Rattle.std.proofs.lemmas.List.{map-append, drop-map}
+use Rattle.arena.proofs.word.write_words.Goals as goal
+
+pub returns : goal.returns
+returns g c =
+    let word = g.W.Word.word in
+    map-append word c.write_all.new.room (drop (length c.args.words.now) c.args.room.now)
+    ∙ ap (λ l. l ++ map word (drop (length c.args.words.now) c.args.room.now)) c.write_all.ensures
+    ∙ ap (λ l. c.args.words.now ++ l) (sym (drop-map word (length c.args.words.now) c.args.room.now))
