@@ -55,11 +55,11 @@ const RING: u32 = 256;
 /// # What is proved, and what is tested
 ///
 /// Of each call it is proved that it returns, that it does nothing undefined, and that it is the call of the arena that it is named for, which
-/// works under its locks on proved shards and a proved pool and answers as its receipt says; that nothing has changed where another thread has a
-/// lock that it needs, or, of a tend, that it tells how far it came; and that a handle may go to another thread. That a call beside other threads
-/// does what its receipt says is tested: by runs whose receipts are audited against one history (`docs/PROMISES.md`, *Running threads*). Of this
-/// crate it is tested (`tests/arena.rs`) that a call is made again where a lock was taken, and that each thread finds what it expects. That one
-/// call at a time is made on a handle its types see to, which are `Send` and not `Sync`.
+/// works under its locks by calls on proved shards and a proved pool; that nothing has changed where another thread has a lock that it needs, or,
+/// of a tend, that it tells how far it came; and that a handle may go to another thread. No receipt is made here. That a call beside other threads
+/// does what the arena is asked for is tested: of this crate by threads that each find what they expect (`tests/arena.rs`), and of the calls that
+/// make receipts by runs whose receipts are audited against one history (`docs/PROMISES.md`, *Running threads*). It is tested, too, that a call is
+/// made again where a lock was taken. That one call at a time is made on a handle its types see to, which are `Send` and not `Sync`.
 ///
 /// A [`SharedStore`](crate::SharedStore) is called by any thread through `&self`, and has locks of the standard library. An arena has proved ones,
 /// frees that wait for nobody, and folds between shards; in return each thread needs a seat. A look-up takes as long as there, a free with a put a
