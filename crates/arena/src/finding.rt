@@ -33,7 +33,8 @@ impl<G: Gate, L: Log> Arena<G, L> {
     ///
     /// # Errors
     ///
-    /// Busy, where another thread has the lock that is asked for; when all are asked, only where none of the others has the span.
+    /// Busy, where another thread has the lock of the place that the hint names, or the pool's; where all are asked, that of a shard
+    /// only if none of the others has the span.
     #[inline]
     pub(crate) fn visit<P: Patience, V: Visit>(
         &self,

@@ -120,19 +120,24 @@ impl Hints {
         }
     }
 
-    /// Says from now on that the span may be in this place. Where that is the shard that opened it, the hint goes: none says the same.
+    /// Says from now on that the span may be in this place, if that is not what is said. Of a span in the shard that opened it no word
+    /// speaks.
     pub(crate) fn note(&self, id: SpanId, place: Place)
         requires { IsPlace place }
     {
+        if self.place_of(id) == place {
+            return;
+        }
         let SpanId { shard, serial } = id;
         let Some(word) = self.word_of(id) else {
             return;
         };
-        if place != Place::Shard(shard) {
-            word.store(word_from(Hint { serial, place }), SeqCst);
-        } else if self.hint_of(id).is_some() {
-            word.store(NO_HINT, SeqCst);
-        }
+        let says = if place == Place::Shard(shard) {
+            NO_HINT
+        } else {
+            word_from(Hint { serial, place })
+        };
+        word.store(says, SeqCst);
     }
 
     /// Says so of all spans of the head's group, where the shard has it.
