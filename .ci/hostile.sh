@@ -255,6 +255,61 @@ interrupted_streams() {
     expect 0 "$examples/one_fold.report" $nothing "$examples/one_fold.cert" run --serial a.trace --certificate f
 }
 
+# A trace of three rounds, in each of which a thread fills a shard that is full while two others free its keys, and then each key that the
+# fill was to give is looked up.
+write_fills_and_frees() {
+    local round key
+    printf 'mesh 1\nshards 3\npages 2\nring 1\ngens 9\n0 fill a0 512 0\n'
+    for round in 1 2 3; do
+        printf 'mark\n0 fill a%d 600 0\n' "$round"
+        printf '%d sweep a%d %d %d\n' 1 $((round - 1)) 0 256 2 $((round - 1)) 256 $((round == 1 ? 512 : 600))
+        printf 'mark\n'
+        for ((key = 0; key < 600; key++)); do printf '1 get a%d.%d\n' "$round" "$key"; done
+    done
+}
+
+# Over such a trace and its report: whether the replies of each fill and sweep stand in the order of its calls, so that they say of the
+# same keys that they were given, and of the others that there was no page, or that they are unbound, as the look-ups do. It prints how
+# many fills were refused a page before they gave a key.
+fills_in_order() {
+    awk '
+        NR == FNR {
+            split($3, key, ".")
+            what[FNR] = $2; name[FNR] = key[1]; next_of[FNR] = $2 == "get" ? key[2] : $2 == "sweep" ? $4 : 0
+            next
+        }
+        $1 in what && what[$1] ~ /^(fill|get|sweep)$/ {
+            key_of = name[$1] "." next_of[$1]++
+            is_given = $2 == "key" || $2 == "yes" || $2 == "value"
+            if (!is_given && $2 != "unbound" && !(what[$1] == "fill" && $2 == "refused")) wrong++
+            if ((key_of in given) && given[key_of] != is_given) wrong++
+            if (what[$1] == "get" && is_given && name[$1] "." $3 != key_of) wrong++
+            given[key_of] = is_given
+            if (what[$1] == "fill" && !is_given) refused[$1] = 1
+            if (what[$1] == "fill" && is_given && ($1 in refused)) met[$1] = 1
+        }
+        END { for (fill in met) fills++; print fills + 0; exit wrong > 0 }
+    ' "$1" "$2"
+}
+
+# Counts that so many runs by threads tell the replies of each line in the order of its calls, wherever the threads meet. They go on until
+# a fill was refused a page and then gave a key, for ten times as many runs at most.
+fills_and_frees() {
+    local runs=$1 number fills met=0
+    write_fills_and_frees >fills.trace
+    for ((number = 0; number < runs || (met == 0 && number < 10 * runs); number++)); do
+        run run --replies fills.trace
+        if [ "$ended" != 0 ] || [ -s err ] || ! fills=$(fills_in_order fills.trace out) || [ "$(tail -n 1 out)" != 'audit ok' ]; then
+            fail "${built##*/} run --replies is to tell the replies of each line in the order of its calls"
+            return
+        fi
+        met=$((met + fills))
+    done
+    echo "check: in $number runs $met of $((3 * number)) fills were refused a page and then gave a key"
+    if [ "$met" -gt 0 ]; then pass; else fail "in one of $number runs a fill is to meet the frees of other threads"; fi
+    rm fills.trace
+}
+
 # All of it. Nothing can be loaded before a program that was linked without a loader.
 hostile_use() {
     failing_streams
@@ -263,6 +318,7 @@ hostile_use() {
     empty_lines
     refused_fills
     if [ "$built" != "$program" ]; then return; fi
+    fills_and_frees 20
     longest_texts
     if ! build_library texts || ! build_library refuse; then
         fail "the kit's clang is to compile what is loaded before the program"
