@@ -47,7 +47,7 @@ cited() {
 }
 
 front_page() {
-    local from_rust='Called from Rust' seats='Seats at an arena' shared='Shared by threads'
+    local from_rust='Called from Rust' shared='Shared by threads'
     local before=$passed many='pages of a shard at a time; spans that it ever opens'
     if [ "$(wc -l <"$top/README.md")" -le 150 ]; then
         passed=$((passed + 1))
@@ -64,7 +64,8 @@ front_page() {
         echo "check: README is to show examples/one_fold.report"
     fi
     has_line "| shards, of one thread each | $(limit span/src/limits.rt MOST_SHARDS);"
-    has_line "| $many | $(limit span/src/limits.rt MOST_PAGES); $(limit span/src/limits.rt MOST_SPANS) "
+    has_line "| $many | $(limit span/src/limits.rt MOST_PAGES), and $(limit trace_text/src/header.rt TRACE_PAGES) of a trace; $(limit span/src/limits.rt MOST_SPANS), "
+    has_line " and $(limit trace_runner/src/replay.rt TRACE_SPANS) of a trace |"
     has_line "| slots of a page, for objects of 16, 64, 256 bytes | $(sed -n 's/^ *Class::C[0-9]* => \([0-9]*\),$/\1/p' "$top/crates/span/src/class.rt" |
         head -n 3 | paste -sd ' ' | sed 's/ /, /g') |"
     has_line "| groups on a side of a plan | $(limit mesh_graph/src/build.rt MOST_GROUPS);"
@@ -73,10 +74,10 @@ front_page() {
         rounded "$from_rust" 1 slab 2) | $(rounded "$from_rust" 1 slotmap 2) | $(rounded "$from_rust" 1 sharded-slab 2) |"
     has_line "| a look-up, 1,000 live, ns | $(rounded "$from_rust" 1 teurlaks 4); as \`Slab<T>\` $(rounded "$from_rust" 1 teurlaks-slab 4) | $(
         rounded "$from_rust" 1 slab 4) | $(rounded "$from_rust" 1 slotmap 4) | $(rounded "$from_rust" 1 sharded-slab 4) |"
-    has_line "| a free and a put at an arena, by four threads, ns | $(cell "$seats" 2 '`churn` | 4' 5); with logs kept $(
-        cell "$seats" 2 '`churn` | 4' 4) | | | $(cell "$seats" 2 '`churn` | 4' 3) |"
-    has_line "| the same in a \`SharedStore\`; a look-up there, ns | $(cell "$shared" 1 '`churn` | 4' 3); $(cell "$shared" 1 '`own` | 4' 3) | | | $(
-        cell "$shared" 1 '`churn` | 4' 4); $(cell "$shared" 1 '`own` | 4' 4) |"
+    has_line "| a free and a put by four threads, at an \`Arena\`; in a \`SharedStore\`, ns | $(rounded "$shared" 3 '`churn` | 4' 3); $(
+        rounded "$shared" 1 '`churn` | 4' 3) | | | $(rounded "$shared" 3 '`churn` | 4' 5); $(rounded "$shared" 1 '`churn` | 4' 4) |"
+    has_line "| a look-up of an own value by four threads, at an \`Arena\`; in a \`SharedStore\`, ns | $(rounded "$shared" 3 '`own` | 4' 3); $(
+        rounded "$shared" 1 '`own` | 4' 3) | | | $(rounded "$shared" 3 '`own` | 4' 5); $(rounded "$shared" 1 '`own` | 4' 4) |"
     cited 'A core without an end' '292,484'
     cited 'A recorded Redis' '54 %'
     echo "check: README and what it cites: $((passed - before)) passed"
