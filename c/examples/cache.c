@@ -50,7 +50,7 @@ static void values_open(struct values *values, bool in_core) {
     if (status != TEURLAKS_OK) die("teurlaks_new", status);
 }
 
-/* The shards of a core take values in turn. One opens 1,024 pages in its life, and a fold uses one up. */
+/* The shards of a core take values in turn. */
 static union name values_put(struct values *values, const void *bytes, size_t len) {
     if (!values->in_core) {
         void *block = malloc(len);

@@ -89,7 +89,7 @@ trait Values {
     fn pages(&self) -> usize;
 }
 
-/// How many shards a core has. One opens 1,024 pages in its life, and a fold uses one up.
+/// How many shards a core has.
 const SHARDS: u32 = 32;
 /// How many values of these sizes a page holds.
 const SLOTS: usize = 16;

@@ -36,7 +36,7 @@ impl Worker<'_> {
         for number in 0..VALUES {
             match self.seat.insert([number; 8]) {
                 Ok(key) => kept.push((key, number)),
-                // Each fold uses up one of the 1,024 pages that a shard opens in its life.
+                // The shard has as many pages as it may.
                 Err(Refused::PagesSpent) => break,
                 Err(refused) => return Err(refused),
             }
