@@ -22,13 +22,15 @@ static void say_where(void);
         }                                                                                                                                    \
     } while (0)
 
-/* SplitMix64. */
-static inline uint64_t draw(uint64_t below) {
-    uint64_t z = (drawn += 0x9e3779b97f4a7c15u);
+/* SplitMix64, of a seed that its caller keeps. */
+static inline uint64_t draw_of(uint64_t *seed, uint64_t below) {
+    uint64_t z = (*seed += 0x9e3779b97f4a7c15u);
     z = (z ^ (z >> 30)) * 0xbf58476d1ce4e5b9u;
     z = (z ^ (z >> 27)) * 0x94d049bb133111ebu;
     return (z ^ (z >> 31)) % below;
 }
+
+static inline uint64_t draw(uint64_t below) { return draw_of(&drawn, below); }
 
 /* The kilobytes of the process that are resident. */
 static inline long resident(void) {

@@ -3,17 +3,15 @@
  * all of these and some freed keys up, and ends its shard. A steward marks, folds and forgets beside them. After the first tenth of the
  * threads, and then each tenth, it prints a line: threads so far, spans that all shards have opened, pages, live values, resident kilobytes;
  * at its end how much more is resident than after the first tenth. */
+#include "common.h"
 #include "teurlaks.h"
 
 #include <inttypes.h>
 #include <pthread.h>
 #include <sched.h>
 #include <stdatomic.h>
-#include <stdio.h>
-#include <stdlib.h>
 #include <threads.h>
 #include <time.h>
-#include <unistd.h>
 
 enum { SEATS = 8, MOST_VALUES = 65536, KEPT_OF = 10, MOST_WAITING = 1 << 17, SETTLED = 20000, STALE = 1024, TENTHS = 10 };
 
@@ -40,37 +38,15 @@ static uint64_t stale_count, folds, forgotten;
 static size_t values = 4000;
 static atomic_int is_over;
 
-#define WANT(holds)                                                                                                                          \
-    do {                                                                                                                                     \
-        if (!(holds)) {                                                                                                                      \
-            printf("relay: line %d: %s\n", __LINE__, #holds);                                                                                \
-            exit(1);                                                                                                                         \
-        }                                                                                                                                    \
-    } while (0)
+static void say_where(void) { printf("relay"); }
 
 /* The call, again and again while another thread has a lock that it needs. */
 #define PATIENTLY(reply, status, call)                                                                                                       \
     do reply = call;                                                                                                                         \
     while ((status) == TEURLAKS_BUSY && !sched_yield())
 
-/* SplitMix64. */
-static uint64_t draw(struct place *me, uint64_t below) {
-    uint64_t z = (me->drawn += 0x9e3779b97f4a7c15u);
-    z = (z ^ (z >> 30)) * 0xbf58476d1ce4e5b9u;
-    z = (z ^ (z >> 27)) * 0x94d049bb133111ebu;
-    return (z ^ (z >> 31)) % below;
-}
-
-static long resident(void) {
-    long all, pages = 0;
-    FILE *file = fopen("/proc/self/statm", "r");
-    if (!file || fscanf(file, "%ld %ld", &all, &pages) != 2) exit(2);
-    fclose(file);
-    return pages * (sysconf(_SC_PAGESIZE) / 1024);
-}
-
 static struct held put(struct place *me) {
-    struct held held = {.value = draw(me, UINT64_MAX)};
+    struct held held = {.value = draw_of(&me->drawn, UINT64_MAX)};
     struct teurlaks_word word = {held.value, ~held.value};
     struct teurlaks_put_reply reply;
     PATIENTLY(reply, reply.status, teurlaks_seat_put_words(&me->seat, &word, 1));
@@ -99,7 +75,7 @@ static int hand_on(struct place *me, struct held held, struct held *other) {
     pthread_mutex_lock(&turn);
     swaps = waiting_count >= SETTLED;
     if (swaps) {
-        size_t at = draw(me, waiting_count);
+        size_t at = draw_of(&me->drawn, waiting_count);
         *other = waiting[at];
         waiting[at] = held;
     } else {
@@ -130,7 +106,7 @@ static void *visit(void *place) {
     WANT(status == TEURLAKS_OK || status == TEURLAKS_RUNNING);
     for (size_t at = 0; at < values; at++) own[at] = put(me);
     for (size_t left = values; left > values / KEPT_OF; left--) {
-        size_t at = draw(me, left);
+        size_t at = draw_of(&me->drawn, left);
         finds(me, own[at]);
         WANT(free_key(me, own[at].key) == TEURLAKS_OK);
         own[at] = own[left - 1];
