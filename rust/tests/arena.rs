@@ -343,8 +343,11 @@ fn threads_come_and_go() -> Result<(), Refused> {
     Ok(())
 }
 
+/// A seat, and the keys and values that its thread leaves to those after it.
+type HandedOn = (Seat<[u64; 32]>, Vec<(Key, u64)>);
+
 /// A thread at the seat, whose shard may have ended with the thread before: of 400 values it leaves each eighth.
-fn come_and_go(mut seat: Seat<[u64; 32]>, number: u64) -> Result<(Seat<[u64; 32]>, Vec<(Key, u64)>), Refused> {
+fn come_and_go(mut seat: Seat<[u64; 32]>, number: u64) -> Result<HandedOn, Refused> {
     match seat.begin() {
         Ok(()) | Err(Refused::Running) => {}
         Err(refused) => return Err(refused),
