@@ -12,7 +12,7 @@ use Rattle.shard.specs.State.{ShardState}
 use Rattle.groups.proofs.Lists.{cases-set, same_some}
 use Rattle.abandoned.specs.State.{PoolState, PooledState}
 use Rattle.groups.proofs.Removed.{after-remove}
-use Rattle.arena_core.specs.Plan.{IsCarriedOut, IsEmptyInPool, IsGuest, IsOwned, IsPooled, IsUnderWay, IsWaiting}
+use Rattle.arena_core.specs.Plan.{IsCarriedOut, IsEmptyInPool, IsGuest, IsOwned, IsAbandoned, IsUnderWay, IsWaiting}
 use Rattle.marks.specs.Plans.{is_planned, with_next_done, OpenPlan}
 use Rattle.arena_core.specs.State.{CoreState, with_plan, with_pool, with_shard}
 use Rattle.marks.proofs.Lists.{slice_get-set_other, slice_get-set_same}
@@ -48,8 +48,8 @@ module _ (old : CoreState) (plan : OpenPlan) (pair : SpanId × SpanId) (number :
 
   -- the other groups stay
 
-  IsPooled-other : (head : SpanId) (group : PooledState) → (head ≡ pair.0 → ⊥) → IsPooled old head group → IsPooled new head group
-  IsPooled-other head group other is =
+  IsAbandoned-other : (head : SpanId) (group : PooledState) → (head ≡ pair.0 → ⊥) → IsAbandoned old head group → IsAbandoned new head group
+  IsAbandoned-other head group other is =
       let (now, there) = after-remove old.pool.groups fold.from is.index group is.head_of.here apart in
       record { index = now; head_of = record { here = ap (λ gs. slice_get gs now) fold.pool_is ∙ there; head_is = is.head_of.head_is } }
     where
@@ -116,7 +116,7 @@ module _ (old : CoreState) (plan : OpenPlan) (pair : SpanId × SpanId) (number :
 
     carried_still : (k : ℕ) (p : SpanId × SpanId) → slice_get plan.pairs k ≡ Some p → (k ≡ plan.done → ⊥) → IsCarriedOut old p → IsCarriedOut new p
     carried_still k p at differ (inl guest) = inl (record { owned = guest.owned; place = guest.place; is_owned = IsOwned-other p.1 guest.owned (other_owned k p at differ) guest.is_owned; guest = guest.guest })
-    carried_still k p at differ (inr emptied) = inr (record { abandoned = emptied.abandoned; is_abandoned = IsPooled-other p.0 emptied.abandoned (other_abandoned k p at differ) emptied.is_abandoned; no_page = emptied.no_page })
+    carried_still k p at differ (inr emptied) = inr (record { abandoned = emptied.abandoned; is_abandoned = IsAbandoned-other p.0 emptied.abandoned (other_abandoned k p at differ) emptied.is_abandoned; no_page = emptied.no_page })
 
     carried_now : (k : ℕ) (p : SpanId × SpanId) → k < plan.done + 1 → slice_get plan.pairs k ≡ Some p → (k ≡ plan.done) ⊎ (k ≢ plan.done) → IsCarriedOut new p
     carried_now k p below at (inl same) = let one : pair ≡ p = same_some (sym next ∙ ap (slice_get plan.pairs) (sym same) ∙ at) in subst (IsCarriedOut new) one (inl IsGuest-folded)
@@ -129,7 +129,7 @@ module _ (old : CoreState) (plan : OpenPlan) (pair : SpanId × SpanId) (number :
         record {
           abandoned = waits.abandoned;
           owned = waits.owned;
-          is_abandoned = IsPooled-other p.0 waits.abandoned (other_abandoned k p at differ) waits.is_abandoned;
+          is_abandoned = IsAbandoned-other p.0 waits.abandoned (other_abandoned k p at differ) waits.is_abandoned;
           is_owned = IsOwned-other p.1 waits.owned (other_owned k p at differ) waits.is_owned;
           paged = waits.paged;
           class_is = waits.class_is;
@@ -163,7 +163,7 @@ module _ (old : CoreState) (plan : OpenPlan) (under : IsUnderWay old plan) (pair
   owned_too : (head : SpanId) (group : GroupState) → IsOwned old head group → IsOwned passed head group
   owned_too head group is = record { number = is.number; shard = is.shard; index = is.index; shard_is = is.shard_is; head_of = is.head_of }
 
-  pooled_too : (head : SpanId) (group : PooledState) → IsPooled old head group → IsPooled passed head group
+  pooled_too : (head : SpanId) (group : PooledState) → IsAbandoned old head group → IsAbandoned passed head group
   pooled_too head group is = record { index = is.index; head_of = is.head_of }
 
   carried_too : (p : SpanId × SpanId) → IsCarriedOut old p → IsCarriedOut passed p

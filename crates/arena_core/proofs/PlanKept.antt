@@ -25,7 +25,7 @@ use Rattle.page.specs.Words.{Words}
 use Rattle.groups.specs.Pages.{put_group}
 use Rattle.abandoned.specs.Calls.{Receives, TakesAll, TakesIn, with_rooms}
 use Rattle.abandoned.specs.State.{PoolState, PooledState}
-use Rattle.arena_core.specs.Plan.{IsCarriedOut, IsOwned, IsPooled, IsUnderWay, IsWaiting}
+use Rattle.arena_core.specs.Plan.{IsCarriedOut, IsOwned, IsAbandoned, IsUnderWay, IsWaiting}
 use Rattle.marks.specs.Plans.{plans_onto, OpenPlan}
 use Rattle.arena_core.specs.State.{CoreState}
 use Rattle.marks.proofs.Lists.{slice_get-set_other, slice_get-set_same}
@@ -115,8 +115,8 @@ plans_onto-pair (first ∷ pairs) (suc k) pair here = ap (λ b. same_span first.
 
 -- the plan goes on
 module _ (old new : CoreState) (pooled : KeepsPooled old.pool.groups new.pool.groups) (owned : KeepsAllClosed old.shards new.shards) where
-  IsPooled-kept : (head : SpanId) (group : PooledState) → IsPooled old head group → (now : PooledState) × IsPooled new head now × (now.head.class ≡ group.head.class) × IsWithin (union_of (spans_of now)) (union_of (spans_of group)) × (group.page ≡ None → now.page ≡ None)
-  IsPooled-kept head group is =
+  IsAbandoned-kept : (head : SpanId) (group : PooledState) → IsAbandoned old head group → (now : PooledState) × IsAbandoned new head now × (now.head.class ≡ group.head.class) × IsWithin (union_of (spans_of now)) (union_of (spans_of group)) × (group.page ≡ None → now.page ≡ None)
+  IsAbandoned-kept head group is =
       let (place, now, there, head_is, class_is, fewer, no_page) = pooled is.index group is.head_of.here in
       (now, record { index = place; head_of = record { here = there; head_is = head_is ∙ is.head_of.head_is } }, class_is, fewer, no_page)
 
@@ -129,7 +129,7 @@ module _ (old new : CoreState) (pooled : KeepsPooled old.pool.groups new.pool.gr
   module _ (plan : OpenPlan) (closed : (k : ℕ) (pair : SpanId × SpanId) → slice_get plan.pairs k ≡ Some pair → (group : GroupState) → IsOwned old pair.1 group → group.closed ≡ true) where
     IsWaiting-kept : (k : ℕ) (pair : SpanId × SpanId) → slice_get plan.pairs k ≡ Some pair → IsWaiting old pair → IsWaiting new pair
     IsWaiting-kept k pair at waits =
-        let (a, a_is, class_a, fewer_a, no_page) = IsPooled-kept pair.0 waits.abandoned waits.is_abandoned in
+        let (a, a_is, class_a, fewer_a, no_page) = IsAbandoned-kept pair.0 waits.abandoned waits.is_abandoned in
         let (b, b_is, fewer_b) = IsOwned-kept pair.1 waits.owned waits.is_owned (closed k pair at waits.owned waits.is_owned) in
         record {
           abandoned = a;
@@ -146,7 +146,7 @@ module _ (old new : CoreState) (pooled : KeepsPooled old.pool.groups new.pool.gr
         let (b, b_is, fewer_b) = IsOwned-kept pair.1 guest.owned guest.is_owned (closed k pair at guest.owned guest.is_owned) in
         inl (record { owned = b; place = guest.place; is_owned = b_is; guest = fewer_b.guests pair.0 guest.place guest.guest })
     IsCarriedOut-kept k pair at (inr emptied) =
-        let (a, a_is, class_a, fewer_a, no_page) = IsPooled-kept pair.0 emptied.abandoned emptied.is_abandoned in
+        let (a, a_is, class_a, fewer_a, no_page) = IsAbandoned-kept pair.0 emptied.abandoned emptied.is_abandoned in
         inr (record { abandoned = a; is_abandoned = a_is; no_page = no_page emptied.no_page })
 
     pub IsUnderWay-kept : IsUnderWay old plan → IsUnderWay new plan

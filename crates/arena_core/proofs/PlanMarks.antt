@@ -24,7 +24,7 @@ use Rattle.span.specs.Classes.{width_of}
 use Rattle.span.specs.Entries.{are_compatible}
 use Rattle.span.specs.declared.entry.Entry.{Entry}
 use Rattle.certificate.specs.Plans.{IsPlanOf, sides_of}
-use Rattle.arena_core.specs.Plan.{IsOwned, IsPooled, IsUnderWay, IsWaiting}
+use Rattle.arena_core.specs.Plan.{IsOwned, IsAbandoned, IsUnderWay, IsWaiting}
 use Rattle.marks.specs.Seen.{IsSeenInPart, abandoned_entries, owned_entries}
 use Rattle.arena_core.specs.State.{CoreState}
 use Rattle.arena_core.proofs.Lists.{each-append}
@@ -146,7 +146,7 @@ unfolding sides_of
 compatible-sides_of groups a b = refl
 
 pub IsUnderWay-marked : (old new : CoreState) (groups : Groups) (pairs : List (SpanId × SpanId)) → IsSeenInPart old.pool old.shards groups → IsPlanOf groups pairs
-    → ((head : SpanId) (group : PooledState) → IsPooled old head group → IsPooled new head group)
+    → ((head : SpanId) (group : PooledState) → IsAbandoned old head group → IsAbandoned new head group)
     → ((head : SpanId) (group : GroupState) → IsOwned old head group → (now : GroupState) × IsOwned new head now × (now.head.class ≡ group.head.class) × (occupied now ≡ occupied group) × (now.page ≡ group.page))
     → IsUnderWay new (record { pairs = pairs; done = 0 })
 IsUnderWay-marked old new groups pairs seen plan pooled_still owned_still = record {

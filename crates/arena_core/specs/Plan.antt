@@ -24,7 +24,7 @@ pub record IsOwned (core : CoreState) (head : SpanId) (group : GroupState) : Typ
   pub head_of : IsHeadOf shard.groups head index group
 
 -- the group of this head stands in the pool
-pub record IsPooled (core : CoreState) (head : SpanId) (group : PooledState) : Type 0 where
+pub record IsAbandoned (core : CoreState) (head : SpanId) (group : PooledState) : Type 0 where
   pub index : ℕ
   pub head_of : IsHeadOf core.pool.groups head index group
 
@@ -32,7 +32,7 @@ pub record IsPooled (core : CoreState) (head : SpanId) (group : PooledState) : T
 pub record IsWaiting (core : CoreState) (pair : SpanId × SpanId) : Type 0 where
   pub abandoned : PooledState
   pub owned : GroupState
-  pub is_abandoned : IsPooled core pair.0 abandoned
+  pub is_abandoned : IsAbandoned core pair.0 abandoned
   pub is_owned : IsOwned core pair.1 owned
   pub paged : IsSome owned.page
   pub class_is : abandoned.head.class ≡ owned.head.class
@@ -48,7 +48,7 @@ pub record IsGuest (core : CoreState) (pair : SpanId × SpanId) : Type 0 where
 -- the abandoned group is in the pool, empty, without a page
 pub record IsEmptyInPool (core : CoreState) (pair : SpanId × SpanId) : Type 0 where
   pub abandoned : PooledState
-  pub is_abandoned : IsPooled core pair.0 abandoned
+  pub is_abandoned : IsAbandoned core pair.0 abandoned
   pub no_page : abandoned.page ≡ None
 
 -- the pair's abandoned group has no page of its own: it is a guest of its partner, or empty in the pool

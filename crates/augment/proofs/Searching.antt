@@ -6,7 +6,7 @@ use Rattle.std.proofs.lemmas.List.Sums.{sum_by-set}
 use Rattle.augment.specs.declared.walks.Reached.{Reached}
 use Rattle.augment.specs.Mates.{mate, ArePaired}
 use Rattle.mesh_graph.specs.Groups.{Groups, compatible_at}
-use Rattle.augment.specs.Walks.{group, before, AreLinked, is_marked, Stands, IsSearch, IsWalk, unmarked}
+use Rattle.augment.specs.Walks.{group, before, AreReached, is_marked, Stands, IsSearch, IsWalk, unmarked}
 use Rattle.augment.proofs.Pairing.{mate_within}
 
 -- an entry of a list with one more is that of the list, or the last one
@@ -41,7 +41,7 @@ stands_last entries e =
 
 -- i, the mate of k, is reached over the unmarked k from entry at
 pub linked_more : (graph : Groups) (onto : List (Option ℕ)) (entries : List Reached) (reached : List Bool) (i k at : ℕ) → IsWalk graph onto entries reached → at < length entries → compatible_at graph (group entries at) k ≡ true → is_marked reached k ≡ false → mate onto i ≡ Some k
-    → AreLinked graph onto (entries ++ record { group = i; before = at } ∷ [])
+    → AreReached graph onto (entries ++ record { group = i; before = at } ∷ [])
 linked_more graph onto entries reached i k at s at_in j unmarked mate_i =
     let e : Reached = record { group = i; before = at } in
     let new_group : (t : ℕ) → length entries ≡ t → group (entries ++ e ∷ []) t ≡ i = λ t h. group_last entries e t h in

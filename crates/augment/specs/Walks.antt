@@ -22,7 +22,7 @@ abbrev pub before : List Reached → ℕ → ℕ
 before entries t = (slice_index_or entries t (record { group = 0; before = 0 })).before
 
 -- the entries differ, and each with a partner was reached from an earlier one that is compatible with that partner
-pub record AreLinked (graph : Groups) (onto : List (Option ℕ)) (entries : List Reached) : Type 0 where
+pub record AreReached (graph : Groups) (onto : List (Option ℕ)) (entries : List Reached) : Type 0 where
   pub within : (t : ℕ) → t < length entries → group entries t < length onto
   pub earlier : (t k : ℕ) → t < length entries → mate onto (group entries t) ≡ Some k → before entries t < t
   pub joined_to : (t k : ℕ) → t < length entries → mate onto (group entries t) ≡ Some k → compatible_at graph (group entries (before entries t)) k ≡ true
@@ -43,12 +43,12 @@ Stands entries i = (t : ℕ) × (t < length entries) × (group entries t ≡ i)
 
 -- linked entries, and the partner of each is marked
 pub record IsWalk (graph : Groups) (onto : List (Option ℕ)) (entries : List Reached) (used : List Bool) : Type 0 where
-  pub linked : AreLinked graph onto entries
+  pub linked : AreReached graph onto entries
   pub marked : (t k : ℕ) → t < length entries → mate onto (group entries t) ≡ Some k → is_marked used k ≡ true
 
 -- how far a search has come: the entries below next have been searched
 pub record IsSearch (graph : Groups) (onto : List (Option ℕ)) (entries : List Reached) (reached : List Bool) (next : ℕ) : Type 0 where
-  pub linked : AreLinked graph onto entries
+  pub linked : AreReached graph onto entries
   pub marked : (t k : ℕ) → t < length entries → mate onto (group entries t) ≡ Some k → is_marked reached k ≡ true
   pub mates_stand : (i k : ℕ) → is_marked reached k ≡ true → mate onto i ≡ Some k → Stands entries i
   pub are_planned : (k : ℕ) → is_marked reached k ≡ true → (i : ℕ) × (mate onto i ≡ Some k)

@@ -2,7 +2,7 @@
 ghost use Rattle.std.specs.Prelude.{◌≡◌, ◌+◌, ◌<◌, ◌≤◌, ℕ, length, true, false, None, IfSome, IfNone, IfOk};
 ghost use Rattle.augment.specs.Mates.{mate};
 ghost use Rattle.mesh_graph.specs.Groups.{compatible_at};
-ghost use Rattle.augment.specs.Walks.{Joins, pair_count, AreLinked, is_marked, IsSearched};
+ghost use Rattle.augment.specs.Walks.{Joins, pair_count, AreReached, is_marked, IsSearched};
 
 use crate::mates::Mates;
 use crate::places::Places;
@@ -110,7 +110,7 @@ fn layers_of(
     mates: &Mates,
     entries: &[Reached],
 ) -> Result<Vec<Option<usize>>, AllocError>
-    requires { AreLinked graph.now mates.now.onto.items entries.now }
+    requires { AreReached graph.now mates.now.onto.items entries.now }
     ensures { IfOk result (λ layers. length layers.items ≡ length mates.now.onto.items) }
 {
     let mut layers: Vec<Option<usize>> = vec![in alloc; None; mates.onto.len()]?;

@@ -2,7 +2,7 @@
 ghost use Rattle.std.specs.Prelude.{◌≡◌, ◌+◌, ◌<◌, length, true, None, IfSome, IfNone, IfOk};
 ghost use Rattle.augment.specs.Mates.{mate};
 ghost use Rattle.mesh_graph.specs.Groups.{compatible_at};
-ghost use Rattle.augment.specs.Walks.{Joins, pair_count, group, AreLinked, IsSearch, unmarked};
+ghost use Rattle.augment.specs.Walks.{Joins, pair_count, group, AreReached, IsSearch, unmarked};
 
 use crate::mates::Mates;
 use crate::places::Places;
@@ -29,7 +29,7 @@ pub(crate) fn turn_round(
 )
     // The entries are a walk along the pairs.
     requires joins { Joins graph.now mates.old.onto.items }
-    requires linked { AreLinked graph.now mates.old.onto.items entries.now }
+    requires linked { AreReached graph.now mates.old.onto.items entries.now }
 
     // It comes from the last entry to a free place.
     requires last_in { last < length entries.now }
@@ -101,7 +101,7 @@ impl Walks {
 
         // Or it has come to a free place.
         ensures linked { IfOk result (λ found. IfSome found
-            (λ free. AreLinked graph.now mates.now.onto.items self.new.entries.items)) }
+            (λ free. AreReached graph.now mates.now.onto.items self.new.entries.items)) }
         ensures at_in { IfOk result (λ found. at < length self.new.entries.items) }
         ensures free { IfOk result (λ found. IfSome found
             (λ free. mate mates.now.planned.items free ≡ None)) }

@@ -10,7 +10,7 @@ use Rattle.certificate.specs.declared.text.cause.Cause.{Cause}
 use Rattle.certificate.specs.declared.text.version.Version.{Version}
 use Rattle.certificate.specs.declared.text.cause.ReadError.{ReadError}
 use Rattle.certificate.specs.declared.text.cause.ReadError.TheVariants.{BadCertificate, OutOfMemory}
-use Rattle.certificate.specs.Grammar.{◌>>=◌, Follows, Id, Listed, Outline, Reads, at_line, body_in, count_in, end_in, entry_in, entry_parts, fixed_in, id_in, id_parts, item_in, items_in, line_in, list_in, pair_in, pair_parts}
+use Rattle.certificate.specs.Grammar.{◌>>=◌, ComesAfter, Id, Listed, Outline, Reads, at_line, body_in, count_in, end_in, entry_in, entry_parts, fixed_in, id_in, id_parts, item_in, items_in, line_in, list_in, pair_in, pair_parts}
 use Rattle.certificate.specs.Words.{lines_of}
 
 -- a refusal that the grammar has, too
@@ -88,7 +88,7 @@ module _ {X Y : Type 0} (parse : List ℕ → Result X Cause) (id_of : X → Id)
       counts = omega arith
 
   module _ (done : List Y) (last : Option SpanId) (k : ℕ) (s : IsReading parse id_of view key parts at n done last k) where
-    pub IsReading-more : (y : Y) → k < n → Ok (view y) ≡ line_in (item_in parse id_of (option_map id_parts last)) parts (at + k) → Follows last (key y) → IsReading parse id_of view key parts at n (done ++ y ∷ []) (Some (key y)) (k + 1)
+    pub IsReading-more : (y : Y) → k < n → Ok (view y) ≡ line_in (item_in parse id_of (option_map id_parts last)) parts (at + k) → ComesAfter last (key y) → IsReading parse id_of view key parts at n (done ++ y ∷ []) (Some (key y)) (k + 1)
     IsReading-more y l line after = record {
       count = length_push done y ∙ ap (λ m. m + 1) s.count;
       within = omega arith;
@@ -111,7 +111,7 @@ module _ {X Y : Type 0} (parse : List ℕ → Result X Cause) (id_of : X → Id)
         next : at + k + 1 ≡ at + (k + 1)
         next = omega arith
 
-        before : (last : Option SpanId) → Follows last (key y) → ((l : SpanId) (i : ℕ) → last ≡ Some l → i + 1 ≡ length done → get_or (map rank (map key done)) i 0 ≡ rank l) → (last ≡ None → length done ≡ 0) → (i : ℕ) → i + 1 ≡ length done → get_or (map rank (map key done)) i 0 < rank (key y)
+        before : (last : Option SpanId) → ComesAfter last (key y) → ((l : SpanId) (i : ℕ) → last ≡ Some l → i + 1 ≡ length done → get_or (map rank (map key done)) i 0 ≡ rank l) → (last ≡ None → length done ≡ 0) → (i : ℕ) → i + 1 ≡ length done → get_or (map rank (map key done)) i 0 < rank (key y)
         before None after latest first i e = let none : length done ≡ 0 = first refl in absurd (omega arith)
         before (Some l) after latest first i e = let at_l : get_or (map rank (map key done)) i 0 ≡ rank l = latest l i refl e in omega (arith, after)
 

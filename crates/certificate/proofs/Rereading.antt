@@ -13,7 +13,7 @@ use Rattle.mesh_graph.specs.Groups.{IsAscending, ids}
 use Rattle.certificate.specs.declared.certificate.Certificate.{Certificate}
 use Rattle.certificate.specs.declared.text.cause.Cause.{Cause}
 use Rattle.certificate.specs.declared.text.version.Version.TheVariants.{Two}
-use Rattle.certificate.specs.Grammar.{◌>>=◌, Follows, Id, at_line, body_in, certificate_in, count_in, end_in, entry_in, entry_parts, fixed_in, id_in, id_parts, item_in, items_in, line_in, list_in, order_of, outline_of, pair_in, pair_parts, version_in}
+use Rattle.certificate.specs.Grammar.{◌>>=◌, ComesAfter, Id, at_line, body_in, certificate_in, count_in, end_in, entry_in, entry_parts, fixed_in, id_in, id_parts, item_in, items_in, line_in, list_in, order_of, outline_of, pair_in, pair_parts, version_in}
 use Rattle.certificate.specs.Text.{FitsClass, HasTextSerial, IsWithinText, IsReadable, IsWritable, certificate_text, class_text, classless_line, classless_text, entry_line, id_line, lines_text, list_text, pair_line, text_with}
 use Rattle.certificate.specs.Words.{parts_of}
 use Rattle.certificate.proofs.Items.{body_in-lists}
@@ -117,7 +117,7 @@ line_in-at parse front line rest some =
 -- each comes after the one before it
 abbrev Chain : {Y : Type 0} → (Y → SpanId) → Option SpanId → List Y → Type 0
 Chain key last [] = Unit {0}
-Chain key last (y ∷ ys) = Follows last (key y) × Chain key (Some (key y)) ys
+Chain key last (y ∷ ys) = ComesAfter last (key y) × Chain key (Some (key y)) ys
 
 chain-after : {Y : Type 0} (key : Y → SpanId) (y : Y) (ys : List Y) → IsAscending (map key (y ∷ ys)) → Chain key (Some (key y)) ys
 chain-after key y [] up = tt
@@ -127,7 +127,7 @@ chain : {Y : Type 0} (key : Y → SpanId) (ys : List Y) → IsAscending (map key
 chain key [] up = tt
 chain key (y ∷ ys) up = (tt, chain-after key y ys up)
 
-in-order : (last : Option SpanId) (id : SpanId) → Follows last id → order_of (option_map id_parts last) (id_parts id) ≡ Ok tt
+in-order : (last : Option SpanId) (id : SpanId) → ComesAfter last id → order_of (option_map id_parts last) (id_parts id) ≡ Ok tt
 in-order None id h = refl
 in-order (Some last) id h = rw (lt-ltb (rank last) (rank id) h) refl
 

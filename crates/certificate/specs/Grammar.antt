@@ -206,9 +206,9 @@ abbrev pub outline_of : Certificate → Outline
 outline_of c = record { abandoned = map entry_parts c.snapshot.abandoned; owned = map entry_parts c.snapshot.owned; folds = map pair_parts c.plan; short = map id_parts c.short }
 
 -- an id comes after the last one of its list, where there is one
-abbrev pub Follows : Option SpanId → SpanId → Type 0
-Follows None id = Unit {0}
-Follows (Some last) id = rank last < rank id
+abbrev pub ComesAfter : Option SpanId → SpanId → Type 0
+ComesAfter None id = Unit {0}
+ComesAfter (Some last) id = rank last < rank id
 
 -- the result with the function over what is answered
 abbrev pub result_map : {X Y E : Type 0} → (X → Y) → Result X E → Result Y E

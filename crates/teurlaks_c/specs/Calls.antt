@@ -35,7 +35,7 @@ use Rattle.teurlaks_c.specs.declared.replies.MarkReply.{MarkReply}
 use Rattle.teurlaks_c.specs.declared.replies.StepReply.{StepReply}
 use Rattle.teurlaks_c.specs.declared.replies.CertificateReply.{CertificateReply}
 use Rattle.teurlaks_c.specs.declared.replies.TotalsReply.{TotalsReply}
-use Rattle.teurlaks_c.specs.Keys.{IsKeyOf, IsNoKey, IsSpanOf}
+use Rattle.teurlaks_c.specs.Keys.{IsKeyOf, IsNoKey, IsIdOf}
 use Rattle.teurlaks_c.specs.Status.{done, none, out_of_memory, config, emptied, no_pair_left, no_plan, too_small, refusal_status}
 use Rattle.teurlaks_c.specs.Words.{word_of, words_of}
 
@@ -216,7 +216,7 @@ pub record Forgets (old : Option Held) (says : ForgetReply) (new : Option Held) 
 
 -- what C reads of the reply to an adoption
 abbrev pub SaysAdopted : AdoptReply → Reply → Type 0
-SaysAdopted says (Adopted head) = (says.status ≡ done) × IsSpanOf says.head head
+SaysAdopted says (Adopted head) = (says.status ≡ done) × IsIdOf says.head head
 SaysAdopted says (Refused refusal) = says.status ≡ refusal_status refusal
 -- no other reply comes
 SaysAdopted says reply = ⊥
@@ -269,8 +269,8 @@ pub record Marks (event : Event) (old : Option Held) (says : MarkReply) (new : O
 
 -- what C reads of the reply to a step
 abbrev pub SaysStepped : StepReply → Reply → Type 0
-SaysStepped says (Stepped abandoned owned Folded) = (says.status ≡ done) × IsSpanOf says.abandoned abandoned × IsSpanOf says.owned owned
-SaysStepped says (Stepped abandoned owned Emptied) = (says.status ≡ emptied) × IsSpanOf says.abandoned abandoned × IsSpanOf says.owned owned
+SaysStepped says (Stepped abandoned owned Folded) = (says.status ≡ done) × IsIdOf says.abandoned abandoned × IsIdOf says.owned owned
+SaysStepped says (Stepped abandoned owned Emptied) = (says.status ≡ emptied) × IsIdOf says.abandoned abandoned × IsIdOf says.owned owned
 SaysStepped says NoPairLeft = says.status ≡ no_pair_left
 SaysStepped says NoPlan = says.status ≡ no_plan
 SaysStepped says (Refused refusal) = says.status ≡ refusal_status refusal

@@ -27,7 +27,7 @@ use Rattle.teurlaks_c.specs.declared.share.Share.{Share}
 use Rattle.teurlaks_c.specs.declared.share.Share.TheVariants.{Seat}
 use Rattle.teurlaks_c.specs.declared.share.SharedSeat.{SharedSeat}
 use Rattle.teurlaks_c.specs.Calls.{SaysWords}
-use Rattle.teurlaks_c.specs.Keys.{IsKeyOf, IsNoKey, IsSpanOf}
+use Rattle.teurlaks_c.specs.Keys.{IsKeyOf, IsNoKey, IsIdOf}
 use Rattle.teurlaks_c.specs.Status.{busy, config, done, no_core, none, out_of_memory, ring_full, still_running, too_small, adopt_status, put_status, receive_status}
 
 -- the handle has no seat
@@ -214,7 +214,7 @@ SaysTrimmed says (Some (Ok count)) = (says.status ≡ done) × (says.count ≡ c
 abbrev pub SaysAdopted : AdoptReply → Option (Result (Result SpanId AdoptError) Busy) → Type 0
 SaysAdopted says None = says.status ≡ no_core
 SaysAdopted says (Some (Err b)) = says.status ≡ busy
-SaysAdopted says (Some (Ok (Ok head))) = (says.status ≡ done) × IsSpanOf says.head head
+SaysAdopted says (Some (Ok (Ok head))) = (says.status ≡ done) × IsIdOf says.head head
 SaysAdopted says (Some (Ok (Err error))) = says.status ≡ adopt_status error
 
 -- what C reads of a deferred free

@@ -22,7 +22,7 @@ use Rattle.teurlaks_c.specs.declared.share.Share.TheVariants.{Seat, Steward}
 use Rattle.teurlaks_c.specs.declared.share.SharedSteward.{SharedSteward}
 use Rattle.std.specs.Arc.{arc_value}
 use Rattle.teurlaks_c.specs.Calls.{CountsOf, Tells, kept}
-use Rattle.teurlaks_c.specs.Keys.{IsSpanOf}
+use Rattle.teurlaks_c.specs.Keys.{IsIdOf}
 use Rattle.teurlaks_c.specs.Status.{busy, done, has_core, no_core, no_pair_left, no_plan, out_of_memory, mark_status, refusal_status, status_of_outcome, none}
 
 -- the handle has no steward
@@ -129,7 +129,7 @@ abbrev pub SaysStepped : StepReply → Option (Result (Result Stepped AllocError
 SaysStepped says None = says.status ≡ no_core
 SaysStepped says (Some (Err b)) = says.status ≡ busy
 SaysStepped says (Some (Ok (Err error))) = says.status ≡ out_of_memory
-SaysStepped says (Some (Ok (Ok (Taken abandoned owned outcome)))) = (says.status ≡ status_of_outcome outcome) × IsSpanOf says.abandoned abandoned × IsSpanOf says.owned owned
+SaysStepped says (Some (Ok (Ok (Taken abandoned owned outcome)))) = (says.status ≡ status_of_outcome outcome) × IsIdOf says.abandoned abandoned × IsIdOf says.owned owned
 SaysStepped says (Some (Ok (Ok NoPairLeft))) = says.status ≡ no_pair_left
 SaysStepped says (Some (Ok (Ok NoPlan))) = says.status ≡ no_plan
 

@@ -1,6 +1,6 @@
 // Keys and spans as C has them.
 ghost use Rattle.std.specs.Prelude.{◌≡◌, MatchOption};
-ghost use Rattle.teurlaks_c.specs.Keys.{IsKeyOf, IsNoKey, IsSpanOf};
+ghost use Rattle.teurlaks_c.specs.Keys.{IsKeyOf, IsNoKey, IsIdOf};
 
 use crate::replies::{RawKey, RawSpan};
 use span::{Key, SpanId};
@@ -49,7 +49,7 @@ pub(crate) fn raw_of(key: Key) -> RawKey
 /// The numbers of the span.
 #[inline(always)]
 pub(crate) fn raw_span(id: SpanId) -> RawSpan
-    ensures { IsSpanOf result id }
+    ensures { IsIdOf result id }
 {
     let SpanId { shard, serial } = id;
     RawSpan { shard, serial }

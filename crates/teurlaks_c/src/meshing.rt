@@ -2,7 +2,7 @@
 ghost use Rattle.std.specs.Prelude.{◌≡◌, IsSome, MatchOption, None};
 ghost use Rattle.arena_core.specs.declared.event.Event.TheVariants as event;
 ghost use Rattle.teurlaks_c.specs.Calls.{Adopts, Begins, Closes, CountsOf, Ends, Forgets, IsOfMark, Keeps, Marks, Retires, SaysForgotten, SaysMarked, Steps, TakesStep, Tells, Trims, Writes};
-ghost use Rattle.teurlaks_c.specs.Keys.{IsSpanOf};
+ghost use Rattle.teurlaks_c.specs.Keys.{IsIdOf};
 ghost use Rattle.teurlaks_c.specs.Status.{no_core};
 
 use crate::handle::Handle;
@@ -340,8 +340,8 @@ pub(crate) fn unmarked(status: u32) -> MarkReply
 
 fn stepped(status: u32, abandoned: SpanId, owned: SpanId) -> StepReply
     ensures status { result.status ≡ status }
-    ensures abandoned { IsSpanOf result.abandoned abandoned }
-    ensures owned { IsSpanOf result.owned owned }
+    ensures abandoned { IsIdOf result.abandoned abandoned }
+    ensures owned { IsIdOf result.owned owned }
 {
     StepReply {
         status,

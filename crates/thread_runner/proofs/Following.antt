@@ -23,8 +23,8 @@ use Rattle.trace_text.specs.declared.line.Call.TheVariants.{Put, Fill, Get, Set,
 use Rattle.trace_text.specs.declared.line.Line.{Line}
 use Rattle.trace_text.specs.declared.line.Line.TheVariants as line
 use Rattle.thread_runner.specs.Asked.{AreAnswers, Frees, GivenKeys, Outcome, Puts, Said, asked_at, asked_by, is_adoption, is_line_of, places_of, replies_at, replies_by, replies_on}
-use Rattle.thread_runner.specs.Followed.{AnswersLine, ArePassages, AtBarrier, AtLine, Carried, Follows, IsPassage, Passage, barriers_after, carried_by, entries_in, entries_on, is_of_shard, places_in, receipts_from, receipts_in, sent_by, sent_in, taken_by, taken_in}
-use Rattle.thread_runner.specs.Grown.{Carries, Grows, HaveNothing, IsDiaryOf, IsEmptyDiary, Rests, TakesIn, Tells, TellsAdoption, Tracks}
+use Rattle.thread_runner.specs.Followed.{AnswersLine, ArePassages, AtBarrier, AtLine, Carried, FollowsLines, IsPassage, Passage, barriers_after, carried_by, entries_in, entries_on, is_of_shard, places_in, receipts_from, receipts_in, sent_by, sent_in, taken_by, taken_in}
+use Rattle.thread_runner.specs.Grown.{Carries, Grows, HaveNothing, IsDiaryOf, IsEmptyDiary, Rests, TellsTending, Tells, TellsAdoption, Tracks}
 use Rattle.thread_runner.specs.Told.{voice_of}
 use Rattle.thread_runner.specs.declared.diary.Diary.{Diary}
 use Rattle.thread_runner.specs.declared.diary.Entry.TheVariants as entry
@@ -33,8 +33,8 @@ use Rattle.audit.proofs.Replies.{take_more}
 use Rattle.thread_runner.proofs.Carrying.{Carries-none}
 
 -- a thread that was told nothing
-pub Follows-none : (lines : List Line) (given : GivenKeys) (thread : ℕ) (shown : Bool) (diary : Diary) (its : Carried) → IsEmptyDiary shown diary → HaveNothing its → Follows lines given thread [] 0 shown (voice_of diary) its
-Follows-none lines given thread shown diary its empty nothing = record {
+pub FollowsLines-none : (lines : List Line) (given : GivenKeys) (thread : ℕ) (shown : Bool) (diary : Diary) (its : Carried) → IsEmptyDiary shown diary → HaveNothing its → FollowsLines lines given thread [] 0 shown (voice_of diary) its
+FollowsLines-none lines given thread shown diary its empty nothing = record {
   passages = [];
   in_order = refl;
   each = refl;
@@ -79,11 +79,11 @@ AnswersLine-adopt lines given thread section place (line.Adopt shard) what here 
 AnswersLine-adopt lines given thread section place line.Mark what here own is its answered = absurd cc
 
 -- one passage more
-module _ (lines : List Line) (given : GivenKeys) (thread : ℕ) (places : List ℕ) (barriers : ℕ) (shown : Bool) (old new : Diary) (was now_is : Carried) (before : Follows lines given thread places barriers shown (voice_of old) was)
+module _ (lines : List Line) (given : GivenKeys) (thread : ℕ) (places : List ℕ) (barriers : ℕ) (shown : Bool) (old new : Diary) (was now_is : Carried) (before : FollowsLines lines given thread places barriers shown (voice_of old) was)
     (keeps : old.replies ≡ shown) where
-  Follows-passage : (passage : Passage) (replies : ℕ) → IsPassage lines given thread barriers passage → Grows (entries_in passage) (receipts_in passage) replies old new → Carries (sent_in passage) (taken_in passage) was now_is
-      → Follows lines given thread (places ++ places_in passage) (barriers_after barriers passage) shown (voice_of new) now_is
-  Follows-passage passage replies is grows carries = record {
+  FollowsLines-passage : (passage : Passage) (replies : ℕ) → IsPassage lines given thread barriers passage → Grows (entries_in passage) (receipts_in passage) replies old new → Carries (sent_in passage) (taken_in passage) was now_is
+      → FollowsLines lines given thread (places ++ places_in passage) (barriers_after barriers passage) shown (voice_of new) now_is
+  FollowsLines-passage passage replies is grows carries = record {
     passages = before.passages ++ passage ∷ [];
     in_order = flat_map-append places_in before.passages (passage ∷ []) ∙ ap (λ ps. ps ++ flat_map places_in (passage ∷ [])) before.in_order ∙ ap (λ ps. places ++ ps) (append-nil (places_in passage));
     each = ArePassages-push lines given thread 0 barriers before.passages passage before.each is;
@@ -99,20 +99,20 @@ module _ (lines : List Line) (given : GivenKeys) (thread : ℕ) (places : List �
   }
 
   -- a line of the thread
-  pub Follows-line : (place : ℕ) (outcomes : List Outcome) (replies : ℕ) → AnswersLine lines given thread barriers place outcomes
+  pub FollowsLines-line : (place : ℕ) (outcomes : List Outcome) (replies : ℕ) → AnswersLine lines given thread barriers place outcomes
       → Grows (flat_map (entries_on (place + 6)) outcomes) (flat_map receipts_from outcomes) replies old new → Carries (flat_map sent_by outcomes) (flat_map taken_by outcomes) was now_is
-      → Follows lines given thread (places ++ place ∷ []) barriers shown (voice_of new) now_is
-  Follows-line place outcomes replies answers grows carries = Follows-passage (AtLine place outcomes) replies answers grows carries
+      → FollowsLines lines given thread (places ++ place ∷ []) barriers shown (voice_of new) now_is
+  FollowsLines-line place outcomes replies answers grows carries = FollowsLines-passage (AtLine place outcomes) replies answers grows carries
 
   -- the barrier
-  pub Follows-barrier : (count : ℕ) → TakesIn barriers thread count old new was now_is → Follows lines given thread places (barriers + 1) shown (voice_of new) now_is
-  Follows-barrier count takes =
-      subst (λ ps. Follows lines given thread ps (barriers + 1) shown (voice_of new) now_is) (append-nil places)
-      (Follows-passage (AtBarrier takes.receipts) 0 takes.are_frees (subst (λ n. Grows (entry.Incoming n ∷ []) takes.receipts 0 old new) takes.count_is takes.grows) takes.carries)
+  pub FollowsLines-barrier : (count : ℕ) → TellsTending barriers thread count old new was now_is → FollowsLines lines given thread places (barriers + 1) shown (voice_of new) now_is
+  FollowsLines-barrier count takes =
+      subst (λ ps. FollowsLines lines given thread ps (barriers + 1) shown (voice_of new) now_is) (append-nil places)
+      (FollowsLines-passage (AtBarrier takes.receipts) 0 takes.are_frees (subst (λ n. Grows (entry.Incoming n ∷ []) takes.receipts 0 old new) takes.count_is takes.grows) takes.carries)
 
   -- nothing was told
-  pub Follows-kept : Grows [] [] 0 old new → now_is ≡ was → Follows lines given thread places barriers shown (voice_of new) now_is
-  Follows-kept grows same = record {
+  pub FollowsLines-kept : Grows [] [] 0 old new → now_is ≡ was → FollowsLines lines given thread places barriers shown (voice_of new) now_is
+  FollowsLines-kept grows same = record {
     passages = before.passages;
     in_order = before.in_order;
     each = before.each;
@@ -171,7 +171,7 @@ Tracks-known lines shown knew knows thread done barriers diary its known tracks 
 pub Tracks-none : (lines : List Line) (shown : Bool) (knows : GivenKeys → Type 0) (thread : ℕ) (diary : Diary) (its : Carried) → IsEmptyDiary shown diary → HaveNothing its → Tracks lines shown knows thread 0 0 diary its
 Tracks-none lines shown knows thread diary its empty nothing = record {
   shown_is = empty.shown_is;
-  follows = λ given is. ∣ Follows-none lines given thread shown diary its empty nothing ∣₁;
+  follows = λ given is. ∣ FollowsLines-none lines given thread shown diary its empty nothing ∣₁;
   counted = empty.calls_is;
 }
 
@@ -181,7 +181,7 @@ pub Tracks-line : (lines : List Line) (shown : Bool) (knew knows : GivenKeys →
     → Tells section thread (place + 6) (asked_at (take place lines) l) knew knows old new before after → Tracks lines shown knew thread done section old before → Tracks lines shown knows same (done + 1) section new after
 Tracks-line lines shown knew knows section thread same done place l old new before after is its next here own call tells tracks = Tracks-same lines shown knows thread same (done + 1) section new after is (record {
   shown_is = tells.grows.shown_is ∙ tracks.shown_is;
-  follows = λ given known. rw (take-place (places_of thread lines) done place next) (∥∥₁_map (tracks.follows given (tells.known given known)) (λ follows. Follows-line lines given thread _ section shown old new before after follows tracks.shown_is
+  follows = λ given known. rw (take-place (places_of thread lines) done place next) (∥∥₁_map (tracks.follows given (tells.known given known)) (λ follows. FollowsLines-line lines given thread _ section shown old new before after follows tracks.shown_is
       place tells.outcomes _ (AnswersLine-call lines given thread section place l tells.outcomes here own call its (tells.answered given known)) tells.grows tells.carries));
   counted = rw (take-place (places_of thread lines) done place next, sum-place lines place (take done (places_of thread lines)) l here)
       (tells.grows.calls_is ∙ ap (λ n. old.calls + n) (length-asked_at (take place lines) l call) ∙ ap (λ n. n + replies_at l) tracks.counted);
@@ -193,18 +193,18 @@ pub Tracks-adoption : (lines : List Line) (shown : Bool) (knows : GivenKeys → 
     → Tracks lines shown knows thread done (section + 1) old before → Tracks lines shown knows same (done + 1) (section + 1) new after
 Tracks-adoption lines shown knows section thread same done place l old new before after is carried its next here own adopts tells tracks = Tracks-same lines shown knows thread same (done + 1) (section + 1) new after is (record {
   shown_is = tells.grows.shown_is ∙ tracks.shown_is;
-  follows = λ given known. rw (take-place (places_of thread lines) done place next) (∥∥₁_map (tracks.follows given known) (λ follows. Follows-line lines given thread _ (section + 1) shown old new before after follows tracks.shown_is
+  follows = λ given known. rw (take-place (places_of thread lines) done place next) (∥∥₁_map (tracks.follows given known) (λ follows. FollowsLines-line lines given thread _ (section + 1) shown old new before after follows tracks.shown_is
       place (Said tells.what ∷ []) 0 (AnswersLine-adopt lines given thread section place l tells.what here own adopts its tells.adoption) tells.grows (Carries-none before after carried)));
   counted = rw (take-place (places_of thread lines) done place next, sum-place lines place (take done (places_of thread lines)) l here)
       (tells.grows.calls_is ∙ ap (λ n. old.calls + n) (sym (replies_at-adopt l adopts)) ∙ ap (λ n. n + replies_at l) tracks.counted);
 })
 
 -- one at the barrier that ends a section
-pub Tracks-barrier : (lines : List Line) (shown : Bool) (knows : GivenKeys → Type 0) (section thread same done count : ℕ) (old new : Diary) (before after : Carried) → same ≡ thread → TakesIn section thread count old new before after
+pub Tracks-barrier : (lines : List Line) (shown : Bool) (knows : GivenKeys → Type 0) (section thread same done count : ℕ) (old new : Diary) (before after : Carried) → same ≡ thread → TellsTending section thread count old new before after
     → Tracks lines shown knows thread done section old before → Tracks lines shown knows same done (section + 1) new after
 Tracks-barrier lines shown knows section thread same done count old new before after is takes tracks = Tracks-same lines shown knows thread same done (section + 1) new after is (record {
   shown_is = takes.grows.shown_is ∙ tracks.shown_is;
-  follows = λ given known. ∥∥₁_map (tracks.follows given known) (λ follows. Follows-barrier lines given thread _ section shown old new before after follows tracks.shown_is count takes);
+  follows = λ given known. ∥∥₁_map (tracks.follows given known) (λ follows. FollowsLines-barrier lines given thread _ section shown old new before after follows tracks.shown_is count takes);
   counted = takes.grows.calls_is ∙ add-zero old.calls ∙ tracks.counted;
 })
 
@@ -213,7 +213,7 @@ pub Tracks-kept : (lines : List Line) (shown : Bool) (knows : GivenKeys → Type
     → Tracks lines shown knows thread done barriers old before → Tracks lines shown knows same done barriers new after
 Tracks-kept lines shown knows thread same done barriers old new before after is grows carried tracks = Tracks-same lines shown knows thread same done barriers new after is (record {
   shown_is = grows.shown_is ∙ tracks.shown_is;
-  follows = λ given known. ∥∥₁_map (tracks.follows given known) (λ follows. Follows-kept lines given thread _ barriers shown old new before after follows tracks.shown_is grows carried);
+  follows = λ given known. ∥∥₁_map (tracks.follows given known) (λ follows. FollowsLines-kept lines given thread _ barriers shown old new before after follows tracks.shown_is grows carried);
   counted = grows.calls_is ∙ add-zero old.calls ∙ tracks.counted;
 })
 

@@ -7,7 +7,7 @@ use Rattle.span.specs.declared.key.Key.{Key}
 use Rattle.span.specs.declared.receipt.Receipt.{Receipt}
 use Rattle.thread_runner.specs.Asked.{Answers, AreAnswers, Asked, GivenKeys, Outcome, Tends, Took}
 use Rattle.thread_runner.specs.Followed.{Carried, entries_on, receipts_from, sent_by, taken_by}
-use Rattle.thread_runner.specs.Grown.{Carries, Grows, TakesIn, Tells}
+use Rattle.thread_runner.specs.Grown.{Carries, Grows, TellsTending, Tells}
 use Rattle.thread_runner.specs.declared.diary.Diary.{Diary}
 use Rattle.thread_runner.specs.declared.diary.Entry.{Entry}
 use Rattle.thread_runner.specs.declared.diary.Entry.TheVariants as entry
@@ -76,7 +76,7 @@ module _ (section thread number : ℕ) (first second : List Asked) (knew meanwhi
       }
 
 -- the rings were tended
-pub Tells-tended : (section thread number count : ℕ) (knows : GivenKeys → Type 0) (old mid new : Diary) (before after : Carried) → TakesIn section thread count old mid before after
+pub Tells-tended : (section thread number count : ℕ) (knows : GivenKeys → Type 0) (old mid new : Diary) (before after : Carried) → TellsTending section thread count old mid before after
     → Grows (entry.Said (record { line = number; other = other.Settled count }) ∷ []) [] 1 mid new → Tells section thread number (Tends ∷ []) knows knows old new before after
 Tells-tended section thread number count knows old mid new before after takes grows =
     let both = Grows-append _ _ takes.receipts [] 0 1 old mid new takes.grows grows in

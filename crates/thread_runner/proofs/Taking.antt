@@ -10,7 +10,7 @@ use Rattle.arena.specs.Seats.{KeepsEnds, SeatState, sending_side}
 use Rattle.arena.specs.Tended.{IsTended}
 use Rattle.thread_runner.specs.Asked.{IsFreeBy}
 use Rattle.thread_runner.specs.Followed.{carried_by}
-use Rattle.thread_runner.specs.Grown.{Grows, TakesIn}
+use Rattle.thread_runner.specs.Grown.{Grows, TellsTending}
 use Rattle.thread_runner.specs.Told.{is_free}
 use Rattle.thread_runner.specs.declared.diary.Diary.{Diary}
 use Rattle.thread_runner.specs.declared.diary.Entry.TheVariants as entry
@@ -29,9 +29,9 @@ frees-each worker section [] all = tt
 frees-each worker section (receipt ∷ receipts) all = (IsFreeBy-key worker section receipt (all 0 receipt (omega arith)), frees-each worker section receipts (λ k d within. all (suc k) d (omega arith)))
 
 -- a diary goes on by what a seat took
-pub TakesIn-tended : (most count : ℕ) (before after : SeatState) (old mid new : Diary) → mid ≡ record old { receipts = mid.receipts } → IsTended most before after (kept_receipts old.receipts) (kept_receipts mid.receipts) count
-    → KeepsEnds before after → sending_side after ≡ sending_side before → Grows (entry.Incoming count ∷ []) [] 0 mid new → TakesIn before.section before.worker count old new (carried_by before) (carried_by after)
-TakesIn-tended most count before after old mid new is tended ends sending grows = record {
+pub TellsTending-tended : (most count : ℕ) (before after : SeatState) (old mid new : Diary) → mid ≡ record old { receipts = mid.receipts } → IsTended most before after (kept_receipts old.receipts) (kept_receipts mid.receipts) count
+    → KeepsEnds before after → sending_side after ≡ sending_side before → Grows (entry.Incoming count ∷ []) [] 0 mid new → TellsTending before.section before.worker count old new (carried_by before) (carried_by after)
+TellsTending-tended most count before after old mid new is tended ends sending grows = record {
   receipts = tended.freed.added;
   count_is = tended.total_is ∙ sym (ap length tended.freed.of_keys) ∙ length-map tended.freed.added (λ receipt. receipt.key);
   are_frees = frees-each before.worker before.section tended.freed.added tended.freed.are_frees;

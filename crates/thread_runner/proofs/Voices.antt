@@ -23,7 +23,7 @@ use Rattle.audit.specs.Agreement.{Agreement}
 use Rattle.audit.specs.History.{HaveHistories}
 use Rattle.thread_runner.specs.Asked.{GivenKeys, places_of, replies_in}
 use Rattle.arena.specs.Seats.{SeatState}
-use Rattle.thread_runner.specs.Followed.{AreDelivered, AreVoices, Carried, Follows, carried_by}
+use Rattle.thread_runner.specs.Followed.{AreDelivered, AreVoices, Carried, FollowsLines, carried_by}
 use Rattle.thread_runner.specs.Grown.{AreDiaries, IsDiaryOf}
 use Rattle.thread_runner.specs.Marked.{AreNotesOf}
 use Rattle.thread_runner.specs.Threaded.{AreByLine, IsAuditStop, IsRunStop, IsThreadedReport, StopsThreads, TellsAll, is_on}
@@ -63,14 +63,14 @@ map-voices (diary ∷ diaries) = ap (λ lists. (kept_receipts diary.receipts) �
 -- what stands in seats and diaries stands in what they have
 AreVoices-at : (lines : List Line) (shown : Bool) (given : GivenKeys) (thread : ℕ) (voice : Voice) (its : Carried) (seat : Option SeatState) (diary : Option Diary)
     → ((s : SeatState) (d : Diary) → seat ≡ Some s → diary ≡ Some d → IsDiaryOf lines shown given thread d (carried_by s)) → option_map voice_of diary ≡ Some voice → option_map carried_by seat ≡ Some its
-    → ∥ Follows lines given thread (places_of thread lines) (marks lines + 1) shown voice its ∥₁
+    → ∥ FollowsLines lines given thread (places_of thread lines) (marks lines + 1) shown voice its ∥₁
 AreVoices-at lines shown given thread voice its seat None each at sits = absurd cc
 AreVoices-at lines shown given thread voice its None (Some diary) each at sits = absurd cc
 AreVoices-at lines shown given thread voice its (Some seat) (Some diary) each at sits =
     let same : voice_of diary ≡ voice = same_Some _ _ at in
     let rings : carried_by seat ≡ its = same_Some _ _ sits in
-    subst (λ v. ∥ Follows lines given thread (places_of thread lines) (marks lines + 1) shown v its ∥₁) same
-    (subst (λ c. ∥ Follows lines given thread (places_of thread lines) (marks lines + 1) shown (voice_of diary) c ∥₁) rings (each seat diary refl refl).follows)
+    subst (λ v. ∥ FollowsLines lines given thread (places_of thread lines) (marks lines + 1) shown v its ∥₁) same
+    (subst (λ c. ∥ FollowsLines lines given thread (places_of thread lines) (marks lines + 1) shown (voice_of diary) c ∥₁) rings (each seat diary refl refl).follows)
 
 -- what the diaries of all threads have follows their lines
 pub AreVoices-diaries : (trace : Trace) (shown : Bool) (given : GivenKeys) (seats : List SeatState) (diaries : List Diary) → AreDiaries trace.lines.items shown given trace.header.shards seats diaries

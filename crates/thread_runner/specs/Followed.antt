@@ -118,7 +118,7 @@ ArePassages lines given thread from to (passage ∷ passages) = IsPassage lines 
 
 -- passage by passage the voice tells what came of the thread's lines at these places, in this order, where those keys were given, and what it took at each of so many barriers, and nothing else; it has entries where they are shown.
 -- Its rings carried to each shard the keys of that shard that it sent off, in order, and no others; and the keys that it took are those that they carried to it
-pub record Follows (lines : List Line) (given : GivenKeys) (thread : ℕ) (places : List ℕ) (barriers : ℕ) (shown : Bool) (voice : Voice) (carried : Carried) : Type 0 where
+pub record FollowsLines (lines : List Line) (given : GivenKeys) (thread : ℕ) (places : List ℕ) (barriers : ℕ) (shown : Bool) (voice : Voice) (carried : Carried) : Type 0 where
   pub passages : List Passage
   pub in_order : flat_map places_in passages ≡ places
   pub each : ArePassages lines given thread 0 barriers passages
@@ -141,4 +141,4 @@ pub record AreVoices (trace : Trace) (shown : Bool) (voices : List Voice) : Type
   pub each_thread : length voices ≡ trace.header.shards
   pub delivered : AreDelivered trace.header.shards carried
   pub follows : (thread : ℕ) (voice : Voice) (its : Carried) → slice_get voices thread ≡ Some voice → slice_get carried thread ≡ Some its
-      → ∥ Follows trace.lines.items given thread (places_of thread trace.lines.items) (marks trace.lines.items + 1) shown voice its ∥₁
+      → ∥ FollowsLines trace.lines.items given thread (places_of thread trace.lines.items) (marks trace.lines.items + 1) shown voice its ∥₁

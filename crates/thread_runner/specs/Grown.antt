@@ -10,7 +10,7 @@ use Rattle.span.specs.declared.receipt.Receipt.{Receipt}
 use Rattle.trace_text.specs.Causes.{marks}
 use Rattle.trace_text.specs.declared.line.Line.{Line}
 use Rattle.thread_runner.specs.Asked.{AreAnswers, Asked, GivenKeys, IsFreeBy, Outcome, is_adoption, places_of, replies_on}
-use Rattle.thread_runner.specs.Followed.{Carried, Follows, carried_by, entries_on, is_of_shard, keys_of, receipts_from, sent_by, taken_by}
+use Rattle.thread_runner.specs.Followed.{Carried, FollowsLines, carried_by, entries_on, is_of_shard, keys_of, receipts_from, sent_by, taken_by}
 use Rattle.thread_runner.specs.Told.{voice_of}
 use Rattle.thread_runner.specs.declared.diary.Diary.{Diary}
 use Rattle.thread_runner.specs.declared.diary.Entry.{Entry}
@@ -38,7 +38,7 @@ pub record Tells (section thread number : ℕ) (asked : List Asked) (knew knows 
   pub carries : Carries (flat_map sent_by outcomes) (flat_map taken_by outcomes) before after
 
 -- a diary goes on by that many frees by the thread in that section, of keys that had come in on the rings
-pub record TakesIn (section thread count : ℕ) (old new : Diary) (before after : Carried) : Type 0 where
+pub record TellsTending (section thread count : ℕ) (old new : Diary) (before after : Carried) : Type 0 where
   pub receipts : List Receipt
   pub count_is : count ≡ length receipts
   pub are_frees : AllByRecursion (IsFreeBy section thread) receipts
@@ -66,12 +66,12 @@ pub record HaveNothing (carried : Carried) : Type 0 where
 -- the diary of a thread that was told what came of that many of its lines and barriers, where so much is known of the keys that puts gave, and what its rings carried
 pub record Tracks (lines : List Line) (shown : Bool) (knows : GivenKeys → Type 0) (thread done barriers : ℕ) (diary : Diary) (carried : Carried) : Type 0 where
   pub shown_is : diary.replies ≡ shown
-  pub follows : (given : GivenKeys) → knows given → ∥ Follows lines given thread (take done (places_of thread lines)) barriers shown (voice_of diary) carried ∥₁
+  pub follows : (given : GivenKeys) → knows given → ∥ FollowsLines lines given thread (take done (places_of thread lines)) barriers shown (voice_of diary) carried ∥₁
   pub counted : diary.calls ≡ sum_by (replies_on lines) (take done (places_of thread lines))
 
 -- the diary of a thread that was told what came of all its lines and barriers, where those keys were given, and what its rings carried
 pub record IsDiaryOf (lines : List Line) (shown : Bool) (given : GivenKeys) (thread : ℕ) (diary : Diary) (carried : Carried) : Type 0 where
-  pub follows : ∥ Follows lines given thread (places_of thread lines) (marks lines + 1) shown (voice_of diary) carried ∥₁
+  pub follows : ∥ FollowsLines lines given thread (places_of thread lines) (marks lines + 1) shown (voice_of diary) carried ∥₁
   pub counted : diary.calls ≡ sum_by (replies_on lines) (places_of thread lines)
 
 -- one such diary a thread, in order, beside its seat

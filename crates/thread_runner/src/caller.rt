@@ -10,7 +10,7 @@ ghost use Rattle.trace_text.specs.Objects.{counted_from, last_word};
 ghost use Rattle.trace_text.specs.Places.{place_by};
 ghost use Rattle.thread_runner.specs.Asked.{Begins, Called, Frees, Gets, GivenKeys, IsRetirement, Leaves, Puts, Retires, Said, Sets, Tends, Trims, asked_at, asked_by, is_adoption};
 ghost use Rattle.thread_runner.specs.Followed.{carried_by, entries_on};
-ghost use Rattle.thread_runner.specs.Grown.{Grows, IsEmptyDiary, TakesIn, Tells, TellsAdoption};
+ghost use Rattle.thread_runner.specs.Grown.{Grows, IsEmptyDiary, TellsTending, Tells, TellsAdoption};
 ghost use Rattle.thread_runner.specs.Known.{AreFresh, AreKnown};
 ghost use Rattle.thread_runner.specs.declared.keys.Given.{Given};
 
@@ -534,7 +534,7 @@ impl<'a, G: Gate> Caller<'a, G> {
     /// Frees the keys that are on the rings to its shard. Where all threads have come in and sent off theirs, no key is sent
     /// meanwhile, so one look at each ring takes them all.
     pub(crate) fn settle<R: Wait>(&mut self, rt: &R) -> Result<usize, AllocError>
-        ensures told { IfOk result (λ count. TakesIn self.old.seat.section
+        ensures told { IfOk result (λ count. TellsTending self.old.seat.section
             self.old.seat.worker count self.old.diary self.new.diary
             (carried_by self.old.seat) (carried_by self.new.seat)) }
         ensures fresh { self.new.fresh ≡ self.old.fresh }

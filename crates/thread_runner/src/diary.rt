@@ -4,7 +4,7 @@ ghost use Rattle.std.specs.List.{flat_map};
 ghost use Rattle.span.specs.ReceiptLists.{kept_receipts};
 ghost use Rattle.arena.specs.Delays.{HasNoneWaiting};
 ghost use Rattle.thread_runner.specs.Followed.{carried_by};
-ghost use Rattle.thread_runner.specs.Grown.{Grows, IsEmptyDiary, TakesIn};
+ghost use Rattle.thread_runner.specs.Grown.{Grows, IsEmptyDiary, TellsTending};
 ghost use Rattle.thread_runner.specs.declared.diary.Entry.TheVariants as entry;
 ghost use Rattle.thread_runner.specs.Told.{answer_of, answer_without, call_line, diary_lines, entry_lines, is_free, lineless, other_line, receipts_after, told_lines};
 
@@ -153,7 +153,7 @@ impl Diary {
         arena: &Arena<G>,
     ) -> Result<usize, AllocError>
         requires { seat.old.limits ≡ arena.now.limits }
-        ensures told { IfOk result (λ count. TakesIn seat.old.section seat.old.worker count
+        ensures told { IfOk result (λ count. TellsTending seat.old.section seat.old.worker count
             self.old self.new (carried_by seat.old) (carried_by seat.new)) }
         ensures worker { seat.new.worker ≡ seat.old.worker }
         ensures section { seat.new.section ≡ seat.old.section }

@@ -2,7 +2,7 @@
 ghost use Rattle.std.specs.Prelude.{◌≡◌, ◌+◌, ◌<◌, ◌≤◌, codes, length, map, option_map, IfOk};
 ghost use Rattle.std.specs.List.{All};
 ghost use Rattle.mesh_graph.specs.Groups.{IsAscending, ids};
-ghost use Rattle.certificate.specs.Grammar.{Follows, Reads, at_line, count_in, entry_in, entry_parts, id_in, id_parts, item_in, line_in, list_in, order_of, pair_in, pair_parts, result_map};
+ghost use Rattle.certificate.specs.Grammar.{ComesAfter, Reads, at_line, count_in, entry_in, entry_parts, id_in, id_parts, item_in, line_in, list_in, order_of, pair_in, pair_parts, result_map};
 ghost use Rattle.certificate.specs.Text.{FitsClass};
 ghost use Rattle.certificate.specs.Words.{lines_of};
 ghost use Rattle.mesh_graph.specs.declared.build.TheConstants.{MOST_GROUPS};
@@ -18,7 +18,7 @@ use std::alloc::Global;
 /// Whether the id stands after the last one of its list.
 fn in_order(last: Option<SpanId>, id: SpanId) -> Result<(), Cause>
     ensures order { result ≡ order_of (option_map id_parts last) (id_parts id) }
-    ensures after { IfOk result (λ _. Follows last id) }
+    ensures after { IfOk result (λ _. ComesAfter last id) }
 {
     let Some(last) = last else {
         return Ok(());
@@ -60,7 +60,7 @@ fn entry_at(lines: &mut Lines, version: Version, last: Option<SpanId>) -> Result
         (item_in (entry_in version) (λ x. x.id) (option_map id_parts last))
         (lines_of lines.old.text.now) lines.old.at }
     ensures fits { IfOk result FitsClass }
-    ensures after { IfOk result (λ entry. Follows last entry.id) }
+    ensures after { IfOk result (λ entry. ComesAfter last entry.id) }
     ensures text { IfOk result (λ _. lines.new.text.now ≡ lines.old.text.now) }
     ensures passed { IfOk result (λ _. lines.new.at ≡ lines.old.at + 1) }
 {
@@ -73,7 +73,7 @@ fn pair_at(lines: &mut Lines, last: Option<SpanId>) -> Result<(SpanId, SpanId), 
     ensures line { result_map pair_parts result ≡ line_in
         (item_in pair_in (λ p. p.0) (option_map id_parts last))
         (lines_of lines.old.text.now) lines.old.at }
-    ensures after { IfOk result (λ pair. Follows last pair.0) }
+    ensures after { IfOk result (λ pair. ComesAfter last pair.0) }
     ensures text { IfOk result (λ _. lines.new.text.now ≡ lines.old.text.now) }
     ensures passed { IfOk result (λ _. lines.new.at ≡ lines.old.at + 1) }
 {
@@ -86,7 +86,7 @@ fn id_at(lines: &mut Lines, last: Option<SpanId>) -> Result<SpanId, Cause>
     ensures line { result_map id_parts result ≡ line_in
         (item_in id_in (λ id. id) (option_map id_parts last))
         (lines_of lines.old.text.now) lines.old.at }
-    ensures after { IfOk result (λ id. Follows last id) }
+    ensures after { IfOk result (λ id. ComesAfter last id) }
     ensures text { IfOk result (λ _. lines.new.text.now ≡ lines.old.text.now) }
     ensures passed { IfOk result (λ _. lines.new.at ≡ lines.old.at + 1) }
 {

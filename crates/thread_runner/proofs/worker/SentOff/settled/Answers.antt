@@ -1,7 +1,7 @@
 use Rattle.std.proofs.Common.{◌∙◌, ap, subst, sym}
 use Rattle.arena.specs.Seats.{Table}
 use Rattle.thread_runner.specs.Followed.{carried_by}
-use Rattle.thread_runner.specs.Grown.{TakesIn, Tracks}
+use Rattle.thread_runner.specs.Grown.{TellsTending, Tracks}
 use Rattle.thread_runner.specs.Known.{AreKnown}
 use Rattle.thread_runner.proofs.Following.{Tracks-barrier}
 use Rattle.thread_runner.proofs.worker.SentOff.settled.Goals as goal
@@ -22,6 +22,6 @@ invariant_of-result g c =
       reads = worker.reads;
       section = c.settle.ensures.section ∙ worker.section;
       tracks = Tracks-barrier lines shown (AreKnown kept later.fresh.items) section old.seat.worker later.seat.worker worker.done count old.diary later.diary (carried_by old.seat) (carried_by later.seat) c.settle.ensures.thread
-          (subst (λ n. TakesIn n old.seat.worker count old.diary later.diary (carried_by old.seat) (carried_by later.seat)) worker.section c.in_ok-settle.ensures.told)
+          (subst (λ n. TellsTending n old.seat.worker count old.diary later.diary (carried_by old.seat) (carried_by later.seat)) worker.section c.in_ok-settle.ensures.told)
           (subst (λ f. Tracks lines shown (AreKnown kept f.items) old.seat.worker worker.done section old.diary (carried_by old.seat)) (sym c.settle.ensures.fresh) worker.tracks);
     }
